@@ -1,0 +1,32 @@
+//! Words: the preprocessing tokens of C (C99 6.4).
+
+use crate::Span;
+
+/// What a word is.
+#[derive(Clone, Copy, Debug, PartialEq, Eq)]
+pub enum Kind {
+    /// An identifier or a keyword (C99 6.4.1, 6.4.2).
+    Name,
+    /// An integer constant (C99 6.4.4.1).
+    Number,
+    /// A character constant (C99 6.4.4.4).
+    Char,
+    /// A string literal (C99 6.4.5), or the name of an include between angle brackets.
+    Str,
+    /// A punctuator (C99 6.4.6).
+    Punct,
+    /// A p10 pragma after expansion; its text and span are those of the directive's last word.
+    Mark,
+}
+
+/// A word that borrows its text from the source.
+#[derive(Clone, Copy, Debug)]
+pub struct Word<'s> {
+    pub kind: Kind,
+    /// The bytes of the word, as the source spells them.
+    pub text: &'s [u8],
+    /// Where the word stands; for a word that a macro gave, the name in the use of the outermost macro.
+    pub at: Span,
+    /// Whether no word stands before it on its line.
+    pub first: bool,
+}
