@@ -6,10 +6,12 @@
 //! into words and printing are left to the crates above.
 #![tactic(auto)]
 
+mod buffers;
 mod report;
 mod span;
 mod word;
 
+pub use buffers::{ListBuf, TextBuf};
 pub use report::{Bounds, Family, Limit, Refusal, Sub, Violation};
 pub use span::Span;
 pub use word::{Kind, Word};
