@@ -1,0 +1,268 @@
+-- The words of a program are read as that program.
+use Rattle.std.proofs.Common.{rules, ◌≡◌, ℕ, ◌+◌, ◌-◌, ◌*◌, ◌^◌, ◌<◌, ◌≤◌, zero, suc, List, [], ◌∷◌, ◌++◌, Bool, true, false, not, cond, bytes_eq, length, get_or, take, length-take, length-append, refl, sym, ◌∙◌, ap, subst, arith, append_assoc, append-nil, codes, Option, Some, None, option_map, option_and_then, decimal, All, is_none, fold, nat_le, nat_lt, ◌&&◌, min, lit<}
+use Rattle.std.specs.List.{position_from, list_any}
+use Rattle.std.specs.Str.{all_ascii_digits}
+use Rattle.std.proofs.lemmas.Bool.{cond_both, both_ways, and_parts, and_from, true≢false, not-true, le-leb, leb-true, lt-ltb, cases_eq, cases_Bool}
+use Rattle.std.proofs.lemmas.Str.Parse.{IsNumeralModel, numerals_by_fold}
+use Rattle.std.proofs.lemmas.Fmt.{digits_decimal, digits_value-decimal, length-decimal-le}
+use Rattle.std.proofs.lemmas.List.{get_or-take, length-take-le, take_more}
+use Rattle.std.proofs.lemmas.List.Elements.{All-head, All-tail, All-get_or}
+use Rattle.p10_first.specs.declared.program.Atom.{Atom}
+use Rattle.p10_first.specs.declared.program.Atom.TheVariants.{Number, Variable}
+use Rattle.p10_first.specs.declared.program.Sum.{Sum}
+use Rattle.p10_first.specs.declared.program.Item.{Item}
+use Rattle.p10_first.specs.declared.program.Item.TheVariants.{Declare, Initialise, Assign}
+use Rattle.p10_first.specs.declared.program.Program.{Program}
+use Rattle.p10_first.specs.declared.reader.Target.{Target}
+use Rattle.p10_first.specs.declared.reader.Target.TheVariants.{New, Old}
+use Rattle.p10_first.specs.declared.reader.Expecting.{Expecting}
+use Rattle.p10_first.specs.declared.reader.Expecting.TheVariants.{AnItem, NewName, Declared, Assigned, FirstAtom, NextAtom, Joint, Value, End, Brace, Nothing}
+use Rattle.p10_first.specs.Names.{reserved_words, is_reserved}
+use Rattle.p10_first.specs.Form.{Text, name_of, atom_word, addend_words, sum_words, item_words, items_words, return_words, is_letter, is_name, is_variable_name, AtomFits, SumFits, ItemFits, ItemsFit, declared_after, greatest_int, AreApart, IsProgram}
+use Rattle.p10_first.specs.Reading.{Reading, expect, add_item, digits_number, numeral, number_of, number_or_variable, below, atom_of, readable, item_for, step_at, step, steps, start, whole_at, body_of}
+use Rattle.p10_first.proofs.Spelling.{is_text, same_text, other_text, fit_rises, declared_rises}
+
+-- ## Numbers
+
+own : IsNumeralModel (λ ds. all_ascii_digits ds ≡ true) digits_number
+own = numerals_by_fold _ (search rules) (λ n ds. fold (λ value byte. 10 * value + (byte - 48)) n ds) (search rules)
+
+pub numeral_again : (n : ℕ) → n ≤ greatest_int → numeral (decimal n) ≡ Some n
+unfolding numeral
+numeral_again n small =
+    let wide : n < 2 ^ 64 = omega (arith, small) in
+    let value : digits_number (decimal n) ≡ n = digits_value-decimal own n wide in
+    let short : length (decimal n) ≤ 10 = length-decimal-le 10 n (omega arith) (omega (arith, small)) wide in
+    let tests : ((nat_le (length (decimal n)) 10 && nat_le (digits_number (decimal n)) greatest_int) && bytes_eq (decimal (digits_number (decimal n))) (decimal n)) ≡ true
+        = and_from _ _ (and_from _ _ (le-leb _ _ short) (le-leb _ _ (omega (arith, value, small)))) (same_text _ _ (ap decimal value)) in
+    ap (λ b. cond b (Some (digits_number (decimal n))) None) tests ∙ ap Some value
+
+-- a name is no number, since a digit is no letter
+first_is_digit : (ds : List ℕ) → all_ascii_digits ds ≡ true → is_name ds ≡ true → ⊥
+first_is_digit [] digits name = cc
+first_is_digit (d ∷ ds) digits name = grind (arith, and_parts)
+
+numeral_none : (word : Text) → is_name word ≡ true → numeral word ≡ None
+unfolding numeral
+numeral_none word name =
+    let n = digits_number word in
+    let test = (nat_le (length word) 10 && nat_le n greatest_int) && bytes_eq (decimal n) word in
+    cond_both test (Some n) None (λ (o : Option ℕ). o ≡ None)
+      (λ e.
+        let tests : ((nat_le (length word) 10 && nat_le n greatest_int) ≡ true) × (bytes_eq (decimal n) word ≡ true) = and_parts _ _ e in
+        let low : n ≤ greatest_int = leb-true _ _ (and_parts _ _ tests.0).1 in
+        let small : n < 2 ^ 64 = omega (arith, low) in
+        let same : decimal n ≡ word = is_text (decimal n) word tests.1 in
+        absurd (first_is_digit word (subst (λ ds. all_ascii_digits ds ≡ true) same (digits_decimal own n small)) name))
+      (λ e. refl)
+
+-- ## Names
+
+position_at : (p : Text → Bool) (names : List Text) (from v : ℕ) → v < length names → p (get_or names v []) ≡ true → ((u : ℕ) → u < v → p (get_or names u []) ≡ false) → position_from p from names ≡ Some (from + v)
+position_at p [] from v inside passes others = absurd (omega (arith, inside))
+position_at p (name ∷ names) from zero inside passes others = ap (λ b. cond b (Some from) (position_from p (from + 1) names)) passes ∙ ap Some (omega arith)
+position_at p (name ∷ names) from (suc v) inside passes others =
+    ap (λ b. cond b (Some from) (position_from p (from + 1) names)) (others 0 (omega arith))
+    ∙ position_at p names (from + 1) v (omega (arith, inside)) passes (λ u below. others (suc u) (omega (arith, below)))
+    ∙ ap Some (omega arith)
+
+position_none : (p : Text → Bool) (names : List Text) (from : ℕ) → ((u : ℕ) → u < length names → p (get_or names u []) ≡ false) → position_from p from names ≡ None
+position_none p [] from fails = refl
+position_none p (name ∷ names) from fails =
+    ap (λ b. cond b (Some from) (position_from p (from + 1) names)) (fails 0 (omega arith))
+    ∙ position_none p names (from + 1) (λ u inside. fails (suc u) (omega (arith, inside)))
+
+-- the variables of which the first `m` are declared so far
+record AreNames (names : List Text) : Type 0 where
+  each : All (λ name. is_variable_name name ≡ true) names
+  apart : AreApart names
+
+-- another variable has another name
+differs : (names : List Text) → AreNames names → (u v : ℕ) → u < length names → v < length names → (u ≡ v → ⊥) → bytes_eq (name_of names u) (name_of names v) ≡ false
+differs names are u v u_in v_in apart = other_text _ _ (λ same. apart (are.apart u v u_in v_in same))
+
+known : (names : List Text) → AreNames names → (m v : ℕ) → m ≤ length names → v < m → number_of (take m names) (name_of names v) ≡ Some v
+unfolding number_of
+known names are m v within below_m =
+    let count : length (take m names) ≡ m = length-take-le m names within in
+    position_at (λ name. bytes_eq name (name_of names v)) (take m names) 0 v (omega (arith, count, below_m))
+      (same_text _ _ (get_or-take m names v [] below_m))
+      (λ u below. ap (λ name. bytes_eq name (name_of names v)) (get_or-take m names u [] (omega (arith, below, below_m))) ∙ differs names are u v (omega (arith, below, below_m, within)) (omega (arith, below_m, within)) (omega (arith, below)))
+    ∙ ap Some (omega arith)
+
+unknown : (names : List Text) → AreNames names → (m : ℕ) → m < length names → number_of (take m names) (name_of names m) ≡ None
+unfolding number_of
+unknown names are m within =
+    let count : length (take m names) ≡ m = length-take-le m names (omega (arith, within)) in
+    position_none (λ name. bytes_eq name (name_of names m)) (take m names) 0
+      (λ u inside. ap (λ name. bytes_eq name (name_of names m)) (get_or-take m names u [] (omega (arith, inside, count))) ∙ differs names are u m (omega (arith, inside, count, within)) within (omega (arith, inside, count)))
+
+variable_name : (names : List Text) → AreNames names → (v : ℕ) → v < length names → is_variable_name (name_of names v) ≡ true
+variable_name names are v inside = All-get_or (λ name. is_variable_name name ≡ true) names v [] inside are.each
+
+-- a word that a variable may have as its name is no word of the language
+not_reserved : (word reserved : Text) → is_variable_name word ≡ true → is_reserved reserved ≡ true → bytes_eq word reserved ≡ false
+not_reserved word reserved name kept = other_text word reserved (λ same. both_ways _ (not-true _ (and_parts _ _ name).1) (subst (λ w. is_reserved w ≡ true) (sym same) kept))
+
+int_is_reserved : is_reserved (codes "int") ≡ true
+unfolding reserved_words
+int_is_reserved = refl
+
+return_is_reserved : is_reserved (codes "return") ≡ true
+unfolding reserved_words
+return_is_reserved = refl
+
+-- ## One word
+
+abbrev at : List Text → List Item → List Atom → Expecting → Reading
+at names items others expecting = record { names = names; items = items; others = others; expecting = expecting }
+
+-- between two items, where the first `m` variables are declared
+abbrev between : List Text → ℕ → List Item → Reading
+between names m items = at (take m names) items [] AnItem
+
+go : (word : Text) (words : List Text) (r next : Reading) → step word r ≡ Some next → steps (word ∷ words) r ≡ steps words next
+go word words r next e = ap (λ o. option_and_then (steps words) o) e
+
+atom_again : (names : List Text) → AreNames names → (declared m : ℕ) → declared ≤ m → m ≤ length names → (a : Atom) → AtomFits declared a → atom_of declared (take m names) (atom_word names a) ≡ Some a
+unfolding atom_of
+atom_again names are declared m in_m within (Number n) fits =
+    ap (λ o. number_or_variable o (option_and_then (below declared) (number_of (take m names) (decimal n)))) (numeral_again n fits)
+atom_again names are declared m in_m within (Variable v) fits =
+    ap (λ o. number_or_variable o (option_and_then (below declared) (number_of (take m names) (name_of names v)))) (numeral_none (name_of names v) (and_parts _ _ (variable_name names are v (omega (arith, fits, in_m, within)))).0)
+    ∙ ap (λ o. option_map Variable (option_and_then (below declared) o)) (known names are m v within (omega (arith, fits, in_m)))
+    ∙ ap (λ b. option_map Variable (cond b (Some v) None)) (lt-ltb v declared fits)
+
+-- ## Sums, items and all the words
+
+joins : (names : List Text) (items : List Item) (done : List Atom) (t : Target) (first : Atom) → step (codes "+") (at names items done (Joint t first)) ≡ Some (at names items done (NextAtom t first))
+unfolding step
+joins names items done t first = refl
+
+adds : (names : List Text) (items : List Item) (done : List Atom) (t : Target) (first : Atom) (word : Text) (a : Atom) → atom_of (readable t names) names word ≡ Some a → step word (at names items done (NextAtom t first)) ≡ Some (at names items (done ++ a ∷ []) (Joint t first))
+unfolding step
+adds names items done t first word a e = ap (λ o. option_map (λ a. at names items (done ++ a ∷ []) (Joint t first)) o) e
+
+begins : (names : List Text) (items : List Item) (t : Target) (word : Text) (a : Atom) → atom_of (readable t names) names word ≡ Some a → step word (at names items [] (FirstAtom t)) ≡ Some (at names items [] (Joint t a))
+unfolding step
+begins names items t word a e = ap (λ o. option_map (λ a. at names items [] (Joint t a)) o) e
+
+closes : (names : List Text) (items : List Item) (t : Target) (s : Sum) → step (codes ";") (at names items s.others (Joint t s.first)) ≡ Some (at names (items ++ item_for t s ∷ []) [] AnItem)
+unfolding step
+closes names items t s = refl
+
+addends_again : (names : List Text) → AreNames names → (m : ℕ) → m ≤ length names → (items : List Item) (t : Target) (first : Atom) → readable t (take m names) ≤ m → (others done : List Atom) → All (AtomFits (readable t (take m names))) others → (rest : List Text)
+    → steps (addend_words names others ++ rest) (at (take m names) items done (Joint t first)) ≡ steps rest (at (take m names) items (done ++ others) (Joint t first))
+addends_again names are m within items t first in_m [] done fit rest = ap (λ (o : List Atom). steps rest (at (take m names) items o (Joint t first))) (sym (append-nil done))
+addends_again names are m within items t first in_m (a ∷ others) done fit rest =
+    go (codes "+") (atom_word names a ∷ (addend_words names others ++ rest)) (at (take m names) items done (Joint t first)) (at (take m names) items done (NextAtom t first)) (joins (take m names) items done t first)
+    ∙ go (atom_word names a) (addend_words names others ++ rest) (at (take m names) items done (NextAtom t first)) (at (take m names) items (done ++ a ∷ []) (Joint t first)) (adds (take m names) items done t first (atom_word names a) a (atom_again names are (readable t (take m names)) m in_m within a (All-head (AtomFits (readable t (take m names))) a others fit)))
+    ∙ addends_again names are m within items t first in_m others (done ++ a ∷ []) (All-tail (AtomFits (readable t (take m names))) a others fit) rest
+    ∙ ap (λ (o : List Atom). steps rest (at (take m names) items o (Joint t first))) (append_assoc done (a ∷ []) others)
+
+-- a sum with its `;`
+sum_again : (names : List Text) → AreNames names → (m : ℕ) → m ≤ length names → (items : List Item) (t : Target) → readable t (take m names) ≤ m → (s : Sum) → SumFits (readable t (take m names)) s → (rest : List Text)
+    → steps (sum_words names s.first s.others ++ codes ";" ∷ rest) (at (take m names) items [] (FirstAtom t)) ≡ steps rest (at (take m names) (items ++ item_for t s ∷ []) [] AnItem)
+sum_again names are m within items t in_m s fits rest =
+    go (atom_word names s.first) (addend_words names s.others ++ codes ";" ∷ rest) (at (take m names) items [] (FirstAtom t)) (at (take m names) items [] (Joint t s.first)) (begins (take m names) items t (atom_word names s.first) s.first (atom_again names are (readable t (take m names)) m in_m within s.first fits.first))
+    ∙ addends_again names are m within items t s.first in_m s.others [] fits.others (codes ";" ∷ rest)
+    ∙ go (codes ";") rest (at (take m names) items s.others (Joint t s.first)) (at (take m names) (items ++ item_for t s ∷ []) [] AnItem) (closes (take m names) items t s)
+
+
+starts_new : (names : List Text) (items : List Item) → step (codes "int") (at names items [] AnItem) ≡ Some (at names items [] NewName)
+unfolding step
+starts_new names items = refl
+
+declares : (names : List Text) → AreNames names → (m : ℕ) → m < length names → (items : List Item) → step (name_of names m) (at (take m names) items [] NewName) ≡ Some (at (take (m + 1) names) items [] (Declared m))
+unfolding step
+declares names are m within items =
+    let word = name_of names m in
+    let made : List Text → ℕ → Option Reading = λ ns n. Some (at ns items [] (Declared n)) in
+    ap (λ b. cond b (made (take m names ++ word ∷ []) (length (take m names))) None) (and_from _ _ (variable_name names are m within) (ap is_none (unknown names are m within)))
+    ∙ ap (λ (ns : List Text). made ns (length (take m names))) (sym (take_more names m [] within))
+    ∙ ap (λ n. made (take (m + 1) names) n) (length-take-le m names (omega (arith, within)))
+
+declared_ends : (names : List Text) (items : List Item) (v : ℕ) → step (codes ";") (at names items [] (Declared v)) ≡ Some (at names (items ++ Declare v ∷ []) [] AnItem)
+unfolding step
+declared_ends names items v = refl
+
+declared_is_set : (names : List Text) (items : List Item) (v : ℕ) → step (codes "=") (at names items [] (Declared v)) ≡ Some (at names items [] (FirstAtom (New v)))
+unfolding step
+declared_is_set names items v = refl
+
+assigned_is_set : (names : List Text) (items : List Item) (v : ℕ) → step (codes "=") (at names items [] (Assigned v)) ≡ Some (at names items [] (FirstAtom (Old v)))
+unfolding step
+assigned_is_set names items v = refl
+
+assigns : (names : List Text) → AreNames names → (m v : ℕ) → m ≤ length names → v < m → (items : List Item) → step (name_of names v) (between names m items) ≡ Some (at (take m names) items [] (Assigned v))
+unfolding step
+assigns names are m v within below_m items =
+    let r = between names m items in
+    let word = name_of names v in
+    let name = variable_name names are v (omega (arith, within, below_m)) in
+    ap (λ b. cond b (Some (expect NewName r)) (cond (bytes_eq word (codes "return")) (Some (expect Value r)) (option_map (λ v. expect (Assigned v) r) (number_of (take m names) word)))) (not_reserved word (codes "int") name int_is_reserved)
+    ∙ ap (λ b. cond b (Some (expect Value r)) (option_map (λ v. expect (Assigned v) r) (number_of (take m names) word))) (not_reserved word (codes "return") name return_is_reserved)
+    ∙ ap (λ o. option_map (λ v. expect (Assigned v) r) o) (known names are m v within below_m)
+
+item_again : (names : List Text) → AreNames names → (m : ℕ) (items : List Item) (i : Item) → ItemFits m i → declared_after m i ≤ length names → (rest : List Text)
+    → steps (item_words names i ++ rest) (between names m items) ≡ steps rest (between names (declared_after m i) (items ++ i ∷ []))
+item_again names are m items (Declare v) fits within rest =
+    ap (λ v. steps (item_words names (Declare v) ++ rest) (between names m items)) fits
+    ∙ go (codes "int") (name_of names m ∷ codes ";" ∷ rest) (between names m items) (at (take m names) items [] NewName) (starts_new (take m names) items)
+    ∙ go (name_of names m) (codes ";" ∷ rest) (at (take m names) items [] NewName) (at (take (m + 1) names) items [] (Declared m)) (declares names are m (omega (arith, within)) items)
+    ∙ go (codes ";") rest (at (take (m + 1) names) items [] (Declared m)) (between names (m + 1) (items ++ Declare m ∷ [])) (declared_ends (take (m + 1) names) items m)
+    ∙ ap (λ v. steps rest (between names (m + 1) (items ++ Declare v ∷ []))) (sym fits)
+item_again names are m items (Initialise v s) fits within rest =
+    ap (λ v. steps (item_words names (Initialise v s) ++ rest) (between names m items)) fits.0
+    ∙ go (codes "int") (name_of names m ∷ codes "=" ∷ ((sum_words names s.first s.others ++ codes ";" ∷ []) ++ rest)) (between names m items) (at (take m names) items [] NewName) (starts_new (take m names) items)
+    ∙ go (name_of names m) (codes "=" ∷ ((sum_words names s.first s.others ++ codes ";" ∷ []) ++ rest)) (at (take m names) items [] NewName) (at (take (m + 1) names) items [] (Declared m)) (declares names are m (omega (arith, within)) items)
+    ∙ go (codes "=") ((sum_words names s.first s.others ++ codes ";" ∷ []) ++ rest) (at (take (m + 1) names) items [] (Declared m)) (at (take (m + 1) names) items [] (FirstAtom (New m))) (declared_is_set (take (m + 1) names) items m)
+    ∙ ap (λ (words : List Text). steps words (at (take (m + 1) names) items [] (FirstAtom (New m)))) (append_assoc (sum_words names s.first s.others) (codes ";" ∷ []) rest)
+    ∙ sum_again names are (m + 1) within items (New m) (omega arith) s fits.1 rest
+    ∙ ap (λ v. steps rest (between names (m + 1) (items ++ Initialise v s ∷ []))) (sym fits.0)
+item_again names are m items (Assign v s) fits within rest =
+    let count : length (take m names) ≡ m = length-take-le m names within in
+    go (name_of names v) (codes "=" ∷ ((sum_words names s.first s.others ++ codes ";" ∷ []) ++ rest)) (between names m items) (at (take m names) items [] (Assigned v)) (assigns names are m v within fits.0 items)
+    ∙ go (codes "=") ((sum_words names s.first s.others ++ codes ";" ∷ []) ++ rest) (at (take m names) items [] (Assigned v)) (at (take m names) items [] (FirstAtom (Old v))) (assigned_is_set (take m names) items v)
+    ∙ ap (λ (words : List Text). steps words (at (take m names) items [] (FirstAtom (Old v)))) (append_assoc (sum_words names s.first s.others) (codes ";" ∷ []) rest)
+    ∙ sum_again names are m within items (Old v) (omega (arith, count)) s (subst (λ n. SumFits n s) (sym count) fits.1) rest
+
+items_again : (names : List Text) → AreNames names → (m : ℕ) (done items : List Item) (last : ℕ) → ItemsFit m items last → last ≤ length names → (rest : List Text)
+    → steps (items_words names items ++ rest) (between names m done) ≡ steps rest (between names last (done ++ items))
+items_again names are m done [] last fit within rest =
+    ap (λ m. steps rest (between names m done)) fit ∙ ap (λ (is : List Item). steps rest (between names last is)) (sym (append-nil done))
+items_again names are m done (i ∷ items) last fit within rest =
+    ap (λ (words : List Text). steps words (between names m done)) (append_assoc (item_words names i) (items_words names items) rest)
+    ∙ item_again names are m done i fit.0 (omega (arith, within, fit_rises (declared_after m i) items last fit.1)) (items_words names items ++ rest)
+    ∙ items_again names are (declared_after m i) (done ++ i ∷ []) items last fit.1 within rest
+    ∙ ap (λ (is : List Item). steps rest (between names last is)) (append_assoc done (i ∷ []) items)
+
+returns : (names : List Text) (items : List Item) → step (codes "return") (at names items [] AnItem) ≡ Some (at names items [] Value)
+unfolding step
+returns names items = refl
+
+returns_number : (names : List Text) (items : List Item) (n : ℕ) → n ≤ greatest_int → step (decimal n) (at names items [] Value) ≡ Some (at names items [] (End n))
+unfolding step
+returns_number names items n small = ap (λ o. option_map (λ n. at names items [] (End n)) o) (numeral_again n small)
+
+closes_return : (names : List Text) (items : List Item) (n : ℕ) → step (codes ";") (at names items [] (End n)) ≡ Some (at names items [] (Brace n))
+unfolding step
+closes_return names items n = refl
+
+closes_body : (names : List Text) (items : List Item) (n : ℕ) → step (codes "}") (at names items [] (Brace n)) ≡ Some (at names items [] (Nothing n))
+unfolding step
+closes_body names items n = refl
+
+pub body_again : (names : List Text) (p : Program) → IsProgram names p → body_of (items_words names p.items ++ return_words p.returned) ≡ Some p
+unfolding body_of
+body_again names p is =
+    let are : AreNames names = record { each = is.each; apart = is.apart } in
+    let ns = take p.variables names in
+    let all : steps (items_words names p.items ++ return_words p.returned) start ≡ Some (at ns p.items [] (Nothing p.returned)) =
+        items_again names are 0 [] p.items p.variables is.items (omega (arith, is.count)) (return_words p.returned)
+        ∙ go (codes "return") (decimal p.returned ∷ codes ";" ∷ codes "}" ∷ []) (at ns p.items [] AnItem) (at ns p.items [] Value) (returns ns p.items)
+        ∙ go (decimal p.returned) (codes ";" ∷ codes "}" ∷ []) (at ns p.items [] Value) (at ns p.items [] (End p.returned)) (returns_number ns p.items p.returned is.returned)
+        ∙ go (codes ";") (codes "}" ∷ []) (at ns p.items [] (End p.returned)) (at ns p.items [] (Brace p.returned)) (closes_return ns p.items p.returned)
+        ∙ go (codes "}") [] (at ns p.items [] (Brace p.returned)) (at ns p.items [] (Nothing p.returned)) (closes_body ns p.items p.returned) in
+    ap (λ o. option_and_then (λ (r : Reading). whole_at r.expecting r) o) all
+    ∙ ap (λ n. Some (record { variables = n; items = p.items; returned = p.returned })) (length-take-le p.variables names (omega (arith, is.count)))

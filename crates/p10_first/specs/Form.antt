@@ -1,0 +1,125 @@
+-- The words of a program of the first form, and which programs there are.
+-- The form is a part of C99 6.7, 6.8 and 6.9: `int main ( void ) { items return N ; }`.
+use Rattle.std.specs.Prelude.{◌≡◌, ℕ, ◌+◌, ◌<◌, ◌≤◌, List, [], ◌∷◌, ◌++◌, All, codes, bytes_eq, decimal, slice_index_or, length, IsTrue, Bool, not, nat_le, ◌&&◌, ◌||◌, true, false, map}
+use Rattle.std.specs.List.{list_all, flat_map}
+use Rattle.p10_first.specs.declared.program.Atom.{Atom}
+use Rattle.p10_first.specs.declared.program.Atom.TheVariants.{Number, Variable}
+use Rattle.p10_first.specs.declared.program.Sum.{Sum}
+use Rattle.p10_first.specs.declared.program.Item.{Item}
+use Rattle.p10_first.specs.declared.program.Item.TheVariants.{Declare, Initialise, Assign}
+use Rattle.p10_first.specs.declared.program.Program.{Program}
+use Rattle.p10_base.specs.declared.word.Word.{Word}
+use Rattle.p10_first.specs.Names.{is_reserved}
+
+-- ## The words that spell a program, where its variables have these names
+
+-- a word is a list of bytes
+abbrev pub Text : Type 0
+Text = List ℕ
+
+-- the name of the variable with this number
+abbrev pub name_of : List Text → ℕ → Text
+name_of names variable = slice_index_or names variable []
+
+abbrev pub atom_word : List Text → Atom → Text
+atom_word names (Number n) = decimal n
+atom_word names (Variable v) = name_of names v
+
+-- the further atoms of a sum, each behind its `+`
+abbrev pub addend_words : List Text → List Atom → List Text
+addend_words names [] = []
+addend_words names (a ∷ others) = codes "+" ∷ atom_word names a ∷ addend_words names others
+
+abbrev pub sum_words : List Text → Atom → List Atom → List Text
+sum_words names first others = atom_word names first ∷ addend_words names others
+
+abbrev pub item_words : List Text → Item → List Text
+item_words names (Declare v) = codes "int" ∷ name_of names v ∷ codes ";" ∷ []
+item_words names (Initialise v s) = codes "int" ∷ name_of names v ∷ codes "=" ∷ sum_words names s.first s.others ++ codes ";" ∷ []
+item_words names (Assign v s) = name_of names v ∷ codes "=" ∷ sum_words names s.first s.others ++ codes ";" ∷ []
+
+abbrev pub items_words : List Text → List Item → List Text
+items_words names [] = []
+items_words names (i ∷ items) = item_words names i ++ items_words names items
+
+-- the words before the items, and those behind them
+abbrev pub head_words : List Text
+head_words = codes "int" ∷ codes "main" ∷ codes "(" ∷ codes "void" ∷ codes ")" ∷ codes "{" ∷ []
+
+abbrev pub return_words : ℕ → List Text
+return_words n = codes "return" ∷ decimal n ∷ codes ";" ∷ codes "}" ∷ []
+
+-- the words of a program
+abbrev pub program_words : List Text → Program → List Text
+program_words names p = head_words ++ (items_words names p.items ++ return_words p.returned)
+
+-- ## Which programs there are
+
+-- a letter or `_` (C99 6.4.2.1)
+abbrev pub is_letter : ℕ → Bool
+is_letter b = (nat_le 97 b && nat_le b 122) || (nat_le 65 b && nat_le b 90) || nat_le 95 b && nat_le b 95
+
+abbrev pub is_digit : ℕ → Bool
+is_digit b = nat_le 48 b && nat_le b 57
+
+-- a C name: a letter or `_`, then letters, digits and `_`
+abbrev pub is_name : Text → Bool
+is_name [] = false
+is_name (b ∷ bytes) = is_letter b && list_all (λ c. is_letter c || is_digit c) bytes
+
+-- a name that a variable may have: no keyword, not `main`, and no library function
+abbrev pub is_variable_name : Text → Bool
+is_variable_name word = is_name word && not (is_reserved word)
+
+-- the greatest value of an `int`
+abbrev pub greatest_int : ℕ
+greatest_int = 2147483647
+
+-- an operand is a constant of type `int`, or one of the variables that are declared so far
+abbrev pub AtomFits : ℕ → Atom → Type 0
+AtomFits declared (Number n) = n ≤ greatest_int
+AtomFits declared (Variable v) = v < declared
+
+pub record SumFits (declared : ℕ) (sum : Sum) : Type 0 where
+  pub first : AtomFits declared sum.first
+  pub others : All (AtomFits declared) sum.others
+
+-- an item declares the next variable, or assigns to one that is declared; it reads only variables
+-- that earlier items declare
+abbrev pub ItemFits : ℕ → Item → Type 0
+ItemFits declared (Declare v) = v ≡ declared
+ItemFits declared (Initialise v s) = (v ≡ declared) × SumFits declared s
+ItemFits declared (Assign v s) = (v < declared) × SumFits declared s
+
+-- how many variables are declared behind an item
+abbrev pub declared_after : ℕ → Item → ℕ
+declared_after declared (Declare v) = declared + 1
+declared_after declared (Initialise v s) = declared + 1
+declared_after declared (Assign v s) = declared
+
+-- each item fits where so many variables are declared before them, and `last` behind them
+abbrev pub ItemsFit : ℕ → List Item → ℕ → Type 0
+ItemsFit declared [] last = declared ≡ last
+ItemsFit declared (i ∷ items) last = ItemFits declared i × ItemsFit (declared_after declared i) items last
+
+-- no two variables have the same name
+abbrev pub AreApart : List Text → Type 0
+AreApart names = (u v : ℕ) → u < length names → v < length names → name_of names u ≡ name_of names v → u ≡ v
+
+-- a program whose variables have these names
+pub record IsProgram (names : List Text) (p : Program) : Type 0 where
+  pub count : length names ≡ p.variables
+  pub each : All (λ name. is_variable_name name ≡ true) names
+  pub apart : AreApart names
+  pub items : ItemsFit 0 p.items p.variables
+  pub returned : p.returned ≤ greatest_int
+
+-- these words are those of this program
+pub record Spells (words : List Text) (p : Program) : Type 0 where
+  pub names : List Text
+  pub is_program : IsProgram names p
+  pub words_are : words ≡ program_words names p
+
+-- the texts of words
+abbrev pub texts : List Word → List Text
+texts words = map (λ (word : Word). word.text.now) words
