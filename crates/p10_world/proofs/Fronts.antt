@@ -1,5 +1,5 @@
 -- What a sink took of several writes, one after the other, is the front of what they were to write.
-use Rattle.std.proofs.Common.{◌≡◌, ℕ, List, ◌++◌, sym, ap, ◌∙◌, append_assoc, take, drop, take-append-drop}
+use Rattle.std.proofs.Common.{ℕ, List, ◌++◌, sym, ap, ◌∙◌, append_assoc, take, drop, take-append-drop}
 use Rattle.std.specs.Prelude.{Option}
 use Rattle.std.specs.Io.KnownBytes.{Appends}
 use Rattle.std.proofs.KnownBytes.{Appends-trans}
@@ -11,7 +11,7 @@ front_of_part old new text wrote part = record {
   front = take wrote text;
   back = drop wrote text;
   parts = sym (take-append-drop wrote text);
-  taken = part.1;
+  taken = part.taken;
 }
 
 -- the first write stopped half-way, so the second was not tried
@@ -32,4 +32,4 @@ front_of_second old middle new first second all part = record {
   taken = Appends-trans old middle new first part.front all part.taken;
 }
 
-pub ruleset fronts = (front_of_part, front_of_first, front_of_second)
+pub ruleset fronts = (front_of_first, front_of_second)

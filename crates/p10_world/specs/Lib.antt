@@ -3,3 +3,8 @@ pub mod Faults
 pub mod Files
 pub mod Source
 pub mod Sink
+pub mod Plan
+pub mod HeldFiles
+pub mod Given
+pub mod Room
+pub mod MemSink

@@ -3,8 +3,9 @@ use Rattle.std.specs.Prelude.{◌≡◌, ℕ, ◌<◌, List, ◌++◌, length, t
 use Rattle.std.specs.Io.KnownBytes.{Appends}
 
 -- the sink took the first `wrote` of these bytes, and not all of them
-abbrev pub TakesPart : Option (List ℕ) → Option (List ℕ) → List ℕ → ℕ → Type 0
-TakesPart old new bytes wrote = (wrote < length bytes) × Appends old new (take wrote bytes)
+pub record TakesPart (old new : Option (List ℕ)) (bytes : List ℕ) (wrote : ℕ) : Type 0 where
+  pub fewer : wrote < length bytes
+  pub taken : Appends old new (take wrote bytes)
 
 -- what the sink took is the front of a text
 pub record TakesFront (old new : Option (List ℕ)) (text : List ℕ) : Type 0 where

@@ -13,13 +13,26 @@ ghost use Rattle.std.specs.Io.KnownBytes.{Appends, Keeps};
 ghost use Rattle.p10_world.specs.Faults.{Rose};
 ghost use Rattle.p10_world.specs.Files.{Named, Lacks, GrowsByFile, GrowsAtMost};
 ghost use Rattle.p10_world.specs.Source.{GivesNext, EndsAtZero};
-ghost use Rattle.p10_world.specs.Sink.{TakesPart};
+ghost use Rattle.p10_world.specs.Sink.{TakesFront, TakesPart};
 
 use std::alloc::Global;
 
+mod given;
+mod held_files;
+mod host_files;
+mod host_streams;
+mod mem_files;
+mod mem_sink;
+mod mem_source;
+mod plan;
 mod sure;
 
-pub use sure::SureSink;
+pub use host_files::HostFiles;
+pub use host_streams::{HostSink, HostSource};
+pub use mem_files::MemFiles;
+pub use mem_sink::MemSink;
+pub use mem_source::MemSource;
+pub use sure::{SureFiles, SureSink, SureSource};
 
 /// Files that are read by their names.
 pub trait Files {
@@ -107,6 +120,7 @@ pub trait Sink {
     fn put(&mut self, bytes: &[u8]) -> Result<(), SinkFault>
         ensures ok { OnOk result (Appends (taken self.old) (taken self.new) bytes.now) }
         ensures part { IfErr result (λ fault. TakesPart (taken self.old) (taken self.new) bytes.now fault.wrote) }
+        ensures front { OnErr result (TakesFront (taken self.old) (taken self.new) bytes.now) }
         ensures failed { OnErr result (Rose (faults self.old) (faults self.new)) }
         ensures count { faults self.old ≤ faults self.new };
 }
