@@ -8,3 +8,7 @@ pub mod HeldFiles
 pub mod Given
 pub mod Room
 pub mod MemSink
+pub mod MemFiles
+pub mod MemSource
+pub mod Sure
+pub mod Host

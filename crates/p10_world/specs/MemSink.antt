@@ -9,3 +9,7 @@ taken_of sink = sink.bytes.items
 -- how many bytes more it takes before it fails
 abbrev pub room_of : MemSink → ℕ
 room_of sink = sink.room - length sink.bytes.items
+
+-- how many calls failed
+abbrev pub faults_of : MemSink → ℕ
+faults_of sink = sink.faults

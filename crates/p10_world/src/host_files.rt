@@ -20,18 +20,22 @@ pub struct HostFiles<R> {
 }
 
 impl<R: rt::Files + Drop> HostFiles<R> {
+    ghost use Rattle.p10_world.specs.Host.{files_faults_of};
+
     /// The files of that runtime, and no fault yet.
     pub fn new(runtime: R) -> HostFiles<R>
-        ensures { result.faults ≡ 0 }
+        ensures { files_faults_of result ≡ 0 }
     {
         HostFiles { runtime, faults: 0 }
     }
 }
 
 impl<R: rt::Files + Drop> Files for HostFiles<R> {
+    ghost use Rattle.p10_world.specs.Host.{files_faults_of};
+
     ghost held = { λ _. None };
 
-    ghost faults = { λ host. host.faults };
+    ghost faults = { λ host. files_faults_of host };
 
     fn read(
         &mut self,

@@ -15,19 +15,23 @@ pub struct HostSource<R> {
 }
 
 impl<R: Read + Drop> HostSource<R> {
+    ghost use Rattle.p10_world.specs.Host.{source_of, source_faults_of};
+
     /// The bytes of that stream, and no fault yet.
     pub fn new(stream: R) -> HostSource<R>
-        ensures stream { result.stream ≡ stream }
-        ensures faults { result.faults ≡ 0 }
+        ensures stream { source_of result ≡ stream }
+        ensures faults { source_faults_of result ≡ 0 }
     {
         HostSource { stream, faults: 0 }
     }
 }
 
 impl<R: Read + Drop> Source for HostSource<R> {
-    ghost left = { λ host. R.remaining host.stream };
+    ghost use Rattle.p10_world.specs.Host.{source_of, source_faults_of};
 
-    ghost faults = { λ host. host.faults };
+    ghost left = { λ host. R.remaining (source_of host) };
+
+    ghost faults = { λ host. source_faults_of host };
 
     fn piece(&mut self, buf: &mut [u8]) -> Result<usize, Failed> {
         match self.stream.read(buf) {
@@ -49,19 +53,23 @@ pub struct HostSink<W> {
 }
 
 impl<W: Write + Drop> HostSink<W> {
+    ghost use Rattle.p10_world.specs.Host.{sink_of, sink_faults_of};
+
     /// A sink to that stream, and no fault yet.
     pub fn new(stream: W) -> HostSink<W>
-        ensures stream { result.stream ≡ stream }
-        ensures faults { result.faults ≡ 0 }
+        ensures stream { sink_of result ≡ stream }
+        ensures faults { sink_faults_of result ≡ 0 }
     {
         HostSink { stream, faults: 0 }
     }
 }
 
 impl<W: Write + Drop> Sink for HostSink<W> {
-    ghost taken = { λ host. W.contents host.stream };
+    ghost use Rattle.p10_world.specs.Host.{sink_of, sink_faults_of};
 
-    ghost faults = { λ host. host.faults };
+    ghost taken = { λ host. W.contents (sink_of host) };
+
+    ghost faults = { λ host. sink_faults_of host };
 
     fn put(&mut self, bytes: &[u8]) -> Result<(), SinkFault> {
         let mut wrote = 0;

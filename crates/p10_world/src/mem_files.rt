@@ -18,14 +18,15 @@ pub struct MemFiles {
 }
 
 impl MemFiles {
-    ghost use Rattle.p10_world.specs.HeldFiles.{files_of};
+    ghost use Rattle.p10_world.specs.MemFiles.{held_of, plan_of};
+    ghost use Rattle.p10_world.specs.Plan.{calls_of, fails_of, faults_of};
 
     /// No files; the calls whose numbers stand in `fails` are to fail.
     pub fn new(alloc: Global, fails: Vec<u64>) -> MemFiles
-        ensures empty { files_of result.held ≡ [] }
-        ensures fails { result.plan.fails.items ≡ fails.items }
-        ensures calls { result.plan.calls ≡ 0 }
-        ensures faults { result.plan.faults ≡ 0 }
+        ensures empty { held_of result ≡ [] }
+        ensures fails { fails_of (plan_of result) ≡ fails.items }
+        ensures calls { calls_of (plan_of result) ≡ 0 }
+        ensures faults { faults_of (plan_of result) ≡ 0 }
     {
         MemFiles {
             held: HeldFiles::new(alloc),
@@ -39,28 +40,28 @@ impl MemFiles {
     ///
     /// Want of memory; the files are then as before.
     pub fn add(&mut self, name: String, bytes: Vec<u8>) -> Result<(), AllocError>
-        ensures added { OnOk result (files_of self.new.held ≡ record { name = string_bytes name; bytes = bytes.items } ∷ files_of self.old.held) }
-        ensures refused { OnErr result (files_of self.new.held ≡ files_of self.old.held) }
-        ensures plan { self.new.plan ≡ self.old.plan }
+        ensures added { OnOk result (held_of self.new ≡ record { name = string_bytes name; bytes = bytes.items } ∷ held_of self.old) }
+        ensures refused { OnErr result (held_of self.new ≡ held_of self.old) }
+        ensures plan { plan_of self.new ≡ plan_of self.old }
     {
         self.held.add(name, bytes)
     }
 
     /// How many calls of [`Files::read`] were made.
     pub fn calls(&self) -> u64
-        ensures { result ≡ self.now.plan.calls }
+        ensures { result ≡ calls_of (plan_of self.now) }
     {
         self.plan.calls()
     }
 }
 
 impl Files for MemFiles {
-    ghost use Rattle.p10_world.specs.HeldFiles.{files_of};
-    ghost use Rattle.p10_world.specs.Plan.{CountsCall, fails_next};
+    ghost use Rattle.p10_world.specs.MemFiles.{held_of, plan_of};
+    ghost use Rattle.p10_world.specs.Plan.{CountsCall, fails_next, faults_of};
 
-    ghost held = { λ memory. Some (files_of memory.held) };
+    ghost held = { λ memory. Some (held_of memory) };
 
-    ghost faults = { λ memory. memory.plan.faults };
+    ghost faults = { λ memory. faults_of (plan_of memory) };
 
     fn read(
         &mut self,
@@ -69,15 +70,15 @@ impl Files for MemFiles {
         limit: u64,
         into: &mut Vec<u8>,
     ) -> Result<(), FileFault>
-        ensures held { files_of self.new.held ≡ files_of self.old.held }
-        ensures read { OnOk result (GrowsByFile (Some (files_of self.old.held)) name.now limit into.old.items into.new.items) }
+        ensures held { held_of self.new ≡ held_of self.old }
+        ensures read { OnOk result (GrowsByFile (Some (held_of self.old)) name.now limit into.old.items into.new.items) }
         ensures most { OnOk result (GrowsAtMost limit into.old.items into.new.items) }
-        ensures absent { IsErrOf result FileFault.Absent → Lacks (Some (files_of self.old.held)) name.now }
-        ensures lacking { Lacks (Some (files_of self.old.held)) name.now → IsErrOf result FileFault.Failed ⊎ IsErrOf result FileFault.Absent }
-        ensures failed { IsErrOf result FileFault.Failed ↔ IsTrue (fails_next self.old.plan) }
-        ensures rose { IsErrOf result FileFault.Failed → Rose self.old.plan.faults self.new.plan.faults }
-        ensures count { self.old.plan.faults ≤ self.new.plan.faults }
-        ensures counted { CountsCall self.old.plan self.new.plan }
+        ensures absent { IsErrOf result FileFault.Absent → Lacks (Some (held_of self.old)) name.now }
+        ensures lacking { Lacks (Some (held_of self.old)) name.now → IsErrOf result FileFault.Failed ⊎ IsErrOf result FileFault.Absent }
+        ensures failed { IsErrOf result FileFault.Failed ↔ IsTrue (fails_next (plan_of self.old)) }
+        ensures rose { IsErrOf result FileFault.Failed → Rose (faults_of (plan_of self.old)) (faults_of (plan_of self.new)) }
+        ensures count { faults_of (plan_of self.old) ≤ faults_of (plan_of self.new) }
+        ensures counted { CountsCall (plan_of self.old) (plan_of self.new) }
         ensures refused { OnErr result (into.new.items ≡ into.old.items) }
     {
         if self.plan.next_fails() {

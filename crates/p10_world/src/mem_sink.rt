@@ -20,7 +20,7 @@ pub struct MemSink {
 }
 
 impl MemSink {
-    ghost use Rattle.p10_world.specs.MemSink.{taken_of, room_of};
+    ghost use Rattle.p10_world.specs.MemSink.{faults_of, room_of, taken_of};
 
     /// Nothing taken yet, and room for `capacity` bytes; with `fail_after` it fails after so many
     /// bytes.
@@ -31,7 +31,7 @@ impl MemSink {
     ) -> Result<MemSink, AllocError>
         ensures empty { IfOk result (λ sink. taken_of sink ≡ []) }
         ensures room { IfOk result (λ sink. room_of sink ≡ room_for capacity fail_after) }
-        ensures faults { IfOk result (λ sink. sink.faults ≡ 0) }
+        ensures faults { IfOk result (λ sink. faults_of sink ≡ 0) }
     {
         let bytes = Vec::with_capacity(alloc, capacity)?;
         let room = match fail_after {
@@ -54,11 +54,11 @@ impl MemSink {
 }
 
 impl Sink for MemSink {
-    ghost use Rattle.p10_world.specs.MemSink.{taken_of, room_of};
+    ghost use Rattle.p10_world.specs.MemSink.{faults_of, room_of, taken_of};
 
     ghost taken = { λ memory. Some (taken_of memory) };
 
-    ghost faults = { λ memory. memory.faults };
+    ghost faults = { λ memory. faults_of memory };
 
     // The room was made by the constructor, so no call takes memory.
     fn put(&mut self, bytes: &[u8]) -> Result<(), SinkFault>
@@ -68,8 +68,8 @@ impl Sink for MemSink {
         ensures front { OnErr result (TakesFront (Some (taken_of self.old)) (Some (taken_of self.new)) bytes.now) }
         ensures wrote { IfErr result (λ fault. fault.wrote ≡ room_of self.old) }
         ensures room { room_of self.new ≡ room_of self.old - length bytes.now }
-        ensures rose { OnErr result (Rose self.old.faults self.new.faults) }
-        ensures count { self.old.faults ≤ self.new.faults }
+        ensures rose { OnErr result (Rose (faults_of self.old) (faults_of self.new)) }
+        ensures count { faults_of self.old ≤ faults_of self.new }
     {
         let room = self.room - self.bytes.len();
         let count = room.min(bytes.len());

@@ -16,14 +16,15 @@ pub struct MemSource {
 }
 
 impl MemSource {
-    ghost use Rattle.p10_world.specs.Given.{left_of};
+    ghost use Rattle.p10_world.specs.MemSource.{left_of, plan_of};
+    ghost use Rattle.p10_world.specs.Plan.{calls_of, fails_of, faults_of};
 
     /// All of `bytes` are left; the calls whose numbers stand in `fails` are to fail.
     pub fn new(bytes: Vec<u8>, fails: Vec<u64>) -> MemSource
-        ensures left { left_of result.bytes ≡ bytes.items }
-        ensures fails { result.plan.fails.items ≡ fails.items }
-        ensures calls { result.plan.calls ≡ 0 }
-        ensures faults { result.plan.faults ≡ 0 }
+        ensures left { left_of result ≡ bytes.items }
+        ensures fails { fails_of (plan_of result) ≡ fails.items }
+        ensures calls { calls_of (plan_of result) ≡ 0 }
+        ensures faults { faults_of (plan_of result) ≡ 0 }
     {
         MemSource {
             bytes: Given::new(bytes),
@@ -33,30 +34,30 @@ impl MemSource {
 
     /// How many calls of [`Source::piece`] were made.
     pub fn calls(&self) -> u64
-        ensures { result ≡ self.now.plan.calls }
+        ensures { result ≡ calls_of (plan_of self.now) }
     {
         self.plan.calls()
     }
 }
 
 impl Source for MemSource {
-    ghost use Rattle.p10_world.specs.Given.{left_of};
-    ghost use Rattle.p10_world.specs.Plan.{CountsCall, fails_next};
+    ghost use Rattle.p10_world.specs.MemSource.{left_of, plan_of};
+    ghost use Rattle.p10_world.specs.Plan.{CountsCall, fails_next, faults_of};
 
-    ghost left = { λ memory. Some (left_of memory.bytes) };
+    ghost left = { λ memory. Some (left_of memory) };
 
-    ghost faults = { λ memory. memory.plan.faults };
+    ghost faults = { λ memory. faults_of (plan_of memory) };
 
     fn piece(&mut self, buf: &mut [u8]) -> Result<usize, Failed>
         ensures bound { IfOk result (λ count. count ≤ length buf.old) }
-        ensures most { IfOk result (λ count. count ≡ min (length buf.old) (length (left_of self.old.bytes))) }
-        ensures given { IfOk result (λ count. GivesNext (Some (left_of self.old.bytes)) (Some (left_of self.new.bytes)) count buf.new) }
-        ensures end { IfOk result (λ count. EndsAtZero (Some (left_of self.new.bytes)) count buf.new) }
-        ensures kept { OnErr result (left_of self.new.bytes ≡ left_of self.old.bytes) }
-        ensures failed { IsErr result ↔ IsTrue (fails_next self.old.plan) }
-        ensures rose { OnErr result (Rose self.old.plan.faults self.new.plan.faults) }
-        ensures count { self.old.plan.faults ≤ self.new.plan.faults }
-        ensures counted { CountsCall self.old.plan self.new.plan }
+        ensures most { IfOk result (λ count. count ≡ min (length buf.old) (length (left_of self.old))) }
+        ensures given { IfOk result (λ count. GivesNext (Some (left_of self.old)) (Some (left_of self.new)) count buf.new) }
+        ensures end { IfOk result (λ count. EndsAtZero (Some (left_of self.new)) count buf.new) }
+        ensures kept { OnErr result (left_of self.new ≡ left_of self.old) }
+        ensures failed { IsErr result ↔ IsTrue (fails_next (plan_of self.old)) }
+        ensures rose { OnErr result (Rose (faults_of (plan_of self.old)) (faults_of (plan_of self.new))) }
+        ensures count { faults_of (plan_of self.old) ≤ faults_of (plan_of self.new) }
+        ensures counted { CountsCall (plan_of self.old) (plan_of self.new) }
     {
         if self.plan.next_fails() {
             return Err(Failed);

@@ -12,13 +12,13 @@ pub struct Plan {
 }
 
 impl Plan {
-    ghost use Rattle.p10_world.specs.Plan.{CountsCall, fails_next};
+    ghost use Rattle.p10_world.specs.Plan.{CountsCall, calls_of, fails_next, fails_of, faults_of};
 
     /// No call made yet; those whose numbers stand in `fails` are to fail.
     pub fn new(fails: Vec<u64>) -> Plan
-        ensures fails { result.fails.items ≡ fails.items }
-        ensures calls { result.calls ≡ 0 }
-        ensures faults { result.faults ≡ 0 }
+        ensures fails { fails_of result ≡ fails.items }
+        ensures calls { calls_of result ≡ 0 }
+        ensures faults { faults_of result ≡ 0 }
     {
         Plan {
             fails,
@@ -29,7 +29,7 @@ impl Plan {
 
     /// How many calls were made.
     pub fn calls(&self) -> u64
-        ensures { result ≡ self.now.calls }
+        ensures { result ≡ calls_of self.now }
     {
         self.calls
     }
@@ -38,8 +38,8 @@ impl Plan {
     pub fn next_fails(&mut self) -> bool
         ensures fails { result ≡ fails_next self.old }
         ensures counted { CountsCall self.old self.new }
-        ensures rose { IsTrue result → Rose self.old.faults self.new.faults }
-        ensures count { self.old.faults ≤ self.new.faults }
+        ensures rose { IsTrue result → Rose (faults_of self.old) (faults_of self.new) }
+        ensures count { faults_of self.old ≤ faults_of self.new }
     {
         self.calls = self.calls.saturating_add(1);
         let fails = self.fails.contains(&self.calls);

@@ -14,11 +14,11 @@ pub struct SureFiles {
 }
 
 impl SureFiles {
-    ghost use Rattle.p10_world.specs.HeldFiles.{files_of};
+    ghost use Rattle.p10_world.specs.Sure.{held_of};
 
     /// No files.
     pub fn new(alloc: Global) -> SureFiles
-        ensures { files_of result.held ≡ [] }
+        ensures { held_of result ≡ [] }
     {
         SureFiles {
             held: HeldFiles::new(alloc),
@@ -31,17 +31,17 @@ impl SureFiles {
     ///
     /// Want of memory; the files are then as before.
     pub fn add(&mut self, name: String, bytes: Vec<u8>) -> Result<(), AllocError>
-        ensures added { OnOk result (files_of self.new.held ≡ record { name = string_bytes name; bytes = bytes.items } ∷ files_of self.old.held) }
-        ensures refused { OnErr result (files_of self.new.held ≡ files_of self.old.held) }
+        ensures added { OnOk result (held_of self.new ≡ record { name = string_bytes name; bytes = bytes.items } ∷ held_of self.old) }
+        ensures refused { OnErr result (held_of self.new ≡ held_of self.old) }
     {
         self.held.add(name, bytes)
     }
 }
 
 impl Files for SureFiles {
-    ghost use Rattle.p10_world.specs.HeldFiles.{files_of};
+    ghost use Rattle.p10_world.specs.Sure.{held_of};
 
-    ghost held = { λ sure. Some (files_of sure.held) };
+    ghost held = { λ sure. Some (held_of sure) };
 
     ghost faults = { λ _. 0 };
 
@@ -63,11 +63,11 @@ pub struct SureSource {
 }
 
 impl SureSource {
-    ghost use Rattle.p10_world.specs.Given.{left_of};
+    ghost use Rattle.p10_world.specs.Sure.{left_of};
 
     /// All of `bytes` are left.
     pub fn new(bytes: Vec<u8>) -> SureSource
-        ensures { left_of result.bytes ≡ bytes.items }
+        ensures { left_of result ≡ bytes.items }
     {
         SureSource {
             bytes: Given::new(bytes),
@@ -76,9 +76,9 @@ impl SureSource {
 }
 
 impl Source for SureSource {
-    ghost use Rattle.p10_world.specs.Given.{left_of};
+    ghost use Rattle.p10_world.specs.Sure.{left_of};
 
-    ghost left = { λ sure. Some (left_of sure.bytes) };
+    ghost left = { λ sure. Some (left_of sure) };
 
     ghost faults = { λ _. 0 };
 
