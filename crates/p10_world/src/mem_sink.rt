@@ -1,0 +1,84 @@
+//! A sink in memory, which fails where its room ends.
+
+ghost use Rattle.std.specs.Prelude.{◌≡◌, ◌↔◌, ◌≤◌, ◌-◌, [], ◌++◌, Some, length, vec_len, vec_capacity, IfOk, IfErr, IsOk, OnOk, OnErr};
+ghost use Rattle.std.specs.Io.KnownBytes.{Appends};
+ghost use Rattle.p10_world.specs.Faults.{Rose};
+ghost use Rattle.p10_world.specs.Sink.{TakesFront, TakesPart};
+ghost use Rattle.p10_world.specs.Room.{room_for};
+
+use crate::{Sink, SinkFault};
+use std::alloc::{AllocError, Global};
+
+/// A sink in memory. A put that does not fit takes what fits and is a fault.
+#[derive(Drop)]
+pub struct MemSink {
+    bytes: Vec<u8>,
+    room: usize,
+    faults: u64,
+    ghost reserved: { room ≤ vec_capacity bytes },
+    ghost within: { vec_len bytes ≤ room },
+}
+
+impl MemSink {
+    ghost use Rattle.p10_world.specs.MemSink.{faults_of, room_of, taken_of};
+
+    /// Nothing taken yet, and room for `capacity` bytes; with `fail_after` it fails after so many
+    /// bytes.
+    pub fn new(
+        alloc: Global,
+        capacity: usize,
+        fail_after: Option<u64>,
+    ) -> Result<MemSink, AllocError>
+        ensures empty { IfOk result (λ sink. taken_of sink ≡ []) }
+        ensures room { IfOk result (λ sink. room_of sink ≡ room_for capacity fail_after) }
+        ensures faults { IfOk result (λ sink. faults_of sink ≡ 0) }
+    {
+        let bytes = Vec::with_capacity(alloc, capacity)?;
+        let room = match fail_after {
+            Some(count) => count.min(capacity as u64) as usize,
+            None => capacity,
+        };
+        Ok(MemSink {
+            bytes,
+            room,
+            faults: 0,
+        })
+    }
+
+    /// What was taken.
+    pub fn taken(&self) -> &[u8]
+        ensures { result.now ≡ taken_of self.now }
+    {
+        self.bytes.as_slice()
+    }
+}
+
+impl Sink for MemSink {
+    ghost use Rattle.p10_world.specs.MemSink.{faults_of, room_of, taken_of};
+
+    ghost taken = { λ memory. Some (taken_of memory) };
+
+    ghost faults = { λ memory. faults_of memory };
+
+    // The room was made by the constructor, so no call takes memory.
+    fn put(&mut self, bytes: &[u8]) -> Result<(), SinkFault>
+        ensures ok { OnOk result (taken_of self.new ≡ taken_of self.old ++ bytes.now) }
+        ensures fits { IsOk result ↔ (length bytes.now ≤ room_of self.old) }
+        ensures part { IfErr result (λ fault. TakesPart (Some (taken_of self.old)) (Some (taken_of self.new)) bytes.now fault.wrote) }
+        ensures front { OnErr result (TakesFront (Some (taken_of self.old)) (Some (taken_of self.new)) bytes.now) }
+        ensures wrote { IfErr result (λ fault. fault.wrote ≡ room_of self.old) }
+        ensures room { room_of self.new ≡ room_of self.old - length bytes.now }
+        ensures rose { OnErr result (Rose (faults_of self.old) (faults_of self.new)) }
+        ensures count { faults_of self.old ≤ faults_of self.new }
+    {
+        let room = self.room - self.bytes.len();
+        let count = room.min(bytes.len());
+        let taken = self.bytes.extend_from_slice(&bytes[..count]);
+        prove!(taken.is_ok());
+        if count < bytes.len() {
+            self.faults = self.faults.saturating_add(1);
+            return Err(SinkFault { wrote: count });
+        }
+        Ok(())
+    }
+}
