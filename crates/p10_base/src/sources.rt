@@ -206,3 +206,43 @@ fn place_after(before: &[u8]) -> (u64, u64)
     }
     (line, column)
 }
+
+#[cfg(test)]
+mod tests {
+    use super::*;
+    use std::test::Fail;
+
+    fn gathered(alloc: Global) -> Result<Sources, AllocError> {
+        let mut sources = Sources::new(alloc);
+        let _ = sources.push(
+            String::from_str(alloc, "a.c")?,
+            Vec::from_slice(alloc, b"a\n\xc3\xa9b\n")?,
+        )?;
+        Ok(sources)
+    }
+
+    #[test]
+    fn places(rt: HostRuntime) -> Result<(), Fail> {
+        let sources = gathered(rt.alloc())?;
+        assert!(rt; sources.count() == 1);
+        assert!(rt; sources.text(0).len() == 6);
+        let rows: [(u32, u64, u64); 6] = [
+            (0, 1, 1),
+            (1, 1, 2),
+            (2, 2, 1),
+            (4, 2, 3),
+            (5, 2, 4),
+            (6, 3, 1),
+        ];
+        for (start, line, column) in rows {
+            let at = Span {
+                file: 0,
+                start,
+                end: start,
+            };
+            assert!(rt; start <= 6);
+            assert!(rt; sources.line_col(at) == (line, column), "at {start}");
+        }
+        Ok(())
+    }
+}
