@@ -1,10 +1,11 @@
 -- What contracts see of the gathered source files.
-use Rattle.std.specs.Prelude.{ℕ, ◌<◌, ◌&&◌, Bool, List, [], ◌∷◌, ◌++◌, All, Option, option_map, length, slice_index_or, slice_set}
+use Rattle.std.specs.Prelude.{ℕ, ◌<◌, ◌≤◌, ◌&&◌, Bool, List, [], ◌∷◌, ◌++◌, All, Option, option_map, length, slice_index_or, slice_set}
 use Rattle.std.specs.List.{find}
 use Rattle.std.specs.Str.{bytes_eq}
 use Rattle.std.specs.Bool.{beq}
 use Rattle.p10_base.specs.declared.sources.Link.{Link}
 use Rattle.p10_base.specs.declared.sources.SourceFile.{SourceFile}
+use Rattle.p10_base.specs.declared.span.Span.{Span}
 
 -- the source files of a program in the order of their numbers, and the numbers of its roots in order
 pub record Gathered : Type 0 where
@@ -38,6 +39,11 @@ name_of g number = (file_of g number).name
 -- the bytes of a file
 abbrev pub text_of : Gathered → ℕ → List ℕ
 text_of g number = (file_of g number).text
+
+-- a place lies in the files: its file is one of them, and it begins within that file's text
+pub record LiesIn (g : Gathered) (at : Span) : Type 0 where
+  pub held : at.file < count_of g
+  pub within : at.start ≤ length (text_of g at.file)
 
 -- the number of the file that is a root, by its place among the roots
 abbrev pub root_of : Gathered → ℕ → ℕ

@@ -49,7 +49,7 @@ impl Model for Sources {
 impl Sources {
     ghost use Rattle.std.specs.Prelude.{◌≡◌, ◌+◌, ◌<◌, ◌≤◌, ◌^◌, None, Some, length, OnOk, OnErr, IfOk, IfSome};
     ghost use Rattle.std.specs.String.{string_bytes};
-    ghost use Rattle.p10_base.specs.Gathered.{candidate_of, count_of, name_of, nothing_gathered, root_count, root_of, text_of, with_file, with_link, with_root};
+    ghost use Rattle.p10_base.specs.Gathered.{LiesIn, candidate_of, count_of, name_of, nothing_gathered, root_count, root_of, text_of, with_file, with_link, with_root};
     ghost use Rattle.p10_base.specs.Places.{column_of, line_of};
 
     /// No files and no roots.
@@ -105,8 +105,7 @@ impl Sources {
     /// The line and the column of the byte `at.start`, both from 1. Lines end with LF, and columns
     /// count bytes.
     pub fn line_col(&self, at: Span) -> (u64, u64)
-        requires file { at.file < count_of self.now }
-        requires within { at.start ≤ length (text_of self.now at.file) }
+        requires { LiesIn self.now at }
         ensures line { result.0 ≡ line_of (text_of self.now at.file) at.start }
         ensures column { result.1 ≡ column_of (text_of self.now at.file) at.start }
     {
