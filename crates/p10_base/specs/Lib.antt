@@ -1,3 +1,5 @@
 -- The definitions that the contracts of this crate cite.
+pub mod Gathered
+pub mod Order
 pub mod Places
 pub mod formers

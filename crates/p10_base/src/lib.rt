@@ -8,10 +8,12 @@
 
 mod buffers;
 mod report;
+mod sources;
 mod span;
 mod word;
 
 pub use buffers::{ListBuf, TextBuf};
 pub use report::{Bounds, Family, Limit, Refusal, Sub, Violation};
+pub use sources::Sources;
 pub use span::Span;
 pub use word::{Kind, Word};
