@@ -4,3 +4,13 @@ pub mod Spelling
 pub mod Taking
 pub mod Again
 pub mod Spells
+pub mod CertificateSteps
+pub mod CertificateNumbers
+pub mod CertificateLines
+pub mod CertificateLaws
+pub mod CertificateFrontLines
+pub mod CertificateWrongLines
+pub mod WordsCut
+pub mod WordsLoop
+pub mod WordsStand
+pub mod Costs

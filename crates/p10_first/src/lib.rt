@@ -1,9 +1,19 @@
-//! The first form of program.
+//! The first form of program, its certificate, and what a certificate says of it.
+//!
+//! The form is `int main ( void ) { items return N ; }` with variables of type `int`. Entry points:
+//! [`words::words`] cuts a source into words, [`read`] reads words as a program,
+//! [`certificate::read`] reads a certificate, and [`failing`] gives the first condition on the two
+//! that doesn't hold. Invariant: a program's variables are numbered in the order in which they are
+//! declared. Files, places for people and texts are left to the crates above.
 #![tactic(auto)]
 
+pub mod certificate;
+mod conditions;
+pub mod laws;
 mod program;
 mod reader;
+pub mod words;
 
+pub use conditions::Condition;
 pub use program::{Atom, Item, Program, Sum};
 pub use reader::read;
-

@@ -5,3 +5,9 @@ pub mod Reduced
 pub mod Products
 pub mod Quotients
 pub mod Shifts
+pub mod Conversions
+pub mod CommonTypes
+pub mod InRange
+pub mod BitTables
+pub mod Dividing
+pub mod Complements

@@ -2,3 +2,4 @@
 pub mod Types
 pub mod Conversion
 pub mod Operators
+pub mod Laws

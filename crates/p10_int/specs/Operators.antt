@@ -58,6 +58,10 @@ IsRightOperand Shl t n = Unit {0}
 IsRightOperand Shr t n = Unit {0}
 IsRightOperand op t b = InRange t b
 
+-- each bit of a value turned (C99 6.5.3.3)
+unfoldable pub complement : IntType → ℤ → ℤ
+complement t a = value_of t (modulus_of t - 1 - pattern_of t a)
+
 -- a binary operator at a type to which its operands are converted: for shifts the left operand's (C99 6.5.5 to 6.5.12)
 abbrev pub operate : BinOp → IntType → ℤ → ℤ → Result ℤ Stop
 operate Add t a b = fitted t U1 (a +ℤ b)
@@ -82,4 +86,4 @@ abbrev pub operate_unary : UnOp → IntType → ℤ → Result ℤ Stop
 operate_unary Plus t a = Ok a
 operate_unary Neg t a = fitted t U1 (neg_ℤ a)
 operate_unary Not t a = Ok (truth_of (int_eq a (pos 0)))
-operate_unary Com t a = Ok (value_of t (modulus_of t - 1 - pattern_of t a))
+operate_unary Com t a = Ok (complement t a)

@@ -9,8 +9,11 @@
 
 mod arithmetic;
 mod bits;
+mod conversion;
+pub mod laws;
 mod operators;
 mod types;
 
+pub use conversion::convert;
 pub use operators::{BinOp, Stop, UnOp, apply, unary};
 pub use types::{IntType, is_signed, promote, range, usual, width};

@@ -101,7 +101,7 @@ pub fn apply(op: BinOp, t: IntType, a: i128, b: i128) -> Result<i128, Stop>
 /// The result of `op a`, or U1 for the negation of the least value of a signed type (C99 6.5.3.3).
 ///
 /// `t` is the promoted type of the operand. `Not` gives 0 or 1.
-#[tactic(auto, using(crate::proofs::Carried::carried))]
+#[tactic(auto, using(crate::proofs::Carried::carried), unfolding(crate::specs::Operators::complement))]
 pub fn unary(op: UnOp, t: IntType, a: i128) -> Result<i128, Stop>
     requires { InRange t a }
     ensures { result ≡ operate_unary op t a }

@@ -1,3 +1,4 @@
 -- The lemmas of this crate.
 pub mod Fronts
 mod Pieces
+mod Readings

@@ -1,6 +1,6 @@
 //! The host's files.
 
-ghost use Rattle.std.specs.Prelude.{◌≡◌, ◌≤◌, ◌+◌, None, take, length, vec_len, OnOk};
+ghost use Rattle.std.specs.Prelude.{◌≡◌, ◌≤◌, ◌+◌, ◌++◌, None, IfSome, OnOk, take, vec_len};
 
 use crate::{FileFault, Files};
 use std::alloc::Global;
@@ -80,6 +80,7 @@ fn append_file<R: rt::Files>(
 
 // Appends the next `limit` bytes of a reader to `into`, or all if there are fewer.
 fn append_bytes<F: Read>(file: &mut F, limit: u64, into: &mut Vec<u8>) -> Result<(), FileFault>
+    ensures whole { OnOk result (IfSome (F.remaining file.old) (λ bytes. into.new.items ≡ into.old.items ++ take limit bytes)) }
     ensures begins { take (vec_len into.old) into.new.items ≡ into.old.items }
     ensures grows { vec_len into.new ≤ vec_len into.old + limit }
 {

@@ -26,6 +26,8 @@ mod mem_sink;
 mod mem_source;
 mod plan;
 mod sure;
+#[cfg(test)]
+mod tests;
 
 pub use host_files::HostFiles;
 pub use host_streams::{HostSink, HostSource};

@@ -1,0 +1,2 @@
+-- Lemmas for this crate and those above it.
+pub mod Stopping

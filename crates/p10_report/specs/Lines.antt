@@ -1,0 +1,54 @@
+-- The lines that tell what was found in the sources.
+use Rattle.std.specs.Prelude.{ℕ, List, codes, decimal}
+use Rattle.p10_base.specs.Gathered.{Gathered, name_of, text_of}
+use Rattle.p10_base.specs.Places.{column_of, line_of}
+use Rattle.p10_base.specs.declared.report.Bounds.{Bounds}
+use Rattle.p10_base.specs.declared.report.Family.{Family}
+use Rattle.p10_base.specs.declared.report.Limit.{Limit}
+use Rattle.p10_base.specs.declared.report.Refusal.{Refusal}
+use Rattle.p10_base.specs.declared.span.Span.{Span}
+use Rattle.p10_report.specs.Codes.{code_text, letter_of}
+use Rattle.p10_report.specs.Stops.{◌then◌}
+
+-- a number in decimal behind the text that says which it is
+unfoldable pub labelled : List ℕ → ℕ → List ℕ
+labelled label number = label then decimal number
+
+-- a place as FILE:LINE:COLUMN
+unfoldable pub place_text : Gathered → Span → List ℕ
+place_text g at =
+    name_of g at.file
+    then labelled (codes ":") (line_of (text_of g at.file) at.start)
+    then labelled (codes ":") (column_of (text_of g at.file) at.start)
+
+-- which refusal it is, by its code
+unfoldable pub refused_part : Family → ℕ → List ℕ
+refused_part family number = codes ": refused " then labelled (letter_of family) number
+
+-- why, by the code's text
+unfoldable pub reason_part : Family → ℕ → List ℕ
+reason_part family number = codes ": " then code_text family number then codes "\n"
+
+-- the line of a refused source: FILE:LINE:COLUMN: refused CODE: TEXT
+unfoldable pub refusal_line : Gathered → Refusal → List ℕ
+refusal_line g r = place_text g r.span then refused_part r.family r.number then reason_part r.family r.number
+
+-- the greatest depths of an accepted program, which end its line
+unfoldable pub depths_part : Bounds → List ℕ
+depths_part b = labelled (codes " calls ") b.calls then labelled (codes " bytes ") b.bytes then codes "\n"
+
+-- the line of an accepted program: accepted: prefix P turn K calls C bytes B
+unfoldable pub accepted_line : Bounds → List ℕ
+accepted_line b = labelled (codes "accepted: prefix ") b.prefix then labelled (codes " turn ") b.turn then depths_part b
+
+-- a place behind a blank, which ends a line
+unfoldable pub at_part : Gathered → Span → List ℕ
+at_part g at = codes " " then place_text g at then codes "\n"
+
+-- the line of a condition of the certificate that does not hold: refused: KN FILE:LINE:COLUMN
+unfoldable pub failing_line : Gathered → ℕ → Span → List ℕ
+failing_line g condition at = labelled (codes "refused: K") condition then at_part g at
+
+-- the line of a passed limit: p10: limit MN
+unfoldable pub limit_line : Limit → List ℕ
+limit_line limit = labelled (codes "p10: limit M") limit.number then codes "\n"

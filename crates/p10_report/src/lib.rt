@@ -1,0 +1,108 @@
+//! The lines in which `p10` tells what it found.
+//!
+//! Entry points: [`put_refusal`], [`put_accepted`], [`put_failing`] and [`put_limit`] write one line
+//! each to a sink, without memory. Invariant: what a sink took of a line is always the line's front,
+//! and all of it at `Ok`. Which line is told, and to which sink, is left to the crates above.
+#![tactic(auto)]
+
+ghost use Rattle.std.specs.Prelude.{◌≤◌, OnErr, OnOk};
+ghost use Rattle.std.specs.Io.KnownBytes.{Appends};
+ghost use Rattle.p10_base.specs.Gathered.{LiesIn};
+ghost use Rattle.p10_world.specs.Faults.{Rose};
+ghost use Rattle.p10_report.specs.Codes.{IsCode};
+ghost use Rattle.p10_report.specs.Lines.{accepted_line, failing_line, limit_line, refusal_line};
+ghost use Rattle.p10_report.specs.Stops.{StopsWithin};
+
+pub use messages::{put_absent, put_bad_certificate, put_out_of_memory, put_read_fault, put_usage};
+use p10_base::{Bounds, Limit, Refusal, Sources, Span};
+use p10_world::{Sink, SinkFault};
+use pieces::{put_at, put_bytes, put_depths, put_labelled, put_place, put_reason, put_refused};
+
+mod codes;
+mod messages;
+mod pieces;
+#[cfg(test)]
+mod tests;
+
+/// Writes the line of a refused source, `FILE:LINE:COLUMN: refused CODE: TEXT`.
+///
+/// The sink took the whole line at `Ok`.
+///
+/// # Errors
+///
+/// A fault only where the sink's count of faults rose; it then took a front of the line.
+#[tactic(auto, using(crate::proofs::Stopping::stops), unfolding(crate::specs::Lines::refusal_line))]
+pub fn put_refusal<O: Sink>(out: &mut O, s: &Sources, r: &Refusal) -> Result<(), SinkFault>
+    requires place { LiesIn s.now r.now.span }
+    requires code { IsCode r.now.family r.now.number }
+    ensures ok { OnOk result (Appends (O.taken out.old) (O.taken out.new) (refusal_line s.now r.now)) }
+    ensures stopped { OnErr result (StopsWithin (O.taken out.old) (O.taken out.new) (refusal_line s.now r.now)) }
+    ensures failed { OnErr result (Rose (O.faults out.old) (O.faults out.new)) }
+    ensures count { O.faults out.old ≤ O.faults out.new }
+{
+    put_place(out, s, r.span)?;
+    put_refused(out, r.family, r.number)?;
+    put_reason(out, r.family, r.number)
+}
+
+/// Writes the line of an accepted program, `accepted: prefix P turn K calls C bytes B`.
+///
+/// The sink took the whole line at `Ok`.
+///
+/// # Errors
+///
+/// A fault only where the sink's count of faults rose; it then took a front of the line.
+#[tactic(auto, using(crate::proofs::Stopping::stops), unfolding(crate::specs::Lines::accepted_line))]
+pub fn put_accepted<O: Sink>(out: &mut O, b: &Bounds) -> Result<(), SinkFault>
+    ensures ok { OnOk result (Appends (O.taken out.old) (O.taken out.new) (accepted_line b.now)) }
+    ensures stopped { OnErr result (StopsWithin (O.taken out.old) (O.taken out.new) (accepted_line b.now)) }
+    ensures failed { OnErr result (Rose (O.faults out.old) (O.faults out.new)) }
+    ensures count { O.faults out.old ≤ O.faults out.new }
+{
+    put_labelled(out, b"accepted: prefix ", b.prefix)?;
+    put_labelled(out, b" turn ", b.turn)?;
+    put_depths(out, b)
+}
+
+/// Writes the line of a condition of the certificate that does not hold,
+/// `refused: KN FILE:LINE:COLUMN`, where `condition` is N.
+///
+/// The sink took the whole line at `Ok`.
+///
+/// # Errors
+///
+/// A fault only where the sink's count of faults rose; it then took a front of the line.
+#[tactic(auto, using(crate::proofs::Stopping::stops), unfolding(crate::specs::Lines::failing_line))]
+pub fn put_failing<O: Sink>(
+    out: &mut O,
+    s: &Sources,
+    condition: u8,
+    at: Span,
+) -> Result<(), SinkFault>
+    requires { LiesIn s.now at }
+    ensures ok { OnOk result (Appends (O.taken out.old) (O.taken out.new) (failing_line s.now condition at)) }
+    ensures stopped { OnErr result (StopsWithin (O.taken out.old) (O.taken out.new) (failing_line s.now condition at)) }
+    ensures failed { OnErr result (Rose (O.faults out.old) (O.faults out.new)) }
+    ensures count { O.faults out.old ≤ O.faults out.new }
+{
+    put_labelled(out, b"refused: K", u64::from(condition))?;
+    put_at(out, s, at)
+}
+
+/// Writes the line of a passed limit, `p10: limit MN`.
+///
+/// The sink took the whole line at `Ok`.
+///
+/// # Errors
+///
+/// A fault only where the sink's count of faults rose; it then took a front of the line.
+#[tactic(auto, using(crate::proofs::Stopping::stops), unfolding(crate::specs::Lines::limit_line))]
+pub fn put_limit<O: Sink>(out: &mut O, limit: Limit) -> Result<(), SinkFault>
+    ensures ok { OnOk result (Appends (O.taken out.old) (O.taken out.new) (limit_line limit)) }
+    ensures stopped { OnErr result (StopsWithin (O.taken out.old) (O.taken out.new) (limit_line limit)) }
+    ensures failed { OnErr result (Rose (O.faults out.old) (O.faults out.new)) }
+    ensures count { O.faults out.old ≤ O.faults out.new }
+{
+    put_labelled(out, b"p10: limit M", u64::from(limit.number))?;
+    put_bytes(out, b"\n")
+}

@@ -1,0 +1,104 @@
+//! The pieces of which lines are made, each with what the sink has taken when its write stops.
+
+ghost use Rattle.std.specs.Prelude.{◌≤◌, OnErr, OnOk};
+ghost use Rattle.std.specs.Io.KnownBytes.{Appends};
+ghost use Rattle.p10_base.specs.Gathered.{LiesIn};
+ghost use Rattle.p10_world.specs.Faults.{Rose};
+ghost use Rattle.p10_report.specs.Codes.{IsCode};
+ghost use Rattle.p10_report.specs.Lines.{at_part, depths_part, labelled, place_text, reason_part, refused_part};
+ghost use Rattle.p10_report.specs.Stops.{StopsWithin};
+
+use crate::codes;
+use itoa::Buffer;
+use p10_base::{Bounds, Family, Sources, Span};
+use p10_world::{Sink, SinkFault};
+
+/// Writes bytes.
+pub fn put_bytes<O: Sink>(out: &mut O, bytes: &[u8]) -> Result<(), SinkFault>
+    ensures ok { OnOk result (Appends (O.taken out.old) (O.taken out.new) bytes.now) }
+    ensures stopped { OnErr result (StopsWithin (O.taken out.old) (O.taken out.new) bytes.now) }
+    ensures failed { OnErr result (Rose (O.faults out.old) (O.faults out.new)) }
+    ensures count { O.faults out.old ≤ O.faults out.new }
+{
+    out.put(bytes)
+}
+
+/// Writes a number in decimal behind the text that says which it is.
+#[tactic(auto, using(crate::proofs::Stopping::stops), unfolding(crate::specs::Lines::labelled))]
+pub fn put_labelled<O: Sink>(out: &mut O, label: &[u8], number: u64) -> Result<(), SinkFault>
+    ensures ok { OnOk result (Appends (O.taken out.old) (O.taken out.new) (labelled label.now number)) }
+    ensures stopped { OnErr result (StopsWithin (O.taken out.old) (O.taken out.new) (labelled label.now number)) }
+    ensures failed { OnErr result (Rose (O.faults out.old) (O.faults out.new)) }
+    ensures count { O.faults out.old ≤ O.faults out.new }
+{
+    put_bytes(out, label)?;
+    put_bytes(out, Buffer::new().format(number).as_bytes())
+}
+
+/// Writes a place as `FILE:LINE:COLUMN`.
+#[tactic(auto, using(crate::proofs::Stopping::stops), unfolding(crate::specs::Lines::place_text))]
+pub fn put_place<O: Sink>(out: &mut O, s: &Sources, at: Span) -> Result<(), SinkFault>
+    requires { LiesIn s.now at }
+    ensures ok { OnOk result (Appends (O.taken out.old) (O.taken out.new) (place_text s.now at)) }
+    ensures stopped { OnErr result (StopsWithin (O.taken out.old) (O.taken out.new) (place_text s.now at)) }
+    ensures failed { OnErr result (Rose (O.faults out.old) (O.faults out.new)) }
+    ensures count { O.faults out.old ≤ O.faults out.new }
+{
+    let (line, column) = s.line_col(at);
+    put_bytes(out, s.name(at.file).as_bytes())?;
+    put_labelled(out, b":", line)?;
+    put_labelled(out, b":", column)
+}
+
+/// Writes which refusal it is, by its code.
+#[tactic(auto, using(crate::proofs::Stopping::stops), unfolding(crate::specs::Lines::refused_part))]
+pub fn put_refused<O: Sink>(out: &mut O, family: Family, number: u8) -> Result<(), SinkFault>
+    ensures ok { OnOk result (Appends (O.taken out.old) (O.taken out.new) (refused_part family number)) }
+    ensures stopped { OnErr result (StopsWithin (O.taken out.old) (O.taken out.new) (refused_part family number)) }
+    ensures failed { OnErr result (Rose (O.faults out.old) (O.faults out.new)) }
+    ensures count { O.faults out.old ≤ O.faults out.new }
+{
+    put_bytes(out, b": refused ")?;
+    put_labelled(out, codes::letter(family).as_bytes(), u64::from(number))
+}
+
+/// Writes why a source is refused, by the code's text, and ends the line.
+#[tactic(auto, using(crate::proofs::Stopping::stops), unfolding(crate::specs::Lines::reason_part))]
+pub fn put_reason<O: Sink>(out: &mut O, family: Family, number: u8) -> Result<(), SinkFault>
+    requires { IsCode family number }
+    ensures ok { OnOk result (Appends (O.taken out.old) (O.taken out.new) (reason_part family number)) }
+    ensures stopped { OnErr result (StopsWithin (O.taken out.old) (O.taken out.new) (reason_part family number)) }
+    ensures failed { OnErr result (Rose (O.faults out.old) (O.faults out.new)) }
+    ensures count { O.faults out.old ≤ O.faults out.new }
+{
+    put_bytes(out, b": ")?;
+    put_bytes(out, codes::text(family, number).as_bytes())?;
+    put_bytes(out, b"\n")
+}
+
+/// Writes the greatest depths of an accepted program, and ends the line.
+#[tactic(auto, using(crate::proofs::Stopping::stops), unfolding(crate::specs::Lines::depths_part))]
+pub fn put_depths<O: Sink>(out: &mut O, b: &Bounds) -> Result<(), SinkFault>
+    ensures ok { OnOk result (Appends (O.taken out.old) (O.taken out.new) (depths_part b.now)) }
+    ensures stopped { OnErr result (StopsWithin (O.taken out.old) (O.taken out.new) (depths_part b.now)) }
+    ensures failed { OnErr result (Rose (O.faults out.old) (O.faults out.new)) }
+    ensures count { O.faults out.old ≤ O.faults out.new }
+{
+    put_labelled(out, b" calls ", b.calls)?;
+    put_labelled(out, b" bytes ", b.bytes)?;
+    put_bytes(out, b"\n")
+}
+
+/// Writes a place behind a blank, and ends the line.
+#[tactic(auto, using(crate::proofs::Stopping::stops), unfolding(crate::specs::Lines::at_part))]
+pub fn put_at<O: Sink>(out: &mut O, s: &Sources, at: Span) -> Result<(), SinkFault>
+    requires { LiesIn s.now at }
+    ensures ok { OnOk result (Appends (O.taken out.old) (O.taken out.new) (at_part s.now at)) }
+    ensures stopped { OnErr result (StopsWithin (O.taken out.old) (O.taken out.new) (at_part s.now at)) }
+    ensures failed { OnErr result (Rose (O.faults out.old) (O.faults out.new)) }
+    ensures count { O.faults out.old ≤ O.faults out.new }
+{
+    put_bytes(out, b" ")?;
+    put_place(out, s, at)?;
+    put_bytes(out, b"\n")
+}

@@ -1,0 +1,26 @@
+-- What a verified certificate promises.
+use Rattle.std.specs.Prelude.{◌≡◌, ℕ, List, Some}
+use Rattle.p10_world.specs.Files.{Named, file_of}
+use Rattle.p10_first.specs.declared.program.Program.{Program}
+use Rattle.p10_first.specs.Words.{PlacedWord}
+use Rattle.p10_first.specs.Certificate.{Claims, certificate_text, IsCertificate}
+use Rattle.p10_first.specs.Meaning.{Within}
+use Rattle.p10_top.specs.Command.{Names, IsVerify}
+use Rattle.p10_top.specs.Answers.{Reads}
+
+-- The words are `verify` with a source and a certificate. The source's bytes are those of a program,
+-- the certificate's bytes are the text of its claims, and from every input every run of the program
+-- returns or stops at a named undefined operation within the claimed steps; no chain of calls passes
+-- the claimed depth, and nothing is allocated or freed.
+pub record Verified (words : List (List ℕ)) (files : List Named) : Type 0 where
+  pub names : Names
+  pub is_verify : IsVerify words names
+  pub text : List ℕ
+  pub source_given : file_of names.source files ≡ Some text
+  pub places : List PlacedWord
+  pub program : Program
+  pub reads : Reads text places program
+  pub claims : Claims
+  pub certificate_given : file_of names.certificate files ≡ Some (certificate_text claims)
+  pub is_certificate : IsCertificate claims
+  pub within : Within program claims.total

@@ -1,0 +1,6 @@
+-- The definitions that the contracts of this crate cite.
+pub mod Command
+pub mod Loading
+pub mod Answers
+pub mod Told
+pub mod Headline

@@ -1,0 +1,109 @@
+-- What is said for an answer: the status of the program, and the texts on its two outputs.
+use Rattle.std.specs.Prelude.{◌≡◌, ℕ, ◌⊎◌, List, [], Option}
+use Rattle.std.specs.Io.KnownBytes.{Appends}
+use Rattle.p10_base.specs.declared.span.Span.{Span}
+use Rattle.p10_base.specs.declared.report.Family.TheVariants.{S}
+use Rattle.p10_base.specs.declared.report.Refusal.{Refusal}
+use Rattle.p10_base.specs.Gathered.{Gathered, LiesIn}
+use Rattle.p10_world.specs.Sink.{TakesFront}
+use Rattle.p10_report.specs.Lines.{accepted_line, failing_line, limit_line, refusal_line}
+use Rattle.p10_report.specs.Messages.{absent_line, bad_certificate_line, out_of_memory_line, read_fault_line, usage_line}
+use Rattle.p10_first.specs.Conditions.{number_of_condition}
+use Rattle.p10_top.specs.declared.answer.Answer.{Answer}
+use Rattle.p10_top.specs.declared.answer.Answer.TheVariants.{AbsentSource, SourceTooLong, AbsentCertificate, NotBuilt, CertificateTooLong, BadCertificate, Failing, Accepted, ReadFault, NoMemory}
+use Rattle.p10_top.specs.Command.{Names, IsVerify}
+use Rattle.p10_top.specs.Answers.{Seen, IsRight, one_root}
+
+-- the status of an answer
+abbrev pub status_of : Answer → ℕ
+status_of AbsentSource = 9
+status_of SourceTooLong = 8
+status_of AbsentCertificate = 9
+status_of NotBuilt = 3
+status_of CertificateTooLong = 8
+status_of (BadCertificate line) = 4
+status_of (Failing k at) = 1
+status_of (Accepted bounds) = 0
+status_of ReadFault = 5
+status_of NoMemory = 7
+
+-- the place of a source that is no program that can be verified yet: its beginning
+abbrev pub beginning : Span
+beginning = record { file = 0; start = 0; end = 0 }
+
+abbrev pub not_built : Refusal
+not_built = record { family = S; number = 0; span = beginning }
+
+-- the text on the output, where the sources are these
+abbrev pub out_text : Gathered → Answer → List ℕ
+out_text sources (Failing k at) = failing_line sources (number_of_condition k) at
+out_text sources (Accepted bounds) = accepted_line bounds
+out_text sources answer = []
+
+-- the text on the error output, where the words name these files
+abbrev pub err_text : Names → Gathered → Answer → List ℕ
+err_text names sources AbsentSource = absent_line names.source
+err_text names sources SourceTooLong = limit_line (record { number = 1 })
+err_text names sources AbsentCertificate = absent_line names.certificate
+err_text names sources NotBuilt = refusal_line sources not_built
+err_text names sources CertificateTooLong = limit_line (record { number = 10 })
+err_text names sources (BadCertificate line) = bad_certificate_line line
+err_text names sources ReadFault = read_fault_line
+err_text names sources NoMemory = out_of_memory_line
+err_text names sources answer = []
+
+-- a status and two texts
+pub record Saying : Type 0 where
+  pub status : ℕ
+  pub out : List ℕ
+  pub err : List ℕ
+
+-- what is said where the words are no command
+abbrev pub usage_saying : Saying
+usage_saying = record { status = 2; out = []; err = usage_line }
+
+-- what is said for an answer, where the words name these files and the source has this text
+abbrev pub saying_of : Names → List ℕ → Answer → Saying
+saying_of names text answer = record {
+  status = status_of answer;
+  out = out_text (one_root names.source text) answer;
+  err = err_text names (one_root names.source text) answer }
+
+-- no command has these words
+abbrev pub IsNoCommand : List (List ℕ) → Type 0
+IsNoCommand words = (names : Names) → IsVerify words names → ⊥
+
+-- something is said for a right answer to `verify`
+pub record SaysRight (words : List (List ℕ)) (seen : Seen) (saying : Saying) : Type 0 where
+  pub names : Names
+  pub text : List ℕ
+  pub answer : Answer
+  pub is_verify : IsVerify words names
+  pub is_right : IsRight seen names text answer
+  pub said : saying ≡ saying_of names text answer
+
+-- what may be said to a command line
+abbrev pub MaySay : List (List ℕ) → Seen → Saying → Type 0
+MaySay words seen saying = (IsNoCommand words × (saying ≡ usage_saying)) ⊎ SaysRight words seen saying
+
+-- what the two outputs have taken, where that is told, before and behind
+pub record Outputs : Type 0 where
+  pub out_before : Option (List ℕ)
+  pub out_after : Option (List ℕ)
+  pub err_before : Option (List ℕ)
+  pub err_after : Option (List ℕ)
+
+-- the status and both texts of something that may be said were given, and nothing else
+pub record Told (words : List (List ℕ)) (seen : Seen) (outputs : Outputs) (status : ℕ) : Type 0 where
+  pub saying : Saying
+  pub may : MaySay words seen saying
+  pub status_is : status ≡ saying.status
+  pub out : Appends outputs.out_before outputs.out_after saying.out
+  pub err : Appends outputs.err_before outputs.err_after saying.err
+
+-- an output failed while something that may be said was written: each has taken a front of its text
+pub record Stopped (words : List (List ℕ)) (seen : Seen) (outputs : Outputs) : Type 0 where
+  pub saying : Saying
+  pub may : MaySay words seen saying
+  pub out : TakesFront outputs.out_before outputs.out_after saying.out
+  pub err : TakesFront outputs.err_before outputs.err_after saying.err

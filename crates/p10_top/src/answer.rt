@@ -1,0 +1,51 @@
+//! What `p10 verify` answers.
+
+ghost use Rattle.std.specs.Prelude.{◌≡◌};
+
+use p10_base::{Bounds, Span};
+use p10_first::Condition;
+
+/// An answer to `verify`, in the order in which they are tried; the last two may come before any.
+#[derive(Clone, Copy, Debug)]
+pub enum Answer {
+    /// There is no such source.
+    AbsentSource,
+    /// The source is over its limit.
+    SourceTooLong,
+    /// There is no such certificate.
+    AbsentCertificate,
+    /// The source is no program that can be verified yet.
+    NotBuilt,
+    /// The certificate is over its limit.
+    CertificateTooLong,
+    /// The text is no certificate's, from this line on.
+    BadCertificate(u64),
+    /// A condition doesn't hold, and this is the first; it is reported at this place.
+    Failing(Condition, Span),
+    /// All conditions hold, and these are the bounds of every run.
+    Accepted(Bounds),
+    /// A read failed.
+    ReadFault,
+    /// Memory is wanting.
+    NoMemory,
+}
+
+impl Answer {
+    ghost use Rattle.p10_top.specs.Told.{status_of};
+
+    /// The status with which the program exits.
+    pub fn status(&self) -> u8
+        ensures { result ≡ status_of self.now }
+    {
+        match self {
+            Answer::Accepted(_) => 0,
+            Answer::Failing(..) => 1,
+            Answer::NotBuilt => 3,
+            Answer::BadCertificate(_) => 4,
+            Answer::ReadFault => 5,
+            Answer::NoMemory => 7,
+            Answer::SourceTooLong | Answer::CertificateTooLong => 8,
+            Answer::AbsentSource | Answer::AbsentCertificate => 9,
+        }
+    }
+}
