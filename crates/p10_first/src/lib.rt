@@ -14,6 +14,6 @@ mod program;
 mod reader;
 pub mod words;
 
-pub use conditions::Condition;
+pub use conditions::{Condition, failing};
 pub use program::{Atom, Item, Program, Sum};
 pub use reader::read;

@@ -1,2 +1,5 @@
 -- The lemmas of this crate, by subject.
 pub mod CommandWords
+pub mod Sources
+pub mod Deciding
+pub mod Telling

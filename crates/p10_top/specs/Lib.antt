@@ -2,5 +2,7 @@
 pub mod Command
 pub mod Loading
 pub mod Answers
+pub mod Judging
+pub mod Deciding
 pub mod Told
 pub mod Headline

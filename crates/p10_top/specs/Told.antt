@@ -73,37 +73,48 @@ saying_of names text answer = record {
 abbrev pub IsNoCommand : List (List ℕ) → Type 0
 IsNoCommand words = (names : Names) → IsVerify words names → ⊥
 
--- something is said for a right answer to `verify`
-pub record SaysRight (words : List (List ℕ)) (seen : Seen) (saying : Saying) : Type 0 where
-  pub names : Names
+-- something is said for a right answer to `verify` with these names
+pub record SaysRight (names : Names) (seen : Seen) (saying : Saying) : Type 0 where
   pub text : List ℕ
   pub answer : Answer
-  pub is_verify : IsVerify words names
   pub is_right : IsRight seen names text answer
   pub said : saying ≡ saying_of names text answer
 
 -- what may be said to a command line
 abbrev pub MaySay : List (List ℕ) → Seen → Saying → Type 0
-MaySay words seen saying = (IsNoCommand words × (saying ≡ usage_saying)) ⊎ SaysRight words seen saying
+MaySay words seen saying = (IsNoCommand words × (saying ≡ usage_saying)) ⊎ ((names : Names) × IsVerify words names × SaysRight names seen saying)
 
--- what the two outputs have taken, where that is told, before and behind
-pub record Outputs : Type 0 where
-  pub out_before : Option (List ℕ)
-  pub out_after : Option (List ℕ)
-  pub err_before : Option (List ℕ)
-  pub err_after : Option (List ℕ)
+-- both outputs took all of their texts
+pub record BothTake (out_old out_new err_old err_new : Option (List ℕ)) (out err : List ℕ) : Type 0 where
+  pub on_out : Appends out_old out_new out
+  pub on_err : Appends err_old err_new err
+
+-- each output took a front of its text
+pub record BothTakeFronts (out_old out_new err_old err_new : Option (List ℕ)) (out err : List ℕ) : Type 0 where
+  pub on_out : TakesFront out_old out_new out
+  pub on_err : TakesFront err_old err_new err
 
 -- the status and both texts of something that may be said were given, and nothing else
-pub record Told (words : List (List ℕ)) (seen : Seen) (outputs : Outputs) (status : ℕ) : Type 0 where
+pub record Told (words : List (List ℕ)) (seen : Seen) (out_old out_new err_old err_new : Option (List ℕ)) (status : ℕ) : Type 0 where
   pub saying : Saying
   pub may : MaySay words seen saying
   pub status_is : status ≡ saying.status
-  pub out : Appends outputs.out_before outputs.out_after saying.out
-  pub err : Appends outputs.err_before outputs.err_after saying.err
+  pub taken : BothTake out_old out_new err_old err_new saying.out saying.err
 
 -- an output failed while something that may be said was written: each has taken a front of its text
-pub record Stopped (words : List (List ℕ)) (seen : Seen) (outputs : Outputs) : Type 0 where
+pub record Stopped (words : List (List ℕ)) (seen : Seen) (out_old out_new err_old err_new : Option (List ℕ)) : Type 0 where
   pub saying : Saying
   pub may : MaySay words seen saying
-  pub out : TakesFront outputs.out_before outputs.out_after saying.out
-  pub err : TakesFront outputs.err_before outputs.err_after saying.err
+  pub taken : BothTakeFronts out_old out_new err_old err_new saying.out saying.err
+
+-- the same, where the words are `verify` with these names
+pub record ToldFor (names : Names) (seen : Seen) (out_old out_new err_old err_new : Option (List ℕ)) (status : ℕ) : Type 0 where
+  pub saying : Saying
+  pub may : SaysRight names seen saying
+  pub status_is : status ≡ saying.status
+  pub taken : BothTake out_old out_new err_old err_new saying.out saying.err
+
+pub record StoppedFor (names : Names) (seen : Seen) (out_old out_new err_old err_new : Option (List ℕ)) : Type 0 where
+  pub saying : Saying
+  pub may : SaysRight names seen saying
+  pub taken : BothTakeFronts out_old out_new err_old err_new saying.out saying.err

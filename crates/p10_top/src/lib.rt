@@ -5,7 +5,63 @@
 //! What the parts of an answer mean is left to the crates below.
 #![tactic(auto)]
 
+ghost use Rattle.std.specs.Prelude.{◌≡◌, ◌≢◌, ◌⊎◌, ◌≤◌, IfSome, map, string_bytes};
+ghost use Rattle.p10_world.specs.Faults.{Rose};
+ghost use Rattle.p10_top.specs.Headline.{Verified};
+ghost use Rattle.p10_top.specs.Told.{Told, Stopped};
+
+use p10_report::put_usage;
+use p10_world::{Files, Sink, Source};
+use std::alloc::Global;
+
 mod answer;
 mod command;
+mod decide;
+mod judge;
+mod load;
+mod tell;
+mod verify;
 
 pub use p10_first as first;
+
+/// Runs `p10` on the words behind the program's name, and gives the status with which it exits.
+///
+/// `verify --cert CERTIFICATE SOURCE` tells on `out` whether the certificate bounds every run of the
+/// source's program; all else is told on `err`. Nothing is read of `input` by this command.
+///
+/// The statuses: 0 accepted, 1 a condition doesn't hold, 2 no command, 3 the source is refused, 4 no
+/// certificate, 5 a read failed, 6 a write failed, 7 want of memory, 8 a limit is passed, 9 a file is
+/// absent.
+pub fn p10_main<F: Files, I: Source, O: Sink, E: Sink>(
+    alloc: Global,
+    words: &[String],
+    files: &mut F,
+    input: &mut I,
+    out: &mut O,
+    err: &mut E,
+) -> u8
+    // An accepted certificate bounds every run of the source's program.
+    ensures headline { result ≡ 0 → IfSome (F.held files.old) (Verified (map string_bytes words.now)) }
+
+    // The status and both texts are those of a right answer.
+    ensures told { result ≢ 6 → Told (map string_bytes words.now)
+        (record { held = F.held files.old; faults_before = F.faults files.old; faults_after = F.faults files.new })
+        (O.taken out.old) (O.taken out.new) (E.taken err.old) (E.taken err.new) result }
+
+    // Where a write failed, each output has taken a front of its text.
+    ensures stopped { result ≡ 6 → Stopped (map string_bytes words.now)
+        (record { held = F.held files.old; faults_before = F.faults files.old; faults_after = F.faults files.new })
+        (O.taken out.old) (O.taken out.new) (E.taken err.old) (E.taken err.new) }
+    ensures write { result ≡ 6 → Rose (O.faults out.old) (O.faults out.new) ⊎ Rose (E.faults err.old) (E.faults err.new) }
+
+    ensures held { F.held files.new ≡ F.held files.old }
+    ensures input { input.new ≡ input.old }
+{
+    match command::read(words) {
+        Some(verify) => verify::run(alloc, &verify, files, out, err),
+        None => match put_usage(err) {
+            Ok(()) => 2,
+            Err(_) => 6,
+        },
+    }
+}

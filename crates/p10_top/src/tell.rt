@@ -1,0 +1,59 @@
+//! What is said for an answer.
+
+ghost use Rattle.std.specs.Prelude.{◌≡◌, ◌⊎◌, ◌≤◌, OnErr, OnOk};
+ghost use Rattle.p10_world.specs.Faults.{Rose};
+ghost use Rattle.p10_top.specs.Command.{names_of};
+ghost use Rattle.p10_top.specs.Deciding.{HasPlace};
+ghost use Rattle.p10_top.specs.Told.{BothTake, BothTakeFronts, err_text, out_text};
+
+use crate::answer::Answer;
+use crate::command::Verify;
+use p10_base::{Family, Limit, Refusal, Sources, Span};
+use p10_report::{
+    put_absent, put_accepted, put_bad_certificate, put_failing, put_limit, put_out_of_memory,
+    put_read_fault, put_refusal,
+};
+use p10_world::{Sink, SinkFault};
+
+/// A source that is no program that can be verified yet is refused at its beginning.
+const NOT_BUILT: Refusal = Refusal {
+    family: Family::S,
+    number: 0,
+    span: Span {
+        file: 0,
+        start: 0,
+        end: 0,
+    },
+};
+
+/// Writes both texts of an answer.
+///
+/// # Errors
+/// A fault only where the count of faults of an output rose; each has then taken a front of its text.
+pub fn tell<O: Sink, E: Sink>(
+    verify: &Verify<'_>,
+    answer: &Answer,
+    sources: &Sources,
+    out: &mut O,
+    err: &mut E,
+) -> Result<(), SinkFault>
+    requires { HasPlace sources.now answer.now }
+    ensures ok { OnOk result (BothTake (O.taken out.old) (O.taken out.new) (E.taken err.old) (E.taken err.new) (out_text sources.now answer.now) (err_text (names_of verify.now) sources.now answer.now)) }
+    ensures stopped { OnErr result (BothTakeFronts (O.taken out.old) (O.taken out.new) (E.taken err.old) (E.taken err.new) (out_text sources.now answer.now) (err_text (names_of verify.now) sources.now answer.now)) }
+    ensures failed { OnErr result (Rose (O.faults out.old) (O.faults out.new) ⊎ Rose (E.faults err.old) (E.faults err.new)) }
+    ensures out_count { O.faults out.old ≤ O.faults out.new }
+    ensures err_count { E.faults err.old ≤ E.faults err.new }
+{
+    match answer {
+        Answer::AbsentSource => put_absent(err, verify.source),
+        Answer::SourceTooLong => put_limit(err, Limit { number: 1 }),
+        Answer::AbsentCertificate => put_absent(err, verify.certificate),
+        Answer::NotBuilt => put_refusal(err, sources, &NOT_BUILT),
+        Answer::CertificateTooLong => put_limit(err, Limit { number: 10 }),
+        Answer::BadCertificate(line) => put_bad_certificate(err, *line),
+        Answer::Failing(condition, at) => put_failing(out, sources, condition.number(), *at),
+        Answer::Accepted(bounds) => put_accepted(out, bounds),
+        Answer::ReadFault => put_read_fault(err),
+        Answer::NoMemory => put_out_of_memory(err),
+    }
+}
