@@ -34,7 +34,7 @@ numeral_again n small =
     let value : digits_number (decimal n) ≡ n = digits_value-decimal own n wide in
     let short : length (decimal n) ≤ 10 = length-decimal-le 10 n (omega arith) (omega (arith, small)) wide in
     let tests : ((nat_le (length (decimal n)) 10 && nat_le (digits_number (decimal n)) greatest_int) && bytes_eq (decimal (digits_number (decimal n))) (decimal n)) ≡ true
-        = and_from _ _ (and_from _ _ (le-leb _ _ short) (le-leb _ _ (omega (arith, value, small)))) (same_text _ _ (ap decimal value)) in
+    = and_from _ _ (and_from _ _ (le-leb _ _ short) (le-leb _ _ (omega (arith, value, small)))) (same_text _ _ (ap decimal value)) in
     ap (λ b. cond b (Some (digits_number (decimal n))) None) tests ∙ ap Some value
 
 -- a name is no number, since a digit is no letter
@@ -48,13 +48,13 @@ numeral_none word name =
     let n = digits_number word in
     let test = (nat_le (length word) 10 && nat_le n greatest_int) && bytes_eq (decimal n) word in
     cond_both test (Some n) None (λ (o : Option ℕ). o ≡ None)
-      (λ e.
-        let tests : ((nat_le (length word) 10 && nat_le n greatest_int) ≡ true) × (bytes_eq (decimal n) word ≡ true) = and_parts _ _ e in
-        let low : n ≤ greatest_int = leb-true _ _ (and_parts _ _ tests.0).1 in
-        let small : n < 2 ^ 64 = omega (arith, low) in
-        let same : decimal n ≡ word = is_text (decimal n) word tests.1 in
-        absurd (first_is_digit word (subst (λ ds. all_ascii_digits ds ≡ true) same (digits_decimal own n small)) name))
-      (λ e. refl)
+    (λ e.
+    let tests : ((nat_le (length word) 10 && nat_le n greatest_int) ≡ true) × (bytes_eq (decimal n) word ≡ true) = and_parts _ _ e in
+    let low : n ≤ greatest_int = leb-true _ _ (and_parts _ _ tests.0).1 in
+    let small : n < 2 ^ 64 = omega (arith, low) in
+    let same : decimal n ≡ word = is_text (decimal n) word tests.1 in
+    absurd (first_is_digit word (subst (λ ds. all_ascii_digits ds ≡ true) same (digits_decimal own n small)) name))
+    (λ e. refl)
 
 -- ## Names
 
@@ -86,8 +86,8 @@ unfolding number_of
 known names are m v within below_m =
     let count : length (take m names) ≡ m = length-take-le m names within in
     position_at (λ name. bytes_eq name (name_of names v)) (take m names) 0 v (omega (arith, count, below_m))
-      (same_text _ _ (get_or-take m names v [] below_m))
-      (λ u below. ap (λ name. bytes_eq name (name_of names v)) (get_or-take m names u [] (omega (arith, below, below_m))) ∙ differs names are u v (omega (arith, below, below_m, within)) (omega (arith, below_m, within)) (omega (arith, below)))
+    (same_text _ _ (get_or-take m names v [] below_m))
+    (λ u below. ap (λ name. bytes_eq name (name_of names v)) (get_or-take m names u [] (omega (arith, below, below_m))) ∙ differs names are u v (omega (arith, below, below_m, within)) (omega (arith, below_m, within)) (omega (arith, below)))
     ∙ ap Some (omega arith)
 
 unknown : (names : List Text) → AreNames names → (m : ℕ) → m < length names → number_of (take m names) (name_of names m) ≡ None
@@ -95,7 +95,7 @@ unfolding number_of
 unknown names are m within =
     let count : length (take m names) ≡ m = length-take-le m names (omega (arith, within)) in
     position_none (λ name. bytes_eq name (name_of names m)) (take m names) 0
-      (λ u inside. ap (λ name. bytes_eq name (name_of names m)) (get_or-take m names u [] (omega (arith, inside, count))) ∙ differs names are u m (omega (arith, inside, count, within)) within (omega (arith, inside, count)))
+    (λ u inside. ap (λ name. bytes_eq name (name_of names m)) (get_or-take m names u [] (omega (arith, inside, count))) ∙ differs names are u m (omega (arith, inside, count, within)) within (omega (arith, inside, count)))
 
 variable_name : (names : List Text) → AreNames names → (v : ℕ) → v < length names → is_variable_name (name_of names v) ≡ true
 variable_name names are v inside = All-get_or (λ name. is_variable_name name ≡ true) names v [] inside are.each
@@ -167,7 +167,6 @@ sum_again names are m within items t in_m s fits rest =
     go (atom_word names s.first) (addend_words names s.others ++ codes ";" ∷ rest) (at (take m names) items [] (FirstAtom t)) (at (take m names) items [] (Joint t s.first)) (begins (take m names) items t (atom_word names s.first) s.first (atom_again names are (readable t (take m names)) m in_m within s.first fits.first))
     ∙ addends_again names are m within items t s.first in_m s.others [] fits.others (codes ";" ∷ rest)
     ∙ go (codes ";") rest (at (take m names) items s.others (Joint t s.first)) (at (take m names) (items ++ item_for t s ∷ []) [] AnItem) (closes (take m names) items t s)
-
 
 starts_new : (names : List Text) (items : List Item) → step (codes "int") (at names items [] AnItem) ≡ Some (at names items [] NewName)
 unfolding step
@@ -259,10 +258,10 @@ body_again names p is =
     let are : AreNames names = record { each = is.each; apart = is.apart } in
     let ns = take p.variables names in
     let all : steps (items_words names p.items ++ return_words p.returned) start ≡ Some (at ns p.items [] (Nothing p.returned)) =
-        items_again names are 0 [] p.items p.variables is.items (omega (arith, is.count)) (return_words p.returned)
-        ∙ go (codes "return") (decimal p.returned ∷ codes ";" ∷ codes "}" ∷ []) (at ns p.items [] AnItem) (at ns p.items [] Value) (returns ns p.items)
-        ∙ go (decimal p.returned) (codes ";" ∷ codes "}" ∷ []) (at ns p.items [] Value) (at ns p.items [] (End p.returned)) (returns_number ns p.items p.returned is.returned)
-        ∙ go (codes ";") (codes "}" ∷ []) (at ns p.items [] (End p.returned)) (at ns p.items [] (Brace p.returned)) (closes_return ns p.items p.returned)
-        ∙ go (codes "}") [] (at ns p.items [] (Brace p.returned)) (at ns p.items [] (Nothing p.returned)) (closes_body ns p.items p.returned) in
+    items_again names are 0 [] p.items p.variables is.items (omega (arith, is.count)) (return_words p.returned)
+    ∙ go (codes "return") (decimal p.returned ∷ codes ";" ∷ codes "}" ∷ []) (at ns p.items [] AnItem) (at ns p.items [] Value) (returns ns p.items)
+    ∙ go (decimal p.returned) (codes ";" ∷ codes "}" ∷ []) (at ns p.items [] Value) (at ns p.items [] (End p.returned)) (returns_number ns p.items p.returned is.returned)
+    ∙ go (codes ";") (codes "}" ∷ []) (at ns p.items [] (End p.returned)) (at ns p.items [] (Brace p.returned)) (closes_return ns p.items p.returned)
+    ∙ go (codes "}") [] (at ns p.items [] (Brace p.returned)) (at ns p.items [] (Nothing p.returned)) (closes_body ns p.items p.returned) in
     ap (λ o. option_and_then (λ (r : Reading). whole_at r.expecting r) o) all
     ∙ ap (λ n. Some (record { variables = n; items = p.items; returned = p.returned })) (length-take-le p.variables names (omega (arith, is.count)))

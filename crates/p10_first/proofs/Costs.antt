@@ -48,7 +48,7 @@ steps_cost : {A : Type 0} (count cost budget : ℕ) (go : ℕ → Went A) → ((
 steps_cost zero cost budget go costs = more (go budget) 0 cost budget budget (omega arith) (costs budget)
 steps_cost (suc count) cost budget go costs =
     subst (λ n. Costs n budget (take_steps (suc count) budget go)) (omega arith)
-      (step_costs (count + cost) budget (λ left. take_steps count left go) (λ left. steps_cost count cost left go costs))
+    (step_costs (count + cost) budget (λ left. take_steps count left go) (λ left. steps_cost count cost left go costs))
 
 after_costs : {A B : Type 0} (w : Went A) (first cost budget : ℕ) (go : A → ℕ → Went B) → Costs first budget w → ((a : A) (left : ℕ) → Costs cost left (go a left)) → Costs (first + cost) budget (after w go)
 after_costs (Gives a left) first cost budget go paid costs = more (go a left) first cost left budget paid (costs a left)
@@ -79,21 +79,21 @@ add_costs : (frame : Frame) (sum : ℤ) (others : List Atom) (budget : ℕ) → 
 add_costs frame sum [] budget = free sum budget
 add_costs frame sum (a ∷ others) budget =
     as_many _ (1 + (0 + length others)) (length (a ∷ others)) budget (omega arith)
-      (after_costs (evaluate_atom frame a budget) 1 (0 + length others) budget _ (atom_costs frame a budget)
-        (λ z left. after_costs (operated (operate Add Int sum z) left) 0 (length others) left _ (operated_costs (operate Add Int sum z) left)
-          (λ sum left. add_costs frame sum others left)))
+    (after_costs (evaluate_atom frame a budget) 1 (0 + length others) budget _ (atom_costs frame a budget)
+    (λ z left. after_costs (operated (operate Add Int sum z) left) 0 (length others) left _ (operated_costs (operate Add Int sum z) left)
+    (λ sum left. add_costs frame sum others left)))
 
 sum_costs : (frame : Frame) (s : Sum) (budget : ℕ) → Costs (sum_cost s) budget (evaluate_sum frame s budget)
 sum_costs frame s budget =
     as_many _ (length s.others + (1 + length s.others)) (sum_cost s) budget (omega arith)
-      (steps_cost (length s.others) (1 + length s.others) budget _
-        (λ left. after_costs (evaluate_atom frame s.first left) 1 (length s.others) left _ (atom_costs frame s.first left) (λ z left. add_costs frame z s.others left)))
+    (steps_cost (length s.others) (1 + length s.others) budget _
+    (λ left. after_costs (evaluate_atom frame s.first left) 1 (length s.others) left _ (atom_costs frame s.first left) (λ z left. add_costs frame z s.others left)))
 
 set_costs : (frame read : Frame) (v : ℕ) (s : Sum) (budget : ℕ) → Costs (1 + sum_cost s) budget (take_step budget (λ left. after (evaluate_sum read s left) (λ z left. Gives (slice_set frame v (Some z)) left)))
 set_costs frame read v s budget =
     step_costs (sum_cost s) budget _ (λ left.
-      as_many _ (sum_cost s + 0) (sum_cost s) left (omega arith)
-        (after_costs (evaluate_sum read s left) (sum_cost s) 0 left _ (sum_costs read s left) (λ z left. free (slice_set frame v (Some z)) left)))
+    as_many _ (sum_cost s + 0) (sum_cost s) left (omega arith)
+    (after_costs (evaluate_sum read s left) (sum_cost s) 0 left _ (sum_costs read s left) (λ z left. free (slice_set frame v (Some z)) left)))
 
 item_costs : (i : Item) (frame : Frame) (budget : ℕ) → Costs (item_cost i) budget (execute i frame budget)
 item_costs (Declare v) frame budget = step_costs 0 budget _ (λ left. free (slice_set frame v None) left)
@@ -104,7 +104,7 @@ items_cost : (items : List Item) (frame : Frame) (budget : ℕ) → Costs (sum_b
 items_cost [] frame budget = free frame budget
 items_cost (i ∷ items) frame budget =
     as_many _ (item_cost i + sum_by item_cost items) (sum_by item_cost (i ∷ items)) budget (sym (sum_by-cons item_cost i items))
-      (after_costs (execute i frame budget) (item_cost i) (sum_by item_cost items) budget (λ frame left. execute_all items frame left) (item_costs i frame budget) (λ frame left. items_cost items frame left))
+    (after_costs (execute i frame budget) (item_cost i) (sum_by item_cost items) budget (λ frame left. execute_all items frame left) (item_costs i frame budget) (λ frame left. items_cost items frame left))
 
 return_costs : (n budget : ℕ) → Costs 2 budget (return_number n budget)
 return_costs n budget = step_costs 1 budget _ (λ left. step_costs 0 left _ (λ left. free (pos n) left))
@@ -113,9 +113,9 @@ pub main_costs : (p : Program) (budget : ℕ) → Costs (cost_of p) budget (call
 unfolding call_main
 main_costs p budget =
     as_many _ (1 + (sum_by item_cost p.items + 2)) (cost_of p) budget (omega arith)
-      (step_costs (sum_by item_cost p.items + 2) budget _ (λ left.
-        after_costs (execute_all p.items (replicate p.variables None) left) (sum_by item_cost p.items) 2 left _
-          (items_cost p.items (replicate p.variables None) left) (λ frame left. return_costs p.returned left)))
+    (step_costs (sum_by item_cost p.items + 2) budget _ (λ left.
+    after_costs (execute_all p.items (replicate p.variables None) left) (sum_by item_cost p.items) 2 left _
+    (items_cost p.items (replicate p.variables None) left) (λ frame left. return_costs p.returned left)))
 
 -- ## The laws
 
@@ -145,7 +145,8 @@ accepted_is_within p c accepts world turns =
       steps = enough (call_main p c.total.prefix) (cost_of p) c.total.prefix (main_costs p c.total.prefix) (omega (arith, steps, total.0));
       calls = entered c.total.prefix 1 c.total.calls (omega (arith, depth.0, total.1));
       bytes = entered c.total.prefix (frame_bytes p) c.total.bytes (omega (arith, depth.1, total.2));
-      allocations = refl }
+      allocations = refl;
+    }
 
 -- two conditions with one number are one
 number_tells : (k l : Condition) → number_of_condition k ≡ number_of_condition l → k ≡ l
@@ -162,7 +163,8 @@ number_tells K14 _ e = absurd (omega (arith, e))
 
 pub one_fails_first : (p : Program) (c : Claims) (k l : Condition) → IsFirstFailure p c k → IsFirstFailure p c l → k ≡ l
 one_fails_first p c k l first second =
-    elim (cases_lt (number_of_condition k) (number_of_condition l))
-      [ inl lower ↦ absurd (first.fails (second.before k lower))
+    elim (cases_lt (number_of_condition k) (number_of_condition l)) [
+      | inl lower ↦ absurd (first.fails (second.before k lower))
       | inr upper ↦ number_tells k l (elim (cases_lt (number_of_condition l) (number_of_condition k))
-          [ inl lower ↦ absurd (second.fails (first.before l lower)) | inr upper2 ↦ omega (arith, upper, upper2) ]) ]
+          [ inl lower ↦ absurd (second.fails (first.before l lower)) | inr upper2 ↦ omega (arith, upper, upper2) ])
+    ]

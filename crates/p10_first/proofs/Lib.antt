@@ -14,3 +14,5 @@ pub mod WordsCut
 pub mod WordsLoop
 pub mod WordsStand
 pub mod Costs
+pub mod RangeSteps
+pub mod RangesDescribe

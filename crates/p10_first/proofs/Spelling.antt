@@ -44,8 +44,8 @@ found_at : (p : Text → Bool) (names : List Text) (from at : ℕ) → position_
 found_at p [] from at e = absurd (none-some at e)
 found_at p (name ∷ names) from at e =
     cond_cases (p name) from (position_from p (from + 1) names) at e
-      (λ yes same. record { place = 0; at_is = omega (arith, same); inside = omega arith; passes = yes })
-      (λ no later. let f = found_at p names (from + 1) at later in record { place = suc f.place; at_is = omega (arith, f.at_is); inside = omega (arith, f.inside); passes = f.passes })
+    (λ yes same. record { place = 0; at_is = omega (arith, same); inside = omega arith; passes = yes })
+    (λ no later. let f = found_at p names (from + 1) at later in record { place = suc f.place; at_is = omega (arith, f.at_is); inside = omega (arith, f.inside); passes = f.passes })
 
 pub number_of_takes : (names : List Text) (word : Text) (v : ℕ) → number_of names word ≡ Some v → (v < length names) × (name_of names v ≡ word)
 unfolding number_of
@@ -62,7 +62,7 @@ none_at : (p : Text → Bool) (names : List Text) (from : ℕ) → position_from
 none_at p [] from e at inside = absurd (omega (arith, inside))
 none_at p (name ∷ names) from e at inside =
     elim (p name) as (λ t. p name ≡ t → cond t (Some from) (position_from p (from + 1) names) ≡ None → p (get_or (name ∷ names) at []) ≡ false)
-      [ true ↦ λ yes gone. absurd (none-some from (sym gone)) | false ↦ λ no later. none_here p name names no (λ at inside. none_at p names (from + 1) later at inside) at inside ] refl e
+    [ true ↦ λ yes gone. absurd (none-some from (sym gone)) | false ↦ λ no later. none_here p name names no (λ at inside. none_at p names (from + 1) later at inside) at inside ] refl e
 
 pub number_of_none : (names : List Text) (word : Text) → number_of names word ≡ None → (v : ℕ) → v < length names → name_of names v ≡ word → ⊥
 unfolding number_of
@@ -84,11 +84,13 @@ atom_of_takes declared names word a e = by_number (numeral word) refl e
   where
     Goal : Atom → Type 0
     Goal a = (atom_word names a ≡ word) × AtomFits declared a
+
     by_variable : option_map Variable (option_and_then (below declared) (number_of names word)) ≡ Some a → (atom_word names a ≡ word) × AtomFits declared a
     by_variable e = map_some Variable _ a e (λ v found same. option_and_then_some (below declared) _ v found (λ u known low.
         let parts = cond_some _ _ _ low in
         let takes = number_of_takes names word u known in
         subst (λ (a : Atom). (atom_word names a ≡ word) × AtomFits declared a) (ap Variable parts.1 ∙ same) (takes.1, ltb-true _ _ parts.0)))
+
     by_number : (o : Option ℕ) → numeral word ≡ o → number_or_variable o (option_and_then (below declared) (number_of names word)) ≡ Some a → (atom_word names a ≡ word) × AtomFits declared a
     by_number (Some n) is e = subst (λ (a : Atom). (atom_word names a ≡ word) × AtomFits declared a) (same_Some _ _ e) (numeral_takes word n is)
     by_number None is e = by_variable e

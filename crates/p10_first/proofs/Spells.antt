@@ -38,8 +38,8 @@ head_again body = refl
 pub program_of_takes : (words : List Text) (p : Program) → program_of words ≡ Some p → Spells words p
 program_of_takes words p e =
     option_and_then_some body_of (behind_head words) p e (λ body head rest.
-      let takes = body_takes body p rest in
-      record { names = takes.names; is_program = takes.is_program; words_are = head_takes words body head ∙ ap (λ (b : List Text). head_words ++ b) takes.words_are })
+    let takes = body_takes body p rest in
+    record { names = takes.names; is_program = takes.is_program; words_are = head_takes words body head ∙ ap (λ (b : List Text). head_words ++ b) takes.words_are })
 
 pub program_of_again : (words : List Text) (p : Program) → Spells words p → program_of words ≡ Some p
 program_of_again words p s =

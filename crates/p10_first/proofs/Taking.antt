@@ -89,13 +89,15 @@ longer front before after word e = ap (λ a. front ++ a) e ∙ sym (append_assoc
 moves : (r : Reading) (word : Text) (next : Expecting) (s : IsSound r) → pending r.names r.others next ≡ pending r.names r.others r.expecting ++ word ∷ [] → StateFits s.declared r.names r.others next → Reads r word (expect next r)
 moves r word next s words state = record {
   words = longer (items_words r.names r.items) _ _ word words;
-  sound = record { declared = s.declared; each = s.each; apart = s.apart; fit = s.fit; state = state } }
+  sound = record { declared = s.declared; each = s.each; apart = s.apart; fit = s.fit; state = state };
+}
 
 -- a step that ends an item
 ends : (r : Reading) (word : Text) (i : Item) (s : IsSound r) → item_words r.names i ≡ pending r.names r.others r.expecting ++ word ∷ [] → ItemFits s.declared i → length r.names ≡ declared_after s.declared i → Reads r word (add_item i (clear_others r))
 ends r word i s words fits count = record {
   words = append-nil (items_words r.names (r.items ++ i ∷ [])) ∙ items_push r.names r.items i ∙ longer (items_words r.names r.items) _ _ word words;
-  sound = record { declared = declared_after s.declared i; each = s.each; apart = s.apart; fit = fit_push 0 r.items s.declared i s.fit fits; state = (count, refl) } }
+  sound = record { declared = declared_after s.declared i; each = s.each; apart = s.apart; fit = fit_push 0 r.items s.declared i s.fit fits; state = (count, refl) };
+}
 
 -- ## Each step
 
@@ -113,20 +115,20 @@ reads_item : (names : List Text) (items : List Item) (others : List Atom) (word 
 reads_item names items others word next s e =
     let r = at names items others AnItem in
     cond_cases _ _ _ next e
-      (awaited r (codes "int") word _ next (λ is. moves r word NewName s (ap (λ w. w ∷ []) is) s.state))
-      (λ no e. cond_cases _ _ _ next e
-        (awaited r (codes "return") word _ next (λ is. moves r word Value s (ap (λ w. w ∷ []) is) s.state.0))
-        (λ no e. map_some (λ v. expect (Assigned v) r) _ next e (λ v known same.
-          let found = number_of_takes names word v known in
-          to _ next same (moves r word (Assigned v) s (ap (λ w. w ∷ []) found.1) ((subst (λ n. v < n) s.state.0 found.0, s.state.0), s.state.1)))))
+    (awaited r (codes "int") word _ next (λ is. moves r word NewName s (ap (λ w. w ∷ []) is) s.state))
+    (λ no e. cond_cases _ _ _ next e
+    (awaited r (codes "return") word _ next (λ is. moves r word Value s (ap (λ w. w ∷ []) is) s.state.0))
+    (λ no e. map_some (λ v. expect (Assigned v) r) _ next e (λ v known same.
+    let found = number_of_takes names word v known in
+    to _ next same (moves r word (Assigned v) s (ap (λ w. w ∷ []) found.1) ((subst (λ n. v < n) s.state.0 found.0, s.state.0), s.state.1)))))
 
 reads_declared : (v : ℕ) (names : List Text) (items : List Item) (others : List Atom) (word : Text) (next : Reading) → IsSound (at names items others (Declared v)) → declared_step v word (at names items others (Declared v)) ≡ Some next → Reads (at names items others (Declared v)) word next
 reads_declared v names items others word next s e =
     let r = at names items others (Declared v) in
     cond_cases _ _ _ next e
-      (awaited r (codes ";") word _ next (λ is. moved_out r word (Declare v) s.state.1 (ends r word (Declare v) s (ap (λ w. codes "int" ∷ name_of names v ∷ w ∷ []) is) s.state.0.0 s.state.0.1)))
-      (λ no e. let parts = cond_some _ _ _ e in
-        awaited r (codes "=") word _ next (λ is. moves r word (FirstAtom (New v)) s (ap (λ w. codes "int" ∷ name_of names v ∷ w ∷ []) is) s.state) parts.0 parts.1)
+    (awaited r (codes ";") word _ next (λ is. moved_out r word (Declare v) s.state.1 (ends r word (Declare v) s (ap (λ w. codes "int" ∷ name_of names v ∷ w ∷ []) is) s.state.0.0 s.state.0.1)))
+    (λ no e. let parts = cond_some _ _ _ e in
+    awaited r (codes "=") word _ next (λ is. moves r word (FirstAtom (New v)) s (ap (λ w. codes "int" ∷ name_of names v ∷ w ∷ []) is) s.state) parts.0 parts.1)
   where
     -- where no sum is open nothing is moved out
     moved_out : (r : Reading) (word : Text) (i : Item) → r.others ≡ [] → Reads r word (add_item i (clear_others r)) → Reads r word (add_item i r)
@@ -149,20 +151,26 @@ reads_first_atom : (t : Target) (names : List Text) (items : List Item) (others 
 reads_first_atom t names items others word next s e =
     let r = at names items others (FirstAtom t) in
     map_some (λ a. expect (Joint t a) r) _ next e (λ a known same.
-      let takes = operand_takes s.declared t r word a s.state.0 known in
-      to _ next same (moves r word (Joint t a) s
-        (ap (λ (o : List Atom). target_words names t ++ codes "=" ∷ sum_words names a o) s.state.1 ∙ ap (λ w. target_words names t ++ codes "=" ∷ w ∷ []) takes.0 ∙ sym (append_assoc (target_words names t) (codes "=" ∷ []) (word ∷ [])))
-        (record { target = s.state.0; head = takes.1; rest = subst (λ (o : List Atom). All (AtomFits s.declared) o) (sym s.state.1) (All-nil (AtomFits s.declared)) })))
+    let takes = operand_takes s.declared t r word a s.state.0 known in
+    to _ next same (moves r word (Joint t a) s
+    (ap (λ (o : List Atom). target_words names t ++ codes "=" ∷ sum_words names a o) s.state.1 ∙ ap (λ w. target_words names t ++ codes "=" ∷ w ∷ []) takes.0 ∙ sym (append_assoc (target_words names t) (codes "=" ∷ []) (word ∷ [])))
+    (record { target = s.state.0; head = takes.1; rest = subst (λ (o : List Atom). All (AtomFits s.declared) o) (sym s.state.1) (All-nil (AtomFits s.declared)) })))
 
 reads_next_atom : (t : Target) (first : Atom) (names : List Text) (items : List Item) (others : List Atom) (word : Text) (next : Reading) → IsSound (at names items others (NextAtom t first)) → next_atom_step t first word (at names items others (NextAtom t first)) ≡ Some next → Reads (at names items others (NextAtom t first)) word next
 reads_next_atom t first names items others word next s e =
     let r = at names items others (NextAtom t first) in
     map_some (λ a. at names items (others ++ a ∷ []) (Joint t first)) _ next e (λ a known same.
-      let takes = operand_takes s.declared t r word a s.state.target known in
-      to _ next same (record {
-        words = longer (items_words names items) _ _ word (one_more a takes.0);
-        sound = record { declared = s.declared; each = s.each; apart = s.apart; fit = s.fit;
-          state = record { target = s.state.target; head = s.state.head; rest = All-push (AtomFits s.declared) others a s.state.rest takes.1 } } }))
+    let takes = operand_takes s.declared t r word a s.state.target known in
+    to _ next same (record {
+      words = longer (items_words names items) _ _ word (one_more a takes.0);
+      sound = record {
+        declared = s.declared;
+        each = s.each;
+        apart = s.apart;
+        fit = s.fit;
+        state = record { target = s.state.target; head = s.state.head; rest = All-push (AtomFits s.declared) others a s.state.rest takes.1 };
+      };
+    }))
   where
     one_more : (a : Atom) → atom_word names a ≡ word → target_words names t ++ codes "=" ∷ sum_words names first (others ++ a ∷ []) ≡ ((target_words names t ++ codes "=" ∷ sum_words names first others) ++ codes "+" ∷ []) ++ word ∷ []
     one_more a is =
@@ -175,16 +183,18 @@ reads_joint t first names items others word next s e =
     let r = at names items others (Joint t first) in
     let sum : Sum = record { first = first; others = others } in
     cond_cases _ _ _ next e
-      (awaited r (codes "+") word _ next (λ is. moves r word (NextAtom t first) s (ap (λ w. (target_words names t ++ codes "=" ∷ sum_words names first others) ++ w ∷ []) is) s.state))
-      (λ no e. let parts = cond_some _ _ _ e in
-        awaited r (codes ";") word _ next (λ is. ends r word (item_for t sum) s (whole t sum is) (fits t sum s.state.target s.state.head s.state.rest) (counts t sum s.state.target)) parts.0 parts.1)
+    (awaited r (codes "+") word _ next (λ is. moves r word (NextAtom t first) s (ap (λ w. (target_words names t ++ codes "=" ∷ sum_words names first others) ++ w ∷ []) is) s.state))
+    (λ no e. let parts = cond_some _ _ _ e in
+    awaited r (codes ";") word _ next (λ is. ends r word (item_for t sum) s (whole t sum is) (fits t sum s.state.target s.state.head s.state.rest) (counts t sum s.state.target)) parts.0 parts.1)
   where
     whole : (t : Target) (sum : Sum) → codes ";" ≡ word → item_words names (item_for t sum) ≡ (target_words names t ++ codes "=" ∷ sum_words names sum.first sum.others) ++ word ∷ []
     whole (New v) sum is = ap (λ w. codes "int" ∷ name_of names v ∷ codes "=" ∷ (sum_words names sum.first sum.others ++ w ∷ [])) is
     whole (Old v) sum is = ap (λ w. name_of names v ∷ codes "=" ∷ (sum_words names sum.first sum.others ++ w ∷ [])) is
+
     fits : (t : Target) (sum : Sum) → TargetFits s.declared names t → AtomFits s.declared sum.first → All (AtomFits s.declared) sum.others → ItemFits s.declared (item_for t sum)
     fits (New v) sum target head rest = (target.0, record { first = head; others = rest })
     fits (Old v) sum target head rest = (target.0, record { first = head; others = rest })
+
     counts : (t : Target) (sum : Sum) → TargetFits s.declared names t → length names ≡ declared_after s.declared (item_for t sum)
     counts (New v) sum target = target.1
     counts (Old v) sum target = target.1
@@ -193,8 +203,8 @@ reads_value : (names : List Text) (items : List Item) (others : List Atom) (word
 reads_value names items others word next s e =
     let r = at names items others Value in
     map_some (λ n. expect (End n) r) _ next e (λ n known same.
-      let takes = numeral_takes word n known in
-      to _ next same (moves r word (End n) s (ap (λ w. codes "return" ∷ w ∷ []) takes.0) (s.state, takes.1)))
+    let takes = numeral_takes word n known in
+    to _ next same (moves r word (End n) s (ap (λ w. codes "return" ∷ w ∷ []) takes.0) (s.state, takes.1)))
 
 -- a further name is none of those before
 apart_push : (names : List Text) (word : Text) → AreApart names → ((v : ℕ) → v < length names → name_of names v ≡ word → ⊥) → AreApart (names ++ word ∷ [])
@@ -203,8 +213,10 @@ apart_push names word apart new u v u_in v_in same =
   where
     last : name_of (names ++ word ∷ []) (length names) ≡ word
     last = get_or-append_seam names word [] []
+
     count : length (names ++ word ∷ []) ≡ length names + 1
     count = length-append names (word ∷ [])
+
     both : (u ≡ length names) ⊎ (u ≡ length names → ⊥) → (v ≡ length names) ⊎ (v ≡ length names → ⊥) → u ≡ v
     both (inl u_last) (inl v_last) = u_last ∙ sym v_last
     both (inl u_last) (inr v_old) =
@@ -230,11 +242,14 @@ reads_new_name names items others word next s e =
     let count : length (names ++ word ∷ []) ≡ length names + 1 = length-append names (word ∷ []) in
     to _ next parts.1 (record {
       words = longer _ _ _ word (ap (λ w. codes "int" ∷ w ∷ []) (get_or-append_seam names word [] [])) ∙ ap (λ (ws : List Text). (ws ++ codes "int" ∷ []) ++ word ∷ []) (items_grow names (word ∷ []) 0 items s.declared s.fit (omega (arith, s.state.0)));
-      sound = record { declared = s.declared;
+      sound = record {
+        declared = s.declared;
         each = All-push (λ name. is_variable_name name ≡ true) names word s.each tests.0;
         apart = apart_push names word s.apart (number_of_none names word (none_is _ tests.1));
         fit = s.fit;
-        state = ((s.state.0, omega (arith, count, s.state.0)), s.state.1) } })
+        state = ((s.state.0, omega (arith, count, s.state.0)), s.state.1);
+      };
+    })
 
 reads_at : (e : Expecting) (names : List Text) (items : List Item) (others : List Atom) (word : Text) (next : Reading) → IsSound (at names items others e) → step_at e word (at names items others e) ≡ Some next → Reads (at names items others e) word next
 reads_at AnItem names items others word next s e = reads_item names items others word next s e
@@ -260,9 +275,9 @@ unfolding step
 reads_all [] r last s e = subst (λ (n : Reading). ReadsAll r [] n) (same_Some r last e) (record { words_are = sym (append-nil (so_far r)); sound = s })
 reads_all (word ∷ words) r last s e =
     option_and_then_some (steps words) (step word r) last e (λ next one others.
-      let first = reads_at r.expecting r.names r.items r.others word next s one in
-      let more = reads_all words next last first.sound others in
-      record { words_are = more.words_are ∙ ap (λ (ws : List Text). ws ++ words) first.words ∙ append_assoc (so_far r) (word ∷ []) words; sound = more.sound })
+    let first = reads_at r.expecting r.names r.items r.others word next s one in
+    let more = reads_all words next last first.sound others in
+    record { words_are = more.words_are ∙ ap (λ (ws : List Text). ws ++ words) first.words ∙ append_assoc (so_far r) (word ∷ []) words; sound = more.sound })
 
 start_is_sound : IsSound start
 start_is_sound = record { declared = 0; each = All-nil (λ name. is_variable_name name ≡ true); apart = λ u v u_in v_in same. absurd (omega (arith, u_in)); fit = refl; state = (refl, refl) }
@@ -278,11 +293,12 @@ taken (Nothing n) names items others words p e reads =
     subst (λ (p : Program). TakesBody words p) (same_Some _ p e) (record {
       names = names;
       is_program = record { count = refl; each = s.each; apart = s.apart; items = subst (λ m. ItemsFit 0 items m) (sym s.state.0) s.fit; returned = s.state.1 };
-      words_are = sym reads.words_are })
+      words_are = sym reads.words_are;
+    })
 taken _ names items others words p e reads = absurd (none-some p e)
 
 pub body_takes : (words : List Text) (p : Program) → body_of words ≡ Some p → TakesBody words p
 unfolding body_of
 body_takes words p e =
     option_and_then_some (λ (r : Reading). whole_at r.expecting r) (steps words start) p e (λ r all whole.
-      taken r.expecting r.names r.items r.others words p whole (reads_all words start r start_is_sound all))
+    taken r.expecting r.names r.items r.others words p whole (reads_all words start r start_is_sound all))

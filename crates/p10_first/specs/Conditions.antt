@@ -1,5 +1,5 @@
 -- What a program of the first form costs, and the conditions on a program and its certificate.
-use Rattle.std.specs.Prelude.{◌≡◌, ℕ, ◌+◌, ◌*◌, ◌<◌, ◌≤◌, List, length, codes, pos, ◌≤ℤ◌, sum_by}
+use Rattle.std.specs.Prelude.{◌≡◌, ℕ, true, ◌+◌, ◌*◌, ◌<◌, ◌≤◌, List, length, codes, pos, ◌≤ℤ◌, sum_by}
 use Rattle.p10_int.specs.declared.types.IntType.TheVariants.{Int}
 use Rattle.p10_int.specs.Types.{least_of, greatest_of}
 use Rattle.p10_first.specs.declared.program.Sum.{Sum}
@@ -10,6 +10,7 @@ use Rattle.p10_first.specs.declared.conditions.Condition.{Condition}
 use Rattle.p10_first.specs.declared.conditions.Condition.TheVariants.{K1, K5, K11, K12, K14}
 use Rattle.p10_first.specs.Certificate.{Claims}
 use Rattle.p10_first.specs.Meaning.{frame_bytes}
+use Rattle.p10_first.specs.Ranges.{is_reached}
 
 -- ## Costs in steps
 
@@ -33,11 +34,14 @@ cost_of p = 1 + sum_by item_cost p.items + 2
 abbrev pub NamesMain : Claims → Type 0
 NamesMain c = (c.name ≡ codes "main") × (least_of Int ≤ℤ c.low) × (c.high ≤ℤ greatest_of Int)
 
+-- the returned value lies in the range of the result, unless ranges tell that no run comes to the `return`
+abbrev pub ReturnsInRange : Program → Claims → Type 0
+ReturnsInRange p c = is_reached p ≡ true → (c.low ≤ℤ pos p.returned) × (pos p.returned ≤ℤ c.high)
+
 -- what a condition asks of a program and a certificate's claims
 abbrev pub Holds : Program → Claims → Condition → Type 0
 Holds p c K1 = NamesMain c
--- the returned value lies in the range of the result
-Holds p c K5 = (c.low ≤ℤ pos p.returned) × (pos p.returned ≤ℤ c.high)
+Holds p c K5 = ReturnsInRange p c
 -- the steps are at least what `main` costs
 Holds p c K11 = cost_of p ≤ c.steps
 -- the calls are at least `main` alone, and the bytes at least its frame

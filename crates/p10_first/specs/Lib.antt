@@ -7,5 +7,6 @@ pub mod Reader
 pub mod Certificate
 pub mod CertificateReading
 pub mod Meaning
+pub mod Ranges
 pub mod Conditions
 pub mod Laws

@@ -139,7 +139,8 @@ run_of p world prefix turn turns = record {
   output = [];
   calls = once_entered prefix 1;
   bytes = once_entered prefix (frame_bytes p);
-  allocations = 0 }
+  allocations = 0;
+}
 
 -- a run stays within bounds: it doesn't end for want of steps, and neither its depths nor its
 -- allocations are over what is allowed

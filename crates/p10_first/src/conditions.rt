@@ -1,20 +1,22 @@
 //! The conditions on a program and its certificate. The others of a certificate's conditions hold of
 //! every program of the first form: it has no parameter, no call, no loop and no allocation.
 
-ghost use Rattle.std.specs.Prelude.{◌≡◌, ◌<◌, ◌≤◌, ◌+◌, ◌*◌, ◌-◌, ◌^◌, ◌↔◌, min, length, sum_by, IsTrue, IfSome, IfNone};
+ghost use Rattle.std.specs.Prelude.{◌≡◌, ◌<◌, ◌≤◌, ◌+◌, ◌*◌, ◌-◌, ◌^◌, ◌↔◌, min, length, sum_by, IsTrue, IfSome, IfNone, IfOk};
 ghost use Rattle.p10_first.specs.Certificate.{claims_of};
-ghost use Rattle.p10_first.specs.Conditions.{NamesMain, Accepts, IsFirstFailure};
+ghost use Rattle.p10_first.specs.Conditions.{NamesMain, ReturnsInRange, Accepts, IsFirstFailure};
 
 use crate::certificate::Certificate;
+use crate::ranges::reaches_return;
 use crate::{Item, Program, Sum};
 use p10_int::IntType;
+use std::alloc::{AllocError, Global};
 
 /// A condition, by the number that is printed.
 #[derive(Clone, Copy, Debug, PartialEq, Eq)]
 pub enum Condition {
     /// The function is `main`, and the range of its result lies in that of `int`.
     K1,
-    /// The returned value lies in the range of the result.
+    /// The returned value lies in the range of the result, or no run comes to the `return`.
     K5,
     /// The claimed steps are enough.
     K11,
@@ -85,20 +87,27 @@ impl Program {
 impl Condition {
     ghost use Rattle.p10_first.specs.Conditions.{Holds};
 
-    /// Whether the condition holds of a program and its certificate.
-    fn holds(self, program: &Program, claims: &Certificate<'_>) -> bool
-        ensures { IsTrue result ↔ Holds program.now (claims_of claims.now) self }
+    /// Whether the condition holds of a program and its certificate; an error where memory runs out.
+    fn holds(
+        self,
+        alloc: Global,
+        program: &Program,
+        claims: &Certificate<'_>,
+    ) -> Result<bool, AllocError>
+        ensures { IfOk result (λ holds. IsTrue holds ↔ Holds program.now (claims_of claims.now) self) }
     {
         match self {
-            Condition::K1 => names_main(claims),
-            Condition::K5 => claims.low <= i128::from(program.returned) && i128::from(program.returned) <= claims.high,
-            Condition::K11 => program.cost() <= u128::from(claims.steps),
-            Condition::K12 => 1 <= claims.calls && 4 * program.variables as u128 <= u128::from(claims.bytes),
-            Condition::K14 => {
+            Condition::K1 => Ok(names_main(claims)),
+            Condition::K5 => returns_in_range(alloc, program, claims),
+            Condition::K11 => Ok(program.cost() <= u128::from(claims.steps)),
+            Condition::K12 => Ok(
+                1 <= claims.calls && 4 * program.variables as u128 <= u128::from(claims.bytes),
+            ),
+            Condition::K14 => Ok(
                 claims.steps <= claims.total.prefix
                     && claims.calls <= claims.total.calls
-                    && claims.bytes <= claims.total.bytes
-            }
+                    && claims.bytes <= claims.total.bytes,
+            ),
         }
     }
 }
@@ -111,25 +120,48 @@ fn names_main(claims: &Certificate<'_>) -> bool
     claims.name == b"main".as_slice() && least <= claims.low && claims.high <= greatest
 }
 
-/// The first condition that doesn't hold of a program and its certificate, or `None` where all hold.
-pub fn failing(program: &Program, claims: &Certificate<'_>) -> Option<Condition>
-    ensures accepted { IfNone result (Accepts program.now (claims_of claims.now)) }
-    ensures refused { IfSome result (IsFirstFailure program.now (claims_of claims.now)) }
+/// Whether the returned value lies in the claimed range, or no run comes to the `return`. The ranges are
+/// followed only where the value lies outside.
+fn returns_in_range(
+    alloc: Global,
+    program: &Program,
+    claims: &Certificate<'_>,
+) -> Result<bool, AllocError>
+    ensures { IfOk result (λ holds. IsTrue holds ↔ ReturnsInRange program.now (claims_of claims.now)) }
 {
-    if !Condition::K1.holds(program, claims) {
-        return Some(Condition::K1);
+    let value = i128::from(program.returned);
+    if claims.low <= value && value <= claims.high {
+        return Ok(true);
     }
-    if !Condition::K5.holds(program, claims) {
-        return Some(Condition::K5);
+    Ok(!reaches_return(alloc, program)?)
+}
+
+/// The first condition that doesn't hold of a program and its certificate, or `None` where all hold.
+///
+/// # Errors
+/// Want of memory alone.
+pub fn failing(
+    alloc: Global,
+    program: &Program,
+    claims: &Certificate<'_>,
+) -> Result<Option<Condition>, AllocError>
+    ensures accepted { IfOk result (λ o. IfNone o (Accepts program.now (claims_of claims.now))) }
+    ensures refused { IfOk result (λ o. IfSome o (IsFirstFailure program.now (claims_of claims.now))) }
+{
+    if !Condition::K1.holds(alloc, program, claims)? {
+        return Ok(Some(Condition::K1));
     }
-    if !Condition::K11.holds(program, claims) {
-        return Some(Condition::K11);
+    if !Condition::K5.holds(alloc, program, claims)? {
+        return Ok(Some(Condition::K5));
     }
-    if !Condition::K12.holds(program, claims) {
-        return Some(Condition::K12);
+    if !Condition::K11.holds(alloc, program, claims)? {
+        return Ok(Some(Condition::K11));
     }
-    if !Condition::K14.holds(program, claims) {
-        return Some(Condition::K14);
+    if !Condition::K12.holds(alloc, program, claims)? {
+        return Ok(Some(Condition::K12));
     }
-    None
+    if !Condition::K14.holds(alloc, program, claims)? {
+        return Ok(Some(Condition::K14));
+    }
+    Ok(None)
 }

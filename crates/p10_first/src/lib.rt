@@ -11,6 +11,7 @@ pub mod certificate;
 mod conditions;
 pub mod laws;
 mod program;
+mod ranges;
 mod reader;
 pub mod words;
 

@@ -185,7 +185,11 @@ impl<'s> Reader<'s> {
             Expecting::AnItem => Ok(self.take_item(word)),
             Expecting::NewName => self.take_new_name(word),
             Expecting::Declared(v) => self.take_declared(v, word),
-            Expecting::Assigned(v) => Ok(self.take_word(word, b"=", Expecting::FirstAtom(Target::Old(v)))),
+            Expecting::Assigned(v) => Ok(self.take_word(
+                word,
+                b"=",
+                Expecting::FirstAtom(Target::Old(v)),
+            )),
             Expecting::FirstAtom(target) => Ok(self.take_first_atom(target, word)),
             Expecting::NextAtom(target, first) => self.take_next_atom(target, first, word),
             Expecting::Joint(target, first) => self.take_joint(target, first, word),
@@ -260,7 +264,12 @@ impl<'s> Reader<'s> {
         }
     }
 
-    fn take_next_atom(&mut self, target: Target, first: Atom, word: &[u8]) -> Result<bool, AllocError>
+    fn take_next_atom(
+        &mut self,
+        target: Target,
+        first: Atom,
+        word: &[u8],
+    ) -> Result<bool, AllocError>
         ensures { IfOk result (λ fits. Takes (next_atom_step target first word.now) fits self.old self.new) }
     {
         match self.operand(target, word) {
@@ -358,7 +367,14 @@ impl<'s> Reader<'s> {
 }
 
 /// Whether six words are `int main ( void ) {`.
-fn begins_main(int: &[u8], main: &[u8], open: &[u8], void: &[u8], close: &[u8], brace: &[u8]) -> bool
+fn begins_main(
+    int: &[u8],
+    main: &[u8],
+    open: &[u8],
+    void: &[u8],
+    close: &[u8],
+    brace: &[u8],
+) -> bool
     ensures { result ≡ is_head int.now main.now open.now void.now close.now brace.now }
 {
     is(int, b"int")
@@ -377,7 +393,9 @@ fn after_head<'w, 's>(words: &'w [Word<'s>]) -> Option<&'w [Word<'s>]>
     let [int, main, open, void, close, brace, body @ ..] = words else {
         return None;
     };
-    if begins_main(int.text, main.text, open.text, void.text, close.text, brace.text) {
+    if begins_main(
+        int.text, main.text, open.text, void.text, close.text, brace.text,
+    ) {
         Some(body)
     } else {
         None
@@ -413,9 +431,49 @@ pub fn read(alloc: Global, words: &[Word<'_>]) -> Result<Option<Program>, AllocE
 
 /// The words that name no variable: the keywords (C99 6.4.1), `main`, and the library functions.
 const RESERVED: [&[u8]; 45] = [
-    b"auto", b"break", b"case", b"char", b"const", b"continue", b"default", b"do", b"double", b"else",
-    b"enum", b"extern", b"float", b"for", b"goto", b"if", b"inline", b"int", b"long", b"register",
-    b"restrict", b"return", b"short", b"signed", b"sizeof", b"static", b"struct", b"switch",
-    b"typedef", b"union", b"unsigned", b"void", b"volatile", b"while", b"_Bool", b"_Complex",
-    b"_Imaginary", b"main", b"assert", b"c_assert", b"getchar", b"putchar", b"malloc", b"calloc", b"free",
+    b"auto",
+    b"break",
+    b"case",
+    b"char",
+    b"const",
+    b"continue",
+    b"default",
+    b"do",
+    b"double",
+    b"else",
+    b"enum",
+    b"extern",
+    b"float",
+    b"for",
+    b"goto",
+    b"if",
+    b"inline",
+    b"int",
+    b"long",
+    b"register",
+    b"restrict",
+    b"return",
+    b"short",
+    b"signed",
+    b"sizeof",
+    b"static",
+    b"struct",
+    b"switch",
+    b"typedef",
+    b"union",
+    b"unsigned",
+    b"void",
+    b"volatile",
+    b"while",
+    b"_Bool",
+    b"_Complex",
+    b"_Imaginary",
+    b"main",
+    b"assert",
+    b"c_assert",
+    b"getchar",
+    b"putchar",
+    b"malloc",
+    b"calloc",
+    b"free",
 ];

@@ -11,3 +11,4 @@ pub mod InRange
 pub mod BitTables
 pub mod Dividing
 pub mod Complements
+pub mod Operands

@@ -12,8 +12,10 @@ mod bits;
 mod conversion;
 pub mod laws;
 mod operators;
+#[cfg(test)]
+mod tests;
 mod types;
 
 pub use conversion::convert;
 pub use operators::{BinOp, Stop, UnOp, apply, unary};
-pub use types::{IntType, is_signed, promote, range, usual, width};
+pub use types::{IntType, holds, is_signed, promote, range, usual, width};

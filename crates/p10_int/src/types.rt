@@ -1,7 +1,7 @@
 //! The integer types of C99 6.2.5, their ranges and their conversions.
 
-ghost use Rattle.std.specs.Prelude.{◌≡◌, ◌≤◌, pos};
-ghost use Rattle.p10_int.specs.Types.{range_of, width_of, is_signed_of, modulus_of, rank_of, promoted, unsigned_of, usual_of, mixed_of, holds_all};
+ghost use Rattle.std.specs.Prelude.{◌≡◌, ◌≤◌, ◌↔◌, IsTrue, pos};
+ghost use Rattle.p10_int.specs.Types.{InRange, range_of, width_of, is_signed_of, modulus_of, rank_of, promoted, unsigned_of, usual_of, mixed_of, holds_all};
 
 /// An integer type (C99 6.2.5); an enumerated type is `Int`.
 #[derive(Clone, Copy, Debug, PartialEq, Eq)]
@@ -47,6 +47,14 @@ pub fn range(t: IntType) -> (i128, i128)
         IntType::Long | IntType::LLong => (-9_223_372_036_854_775_808, 9_223_372_036_854_775_807),
         IntType::ULong | IntType::ULLong => (0, 18_446_744_073_709_551_615),
     }
+}
+
+/// Whether the number is a value of the type.
+pub fn holds(t: IntType, v: i128) -> bool
+    ensures { IsTrue result ↔ InRange t v }
+{
+    let (least, greatest) = range(t);
+    least <= v && v <= greatest
 }
 
 /// The number of value bits and, in a signed type, the sign bit (C99 6.2.6.2).

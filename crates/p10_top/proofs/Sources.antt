@@ -1,5 +1,5 @@
 -- Words that stand in a source, and the program that they spell.
-use Rattle.std.proofs.Common.{◌≡◌, ℕ, zero, suc, false, ◌+◌, ◌-◌, ◌<◌, ◌≤◌, List, [], ◌∷◌, ◌++◌, length, length-append, get_or, refl, sym, ◌∙◌, ap, subst, arith, All, map, Option, Some, None, IfSome, IfNone}
+use Rattle.std.proofs.Common.{◌≡◌, ℕ, zero, suc, false, ◌+◌, ◌-◌, ◌<◌, ◌≤◌, List, [], ◌∷◌, ◌++◌, length, length-append, get_or, refl, sym, ◌∙◌, ap, subst, arith, All, map, Option, Some, None, IfSome, IfNone, Result, Ok, Err, IfOk}
 use Rattle.std.proofs.lemmas.Option.{same_Some, none-some}
 use Rattle.std.proofs.lemmas.List.{get_or-map}
 use Rattle.std.proofs.lemmas.List.Elements.{All-get_or}
@@ -109,7 +109,7 @@ place_tells text words p k cut r = by_condition k
 
 -- ## What is judged
 
-pub judged : (text : List ℕ) (s : Spelled) (bytes : List ℕ) (answer : Answer) → IsProgramOf text s → IsWeighedFor s bytes answer → IsJudged text bytes answer
+judged : (text : List ℕ) (s : Spelled) (bytes : List ℕ) (answer : Answer) → IsProgramOf text s → IsWeighedFor s bytes answer → IsJudged text bytes answer
 judged text s bytes CertificateTooLong p w = (map placed s.words.items, s.program, p.reads, w)
 judged text s bytes (BadCertificate line) p w = (map placed s.words.items, s.program, p.reads, w)
 judged text s bytes (Failing k at) p (c, short, text_is, is, fails, at_is) =
@@ -122,3 +122,8 @@ judged text s bytes AbsentCertificate p w = absurd w
 judged text s bytes NotBuilt p w = absurd w
 judged text s bytes ReadFault p w = absurd w
 judged text s bytes NoMemory p w = absurd w
+
+-- the same, where memory may be wanting
+pub judged_or_not : {E : Type 0} (text : List ℕ) (s : Spelled) (bytes : List ℕ) (r : Result Answer E) → IsProgramOf text s → IfOk r (IsWeighedFor s bytes) → IfOk r (IsJudged text bytes)
+judged_or_not text s bytes (Ok answer) p w = judged text s bytes answer p w
+judged_or_not text s bytes (Err e) p w = tt

@@ -50,20 +50,24 @@ fn place(words: &[Word<'_>], condition: Condition) -> Span
 }
 
 /// What the bytes of a certificate come to, for a program that has been read.
-fn weigh(source: &Spelled<'_>, certificate: &[u8]) -> Answer
+fn weigh(
+    alloc: Global,
+    source: &Spelled<'_>,
+    certificate: &[u8],
+) -> Result<Answer, AllocError>
     requires { 4 ≤ length source.now.words.items }
-    ensures { IsWeighedFor source.now certificate.now result }
+    ensures { IfOk result (IsWeighedFor source.now certificate.now) }
 {
     if certificate.len() as u64 > CERTIFICATE_LIMIT {
-        return Answer::CertificateTooLong;
+        return Ok(Answer::CertificateTooLong);
     }
     let claims = match certificate::read(certificate) {
         Ok(claims) => claims,
-        Err(line) => return Answer::BadCertificate(line),
+        Err(line) => return Ok(Answer::BadCertificate(line)),
     };
-    match failing(&source.program, &claims) {
-        Some(condition) => Answer::Failing(condition, place(&source.words, condition)),
-        None => Answer::Accepted(claims.total),
+    match failing(alloc, &source.program, &claims)? {
+        Some(condition) => Ok(Answer::Failing(condition, place(&source.words, condition))),
+        None => Ok(Answer::Accepted(claims.total)),
     }
 }
 
@@ -76,7 +80,7 @@ pub fn judge(alloc: Global, text: &[u8], certificate: &[u8]) -> Result<Answer, A
     ensures { IfOk result (IsJudged text.now certificate.now) }
 {
     match read_source(alloc, text)? {
-        Some(source) => Ok(weigh(&source, certificate)),
+        Some(source) => weigh(alloc, &source, certificate),
         None => Ok(Answer::NotBuilt),
     }
 }

@@ -6,7 +6,6 @@ pub mod Sink
 pub mod Plan
 pub mod HeldFiles
 pub mod Given
-pub mod Room
 pub mod MemSink
 pub mod MemFiles
 pub mod MemSource

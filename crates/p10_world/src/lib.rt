@@ -4,8 +4,8 @@
 //! can, and a count of its faults. Invariant: no count of faults falls, and a call answers a fault
 //! only where the count rose in that call. [`MemFiles`], [`MemSource`] and [`MemSink`] stand over
 //! memory and fail where they are told to; [`SureFiles`], [`SureSource`] and [`SureSink`] never
-//! fail; [`HostFiles`], [`HostSource`] and [`HostSink`] stand over the host's files and streams, and
-//! tell nothing of what they hold. What the bytes mean is left to the crates above.
+//! fail; [`HostFiles`], [`HostSource`] and [`HostSink`] stand over the host's files and streams,
+//! which tell nothing of what they hold. What the bytes mean is left to the crates above.
 #![tactic(auto)]
 
 ghost use Rattle.std.specs.Prelude.{◌≡◌, ℕ, ◌≤◌, List, length, Option, IfOk, IfErr, OnOk, OnErr, IsErrOf};

@@ -75,8 +75,8 @@ impl Files for MemFiles {
         ensures most { OnOk result (GrowsAtMost limit into.old.items into.new.items) }
         ensures absent { IsErrOf result FileFault.Absent → Lacks (Some (held_of self.old)) name.now }
         ensures lacking { Lacks (Some (held_of self.old)) name.now → IsErrOf result FileFault.Failed ⊎ IsErrOf result FileFault.Absent }
-        ensures failed { IsErrOf result FileFault.Failed ↔ IsTrue (fails_next (plan_of self.old)) }
-        ensures rose { IsErrOf result FileFault.Failed → Rose (faults_of (plan_of self.old)) (faults_of (plan_of self.new)) }
+        ensures planned { IsErrOf result FileFault.Failed ↔ IsTrue (fails_next (plan_of self.old)) }
+        ensures failed { IsErrOf result FileFault.Failed → Rose (faults_of (plan_of self.old)) (faults_of (plan_of self.new)) }
         ensures count { faults_of (plan_of self.old) ≤ faults_of (plan_of self.new) }
         ensures counted { CountsCall (plan_of self.old) (plan_of self.new) }
         ensures refused { OnErr result (into.new.items ≡ into.old.items) }

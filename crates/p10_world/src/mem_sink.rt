@@ -1,10 +1,8 @@
 //! A sink in memory, which fails where its room ends.
 
 ghost use Rattle.std.specs.Prelude.{◌≡◌, ◌↔◌, ◌≤◌, ◌-◌, [], ◌++◌, Some, length, vec_len, vec_capacity, IfOk, IfErr, IsOk, OnOk, OnErr};
-ghost use Rattle.std.specs.Io.KnownBytes.{Appends};
 ghost use Rattle.p10_world.specs.Faults.{Rose};
 ghost use Rattle.p10_world.specs.Sink.{TakesFront, TakesPart};
-ghost use Rattle.p10_world.specs.Room.{room_for};
 
 use crate::{Sink, SinkFault};
 use std::alloc::{AllocError, Global};
@@ -20,7 +18,7 @@ pub struct MemSink {
 }
 
 impl MemSink {
-    ghost use Rattle.p10_world.specs.MemSink.{faults_of, room_of, taken_of};
+    ghost use Rattle.p10_world.specs.MemSink.{faults_of, room_for, room_of, taken_of};
 
     /// Nothing taken yet, and room for `capacity` bytes; with `fail_after` it fails after so many
     /// bytes.
@@ -68,7 +66,7 @@ impl Sink for MemSink {
         ensures front { OnErr result (TakesFront (Some (taken_of self.old)) (Some (taken_of self.new)) bytes.now) }
         ensures wrote { IfErr result (λ fault. fault.wrote ≡ room_of self.old) }
         ensures room { room_of self.new ≡ room_of self.old - length bytes.now }
-        ensures rose { OnErr result (Rose (faults_of self.old) (faults_of self.new)) }
+        ensures failed { OnErr result (Rose (faults_of self.old) (faults_of self.new)) }
         ensures count { faults_of self.old ≤ faults_of self.new }
     {
         let room = self.room - self.bytes.len();

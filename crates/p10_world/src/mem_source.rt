@@ -54,8 +54,8 @@ impl Source for MemSource {
         ensures given { IfOk result (λ count. GivesNext (Some (left_of self.old)) (Some (left_of self.new)) count buf.new) }
         ensures end { IfOk result (λ count. EndsAtZero (Some (left_of self.new)) count buf.new) }
         ensures kept { OnErr result (left_of self.new ≡ left_of self.old) }
-        ensures failed { IsErr result ↔ IsTrue (fails_next (plan_of self.old)) }
-        ensures rose { OnErr result (Rose (faults_of (plan_of self.old)) (faults_of (plan_of self.new))) }
+        ensures planned { IsErr result ↔ IsTrue (fails_next (plan_of self.old)) }
+        ensures failed { OnErr result (Rose (faults_of (plan_of self.old)) (faults_of (plan_of self.new))) }
         ensures count { faults_of (plan_of self.old) ≤ faults_of (plan_of self.new) }
         ensures counted { CountsCall (plan_of self.old) (plan_of self.new) }
     {

@@ -1,0 +1,36 @@
+//! The program `p10`: the host's arguments, files and streams in; what [`p10_main`] answers out.
+#![tactic(auto)]
+
+use p10_report::put_out_of_memory;
+use p10_top::p10_main;
+use p10_world::{HostFiles, HostSink, HostSource};
+use std::alloc::AllocError;
+use std::env;
+use std::process::ExitCode;
+use std::rt::Env;
+
+/// The words after the program's name. Where they can't be read, or one isn't UTF-8, there are none,
+/// which is no command.
+fn command_line(rt: &(impl Env + AllocGlobal)) -> Result<Vec<String>, AllocError> {
+    let mut words = Vec::new(rt.alloc());
+    let Ok(arguments) = env::args(rt) else {
+        return Ok(words);
+    };
+    for word in arguments.skip(1) {
+        words.push(word)?;
+    }
+    Ok(words)
+}
+
+fn main(rt: HostRuntime) -> ExitCode {
+    let mut input = HostSource::new(rt.stdin());
+    let mut out = HostSink::new(rt.stdout());
+    let mut err = HostSink::new(rt.stderr());
+    let runtime: Result<_, _> = rt.clone();
+    let (Ok(words), Ok(runtime)) = (command_line(&rt), runtime) else {
+        return ExitCode::from(if put_out_of_memory(&mut err).is_ok() { 7 } else { 6 });
+    };
+    let mut files = HostFiles::new(runtime);
+    let status = p10_main(rt.alloc(), &words, &mut files, &mut input, &mut out, &mut err);
+    ExitCode::from(status)
+}

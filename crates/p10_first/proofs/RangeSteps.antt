@@ -1,0 +1,78 @@
+-- The steps of the pass over ranges, as the code takes them.
+use Rattle.std.proofs.Common.{◌≡◌, ℕ, ◌+◌, ◌^◌, ◌<◌, ◌≤◌, Bool, true, false, ℤ, pos, negsuc, ◌+ℤ◌, ◌<ℤ◌, ◌≤ℤ◌, refl, sym, ◌∙◌, ap, subst, arith, Option, Some, None, ◌⊎◌, inl, inr, if◌then◌else◌, cond, List, ◌∷◌, [], drop}
+use Rattle.std.proofs.lemmas.Int.{ints, int_max_is, int_min_is}
+use Rattle.std.proofs.lemmas.Bool.{cases_lt}
+use Rattle.std.specs.Prelude.{int_le, int_lt, option_and_then}
+use Rattle.std.specs.Bool.{passes}
+use Rattle.std.specs.Int.{int_min, int_max, saturate_signed, w128}
+use Rattle.std.specs.Int.Signed.{le_z_yes, lt_z_yes}
+use Rattle.p10_int.specs.declared.types.IntType.TheVariants.{Int}
+use Rattle.p10_int.specs.Types.{least_of, greatest_of}
+use Rattle.p10_first.specs.declared.ranges.Range.{Range}
+use Rattle.p10_first.specs.Ranges.{int_range, unless_empty, met, added}
+
+-- ## A sum that no `i128` holds
+
+-- equal, or both above or both below all values of type `int`
+abbrev Near : ℤ → ℤ → Type 0
+Near s z = (s ≡ z) ⊎ (((greatest_of Int <ℤ s) × (greatest_of Int <ℤ z)) ⊎ ((s <ℤ least_of Int) × (z <ℤ least_of Int)))
+
+near : (z : ℤ) → Near (saturate_signed w128 z) z
+near (pos n) = elim (cases_lt n (2 ^ 127)) [
+  | inl small ↦ inl (ap pos (omega (arith, small)))
+  | inr large ↦ inr (inl ((omega (arith, ints, large), omega (arith, ints, large))))
+]
+near (negsuc n) = elim (cases_lt n (2 ^ 127)) [
+  | inl small ↦ inl (ap negsuc (omega (arith, small)))
+  | inr large ↦ inr (inr ((omega (arith, ints, large), omega (arith, ints, large))))
+]
+
+-- nothing lies in a range whose end is before its start
+no_flag : {A : Type 0} (b : Bool) (x : A) → (b ≡ true → ⊥) → (if b then Some x else None) ≡ None
+no_flag true x never = absurd (never refl)
+no_flag false x never = refl
+
+empty_is : (lo hi : ℤ) → hi <ℤ lo → unless_empty (record { lo = lo; hi = hi }) ≡ None
+empty_is lo hi below = no_flag (int_le lo hi) _ (λ yes. let h = le_z_yes {a = lo} {b = hi} (passes _ yes) in omega (arith, ints))
+
+-- the ends of two ranges that lie so near are clipped alike, or both ranges are empty
+abbrev Lower : ℤ → ℤ → Type 0
+Lower s z = (int_max s (least_of Int) ≡ int_max z (least_of Int)) ⊎ ((greatest_of Int <ℤ s) × (greatest_of Int <ℤ z))
+
+abbrev Upper : ℤ → ℤ → Type 0
+Upper s z = (int_min s (greatest_of Int) ≡ int_min z (greatest_of Int)) ⊎ ((s <ℤ least_of Int) × (z <ℤ least_of Int))
+
+lower : (s z : ℤ) → Near s z → Lower s z
+lower s z (inl e) = inl (ap (λ (x : ℤ). int_max x (least_of Int)) e)
+lower s z (inr (inl above)) = inr above
+lower s z (inr (inr below)) = inl (let p = below.0 in let q = below.1 in omega (arith, ints, int_max_is s (least_of Int), int_max_is z (least_of Int)))
+
+upper : (s z : ℤ) → Near s z → Upper s z
+upper s z (inl e) = inl (ap (λ (x : ℤ). int_min x (greatest_of Int)) e)
+upper s z (inr (inl above)) = inl (let p = above.0 in let q = above.1 in omega (arith, ints, int_min_is s (greatest_of Int), int_min_is z (greatest_of Int)))
+upper s z (inr (inr below)) = inr below
+
+both_empty : (s t l h : ℤ) → int_min t (greatest_of Int) <ℤ int_max s (least_of Int) → int_min h (greatest_of Int) <ℤ int_max l (least_of Int) → met (record { lo = s; hi = t }) int_range ≡ met (record { lo = l; hi = h }) int_range
+both_empty s t l h p q = empty_is (int_max s (least_of Int)) (int_min t (greatest_of Int)) p ∙ sym (empty_is (int_max l (least_of Int)) (int_min h (greatest_of Int)) q)
+
+too_high : (s t : ℤ) → greatest_of Int <ℤ s → int_min t (greatest_of Int) <ℤ int_max s (least_of Int)
+too_high s t above = omega (arith, ints, int_max_is s (least_of Int), int_min_is t (greatest_of Int))
+
+too_low : (s t : ℤ) → t <ℤ least_of Int → int_min t (greatest_of Int) <ℤ int_max s (least_of Int)
+too_low s t below = omega (arith, ints, int_max_is s (least_of Int), int_min_is t (greatest_of Int))
+
+met_near : (s t l h : ℤ) → Lower s l → Upper t h → met (record { lo = s; hi = t }) int_range ≡ met (record { lo = l; hi = h }) int_range
+met_near s t l h (inl low) (inl high) = ap (λ (x : ℤ). unless_empty (record { lo = x; hi = int_min t (greatest_of Int) })) low ∙ ap (λ (x : ℤ). unless_empty (record { lo = int_max l (least_of Int); hi = x })) high
+met_near s t l h (inr above) b = both_empty s t l h (too_high s t above.0) (too_high l h above.1)
+met_near s t l h (inl low) (inr below) = both_empty s t l h (too_low s t below.0) (too_low l h below.1)
+
+pub added_is : (a b int : Range) (s t lo hi : ℤ) (r : Option Range)
+    → int ≡ int_range → s ≡ saturate_signed w128 (a.lo +ℤ b.lo) → t ≡ saturate_signed w128 (a.hi +ℤ b.hi)
+    → lo ≡ int_max s int.lo → hi ≡ int_min t int.hi → r ≡ unless_empty (record { lo = lo; hi = hi }) → r ≡ added a b
+unfolding added
+added_is a b int s t lo hi r is low high lo_is hi_is r_is =
+    let near_one = lower (saturate_signed w128 (a.lo +ℤ b.lo)) (a.lo +ℤ b.lo) (near (a.lo +ℤ b.lo)) in
+    let near_two = upper (saturate_signed w128 (a.hi +ℤ b.hi)) (a.hi +ℤ b.hi) (near (a.hi +ℤ b.hi)) in
+    let e1 : lo ≡ int_max (saturate_signed w128 (a.lo +ℤ b.lo)) (least_of Int) = cc in
+    let e2 : hi ≡ int_min (saturate_signed w128 (a.hi +ℤ b.hi)) (greatest_of Int) = cc in
+    r_is ∙ (ap (λ (x : ℤ). unless_empty (record { lo = x; hi = hi })) e1 ∙ (ap (λ (x : ℤ). unless_empty (record { lo = int_max (saturate_signed w128 (a.lo +ℤ b.lo)) (least_of Int); hi = x })) e2 ∙ met_near _ _ _ _ near_one near_two))
