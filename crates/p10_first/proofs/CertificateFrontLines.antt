@@ -87,6 +87,25 @@ no_first_line (x ∷ xs) e = a_line x xs (x == 10) refl e
     a_line x xs true e none = absurd (let h = rw e at none in cc)
     a_line x xs false e none = absurd (let h = rw e at none in cc)
 
+-- fewer of the first lines are the same of the first lines and of the text
+fewer : (x : ℕ) (xs : List ℕ) (few many : ℕ) → few ≤ suc many → (b : Bool) → (x == 10) ≡ b
+  → ((few : ℕ) → few ≤ many → first_lines (first_lines xs many) few ≡ first_lines xs few)
+  → ((few : ℕ) → few ≤ suc many → first_lines (first_lines xs (suc many)) few ≡ first_lines xs few)
+  → first_lines (first_lines (x ∷ xs) (suc many)) few ≡ first_lines (x ∷ xs) few
+unfolding first_lines
+fewer x xs zero many within true e next same = rw e refl
+fewer x xs (suc few) many within true e next same = rw (e, e) (ap (λ t. x ∷ t) (next few (omega (arith, within))))
+fewer x xs zero many within false e next same = rw e refl
+fewer x xs (suc few) many within false e next same = rw (e, e) (ap (λ t. x ∷ t) (same (suc few) within))
+
+pub lines_fewer : (text : List ℕ) (few many : ℕ) → few ≤ many → first_lines (first_lines text many) few ≡ first_lines text few
+unfolding first_lines
+lines_fewer [] few many within = refl
+lines_fewer (x ∷ xs) zero zero within = refl
+lines_fewer (x ∷ xs) (suc few) zero within = absurd (omega (arith, within))
+lines_fewer (x ∷ xs) few (suc many) within =
+    fewer x xs few many within (x == 10) refl (λ few within. lines_fewer xs few many within) (λ few within. lines_fewer xs few (suc many) within)
+
 -- ---- the lines of a certificate
 
 pub header_lines : (text rest more : List ℕ) (n : ℕ) → first_lines text n ++ rest ≡ more → first_lines (codes "p10cert 1\n" ++ text) (suc n) ++ rest ≡ codes "p10cert 1\n" ++ more

@@ -1,5 +1,6 @@
 -- The line that a refused text is refused at is the first that no certificate has.
-use Rattle.std.proofs.Common.{◌≡◌, ℕ, IfErr, cond, Bool, true, false, List, [], ◌∷◌, ◌++◌, ℤ, pos, length, ◌==◌, codes, Option, Some, None, Result, Ok, Err, refl, sym, ap, ◌∙◌, subst, arith, append-nil, true≢false}
+use Rattle.std.proofs.Common.{◌≡◌, ℕ, ◌-◌, ◌<◌, ◌≤◌, inl, inr, IfErr, cond, Bool, true, false, List, [], ◌∷◌, ◌++◌, ℤ, pos, length, ◌==◌, codes, Option, Some, None, Result, Ok, Err, refl, sym, ap, ◌∙◌, subst, arith, append-nil, true≢false}
+use Rattle.std.proofs.lemmas.Bool.{cases_lt}
 use Rattle.std.proofs.lemmas.Int.{ints}
 use Rattle.std.proofs.lemmas.Option.{same_Some, none-some, some_pair_parts}
 use Rattle.p10_base.specs.declared.report.Bounds.{Bounds}
@@ -8,7 +9,7 @@ use Rattle.p10_first.specs.Certificate.{Claims, claims_of, IsCertificate, certif
 use Rattle.p10_first.specs.CertificateReading.{result_map, at_line, FunctionClaim, after_front, function_at, result_at, total_at, certificate_at}
 use Rattle.p10_first.proofs.CertificateSteps.{after_front_takes, after_front_again}
 use Rattle.p10_first.proofs.CertificateLines.{function_text, result_text, total_text, function_takes, function_again, FitsFunction, result_takes, result_again, FitsResult, total_takes, total_again, FitsTotal}
-use Rattle.p10_first.proofs.CertificateFrontLines.{lines_zero, lines_front, no_first_line, header_lines, function_lines, result_lines, total_lines, end_lines}
+use Rattle.p10_first.proofs.CertificateFrontLines.{lines_fewer, lines_zero, lines_front, no_first_line, header_lines, function_lines, result_lines, total_lines, end_lines}
 use Rattle.p10_first.proofs.CertificateLaws.{function_of}
 
 -- ---- claims by their lines
@@ -264,3 +265,20 @@ certificate_wrong text line e =
 pub read_line : (r : Result Certificate ℕ) (text : List ℕ) → result_map claims_of r ≡ certificate_at text → IfErr r (IsFirstWrongLine text)
 read_line (Ok c) text e = tt
 read_line (Err n) text e = certificate_wrong text n (sym e)
+
+-- ---- one line at most
+
+not_earlier : (text : List ℕ) (m n : ℕ) → IsFirstWrongLine text m → IsFirstWrongLine text n → m < n → ⊥
+not_earlier text m n early late before =
+    let (c, fits, same) = late.before in
+    let within : m ≤ n - 1 = omega (arith, before) in
+    early.wrong c fits (sym (lines_fewer text m (n - 1) within) ∙ (ap (λ t. first_lines t m) same ∙ lines_fewer (certificate_text c) m (n - 1) within))
+
+pub one_wrong_line : (text : List ℕ) (m n : ℕ) → IsFirstWrongLine text m → IsFirstWrongLine text n → m ≡ n
+one_wrong_line text m n first second =
+    elim (cases_lt m n)
+      [ inl lower ↦ absurd (not_earlier text m n first second lower)
+      | inr upper ↦ elim (cases_lt n m) [ inl lower ↦ absurd (not_earlier text n m second first lower) | inr more ↦ omega (arith, upper, more) ] ]
+
+pub no_wrong_line : (c : Claims) (n : ℕ) → IsCertificate c → IsFirstWrongLine (certificate_text c) n → ⊥
+no_wrong_line c n fits first = first.wrong c fits refl

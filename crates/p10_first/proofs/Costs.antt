@@ -2,6 +2,7 @@
 use Rattle.std.proofs.Common.{◌≡◌, ◌≢◌, ℕ, ◌+◌, ◌*◌, ◌<◌, ◌≤◌, zero, suc, List, [], ◌∷◌, length, refl, sym, ◌∙◌, ap, subst, arith, Option, Some, None, Result, Ok, Err, ℤ, pos, slice_get, slice_set, replicate, ◌⊎◌, inl, inr}
 use Rattle.std.specs.Prelude.{sum_by}
 use Rattle.std.proofs.lemmas.Bool.{cases_lt}
+use Rattle.std.proofs.lemmas.List.{length-replicate}
 use Rattle.std.proofs.lemmas.List.Sums.{sum_by-cons}
 use Rattle.p10_base.specs.declared.report.Bounds.{Bounds}
 use Rattle.p10_int.specs.declared.types.IntType.TheVariants.{Int}
@@ -17,8 +18,8 @@ use Rattle.p10_first.specs.declared.program.Program.{Program}
 use Rattle.p10_first.specs.declared.conditions.Condition.{Condition}
 use Rattle.p10_first.specs.declared.conditions.Condition.TheVariants.{K1, K5, K11, K12, K14}
 use Rattle.p10_first.specs.Certificate.{Claims}
-use Rattle.p10_first.specs.Meaning.{World, Frame, Outcome, Returned, Undefined, StepsSpent, Went, Gives, Ends, take_step, take_steps, after, read_of, evaluate_atom, operated, add_up, evaluate_sum, execute, execute_all, return_number, call_main, outcome_of, frame_bytes, once_entered, run_of, StaysWithin, Within}
-use Rattle.p10_first.specs.Conditions.{sum_cost, item_cost, cost_of, Accepts, Holds, IsFirstFailure, number_of_condition}
+use Rattle.p10_first.specs.Meaning.{World, Frame, Outcome, Returned, Undefined, StepsSpent, Went, Gives, Ends, take_step, take_steps, after, read_of, evaluate_atom, operated, add_up, evaluate_sum, execute, execute_all, return_number, call_main, outcome_of, opened_frame, depth_of, once_entered, run_of, StaysWithin, Within}
+use Rattle.p10_first.specs.Conditions.{sum_cost, item_cost, cost_of, frame_bytes, Accepts, Holds, IsFirstFailure, number_of_condition}
 
 -- ## What a part of a run costs
 
@@ -136,6 +137,10 @@ entered : (budget depth most : ℕ) → depth ≤ most → once_entered budget d
 entered zero depth most within = omega arith
 entered (suc budget) depth most within = within
 
+-- the depth at the entry is what the condition asks for
+frame_is : (p : Program) → depth_of (opened_frame p) ≡ frame_bytes p
+frame_is p = ap (λ n. 4 * n) (length-replicate p.variables None)
+
 pub accepted_is_within : (p : Program) (c : Claims) → Accepts p c → Within p c.total
 accepted_is_within p c accepts world turns =
     let steps = accepts K11 in
@@ -144,7 +149,7 @@ accepted_is_within p c accepts world turns =
     record {
       steps = enough (call_main p c.total.prefix) (cost_of p) c.total.prefix (main_costs p c.total.prefix) (omega (arith, steps, total.0));
       calls = entered c.total.prefix 1 c.total.calls (omega (arith, depth.0, total.1));
-      bytes = entered c.total.prefix (frame_bytes p) c.total.bytes (omega (arith, depth.1, total.2));
+      bytes = entered c.total.prefix (depth_of (opened_frame p)) c.total.bytes (omega (arith, depth.1, total.2, frame_is p));
       allocations = refl;
     }
 
@@ -160,6 +165,9 @@ number_tells K5 _ e = absurd (omega (arith, e))
 number_tells K11 _ e = absurd (omega (arith, e))
 number_tells K12 _ e = absurd (omega (arith, e))
 number_tells K14 _ e = absurd (omega (arith, e))
+
+pub failure_is_no_acceptance : (p : Program) (c : Claims) (k : Condition) → IsFirstFailure p c k → Accepts p c → ⊥
+failure_is_no_acceptance p c k first accepts = first.fails (accepts k)
 
 pub one_fails_first : (p : Program) (c : Claims) (k l : Condition) → IsFirstFailure p c k → IsFirstFailure p c l → k ≡ l
 one_fails_first p c k l first second =

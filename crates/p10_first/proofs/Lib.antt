@@ -14,5 +14,7 @@ pub mod WordsCut
 pub mod WordsLoop
 pub mod WordsStand
 pub mod Costs
+pub mod Timed
+pub mod RunsByHand
 pub mod RangeSteps
 pub mod RangesDescribe

@@ -103,3 +103,6 @@ AllStand-unique at text (v ∷ vs) (w ∷ ws) (b, s, more) (d, t, others) =
     let same = Stands-unique at text v w b d s t in
     let moved : AllStand (v.start + length v.text) b ws = subst (λ (u : PlacedWord). AllStand (u.start + length u.text) b ws) (sym same.0) (subst (λ (r : List ℕ). AllStand (w.start + length w.text) r ws) (sym same.1) others) in
     cons-same v w vs ws same.0 (AllStand-unique (v.start + length v.text) b vs ws more moved)
+
+pub one_list_of_words : (text : List ℕ) (some others : List PlacedWord) → AllStand 0 text some → AllStand 0 text others → some ≡ others
+one_list_of_words text some others = AllStand-unique 0 text some others

@@ -9,7 +9,6 @@ use Rattle.p10_first.specs.declared.program.Program.{Program}
 use Rattle.p10_first.specs.declared.conditions.Condition.{Condition}
 use Rattle.p10_first.specs.declared.conditions.Condition.TheVariants.{K1, K5, K11, K12, K14}
 use Rattle.p10_first.specs.Certificate.{Claims}
-use Rattle.p10_first.specs.Meaning.{frame_bytes}
 use Rattle.p10_first.specs.Ranges.{is_reached}
 
 -- ## Costs in steps
@@ -28,7 +27,16 @@ item_cost (Assign v s) = 1 + sum_cost s
 abbrev pub cost_of : Program → ℕ
 cost_of p = 1 + sum_by item_cost p.items + 2
 
+-- the bytes of the frame of `main`: each variable is an `int`, which has four
+abbrev pub frame_bytes : Program → ℕ
+frame_bytes p = 4 * p.variables
+
 -- ## The conditions
+-- Of the fourteen conditions of a certificate the other nine hold of every program of this form and every
+-- certificate of one function: K2 and K3 ask something of each call, K6 to K10 of each loop, and there is
+-- neither; K4 asks that `main` has no parameter and that no cycle of calls can be entered, and K13 that a
+-- function that allocates or frees says so and that none does so after initialisation, and nothing here
+-- allocates or frees.
 
 -- the function is `main`, and the range of its result lies in that of `int`
 abbrev pub NamesMain : Claims → Type 0

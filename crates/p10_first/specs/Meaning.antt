@@ -1,6 +1,7 @@
 -- The meaning of programs of the first form: what each run does with the steps that it may take, and
 -- what it means that every run stays within bounds. Such a program has no assertion, no task loop,
--- no allocation, and neither input nor output.
+-- no allocation, and neither input nor output. The end of a run has no place in the source here: only what
+-- prints such a place would ask for it.
 use Rattle.std.specs.Prelude.{◌≡◌, ◌≢◌, ℕ, ◌*◌, ◌≤◌, zero, suc, List, [], ◌∷◌, length, ℤ, pos, Option, Some, None, Result, Ok, Err, slice_get, slice_set, replicate}
 use Rattle.p10_base.specs.declared.report.Bounds.{Bounds}
 use Rattle.p10_int.specs.declared.types.IntType.TheVariants.{Int}
@@ -17,7 +18,8 @@ use Rattle.p10_first.specs.declared.program.Program.{Program}
 
 -- ## States
 
--- what a run meets outside: the bytes of its input, and the numbers of the requests for memory that are denied
+-- What a run meets outside: the bytes of its input, and the numbers of the requests for memory that are denied.
+-- Input may hold any numbers, also such as are no byte: what holds in all these worlds holds in those with bytes.
 pub record World : Type 0 where
   pub input : List ℕ
   pub denied : List ℕ
@@ -102,10 +104,14 @@ execute_all (i ∷ items) frame left = after (execute i frame left) (λ frame le
 abbrev pub return_number : ℕ → ℕ → Went ℤ
 return_number n left = take_step left (λ left. take_step left (λ left. Gives (pos n) left))
 
--- the call of `main`: one step of entry, a frame whose variables are unset, the items, the `return`
+-- the frame of a call of `main` as it is opened: its variables are unset
+abbrev pub opened_frame : Program → Frame
+opened_frame p = replicate p.variables None
+
+-- the call of `main`: one step of entry, its frame, the items, the `return`
 unfoldable pub call_main : Program → ℕ → Went ℤ
 call_main p left =
-    take_step left (λ left. after (execute_all p.items (replicate p.variables None) left) (λ frame left. return_number p.returned left))
+    take_step left (λ left. after (execute_all p.items (opened_frame p) left) (λ frame left. return_number p.returned left))
 
 -- ## Runs
 
@@ -122,9 +128,9 @@ abbrev pub outcome_of : Went ℤ → Outcome
 outcome_of (Gives z left) = Returned z
 outcome_of (Ends outcome) = outcome
 
--- the bytes of the frame of `main`: each `int` has four
-abbrev pub frame_bytes : Program → ℕ
-frame_bytes p = 4 * p.variables
+-- the bytes of a frame: each variable is an `int`, which has four
+abbrev pub depth_of : Frame → ℕ
+depth_of frame = 4 * length frame
 
 -- a depth is reached where `main` is entered, which takes a step
 abbrev pub once_entered : ℕ → ℕ → ℕ
@@ -138,7 +144,7 @@ run_of p world prefix turn turns = record {
   outcome = outcome_of (call_main p prefix);
   output = [];
   calls = once_entered prefix 1;
-  bytes = once_entered prefix (frame_bytes p);
+  bytes = once_entered prefix (depth_of (opened_frame p));
   allocations = 0;
 }
 

@@ -31,7 +31,6 @@ mod tests;
 /// # Errors
 ///
 /// A fault only where the sink's count of faults rose; it then took a front of the line.
-#[tactic(auto, using(crate::proofs::Stopping::stops), unfolding(crate::specs::Lines::refusal_line))]
 pub fn put_refusal<O: Sink>(out: &mut O, s: &Sources, r: &Refusal) -> Result<(), SinkFault>
     requires place { LiesIn s.now r.now.span }
     requires code { IsCode r.now.family r.now.number }
@@ -52,7 +51,6 @@ pub fn put_refusal<O: Sink>(out: &mut O, s: &Sources, r: &Refusal) -> Result<(),
 /// # Errors
 ///
 /// A fault only where the sink's count of faults rose; it then took a front of the line.
-#[tactic(auto, using(crate::proofs::Stopping::stops), unfolding(crate::specs::Lines::accepted_line))]
 pub fn put_accepted<O: Sink>(out: &mut O, b: &Bounds) -> Result<(), SinkFault>
     ensures ok { OnOk result (Appends (O.taken out.old) (O.taken out.new) (accepted_line b.now)) }
     ensures stopped { OnErr result (StopsWithin (O.taken out.old) (O.taken out.new) (accepted_line b.now)) }
@@ -72,7 +70,6 @@ pub fn put_accepted<O: Sink>(out: &mut O, b: &Bounds) -> Result<(), SinkFault>
 /// # Errors
 ///
 /// A fault only where the sink's count of faults rose; it then took a front of the line.
-#[tactic(auto, using(crate::proofs::Stopping::stops), unfolding(crate::specs::Lines::failing_line))]
 pub fn put_failing<O: Sink>(
     out: &mut O,
     s: &Sources,
@@ -96,7 +93,6 @@ pub fn put_failing<O: Sink>(
 /// # Errors
 ///
 /// A fault only where the sink's count of faults rose; it then took a front of the line.
-#[tactic(auto, using(crate::proofs::Stopping::stops), unfolding(crate::specs::Lines::limit_line))]
 pub fn put_limit<O: Sink>(out: &mut O, limit: Limit) -> Result<(), SinkFault>
     ensures ok { OnOk result (Appends (O.taken out.old) (O.taken out.new) (limit_line limit)) }
     ensures stopped { OnErr result (StopsWithin (O.taken out.old) (O.taken out.new) (limit_line limit)) }

@@ -24,7 +24,6 @@ pub fn put_bytes<O: Sink>(out: &mut O, bytes: &[u8]) -> Result<(), SinkFault>
 }
 
 /// Writes a number in decimal behind the text that says which it is.
-#[tactic(auto, using(crate::proofs::Stopping::stops), unfolding(crate::specs::Lines::labelled))]
 pub fn put_labelled<O: Sink>(out: &mut O, label: &[u8], number: u64) -> Result<(), SinkFault>
     ensures ok { OnOk result (Appends (O.taken out.old) (O.taken out.new) (labelled label.now number)) }
     ensures stopped { OnErr result (StopsWithin (O.taken out.old) (O.taken out.new) (labelled label.now number)) }
@@ -36,7 +35,6 @@ pub fn put_labelled<O: Sink>(out: &mut O, label: &[u8], number: u64) -> Result<(
 }
 
 /// Writes a place as `FILE:LINE:COLUMN`.
-#[tactic(auto, using(crate::proofs::Stopping::stops), unfolding(crate::specs::Lines::place_text))]
 pub fn put_place<O: Sink>(out: &mut O, s: &Sources, at: Span) -> Result<(), SinkFault>
     requires { LiesIn s.now at }
     ensures ok { OnOk result (Appends (O.taken out.old) (O.taken out.new) (place_text s.now at)) }
@@ -51,7 +49,6 @@ pub fn put_place<O: Sink>(out: &mut O, s: &Sources, at: Span) -> Result<(), Sink
 }
 
 /// Writes which refusal it is, by its code.
-#[tactic(auto, using(crate::proofs::Stopping::stops), unfolding(crate::specs::Lines::refused_part))]
 pub fn put_refused<O: Sink>(out: &mut O, family: Family, number: u8) -> Result<(), SinkFault>
     ensures ok { OnOk result (Appends (O.taken out.old) (O.taken out.new) (refused_part family number)) }
     ensures stopped { OnErr result (StopsWithin (O.taken out.old) (O.taken out.new) (refused_part family number)) }
@@ -63,7 +60,6 @@ pub fn put_refused<O: Sink>(out: &mut O, family: Family, number: u8) -> Result<(
 }
 
 /// Writes why a source is refused, by the code's text, and ends the line.
-#[tactic(auto, using(crate::proofs::Stopping::stops), unfolding(crate::specs::Lines::reason_part))]
 pub fn put_reason<O: Sink>(out: &mut O, family: Family, number: u8) -> Result<(), SinkFault>
     requires { IsCode family number }
     ensures ok { OnOk result (Appends (O.taken out.old) (O.taken out.new) (reason_part family number)) }
@@ -77,7 +73,6 @@ pub fn put_reason<O: Sink>(out: &mut O, family: Family, number: u8) -> Result<()
 }
 
 /// Writes the greatest depths of an accepted program, and ends the line.
-#[tactic(auto, using(crate::proofs::Stopping::stops), unfolding(crate::specs::Lines::depths_part))]
 pub fn put_depths<O: Sink>(out: &mut O, b: &Bounds) -> Result<(), SinkFault>
     ensures ok { OnOk result (Appends (O.taken out.old) (O.taken out.new) (depths_part b.now)) }
     ensures stopped { OnErr result (StopsWithin (O.taken out.old) (O.taken out.new) (depths_part b.now)) }
@@ -90,7 +85,6 @@ pub fn put_depths<O: Sink>(out: &mut O, b: &Bounds) -> Result<(), SinkFault>
 }
 
 /// Writes a place behind a blank, and ends the line.
-#[tactic(auto, using(crate::proofs::Stopping::stops), unfolding(crate::specs::Lines::at_part))]
 pub fn put_at<O: Sink>(out: &mut O, s: &Sources, at: Span) -> Result<(), SinkFault>
     requires { LiesIn s.now at }
     ensures ok { OnOk result (Appends (O.taken out.old) (O.taken out.new) (at_part s.now at)) }

@@ -3,3 +3,4 @@ pub mod CommandWords
 pub mod Sources
 pub mod Deciding
 pub mod Telling
+pub mod OneAnswer

@@ -6,3 +6,4 @@ pub mod Judging
 pub mod Deciding
 pub mod Told
 pub mod Headline
+pub mod Laws

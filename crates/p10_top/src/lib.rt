@@ -18,6 +18,7 @@ mod answer;
 mod command;
 mod decide;
 mod judge;
+pub mod laws;
 mod load;
 mod tell;
 mod verify;

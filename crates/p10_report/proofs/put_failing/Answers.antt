@@ -1,0 +1,16 @@
+use Rattle.std.proofs.Common.{arith}
+use Rattle.p10_report.specs.Lines.{failing_line}
+use Rattle.p10_report.proofs.Stopping.{stops}
+use Rattle.p10_report.proofs.put_failing.Goals as goal
+
+pub returns-in_err-put_labelled-clause-stopped : goal.returns-in_err-put_labelled-clause-stopped
+unfolding failing_line
+returns-in_err-put_labelled-clause-stopped g c = grind (arith, stops)
+
+pub returns-clause-stopped : goal.returns-clause-stopped
+unfolding failing_line
+returns-clause-stopped g c = grind (arith, stops)
+
+pub returns-clause-ok : goal.returns-clause-ok
+unfolding failing_line
+returns-clause-ok g c = grind (arith, stops)

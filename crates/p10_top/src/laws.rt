@@ -1,0 +1,10 @@
+//! What holds of the answers: each function does nothing, and its contract is the law.
+
+ghost use Rattle.p10_top.specs.Laws.{SaysOneThing};
+
+/// Where files are told, only one thing may be said to a command line, but for a read fault and want
+/// of memory.
+pub fn one_thing_is_said()
+    ensures { SaysOneThing }
+{
+}
