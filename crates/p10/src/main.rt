@@ -28,9 +28,20 @@ fn main(rt: HostRuntime) -> ExitCode {
     let mut err = HostSink::new(rt.stderr());
     let runtime: Result<_, _> = rt.clone();
     let (Ok(words), Ok(runtime)) = (command_line(&rt), runtime) else {
-        return ExitCode::from(if put_out_of_memory(&mut err).is_ok() { 7 } else { 6 });
+        return ExitCode::from(if put_out_of_memory(&mut err).is_ok() {
+            7
+        } else {
+            6
+        });
     };
     let mut files = HostFiles::new(runtime);
-    let status = p10_main(rt.alloc(), &words, &mut files, &mut input, &mut out, &mut err);
+    let status = p10_main(
+        rt.alloc(),
+        &words,
+        &mut files,
+        &mut input,
+        &mut out,
+        &mut err,
+    );
     ExitCode::from(status)
 }

@@ -89,9 +89,9 @@ no_first_line (x ∷ xs) e = a_line x xs (x == 10) refl e
 
 -- fewer of the first lines are the same of the first lines and of the text
 fewer : (x : ℕ) (xs : List ℕ) (few many : ℕ) → few ≤ suc many → (b : Bool) → (x == 10) ≡ b
-  → ((few : ℕ) → few ≤ many → first_lines (first_lines xs many) few ≡ first_lines xs few)
-  → ((few : ℕ) → few ≤ suc many → first_lines (first_lines xs (suc many)) few ≡ first_lines xs few)
-  → first_lines (first_lines (x ∷ xs) (suc many)) few ≡ first_lines (x ∷ xs) few
+    → ((few : ℕ) → few ≤ many → first_lines (first_lines xs many) few ≡ first_lines xs few)
+    → ((few : ℕ) → few ≤ suc many → first_lines (first_lines xs (suc many)) few ≡ first_lines xs few)
+    → first_lines (first_lines (x ∷ xs) (suc many)) few ≡ first_lines (x ∷ xs) few
 unfolding first_lines
 fewer x xs zero many within true e next same = rw e refl
 fewer x xs (suc few) many within true e next same = rw (e, e) (ap (λ t. x ∷ t) (next few (omega (arith, within))))

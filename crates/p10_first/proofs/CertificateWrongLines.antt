@@ -276,9 +276,10 @@ not_earlier text m n early late before =
 
 pub one_wrong_line : (text : List ℕ) (m n : ℕ) → IsFirstWrongLine text m → IsFirstWrongLine text n → m ≡ n
 one_wrong_line text m n first second =
-    elim (cases_lt m n)
-      [ inl lower ↦ absurd (not_earlier text m n first second lower)
-      | inr upper ↦ elim (cases_lt n m) [ inl lower ↦ absurd (not_earlier text n m second first lower) | inr more ↦ omega (arith, upper, more) ] ]
+    elim (cases_lt m n) [
+      | inl lower ↦ absurd (not_earlier text m n first second lower)
+      | inr upper ↦ elim (cases_lt n m) [ inl lower ↦ absurd (not_earlier text n m second first lower) | inr more ↦ omega (arith, upper, more) ]
+    ]
 
 pub no_wrong_line : (c : Claims) (n : ℕ) → IsCertificate c → IsFirstWrongLine (certificate_text c) n → ⊥
 no_wrong_line c n fits first = first.wrong c fits refl

@@ -35,17 +35,19 @@ step_short A go cost (suc few) short below = short few (omega (arith, below))
 step_paid : (A : Type 0) (go : ℕ → Went A) (cost : ℕ) (outcome : ℕ → Went A) → Paid A go cost outcome → Paid A (λ left. take_step left go) (1 + cost) outcome
 step_paid A go cost outcome paid = record {
   enough = λ more. (let e : 1 + cost + more ≡ suc (cost + more) = omega arith in ap (λ n. take_step n go) e) ∙ paid.enough more;
-  short = λ few below. step_short A go cost few paid.short below }
+  short = λ few below. step_short A go cost few paid.short below;
+}
 
 after_short : (A B : Type 0) (w : ℕ → Went A) (first : ℕ) (a : A) (go : A → ℕ → Went B) (cost : ℕ) (outcome : ℕ → Went B) (few : ℕ)
     → Paid A w first (λ more. Gives a more) → Paid B (go a) cost outcome → few < first + cost → after (w few) go ≡ Ends StepsSpent
 after_short A B w first a go cost outcome few paid next below =
-    elim (cases_lt few first)
-      [ inl less ↦ ap (λ x. after x go) (paid.short few less)
+    elim (cases_lt few first) [
+      | inl less ↦ ap (λ x. after x go) (paid.short few less)
       | inr more ↦
           let parts : few ≡ first + (few - first) = omega (arith, more) in
           let given : w few ≡ Gives a (few - first) = ap w parts ∙ paid.enough (few - first) in
-          ap (λ x. after x go) given ∙ next.short (few - first) (omega (arith, more, below)) ]
+          ap (λ x. after x go) given ∙ next.short (few - first) (omega (arith, more, below))
+    ]
 
 after_paid : (A B : Type 0) (w : ℕ → Went A) (first : ℕ) (a : A) (go : A → ℕ → Went B) (cost : ℕ) (outcome : ℕ → Went B)
     → Paid A w first (λ more. Gives a more) → Paid B (go a) cost outcome → Paid B (λ left. after (w left) go) (first + cost) outcome
@@ -53,13 +55,15 @@ after_paid A B w first a go cost outcome paid next = record {
   enough = λ more.
       let parts : first + cost + more ≡ first + (cost + more) = omega arith in
       ap (λ n. after (w n) go) parts ∙ (ap (λ x. after x go) (paid.enough (cost + more)) ∙ next.enough more);
-  short = λ few below. after_short A B w first a go cost outcome few paid next below }
+  short = λ few below. after_short A B w first a go cost outcome few paid next below;
+}
 
 after_stop : (A B : Type 0) (w : ℕ → Went A) (first : ℕ) (stop : Stop) (go : A → ℕ → Went B)
     → Paid A w first (λ more. Ends (Undefined stop)) → Paid B (λ left. after (w left) go) first (λ more. Ends (Undefined stop))
 after_stop A B w first stop go paid = record {
   enough = λ more. ap (λ x. after x go) (paid.enough more);
-  short = λ few below. ap (λ x. after x go) (paid.short few below) }
+  short = λ few below. ap (λ x. after x go) (paid.short few below);
+}
 
 -- ## A value, or one of two stops
 
@@ -115,12 +119,12 @@ add_timed : (frame : Frame) (sum : ℤ) (others : List Atom) → Timed ℤ (λ l
 add_timed frame sum [] = given ℤ sum
 add_timed frame sum (a ∷ others) =
     after_timed ℤ ℤ (λ left. evaluate_atom frame a left) _ (atom_timed frame a)
-      (λ z. after_timed ℤ ℤ (λ left. operated (operate Add Int sum z) left) _ (operated_timed sum z) (λ sum. add_timed frame sum others))
+    (λ z. after_timed ℤ ℤ (λ left. operated (operate Add Int sum z) left) _ (operated_timed sum z) (λ sum. add_timed frame sum others))
 
 sum_timed : (frame : Frame) (s : Sum) → Timed ℤ (λ left. evaluate_sum frame s left)
 sum_timed frame s =
     steps_timed ℤ (length s.others) _
-      (after_timed ℤ ℤ (λ left. evaluate_atom frame s.first left) _ (atom_timed frame s.first) (λ z. add_timed frame z s.others))
+    (after_timed ℤ ℤ (λ left. evaluate_atom frame s.first left) _ (atom_timed frame s.first) (λ z. add_timed frame z s.others))
 
 set_timed : (frame read : Frame) (v : ℕ) (s : Sum) → Timed Frame (λ left. take_step left (λ left. after (evaluate_sum read s left) (λ z left. Gives (slice_set frame v (Some z)) left)))
 set_timed frame read v s =
@@ -147,21 +151,23 @@ main_timed p = step_timed ℤ _ (after_timed Frame ℤ (λ left. execute_all p.i
 -- a part that gives a value with some budget is no stop, and has that value
 value_tells : (A : Type 0) (w : ℕ → Went A) (budget left cost : ℕ) (a b : A) → Paid A w cost (λ more. Gives a more) → w budget ≡ Gives b left → a ≡ b
 value_tells A w budget left cost a b paid is =
-    elim (cases_lt budget cost)
-      [ inl less ↦ absurd (cc (paid.short budget less))
+    elim (cases_lt budget cost) [
+      | inl less ↦ absurd (cc (paid.short budget less))
       | inr more ↦
           let parts : budget ≡ cost + (budget - cost) = omega (arith, more) in
           let same : Gives b left ≡ Gives a (budget - cost) = sym is ∙ (ap w parts ∙ paid.enough (budget - cost)) in
-          cc ]
+          cc
+    ]
 
 stop_gives_none : (A : Type 0) (w : ℕ → Went A) (budget left cost : ℕ) (stop : Stop) (b : A) → Paid A w cost (λ more. Ends (Undefined stop)) → w budget ≡ Gives b left → ⊥
 stop_gives_none A w budget left cost stop b paid is =
-    elim (cases_lt budget cost)
-      [ inl less ↦ cc (paid.short budget less)
+    elim (cases_lt budget cost) [
+      | inl less ↦ cc (paid.short budget less)
       | inr more ↦
           let parts : budget ≡ cost + (budget - cost) = omega (arith, more) in
           let same : Gives b left ≡ Ends (Undefined stop) = sym is ∙ (ap w parts ∙ paid.enough (budget - cost)) in
-          cc ]
+          cc
+    ]
 
 takes_its_cost : (p : Program) (z : ℤ) (cost : ℕ) (a : ℤ) → Paid ℤ (λ left. call_main p left) cost (λ more. Gives a more) → a ≡ z → TakesItsCost p z
 takes_its_cost p z cost a paid same =
@@ -169,28 +175,32 @@ takes_its_cost p z cost a paid same =
     let costs : cost_of p ≡ cost = omega (arith, whole) in
     record {
       enough = λ more. ap (λ n. call_main p (n + more)) costs ∙ (paid.enough more ∙ ap (λ (x : ℤ). Gives x more) same);
-      short = λ few below. paid.short few (omega (arith, costs, below)) }
+      short = λ few below. paid.short few (omega (arith, costs, below));
+    }
 
 pub steps_change_no_value : (p : Program) (budget left : ℕ) (z : ℤ) → call_main p budget ≡ Gives z left → TakesItsCost p z
 steps_change_no_value p budget left z is = elim (main_timed p) [
   | Value cost a paid ↦ takes_its_cost p z cost a paid (value_tells ℤ (λ left. call_main p left) budget left cost a z paid is)
-  | Stopped cost stop is_stop paid ↦ absurd (stop_gives_none ℤ (λ left. call_main p left) budget left cost stop z paid is) ]
+  | Stopped cost stop is_stop paid ↦ absurd (stop_gives_none ℤ (λ left. call_main p left) budget left cost stop z paid is)
+]
 
 -- with more steps a run that stops does the same
 stop_again : (A : Type 0) (w : ℕ → Went A) (budget more cost : ℕ) (outcome : ℕ → Went A) (stop : Stop) → Paid A w cost outcome → ((m n : ℕ) (s : Stop) → outcome m ≡ Ends (Undefined s) → outcome n ≡ Ends (Undefined s)) → w budget ≡ Ends (Undefined stop) → w (budget + more) ≡ Ends (Undefined stop)
 stop_again A w budget more cost outcome stop paid steady is =
-    elim (cases_lt budget cost)
-      [ inl less ↦ absurd (cc (paid.short budget less))
+    elim (cases_lt budget cost) [
+      | inl less ↦ absurd (cc (paid.short budget less))
       | inr above ↦
           let parts : budget ≡ cost + (budget - cost) = omega (arith, above) in
           let others : budget + more ≡ cost + (budget - cost + more) = omega (arith, above) in
           let here : outcome (budget - cost) ≡ Ends (Undefined stop) = sym (paid.enough (budget - cost)) ∙ (ap w (sym parts) ∙ is) in
-          ap w others ∙ (paid.enough (budget - cost + more) ∙ steady (budget - cost) (budget - cost + more) stop here) ]
+          ap w others ∙ (paid.enough (budget - cost + more) ∙ steady (budget - cost) (budget - cost + more) stop here)
+    ]
 
 pub steps_change_no_stop : (p : Program) (budget more : ℕ) (stop : Stop) → call_main p budget ≡ Ends (Undefined stop) → call_main p (budget + more) ≡ Ends (Undefined stop)
 steps_change_no_stop p budget more stop is = elim (main_timed p) [
   | Value cost a paid ↦ stop_again ℤ (λ left. call_main p left) budget more cost (λ more. Gives a more) stop paid (λ m n s e. absurd cc) is
-  | Stopped cost other is_stop paid ↦ stop_again ℤ (λ left. call_main p left) budget more cost (λ more. Ends (Undefined other)) stop paid (λ m n s e. e) is ]
+  | Stopped cost other is_stop paid ↦ stop_again ℤ (λ left. call_main p left) budget more cost (λ more. Ends (Undefined other)) stop paid (λ m n s e. e) is
+]
 
 -- the end of a run is one of three
 IsEnd : Outcome → Type 0
@@ -210,18 +220,20 @@ not_both outcome a left w first second = cc
 ends_in : (outcome : Outcome) (w : ℕ → Went ℤ) (budget : ℕ) → Timed ℤ w → w budget ≡ Ends outcome → IsEnd outcome
 unfolding IsEnd
 ends_in outcome w budget (Value cost a paid) is =
-    elim (cases_lt budget cost)
-      [ inl less ↦ inl (same_end outcome StepsSpent (w budget) is (paid.short budget less))
+    elim (cases_lt budget cost) [
+      | inl less ↦ inl (same_end outcome StepsSpent (w budget) is (paid.short budget less))
       | inr above ↦
           let parts : budget ≡ cost + (budget - cost) = omega (arith, above) in
-          absurd (not_both outcome a (budget - cost) (w budget) is (ap w parts ∙ paid.enough (budget - cost))) ]
+          absurd (not_both outcome a (budget - cost) (w budget) is (ap w parts ∙ paid.enough (budget - cost)))
+    ]
 ends_in outcome w budget (Stopped cost stop is_stop paid) is =
-    elim (cases_lt budget cost)
-      [ inl less ↦ inl (same_end outcome StepsSpent (w budget) is (paid.short budget less))
+    elim (cases_lt budget cost) [
+      | inl less ↦ inl (same_end outcome StepsSpent (w budget) is (paid.short budget less))
       | inr above ↦
           let parts : budget ≡ cost + (budget - cost) = omega (arith, above) in
           let end = same_end outcome (Undefined stop) (w budget) is (ap w parts ∙ paid.enough (budget - cost)) in
-          subst IsEnd (sym end) (stop_end stop is_stop) ]
+          subst IsEnd (sym end) (stop_end stop is_stop)
+    ]
 
 pub ends_are_three : (p : Program) (budget : ℕ) (outcome : Outcome) → call_main p budget ≡ Ends outcome → (outcome ≡ StepsSpent) ⊎ ((outcome ≡ Undefined U1) ⊎ (outcome ≡ Undefined U8))
 unfolding IsEnd

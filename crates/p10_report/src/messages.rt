@@ -21,7 +21,10 @@ pub fn put_usage<O: Sink>(out: &mut O) -> Result<(), SinkFault>
     ensures failed { OnErr result (Rose (O.faults out.old) (O.faults out.new)) }
     ensures count { O.faults out.old ≤ O.faults out.new }
 {
-    put_bytes(out, b"p10: usage: p10 (check|derive|verify|run|gen) [options] FILE..\n")
+    put_bytes(
+        out,
+        b"p10: usage: p10 (check|derive|verify|run|gen) [options] FILE..\n",
+    )
 }
 
 /// Writes the line of a file that isn't there, `p10: absent: NAME`.

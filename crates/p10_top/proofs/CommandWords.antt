@@ -16,7 +16,7 @@ verify_takes (a ∷ b ∷ c ∷ d ∷ []) names e =
     let a_same : a ≡ codes "verify" = is_text _ _ b_is.0 in
     let b_same : b ≡ codes "--cert" = is_text _ _ b_is.1 in
     let whole : IsVerify (a ∷ b ∷ c ∷ d ∷ []) (record { certificate = c; source = d }) =
-        record { words_are = rw (a_same, b_same) refl; certificate = c_is.1; source = d_is.1 } in
+    record { words_are = rw (a_same, b_same) refl; certificate = c_is.1; source = d_is.1 } in
     subst (λ (n : Names). IsVerify (a ∷ b ∷ c ∷ d ∷ []) n) parts.1 whole
 verify_takes _ names e = absurd (none-some names e)
 

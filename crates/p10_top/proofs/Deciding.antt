@@ -73,8 +73,9 @@ begins_in sources name text is =
 lies_in : (sources : Gathered) (name text : List ℕ) (at : Span) → sources ≡ one_root name text → IsWithin text at → LiesIn sources at
 lies_in sources name text at is within =
     let in_root : LiesIn (one_root name text) at = record {
-          held = omega (arith, within.file);
-          within = subst (λ n. at.start ≤ length (text_of (one_root name text) n)) (sym within.file) within.start } in
+      held = omega (arith, within.file);
+      within = subst (λ n. at.start ≤ length (text_of (one_root name text) n)) (sym within.file) within.start;
+    } in
     subst (λ (g : Gathered). LiesIn g at) (sym is) in_root
 
 -- ## The answers
@@ -90,7 +91,8 @@ decides_absent held later names sources text front short same lacks = record {
   text = text;
   is_right = (has_source held names text front short, subst (λ (h : Option (List Named)). Lacks h names.certificate) same lacks);
   shows = tt;
-  has_place = tt }
+  has_place = tt;
+}
 
 has_certificate : (held : Option (List Named)) (names : Names) (bytes wanted : List ℕ) → IsFront held names.certificate certificate_limit bytes → length bytes ≤ certificate_limit → bytes ≡ wanted → HasCertificate held names wanted
 has_certificate held names bytes wanted front short same =
@@ -109,13 +111,15 @@ judged_by held names sources text bytes (Failing k at) source front is (words, p
       text = text;
       is_right = (words, p, c, record { program = record { source = source; reads = reads }; certificate = has_certificate held names bytes (certificate_text c) front short text_is; is_certificate = is_certificate }, fails, at_is);
       shows = is;
-      has_place = lies_in sources names.source text at is within }
+      has_place = lies_in sources names.source text at is within;
+    }
 judged_by held names sources text bytes (Accepted bounds) source front is (words, p, reads, (c, short, text_is, is_certificate, accepts, total)) =
     record {
       text = text;
       is_right = (words, p, c, record { program = record { source = source; reads = reads }; certificate = has_certificate held names bytes (certificate_text c) front short text_is; is_certificate = is_certificate }, accepts, total);
       shows = tt;
-      has_place = tt }
+      has_place = tt;
+    }
 judged_by held names sources text bytes AbsentSource source front is (words, p, reads, none) = absurd none
 judged_by held names sources text bytes SourceTooLong source front is (words, p, reads, none) = absurd none
 judged_by held names sources text bytes AbsentCertificate source front is (words, p, reads, none) = absurd none
@@ -125,5 +129,5 @@ judged_by held names sources text bytes NoMemory source front is (words, p, read
 pub decides_judged : (held later : Option (List Named)) (names : Names) (sources : Gathered) (text seen bytes : List ℕ) (answer : Answer) → IsFront held names.source source_limit text → length text ≤ source_limit → later ≡ held → IsFront later names.certificate certificate_limit bytes → sources ≡ one_root names.source text → seen ≡ text → IsJudged seen bytes answer → Decides held names sources answer
 decides_judged held later names sources text seen bytes answer front short same second is seen_is judged =
     judged_by held names sources text bytes answer (has_source held names text front short)
-      (subst (λ (h : Option (List Named)). IsFront h names.certificate certificate_limit bytes) same second) is
-      (subst (λ (t : List ℕ). IsJudged t bytes answer) seen_is judged)
+    (subst (λ (h : Option (List Named)). IsFront h names.certificate certificate_limit bytes) same second) is
+    (subst (λ (t : List ℕ). IsJudged t bytes answer) seen_is judged)

@@ -67,34 +67,77 @@ told files before after = record { held = Some files; faults_before = before; fa
 
 passes : (files : List Named) (before after : ℕ) (names : Names) (text : List ℕ) (answer : Answer) (number : ℕ) → IsRight (told files before after) names text answer → number < number_of answer → number_of answer ≤ 8 → Passed names files number
 passes files before after names text AbsentSource number right earlier plain = record {
-  source = never 1 number (omega (arith, earlier)); short = never 2 number (omega (arith, earlier)); certificate = never 3 number (omega (arith, earlier)); program = never 4 number (omega (arith, earlier));
-  certificate_short = never 5 number (omega (arith, earlier)); claims = never 6 number (omega (arith, earlier)); accepted = never 7 number (omega (arith, earlier)) }
+  source = never 1 number (omega (arith, earlier));
+  short = never 2 number (omega (arith, earlier));
+  certificate = never 3 number (omega (arith, earlier));
+  program = never 4 number (omega (arith, earlier));
+  certificate_short = never 5 number (omega (arith, earlier));
+  claims = never 6 number (omega (arith, earlier));
+  accepted = never 7 number (omega (arith, earlier));
+}
 passes files before after names text SourceTooLong number right earlier plain = record {
-  source = λ at. longer_is_there (file_of names.source files) _ right; short = never 2 number (omega (arith, earlier)); certificate = never 3 number (omega (arith, earlier)); program = never 4 number (omega (arith, earlier));
-  certificate_short = never 5 number (omega (arith, earlier)); claims = never 6 number (omega (arith, earlier)); accepted = never 7 number (omega (arith, earlier)) }
+  source = λ at. longer_is_there (file_of names.source files) _ right;
+  short = never 2 number (omega (arith, earlier));
+  certificate = never 3 number (omega (arith, earlier));
+  program = never 4 number (omega (arith, earlier));
+  certificate_short = never 5 number (omega (arith, earlier));
+  claims = never 6 number (omega (arith, earlier));
+  accepted = never 7 number (omega (arith, earlier));
+}
 passes files before after names text AbsentCertificate number (source, lacks) earlier plain = record {
-  source = λ at. there _ text source.given; short = λ at. (text, source.given, source.short); certificate = never 3 number (omega (arith, earlier)); program = never 4 number (omega (arith, earlier));
-  certificate_short = never 5 number (omega (arith, earlier)); claims = never 6 number (omega (arith, earlier)); accepted = never 7 number (omega (arith, earlier)) }
+  source = λ at. there _ text source.given;
+  short = λ at. (text, source.given, source.short);
+  certificate = never 3 number (omega (arith, earlier));
+  program = never 4 number (omega (arith, earlier));
+  certificate_short = never 5 number (omega (arith, earlier));
+  claims = never 6 number (omega (arith, earlier));
+  accepted = never 7 number (omega (arith, earlier));
+}
 passes files before after names text NotBuilt number (source, held, none) earlier plain = record {
-  source = λ at. there _ text source.given; short = λ at. (text, source.given, source.short); certificate = λ at. held; program = never 4 number (omega (arith, earlier));
-  certificate_short = never 5 number (omega (arith, earlier)); claims = never 6 number (omega (arith, earlier)); accepted = never 7 number (omega (arith, earlier)) }
+  source = λ at. there _ text source.given;
+  short = λ at. (text, source.given, source.short);
+  certificate = λ at. held;
+  program = never 4 number (omega (arith, earlier));
+  certificate_short = never 5 number (omega (arith, earlier));
+  claims = never 6 number (omega (arith, earlier));
+  accepted = never 7 number (omega (arith, earlier));
+}
 passes files before after names text CertificateTooLong number (words, p, program, long) earlier plain = record {
-  source = λ at. there _ text program.source.given; short = λ at. (text, program.source.given, program.source.short); certificate = λ at. longer_is_there (file_of names.certificate files) _ long;
+  source = λ at. there _ text program.source.given;
+  short = λ at. (text, program.source.given, program.source.short);
+  certificate = λ at. longer_is_there (file_of names.certificate files) _ long;
   program = λ at. (text, words, p, program.source.given, program.reads);
-  certificate_short = never 5 number (omega (arith, earlier)); claims = never 6 number (omega (arith, earlier)); accepted = never 7 number (omega (arith, earlier)) }
+  certificate_short = never 5 number (omega (arith, earlier));
+  claims = never 6 number (omega (arith, earlier));
+  accepted = never 7 number (omega (arith, earlier));
+}
 passes files before after names text (BadCertificate line) number (words, p, bytes, program, certificate, wrong) earlier plain = record {
-  source = λ at. there _ text program.source.given; short = λ at. (text, program.source.given, program.source.short); certificate = λ at. there _ bytes certificate.given;
+  source = λ at. there _ text program.source.given;
+  short = λ at. (text, program.source.given, program.source.short);
+  certificate = λ at. there _ bytes certificate.given;
   program = λ at. (text, words, p, program.source.given, program.reads);
-  certificate_short = λ at. (bytes, certificate.given, certificate.short); claims = never 6 number (omega (arith, earlier)); accepted = never 7 number (omega (arith, earlier)) }
+  certificate_short = λ at. (bytes, certificate.given, certificate.short);
+  claims = never 6 number (omega (arith, earlier));
+  accepted = never 7 number (omega (arith, earlier));
+}
 passes files before after names text (Failing k place) number (words, p, c, judges, fails, place_is) earlier plain = record {
-  source = λ at. there _ text judges.program.source.given; short = λ at. (text, judges.program.source.given, judges.program.source.short); certificate = λ at. there _ (certificate_text c) judges.certificate.given;
+  source = λ at. there _ text judges.program.source.given;
+  short = λ at. (text, judges.program.source.given, judges.program.source.short);
+  certificate = λ at. there _ (certificate_text c) judges.certificate.given;
   program = λ at. (text, words, p, judges.program.source.given, judges.program.reads);
-  certificate_short = λ at. (certificate_text c, judges.certificate.given, judges.certificate.short); claims = λ at. (c, judges.certificate.given, judges.is_certificate); accepted = never 7 number (omega (arith, earlier)) }
+  certificate_short = λ at. (certificate_text c, judges.certificate.given, judges.certificate.short);
+  claims = λ at. (c, judges.certificate.given, judges.is_certificate);
+  accepted = never 7 number (omega (arith, earlier));
+}
 passes files before after names text (Accepted bounds) number (words, p, c, judges, accepts, total) earlier plain = record {
-  source = λ at. there _ text judges.program.source.given; short = λ at. (text, judges.program.source.given, judges.program.source.short); certificate = λ at. there _ (certificate_text c) judges.certificate.given;
+  source = λ at. there _ text judges.program.source.given;
+  short = λ at. (text, judges.program.source.given, judges.program.source.short);
+  certificate = λ at. there _ (certificate_text c) judges.certificate.given;
   program = λ at. (text, words, p, judges.program.source.given, judges.program.reads);
-  certificate_short = λ at. (certificate_text c, judges.certificate.given, judges.certificate.short); claims = λ at. (c, judges.certificate.given, judges.is_certificate);
-  accepted = λ at. (text, words, p, c, judges.program.source.given, judges.program.reads, judges.certificate.given, judges.is_certificate, accepts) }
+  certificate_short = λ at. (certificate_text c, judges.certificate.given, judges.certificate.short);
+  claims = λ at. (c, judges.certificate.given, judges.is_certificate);
+  accepted = λ at. (text, words, p, c, judges.program.source.given, judges.program.reads, judges.certificate.given, judges.is_certificate, accepts);
+}
 passes files before after names text ReadFault number right earlier plain = absurd (omega (arith, plain))
 passes files before after names text NoMemory number right earlier plain = absurd (omega (arith, plain))
 
@@ -184,11 +227,13 @@ same_place files before after names text other NoMemory _ right right' same plai
 
 one_answer : (files : List Named) (before after : ℕ) (names : Names) (text other : List ℕ) (a b : Answer) → IsRight (told files before after) names text a → IsRight (told files before after) names other b → number_of a ≤ 8 → number_of b ≤ 8 → saying_of names text a ≡ saying_of names other b
 one_answer files before after names text other a b right right' plain plain' =
-    elim (cases_order (number_of a) (number_of b))
-      [ inl same ↦ same_place files before after names text other a b right right' same plain
-      | inr apart ↦ elim apart
-          [ inl lower ↦ absurd (stops files before after names text a right plain (passes files before after names other b (number_of a) right' lower plain') (omega (arith, lower, plain')))
-          | inr upper ↦ absurd (stops files before after names other b right' plain' (passes files before after names text a (number_of b) right upper plain) (omega (arith, upper, plain))) ] ]
+    elim (cases_order (number_of a) (number_of b)) [
+      | inl same ↦ same_place files before after names text other a b right right' same plain
+      | inr apart ↦ elim apart [
+        | inl lower ↦ absurd (stops files before after names text a right plain (passes files before after names other b (number_of a) right' lower plain') (omega (arith, lower, plain')))
+        | inr upper ↦ absurd (stops files before after names other b right' plain' (passes files before after names text a (number_of b) right upper plain) (omega (arith, upper, plain)))
+      ]
+    ]
 
 -- an answer that is neither a read fault nor want of memory
 plain_answer : (answer : Answer) → status_of answer ≢ 5 → status_of answer ≢ 7 → number_of answer ≤ 8
@@ -222,4 +267,4 @@ says_one_thing words files before after some other (inl (none, said)) (inr (name
 says_one_thing words files before after some other (inr (names, is, says)) (inl (none, said)) five seven five' seven' = absurd (none names is)
 says_one_thing words files before after some other (inr (names, is, says)) (inr (names', is', says')) five seven five' seven' =
     says_right files before after names some other says
-      (subst (λ (n : Names). SaysRight n (told files before after) other) (same_names words names' names is' is) says') five seven five' seven'
+    (subst (λ (n : Names). SaysRight n (told files before after) other) (same_names words names' names is' is) says') five seven five' seven'

@@ -92,12 +92,18 @@ place_tells text words p k cut r = by_condition k
   where
     count : 10 ≤ length words
     count = many_words text words p r
+
     at_number : (i : ℕ) → i < length words → (place_at words i ≡ span_of (word_at (map placed words) i)) × IsWithin text (place_at words i)
     at_number i inside =
         let same = place_is text words i some_word cut inside in
-        let within : (get_or (map placed words) i no_word).start ≤ 0 + length text = stands_within 0 text (map placed words) no_word r.stand i (omega (arith, inside, length_placed words)) in
-        (same, record { file = ap (λ (s : Span). s.file) same;
-          start = subst (λ (s : Span). s.start ≤ length text) (sym same) (omega (arith, within)) })
+        let within : (get_or (map placed words) i no_word).start ≤ 0 + length text = stands_within 0 text (map placed words) no_word r.stand i (omega (arith, inside, length_placed words)) in (
+          same,
+          record {
+            file = ap (λ (s : Span). s.file) same;
+            start = subst (λ (s : Span). s.start ≤ length text) (sym same) (omega (arith, within));
+          },
+        )
+
     by_condition : (k : Condition) → (place_in words k ≡ place_of (map placed words) k) × IsWithin text (place_in words k)
     by_condition K1 = at_number 1 (omega (arith, count))
     by_condition K5 =

@@ -50,7 +50,9 @@ told_for names seen sources answer out_old out_new err_old err_new status answer
   status_is = is;
   taken = record {
     on_out = subst (λ (t : List ℕ). Appends out_old out_new t) (out_same (one_root names.source answered.text) sources answer answered.shows) taken.on_out;
-    on_err = subst (λ (t : List ℕ). Appends err_old err_new t) (err_same names (one_root names.source answered.text) sources answer answered.shows) taken.on_err } }
+    on_err = subst (λ (t : List ℕ). Appends err_old err_new t) (err_same names (one_root names.source answered.text) sources answer answered.shows) taken.on_err;
+  };
+}
 
 pub stopped_for : (names : Names) (seen : Seen) (sources : Gathered) (answer : Answer) (out_old out_new err_old err_new : Option (List ℕ)) → Answered seen names sources answer → BothTakeFronts out_old out_new err_old err_new (out_text sources answer) (err_text names sources answer) → StoppedFor names seen out_old out_new err_old err_new
 stopped_for names seen sources answer out_old out_new err_old err_new answered taken = record {
@@ -58,7 +60,9 @@ stopped_for names seen sources answer out_old out_new err_old err_new answered t
   may = record { text = answered.text; answer = answer; is_right = answered.is_right; said = refl };
   taken = record {
     on_out = subst (λ (t : List ℕ). TakesFront out_old out_new t) (out_same (one_root names.source answered.text) sources answer answered.shows) taken.on_out;
-    on_err = subst (λ (t : List ℕ). TakesFront err_old err_new t) (err_same names (one_root names.source answered.text) sources answer answered.shows) taken.on_err } }
+    on_err = subst (λ (t : List ℕ). TakesFront err_old err_new t) (err_same names (one_root names.source answered.text) sources answer answered.shows) taken.on_err;
+  };
+}
 
 -- ## The command line
 
@@ -75,7 +79,8 @@ pub stopped_usage : (words : List (List ℕ)) (seen : Seen) (out err_old err_new
 stopped_usage words seen out err_old err_new none stopped = record {
   saying = usage_saying;
   may = inl (none, refl);
-  taken = record { on_out = record { front = []; back = []; parts = refl; taken = Appends-nil out }; on_err = TakesFront-stop err_old err_new usage_line stopped } }
+  taken = record { on_out = record { front = []; back = []; parts = refl; taken = Appends-nil out }; on_err = TakesFront-stop err_old err_new usage_line stopped };
+}
 
 -- ## The headline
 
@@ -92,7 +97,8 @@ accepted (Some files) before after names text (Accepted bounds) words is zero (p
   claims = c;
   certificate_given = judges.certificate.given;
   is_certificate = judges.is_certificate;
-  within = accepted_is_within p c accepts }
+  within = accepted_is_within p c accepts;
+}
 accepted (Some files) before after names text (Failing k at) words is zero right = absurd (omega (arith, zero))
 accepted (Some files) before after names text AbsentSource words is zero right = absurd (omega (arith, zero))
 accepted (Some files) before after names text SourceTooLong words is zero right = absurd (omega (arith, zero))

@@ -67,7 +67,8 @@ abbrev pub saying_of : Names → List ℕ → Answer → Saying
 saying_of names text answer = record {
   status = status_of answer;
   out = out_text (one_root names.source text) answer;
-  err = err_text names (one_root names.source text) answer }
+  err = err_text names (one_root names.source text) answer;
+}
 
 -- no command has these words
 abbrev pub IsNoCommand : List (List ℕ) → Type 0

@@ -36,7 +36,12 @@ fn parsed(words: &[String]) -> Option<Verify<'_>>
     let [command, option, certificate, source] = words else {
         return None;
     };
-    if are_verify(command.as_str(), option.as_str(), certificate.as_str(), source.as_str()) {
+    if are_verify(
+        command.as_str(),
+        option.as_str(),
+        certificate.as_str(),
+        source.as_str(),
+    ) {
         Some(Verify {
             certificate: certificate.as_str(),
             source: source.as_str(),

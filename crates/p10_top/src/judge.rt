@@ -8,9 +8,8 @@ ghost use Rattle.p10_top.specs.Judging.{IsProgramOf, place_in, IsJudged, IsWeigh
 
 use crate::answer::Answer;
 use p10_base::{Span, Word};
-use p10_first::certificate;
 use p10_first::words::words;
-use p10_first::{Condition, Program, failing};
+use p10_first::{Condition, Program, certificate, failing};
 use std::alloc::{AllocError, Global};
 
 /// The most bytes of a certificate.
@@ -50,11 +49,7 @@ fn place(words: &[Word<'_>], condition: Condition) -> Span
 }
 
 /// What the bytes of a certificate come to, for a program that has been read.
-fn weigh(
-    alloc: Global,
-    source: &Spelled<'_>,
-    certificate: &[u8],
-) -> Result<Answer, AllocError>
+fn weigh(alloc: Global, source: &Spelled<'_>, certificate: &[u8]) -> Result<Answer, AllocError>
     requires { 4 ≤ length source.now.words.items }
     ensures { IfOk result (IsWeighedFor source.now certificate.now) }
 {

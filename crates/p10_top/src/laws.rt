@@ -6,5 +6,4 @@ ghost use Rattle.p10_top.specs.Laws.{SaysOneThing};
 /// of memory.
 pub fn one_thing_is_said()
     ensures { SaysOneThing }
-{
-}
+{}

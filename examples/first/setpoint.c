@@ -1,0 +1,7 @@
+int main(void) {
+    int setpoint = 1200;
+    int trim = 35;
+    int demand = setpoint + trim + 5;
+    demand = demand + trim;
+    return 0;
+}
