@@ -10,7 +10,7 @@ use Rattle.p10_report.specs.Stops.{StopsWithin}
 use Rattle.p10_report.proofs.Stopping.{TakesFront-stop}
 use Rattle.p10_first.proofs.Costs.{accepted_is_within}
 use Rattle.p10_top.specs.declared.answer.Answer.{Answer}
-use Rattle.p10_top.specs.declared.answer.Answer.TheVariants.{AbsentSource, SourceTooLong, AbsentCertificate, NotBuilt, CertificateTooLong, BadCertificate, Failing, Accepted, ReadFault, NoMemory}
+use Rattle.p10_top.specs.declared.answer.Answer.TheVariants.{AbsentSource, SourceTooLong, Refused, TooManyWords, AbsentCertificate, NotBuilt, CertificateTooLong, BadCertificate, Failing, Accepted, ReadFault, NoMemory}
 use Rattle.p10_top.specs.Command.{Names, IsVerify}
 use Rattle.p10_top.specs.Answers.{Seen, IsRight, one_root}
 use Rattle.p10_top.specs.Told.{BothTake, BothTakeFronts, IsNoCommand, MaySay, Saying, SaysRight, Told, Stopped, ToldFor, StoppedFor, err_text, out_text, saying_of, status_of, usage_saying}
@@ -24,6 +24,8 @@ out_same wanted sources (Failing k at) shows = ap (λ (g : Gathered). out_text g
 out_same wanted sources (Accepted bounds) shows = refl
 out_same wanted sources AbsentSource shows = refl
 out_same wanted sources SourceTooLong shows = refl
+out_same wanted sources (Refused refusal) shows = refl
+out_same wanted sources TooManyWords shows = refl
 out_same wanted sources AbsentCertificate shows = refl
 out_same wanted sources NotBuilt shows = refl
 out_same wanted sources CertificateTooLong shows = refl
@@ -37,6 +39,8 @@ err_same names wanted sources (Failing k at) shows = refl
 err_same names wanted sources (Accepted bounds) shows = refl
 err_same names wanted sources AbsentSource shows = refl
 err_same names wanted sources SourceTooLong shows = refl
+err_same names wanted sources (Refused refusal) shows = ap (λ (g : Gathered). err_text names g (Refused refusal)) shows
+err_same names wanted sources TooManyWords shows = refl
 err_same names wanted sources AbsentCertificate shows = refl
 err_same names wanted sources CertificateTooLong shows = refl
 err_same names wanted sources (BadCertificate line) shows = refl
@@ -86,14 +90,15 @@ stopped_usage words seen out err_old err_new none stopped = record {
 
 accepted : (held : Option (List Named)) (before after : ℕ) (names : Names) (text : List ℕ) (answer : Answer) (words : List (List ℕ)) → IsVerify words names → status_of answer ≡ 0 → IsRight (record { held = held; faults_before = before; faults_after = after }) names text answer → IfSome held (Verified words)
 accepted None before after names text answer words is zero right = tt
-accepted (Some files) before after names text (Accepted bounds) words is zero (places, p, c, judges, accepts, total) = record {
+accepted (Some files) before after names text (Accepted bounds) words is zero (tokens, p, c, judges, accepts, total) = record {
   names = names;
   is_verify = is;
   text = text;
-  source_given = judges.program.source.given;
-  places = places;
+  source_given = judges.program.cut.source.given;
+  tokens = tokens;
+  lexes = judges.program.cut.lexed.2;
   program = p;
-  reads = judges.program.reads;
+  spells = judges.program.spell;
   claims = c;
   certificate_given = judges.certificate.given;
   is_certificate = judges.is_certificate;
@@ -102,6 +107,8 @@ accepted (Some files) before after names text (Accepted bounds) words is zero (p
 accepted (Some files) before after names text (Failing k at) words is zero right = absurd (omega (arith, zero))
 accepted (Some files) before after names text AbsentSource words is zero right = absurd (omega (arith, zero))
 accepted (Some files) before after names text SourceTooLong words is zero right = absurd (omega (arith, zero))
+accepted (Some files) before after names text (Refused refusal) words is zero right = absurd (omega (arith, zero))
+accepted (Some files) before after names text TooManyWords words is zero right = absurd (omega (arith, zero))
 accepted (Some files) before after names text AbsentCertificate words is zero right = absurd (omega (arith, zero))
 accepted (Some files) before after names text NotBuilt words is zero right = absurd (omega (arith, zero))
 accepted (Some files) before after names text CertificateTooLong words is zero right = absurd (omega (arith, zero))

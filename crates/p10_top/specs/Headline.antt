@@ -2,11 +2,13 @@
 use Rattle.std.specs.Prelude.{◌≡◌, ℕ, List, Some}
 use Rattle.p10_world.specs.Files.{Named, file_of}
 use Rattle.p10_first.specs.declared.program.Program.{Program}
-use Rattle.p10_first.specs.Words.{PlacedWord}
+use Rattle.p10_lex.specs.Pieces.{LexedWord}
+use Rattle.p10_lex.specs.Lexes.{Lexes}
+use Rattle.p10_first.specs.Form.{Spells}
 use Rattle.p10_first.specs.Certificate.{Claims, certificate_text, IsCertificate}
 use Rattle.p10_first.specs.Meaning.{Within}
 use Rattle.p10_top.specs.Command.{Names, IsVerify}
-use Rattle.p10_top.specs.Answers.{Reads}
+use Rattle.p10_top.specs.Answers.{texts_of}
 
 -- The words are `verify` with a source and a certificate. The source's bytes are those of a program,
 -- the certificate's bytes are the text of its claims, and from every input every run of the program
@@ -17,9 +19,10 @@ pub record Verified (words : List (List ℕ)) (files : List Named) : Type 0 wher
   pub is_verify : IsVerify words names
   pub text : List ℕ
   pub source_given : file_of names.source files ≡ Some text
-  pub places : List PlacedWord
+  pub tokens : List LexedWord
+  pub lexes : Lexes 0 text tokens
   pub program : Program
-  pub reads : Reads text places program
+  pub spells : Spells (texts_of tokens) program
   pub claims : Claims
   pub certificate_given : file_of names.certificate files ≡ Some (certificate_text claims)
   pub is_certificate : IsCertificate claims

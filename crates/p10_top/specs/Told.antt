@@ -10,7 +10,7 @@ use Rattle.p10_report.specs.Lines.{accepted_line, failing_line, limit_line, refu
 use Rattle.p10_report.specs.Messages.{absent_line, bad_certificate_line, out_of_memory_line, read_fault_line, usage_line}
 use Rattle.p10_first.specs.Conditions.{number_of_condition}
 use Rattle.p10_top.specs.declared.answer.Answer.{Answer}
-use Rattle.p10_top.specs.declared.answer.Answer.TheVariants.{AbsentSource, SourceTooLong, AbsentCertificate, NotBuilt, CertificateTooLong, BadCertificate, Failing, Accepted, ReadFault, NoMemory}
+use Rattle.p10_top.specs.declared.answer.Answer.TheVariants.{AbsentSource, SourceTooLong, Refused, TooManyWords, AbsentCertificate, NotBuilt, CertificateTooLong, BadCertificate, Failing, Accepted, ReadFault, NoMemory}
 use Rattle.p10_top.specs.Command.{Names, IsVerify}
 use Rattle.p10_top.specs.Answers.{Seen, IsRight, one_root}
 
@@ -18,6 +18,8 @@ use Rattle.p10_top.specs.Answers.{Seen, IsRight, one_root}
 abbrev pub status_of : Answer → ℕ
 status_of AbsentSource = 9
 status_of SourceTooLong = 8
+status_of (Refused refusal) = 3
+status_of TooManyWords = 8
 status_of AbsentCertificate = 9
 status_of NotBuilt = 3
 status_of CertificateTooLong = 8
@@ -44,6 +46,8 @@ out_text sources answer = []
 abbrev pub err_text : Names → Gathered → Answer → List ℕ
 err_text names sources AbsentSource = absent_line names.source
 err_text names sources SourceTooLong = limit_line (record { number = 1 })
+err_text names sources (Refused refusal) = refusal_line sources refusal
+err_text names sources TooManyWords = limit_line (record { number = 2 })
 err_text names sources AbsentCertificate = absent_line names.certificate
 err_text names sources NotBuilt = refusal_line sources not_built
 err_text names sources CertificateTooLong = limit_line (record { number = 10 })

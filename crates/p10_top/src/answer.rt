@@ -2,7 +2,7 @@
 
 ghost use Rattle.std.specs.Prelude.{◌≡◌};
 
-use p10_base::{Bounds, Span};
+use p10_base::{Bounds, Refusal, Span};
 use p10_first::Condition;
 
 /// An answer to `verify`, in the order in which they are tried; the last two may come before any.
@@ -12,6 +12,10 @@ pub enum Answer {
     AbsentSource,
     /// The source is over its limit.
     SourceTooLong,
+    /// The source is refused, before its certificate is read.
+    Refused(Refusal),
+    /// The source has more words than its limit.
+    TooManyWords,
     /// There is no such certificate.
     AbsentCertificate,
     /// The source is no program that can be verified yet.
@@ -40,11 +44,11 @@ impl Answer {
         match self {
             Answer::Accepted(_) => 0,
             Answer::Failing(..) => 1,
-            Answer::NotBuilt => 3,
+            Answer::Refused(_) | Answer::NotBuilt => 3,
             Answer::BadCertificate(_) => 4,
             Answer::ReadFault => 5,
             Answer::NoMemory => 7,
-            Answer::SourceTooLong | Answer::CertificateTooLong => 8,
+            Answer::SourceTooLong | Answer::TooManyWords | Answer::CertificateTooLong => 8,
             Answer::AbsentSource | Answer::AbsentCertificate => 9,
         }
     }

@@ -47,6 +47,8 @@ pub fn tell<O: Sink, E: Sink>(
     match answer {
         Answer::AbsentSource => put_absent(err, verify.source),
         Answer::SourceTooLong => put_limit(err, Limit { number: 1 }),
+        Answer::Refused(refusal) => put_refusal(err, sources, refusal),
+        Answer::TooManyWords => put_limit(err, Limit { number: 2 }),
         Answer::AbsentCertificate => put_absent(err, verify.certificate),
         Answer::NotBuilt => put_refusal(err, sources, &NOT_BUILT),
         Answer::CertificateTooLong => put_limit(err, Limit { number: 10 }),

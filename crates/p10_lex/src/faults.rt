@@ -1,0 +1,223 @@
+//! The first refusal of a piece (rows X1 to X6).
+
+ghost use Rattle.std.specs.Prelude.{◌≡◌, ◌≤◌, ◌+◌, length, IfSome};
+ghost use Rattle.p10_lex.specs.Constants.{begins_with};
+ghost use Rattle.p10_lex.specs.Bytes.{is_quote};
+ghost use Rattle.p10_lex.specs.Refusals.{begins_trigraph, ends_trigraph, is_tight};
+ghost use Rattle.p10_lex.specs.Pieces.{begins_comment};
+ghost use Rattle.p10_lex.specs.Reading.{mark_at, literal_fault, word_fault, fault_at};
+
+use crate::pieces::Piece;
+use crate::{bytes, characters, integers, splices};
+use p10_base::Kind;
+
+/// A row that holds at a piece.
+#[derive(Clone, Copy)]
+pub(crate) struct Fault {
+    /// 1 to 6, for X1 to X6.
+    pub(crate) number: u8,
+    /// How far from the piece's beginning.
+    pub(crate) offset: usize,
+    /// Over how many bytes.
+    pub(crate) extent: usize,
+}
+
+/// Whether a trigraph stands at the front.
+#[tactic(auto, unfolding(crate::specs::Refusals::begins_trigraph))]
+fn begins_trigraph(text: &[u8]) -> bool
+    ensures { result ≡ begins_trigraph text.now }
+{
+    match text {
+        [] => false,
+        [_] => false,
+        [_, _] => false,
+        [first, second, third, ..] => {
+            *first == b'?' && (*second == b'?' && ends_trigraph(*third))
+        }
+    }
+}
+
+/// Whether a comment stands at the front.
+#[tactic(auto, unfolding(crate::specs::Pieces::begins_comment))]
+fn begins_comment(text: &[u8]) -> bool
+    ensures { result ≡ begins_comment text.now }
+{
+    match text {
+        [] => false,
+        [_] => false,
+        [first, second, ..] => *first == b'/' && (*second == b'*' || *second == b'/'),
+    }
+}
+
+/// Whether what stands here is neither white space nor the file's end.
+#[tactic(auto, unfolding(crate::specs::Refusals::is_tight))]
+fn is_tight(text: &[u8]) -> bool
+    ensures { result ≡ is_tight text.now }
+{
+    match text {
+        [] => false,
+        [first, ..] => !(bytes::is_blank(*first) || begins_comment(text)),
+    }
+}
+
+/// Whether a quote stands at the front.
+#[tactic(auto, unfolding(crate::specs::Constants::begins_with))]
+fn begins_quote(text: &[u8]) -> bool
+    ensures { result ≡ begins_with is_quote text.now }
+{
+    match text {
+        [] => false,
+        [first, ..] => bytes::is_quote(*first),
+    }
+}
+
+/// Whether a byte ends a trigraph that begins with `??`.
+#[tactic(auto, unfolding(crate::specs::Refusals::ends_trigraph))]
+fn ends_trigraph(byte: u8) -> bool
+    ensures { result ≡ ends_trigraph byte }
+{
+    b"=/'()!<>-".as_slice().contains(&byte)
+}
+
+/// The first splice or trigraph at the first `count` places of a text.
+#[tactic(auto, unfolding(crate::specs::Reading::mark_at))]
+fn mark_at(count: usize, text: &[u8]) -> Option<Fault>
+    ensures value { result ≡ mark_at 0 count text.now }
+    ensures small { IfSome result (λ fault. (fault.offset ≤ length text.now) × (fault.extent ≤ 3)) }
+{
+    let mut rest = text;
+    let mut offset = 0;
+    let mut left = count;
+    while let [_, others @ ..] = rest {
+        if 0 < left {
+            if 0 < splices::splice_length(rest) {
+                return Some(Fault {
+                    number: 6,
+                    offset,
+                    extent: 1,
+                });
+            }
+            if begins_trigraph(rest) {
+                return Some(Fault {
+                    number: 5,
+                    offset,
+                    extent: 3,
+                });
+            }
+            left -= 1;
+        } else {
+            break;
+        }
+        rest = others;
+        offset += 1;
+    }
+    None
+}
+
+/// The first row that holds at a literal or an include name; `whole` is its text with what follows.
+#[tactic(auto, unfolding(crate::specs::Reading::literal_fault))]
+fn literal_fault(text: &[u8], whole: &[u8]) -> Option<Fault>
+    ensures value { result ≡ literal_fault text.now whole.now }
+    ensures small { IfSome result (λ fault. (fault.offset ≤ length whole.now) × (fault.extent ≤ length text.now + 3)) }
+{
+    if characters::is_literal_constant(text) {
+        mark_at(text.len(), whole)
+    } else {
+        Some(Fault {
+            number: 4,
+            offset: 0,
+            extent: text.len(),
+        })
+    }
+}
+
+/// The first row that holds at a piece; `whole` is its text with what follows, and `rest` what follows.
+#[tactic(auto, unfolding(crate::specs::Reading::fault_at))]
+pub(crate) fn fault_at(
+    tight: bool,
+    piece: Piece,
+    text: &[u8],
+    whole: &[u8],
+    rest: &[u8],
+) -> Option<Fault>
+    ensures value { result ≡ fault_at tight piece text.now whole.now rest.now }
+    ensures small { IfSome result (λ fault. (fault.offset ≤ length whole.now) × (fault.extent ≤ length text.now + 3)) }
+{
+    match piece {
+        Piece::Blank => None,
+        Piece::Comment => None,
+        Piece::Splices => {
+            if tight && is_tight(rest) {
+                Some(Fault {
+                    number: 6,
+                    offset: 0,
+                    extent: 1,
+                })
+            } else {
+                None
+            }
+        }
+        Piece::OpenComment => Some(Fault {
+            number: 2,
+            offset: 0,
+            extent: 2,
+        }),
+        Piece::OpenLiteral => Some(Fault {
+            number: 3,
+            offset: 0,
+            extent: 1,
+        }),
+        Piece::Stray => Some(Fault {
+            number: 1,
+            offset: 0,
+            extent: 1,
+        }),
+        Piece::Lexeme(kind) => word_fault(kind, text, whole, rest),
+    }
+}
+
+/// The first row that holds at a word.
+#[tactic(auto, unfolding(crate::specs::Reading::word_fault))]
+fn word_fault(kind: Kind, text: &[u8], whole: &[u8], rest: &[u8]) -> Option<Fault>
+    ensures value { result ≡ word_fault kind text.now whole.now rest.now }
+    ensures small { IfSome result (λ fault. (fault.offset ≤ length whole.now) × (fault.extent ≤ length text.now + 3)) }
+{
+    match kind {
+        Kind::Name => {
+            if bytes::same_text(text, b"L") && begins_quote(rest) {
+                Some(Fault {
+                    number: 4,
+                    offset: 0,
+                    extent: 1,
+                })
+            } else {
+                None
+            }
+        }
+        Kind::Number => {
+            if integers::is_integer_constant(text) {
+                None
+            } else {
+                Some(Fault {
+                    number: 4,
+                    offset: 0,
+                    extent: text.len(),
+                })
+            }
+        }
+        Kind::Char => literal_fault(text, whole),
+        Kind::Str => literal_fault(text, whole),
+        Kind::Punct => {
+            if begins_trigraph(whole) {
+                Some(Fault {
+                    number: 5,
+                    offset: 0,
+                    extent: 3,
+                })
+            } else {
+                None
+            }
+        }
+        Kind::Mark => None,
+    }
+}
