@@ -1,10 +1,9 @@
 -- The words of a program are read as that program.
-use Rattle.std.proofs.Common.{rules, ◌≡◌, ℕ, ◌+◌, ◌-◌, ◌*◌, ◌^◌, ◌<◌, ◌≤◌, zero, suc, List, [], ◌∷◌, ◌++◌, Bool, true, false, not, cond, bytes_eq, length, get_or, take, length-take, length-append, refl, sym, ◌∙◌, ap, subst, arith, append_assoc, append-nil, codes, Option, Some, None, option_map, option_and_then, decimal, All, is_none, fold, nat_le, nat_lt, ◌&&◌, min, lit<}
-use Rattle.std.specs.List.{position_from, list_any}
-use Rattle.std.specs.Str.{all_ascii_digits}
-use Rattle.std.proofs.lemmas.Bool.{cond_both, both_ways, and_parts, and_from, true≢false, not-true, le-leb, leb-true, lt-ltb, cases_eq, cases_Bool}
-use Rattle.std.proofs.lemmas.Str.Parse.{IsNumeralModel, numerals_by_fold}
-use Rattle.std.proofs.lemmas.Fmt.{digits_decimal, digits_value-decimal, length-decimal-le}
+use Rattle.std.proofs.Common.{◌≡◌, ℕ, ◌+◌, ◌<◌, ◌≤◌, zero, suc, List, [], ◌∷◌, ◌++◌, Bool, true, false, cond, bytes_eq, length, get_or, take, refl, sym, ◌∙◌, ap, subst, arith, append_assoc, append-nil, codes, Option, Some, None, option_map, option_and_then, decimal, All, is_none, nat_le}
+use Rattle.std.specs.List.{position_from, list_all}
+use Rattle.std.specs.Char.{is_ascii_digit}
+use Rattle.std.proofs.lemmas.Bool.{cond_both, both_ways, and_parts, and_from, not-true, le-leb, leb-true, lt-ltb}
+use Rattle.std.proofs.lemmas.Bool.Decides.{nat_tests}
 use Rattle.std.proofs.lemmas.List.{get_or-take, length-take-le, take_more}
 use Rattle.std.proofs.lemmas.List.Elements.{All-head, All-tail, All-get_or}
 use Rattle.p10_first.specs.declared.program.Atom.{Atom}
@@ -17,44 +16,43 @@ use Rattle.p10_first.specs.declared.reader.Target.{Target}
 use Rattle.p10_first.specs.declared.reader.Target.TheVariants.{New, Old}
 use Rattle.p10_first.specs.declared.reader.Expecting.{Expecting}
 use Rattle.p10_first.specs.declared.reader.Expecting.TheVariants.{AnItem, NewName, Declared, Assigned, FirstAtom, NextAtom, Joint, Value, End, Brace, Nothing}
-use Rattle.p10_first.specs.Names.{reserved_words, is_reserved}
-use Rattle.p10_first.specs.Form.{Text, name_of, atom_word, addend_words, sum_words, item_words, items_words, return_words, is_letter, is_name, is_variable_name, AtomFits, SumFits, ItemFits, ItemsFit, declared_after, greatest_int, AreApart, IsProgram}
-use Rattle.p10_first.specs.Reading.{Reading, expect, add_item, digits_number, numeral, number_of, number_or_variable, below, atom_of, readable, item_for, step_at, step, steps, start, whole_at, body_of}
-use Rattle.p10_first.proofs.Spelling.{is_text, same_text, other_text, fit_rises, declared_rises}
+use Rattle.p10_first.specs.Names.{is_nondigit, is_word_byte, is_name, reserved_words, is_reserved}
+use Rattle.p10_first.specs.Form.{Text, name_of, atom_word, addend_words, sum_words, item_words, items_words, return_words, is_variable_name, AtomFits, SumFits, ItemFits, ItemsFit, declared_after, greatest_int, AreApart, IsProgram}
+use Rattle.p10_first.specs.Reading.{Reading, expect, if_int, numeral, number_of, number_or_variable, below, atom_of, readable, item_for, step, steps, start, whole_at, body_of}
+use Rattle.p10_first.specs.Runs.{numeral_of}
+use Rattle.p10_first.proofs.DecimalNumbers.{numeral_of_takes, numeral_of_again}
+use Rattle.p10_first.proofs.Spelling.{same_text, other_text, fit_rises}
 
 -- ## Numbers
 
-own : IsNumeralModel (λ ds. all_ascii_digits ds ≡ true) digits_number
-own = numerals_by_fold _ (search rules) (λ n ds. fold (λ value byte. 10 * value + (byte - 48)) n ds) (search rules)
-
 pub numeral_again : (n : ℕ) → n ≤ greatest_int → numeral (decimal n) ≡ Some n
 unfolding numeral
-numeral_again n small =
-    let wide : n < 2 ^ 64 = omega (arith, small) in
-    let value : digits_number (decimal n) ≡ n = digits_value-decimal own n wide in
-    let short : length (decimal n) ≤ 10 = length-decimal-le 10 n (omega arith) (omega (arith, small)) wide in
-    let tests : ((nat_le (length (decimal n)) 10 && nat_le (digits_number (decimal n)) greatest_int) && bytes_eq (decimal (digits_number (decimal n))) (decimal n)) ≡ true
-    = and_from _ _ (and_from _ _ (le-leb _ _ short) (le-leb _ _ (omega (arith, value, small)))) (same_text _ _ (ap decimal value)) in
-    ap (λ b. cond b (Some (digits_number (decimal n))) None) tests ∙ ap Some value
+numeral_again n small = ap (λ o. option_and_then if_int o) (numeral_of_again n (omega (arith, small))).0 ∙ ap (λ b. cond b (Some n) None) (le-leb n greatest_int small)
 
--- a name is no number, since a digit is no letter
-first_is_digit : (ds : List ℕ) → all_ascii_digits ds ≡ true → is_name ds ≡ true → ⊥
+-- a name is no number, since a digit is no nondigit
+first_is_digit : (ds : List ℕ) → list_all is_ascii_digit ds ≡ true → is_name ds ≡ true → ⊥
+unfolding is_nondigit
 first_is_digit [] digits name = cc
-first_is_digit (d ∷ ds) digits name = grind (arith, and_parts)
+first_is_digit (d ∷ ds) digits name =
+    let digit = and_parts (nat_le 48 d) (nat_le d 57) (and_parts (is_ascii_digit d) (list_all is_ascii_digit ds) digits).0 in
+    let start = (and_parts (is_nondigit d) (list_all is_word_byte ds) name).0 in
+    grind (arith, nat_tests)
+
+not_small : (word : Text) (n : ℕ) → is_name word ≡ true → numeral_of word ≡ Some n → if_int n ≡ None
+not_small word n name read = cond_both (nat_le n greatest_int) (Some n) None (λ (o : Option ℕ). o ≡ None)
+    (λ e.
+    let low : n ≤ greatest_int = leb-true n greatest_int e in
+    let digits = (numeral_of_again n (omega (arith, low))).1 in
+    absurd (first_is_digit word (subst (λ ds. list_all is_ascii_digit ds ≡ true) (sym (numeral_of_takes word n read)) digits) name))
+    (λ e. refl)
+
+none_of : (word : Text) (o : Option ℕ) → is_name word ≡ true → numeral_of word ≡ o → option_and_then if_int o ≡ None
+none_of word None name read = refl
+none_of word (Some n) name read = not_small word n name read
 
 numeral_none : (word : Text) → is_name word ≡ true → numeral word ≡ None
 unfolding numeral
-numeral_none word name =
-    let n = digits_number word in
-    let test = (nat_le (length word) 10 && nat_le n greatest_int) && bytes_eq (decimal n) word in
-    cond_both test (Some n) None (λ (o : Option ℕ). o ≡ None)
-    (λ e.
-    let tests : ((nat_le (length word) 10 && nat_le n greatest_int) ≡ true) × (bytes_eq (decimal n) word ≡ true) = and_parts _ _ e in
-    let low : n ≤ greatest_int = leb-true _ _ (and_parts _ _ tests.0).1 in
-    let small : n < 2 ^ 64 = omega (arith, low) in
-    let same : decimal n ≡ word = is_text (decimal n) word tests.1 in
-    absurd (first_is_digit word (subst (λ ds. all_ascii_digits ds ≡ true) same (digits_decimal own n small)) name))
-    (λ e. refl)
+numeral_none word name = none_of word (numeral_of word) name refl
 
 -- ## Names
 

@@ -6,10 +6,12 @@ use Rattle.std.specs.Char.{is_ascii_digit}
 use Rattle.std.specs.Fmt.{signed_decimal}
 use Rattle.std.specs.List.{list_all}
 use Rattle.p10_base.specs.declared.report.Bounds.{Bounds}
-use Rattle.p10_first.specs.Certificate.{first_lines, flag_number, IsName, IsEnd, is_name_byte, greatest_size}
+use Rattle.p10_first.specs.Certificate.{first_lines, flag_number, IsEnd, greatest_size}
+use Rattle.p10_first.specs.Names.{is_word_byte, is_name}
 use Rattle.p10_first.specs.CertificateReading.{FunctionClaim}
 use Rattle.p10_first.proofs.CertificateSteps.{both_true}
-use Rattle.p10_first.proofs.CertificateNumbers.{numeral_again, start_is_byte}
+use Rattle.p10_first.proofs.CertificateNumbers.{name_in_word}
+use Rattle.p10_first.proofs.DecimalNumbers.{numeral_of_again}
 use Rattle.p10_first.proofs.CertificateLines.{function_text, FitsFunction, flag_small, result_text, FitsResult, total_text, FitsTotal}
 
 -- ---- bytes without LF
@@ -31,19 +33,17 @@ in_line test (x ∷ xs) apart all =
     differs test x false e apart passed = refl
 
 pub decimal_in_line : (n : ℕ) → n ≤ greatest_size → is_in_line (decimal n) ≡ true
-decimal_in_line n small = in_line is_ascii_digit (decimal n) refl (numeral_again n small).1
+decimal_in_line n small = in_line is_ascii_digit (decimal n) refl (numeral_of_again n small).1
 
 pub signed_in_line : (z : ℤ) → IsEnd z → is_in_line (signed_decimal z) ≡ true
 signed_in_line (pos n) fits = decimal_in_line n (omega (arith, ints))
 signed_in_line (negsuc n) fits = decimal_in_line (suc n) (omega (arith, ints))
 
-pub name_in_line : (name : List ℕ) → IsName name → is_in_line name ≡ true
-name_in_line [] named = absurd named
-name_in_line (x ∷ xs) (start, others) =
-    let all : list_all is_name_byte (x ∷ xs) ≡ true = rw (start_is_byte x start) others in
-    in_line is_name_byte (x ∷ xs) refl all
+pub name_in_line : (name : List ℕ) → is_name name ≡ true → is_in_line name ≡ true
+unfolding is_word_byte
+name_in_line name named = in_line is_word_byte name refl (name_in_word name named)
 
--- ---- the first lines, with another text behind them
+-- ---- the first lines, with another text after them
 
 pub lines_zero : (text rest : List ℕ) → first_lines text 0 ++ rest ≡ rest
 unfolding first_lines

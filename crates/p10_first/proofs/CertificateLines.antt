@@ -5,14 +5,15 @@ use Rattle.std.proofs.lemmas.Int.{ints}
 use Rattle.std.proofs.lemmas.Option.{cond_some, same_Some}
 use Rattle.std.specs.Fmt.{signed_decimal}
 use Rattle.p10_base.specs.declared.report.Bounds.{Bounds}
-use Rattle.p10_first.specs.Certificate.{◌then◌, flag_number, IsName, IsEnd, greatest_count}
+use Rattle.p10_first.specs.Names.{is_word_byte, is_name}
+use Rattle.p10_first.specs.Certificate.{◌then◌, flag_number, IsEnd, greatest_count}
 use Rattle.p10_first.specs.CertificateReading.{FunctionClaim, greatest_rank, function_at, result_at, total_at}
 use Rattle.p10_first.proofs.CertificateSteps.{then_some, bind_is, after_front_takes, after_front_again}
 use Rattle.p10_first.proofs.CertificateNumbers.{labelled_takes, labelled_again, signed_takes, signed_again, name_takes, name_again}
 
 -- ---- the line of the function
 
--- the line, and what stands behind it
+-- the line, and what stands after it
 abbrev pub function_text : FunctionClaim → List ℕ → List ℕ
 function_text f rest =
     codes "func " then f.name then codes " rank " then decimal f.rank
@@ -21,7 +22,7 @@ function_text f rest =
 
 -- what the line may claim
 pub record FitsFunction (f : FunctionClaim) : Type 0 where
-  pub named : IsName f.name
+  pub named : is_name f.name ≡ true
   pub rank : f.rank ≤ greatest_rank
   pub steps : f.steps ≤ greatest_count
   pub calls : f.calls ≤ greatest_count
@@ -61,7 +62,7 @@ function_takes text r e =
     )))))))))
 
 pub function_again : (f : FunctionClaim) (rest : List ℕ) → FitsFunction f → function_at (function_text f rest) ≡ Some (f, rest)
-unfolding function_at
+unfolding function_at is_word_byte
 function_again f rest fits =
     let t6 : List ℕ = codes "\n" ++ rest in
     let t5 : List ℕ = codes " alloc " ++ (decimal (flag_number f.alloc) ++ t6) in
@@ -81,7 +82,7 @@ function_again f rest fits =
 
 -- ---- the line of the result
 
--- the line, and what stands behind it
+-- the line, and what stands after it
 abbrev pub result_text : ℤ → ℤ → List ℕ → List ℕ
 result_text low high rest = codes "result " then signed_decimal low then codes " " then signed_decimal high then codes "\n" then rest
 
@@ -128,7 +129,7 @@ result_again low high rest fits =
 
 -- ---- the line of the bounds of the whole program
 
--- the line, and what stands behind it
+-- the line, and what stands after it
 abbrev pub total_text : Bounds → List ℕ → List ℕ
 total_text b rest =
     codes "total prefix " then decimal b.prefix then codes " turn " then decimal b.turn

@@ -1,40 +1,21 @@
 -- Laws of the readers of numbers and names: what is read has the one text of its value, and that text is read.
-use Rattle.std.proofs.Common.{◌≡◌, ℕ, zero, suc, ◌+◌, ◌-◌, ◌*◌, ◌<◌, ◌≤◌, Bool, true, false, cond, ◌||◌, ◌==◌, nat_le, List, [], ◌∷◌, ◌++◌, length, ℤ, pos, negsuc, neg_ℤ, fold, decimal, bytes_eq, Some, None, refl, sym, ap, subst, ◌∙◌, arith, rules, le-leb}
+use Rattle.std.proofs.Common.{◌≡◌, ℕ, zero, suc, ◌<◌, ◌≤◌, Bool, true, false, cond, ◌||◌, ◌==◌, nat_le, List, [], ◌∷◌, ◌++◌, length, ℤ, pos, negsuc, neg_ℤ, decimal, Some, None, refl, sym, ap, subst, ◌∙◌, arith, le-leb}
 use Rattle.std.proofs.lemmas.Bool.Decides.{nat_tests}
 use Rattle.std.proofs.lemmas.Option.{cond_some, same_Some}
 use Rattle.std.proofs.lemmas.Int.{ints}
-use Rattle.std.proofs.lemmas.Slice.Eq.{bytes_eq-Decides}
-use Rattle.std.proofs.lemmas.Str.Parse.{IsNumeralModel, numerals_by_fold}
-use Rattle.std.proofs.lemmas.Fmt.{decimal_is_IsNumeral_wide, length-decimal-le_wide}
+use Rattle.std.proofs.lemmas.Fmt.{decimal_is_IsNumeral_wide}
 use Rattle.std.specs.Char.{is_ascii_digit}
 use Rattle.std.specs.Int.{is_in_range}
 use Rattle.std.specs.Fmt.{signed_decimal}
 use Rattle.std.specs.List.{list_all}
-use Rattle.p10_first.specs.Certificate.{IsName, IsEnd, is_name_start, is_name_byte, greatest_size}
-use Rattle.p10_first.specs.CertificateReading.{after_run, front_of, most_digits, value_of, numeral_of, number_at, labelled_at, negative_at, positive_at, signed_at, begins_name, name_at}
-use Rattle.p10_first.proofs.CertificateSteps.{then_some, bind_is, if_some, else_some, both_true, after_front_takes, after_front_again, run_front, front_of-append, after_run-append}
+use Rattle.p10_first.specs.Names.{is_nondigit, is_word_byte, is_name}
+use Rattle.p10_first.specs.Runs.{after_run, front_of}
+use Rattle.p10_first.specs.Certificate.{IsEnd, greatest_size}
+use Rattle.p10_first.specs.CertificateReading.{number_at, labelled_at, negative_at, positive_at, signed_at, name_at}
+use Rattle.p10_first.proofs.DecimalNumbers.{numeral_of_takes, numeral_of_again}
+use Rattle.p10_first.proofs.CertificateSteps.{then_some, bind_is, else_some, both_true, after_front_takes, after_front_again, run_front, front_of-append, after_run-append}
 
 -- ---- numbers
-
--- digits and their value, as std's lemmas want them
-own_digits : IsNumeralModel (λ ds. list_all is_ascii_digit ds ≡ true) value_of
-own_digits = numerals_by_fold _ (search rules) (λ n ds. fold (λ value byte. 10 * value + (byte - 48)) n ds) (search rules)
-
-numeral_takes : (digits : List ℕ) (n : ℕ) → numeral_of digits ≡ Some n → digits ≡ decimal n
-unfolding numeral_of
-numeral_takes digits n e =
-    let short = if_some (nat_le (length digits) most_digits) (cond (bytes_eq (decimal (value_of digits)) digits) (Some (value_of digits)) None) n e in
-    let same = cond_some (bytes_eq (decimal (value_of digits)) digits) (value_of digits) n short.1 in
-    let text : decimal (value_of digits) ≡ digits = (bytes_eq-Decides (decimal (value_of digits)) digits).0 same.0 in
-    sym text ∙ ap decimal same.1
-
-pub numeral_again : (n : ℕ) → n ≤ greatest_size → (numeral_of (decimal n) ≡ Some n) × (list_all is_ascii_digit (decimal n) ≡ true)
-unfolding numeral_of
-numeral_again n small =
-    let (numeral, value) = decimal_is_IsNumeral_wide n (omega arith) in
-    let is : value_of (decimal n) ≡ n = own_digits.same (decimal n) numeral.1 ∙ value in
-    let short : length (decimal n) ≤ 21 = length-decimal-le_wide 21 n (omega arith) (omega arith) (omega arith) in
-    (rw (le-leb _ _ short, is, (bytes_eq-Decides (decimal n) (decimal n)).1 refl) refl, own_digits.from (decimal n) numeral.1)
 
 -- the text is a run of digits and what is left, which is what was read
 number_is : (text digits left : List ℕ) (value most : ℕ) (r : ℕ × List ℕ) → text ≡ digits ++ left → digits ≡ decimal value → cond (nat_le value most) (Some (value, left)) None ≡ Some r → (text ≡ decimal r.0 ++ r.1) × (r.0 ≤ most)
@@ -47,16 +28,16 @@ number_is text digits left value most r parts is e =
 pub number_takes : (most : ℕ) (text : List ℕ) (r : ℕ × List ℕ) → number_at most text ≡ Some r → (text ≡ decimal r.0 ++ r.1) × (r.0 ≤ most)
 unfolding number_at
 number_takes most text r e = then_some _ _ _ e (λ value read rest.
-    number_is text (front_of text (after_run is_ascii_digit text)) (after_run is_ascii_digit text) value most r (run_front is_ascii_digit text).0 (numeral_takes _ value read) rest)
+    number_is text (front_of text (after_run is_ascii_digit text)) (after_run is_ascii_digit text) value most r (run_front is_ascii_digit text).0 (numeral_of_takes _ value read) rest)
 
 pub number_again : (most n : ℕ) (rest : List ℕ) → n ≤ most → most ≤ greatest_size → after_run is_ascii_digit rest ≡ rest → number_at most (decimal n ++ rest) ≡ Some (n, rest)
 unfolding number_at
 number_again most n rest small fits stop =
-    let again = numeral_again n (omega arith) in
+    let again = numeral_of_again n (omega arith) in
     let run : after_run is_ascii_digit (decimal n ++ rest) ≡ rest = after_run-append is_ascii_digit (decimal n) rest again.1 stop in
     rw (run, front_of-append (decimal n) rest, again.0, le-leb _ _ small) refl
 
--- ---- numbers behind labels
+-- ---- numbers after labels
 
 pub labelled_takes : (label : List ℕ) (most : ℕ) (text : List ℕ) (r : ℕ × List ℕ) → labelled_at label most text ≡ Some r → (text ≡ label ++ (decimal r.0 ++ r.1)) × (r.0 ≤ most)
 unfolding labelled_at
@@ -120,7 +101,7 @@ pub signed_again : (z : ℤ) (rest : List ℕ) → IsEnd z → after_run is_asci
 unfolding signed_at negative_at
 signed_again (pos n) rest fits stop =
     let small : n ≤ greatest_size = omega (arith, ints) in
-    positive_again n (decimal n) rest small refl (decimal_is_IsNumeral_wide n (omega arith)).0.0 (numeral_again n small).1 stop
+    positive_again n (decimal n) rest small refl (decimal_is_IsNumeral_wide n (omega arith)).0.0 (numeral_of_again n small).1 stop
 signed_again (negsuc n) rest fits stop =
     let small : suc n ≤ greatest_size = omega (arith, ints) in
     let some : (suc n == 0) ≡ false = grind (arith, nat_tests) in
@@ -128,31 +109,33 @@ signed_again (negsuc n) rest fits stop =
 
 -- ---- names
 
-is_name : (name : List ℕ) → begins_name name ≡ true → list_all is_name_byte name ≡ true → IsName name
-is_name [] begins all = absurd cc
-is_name (x ∷ xs) begins all = (begins, (both_true (is_name_byte x) (list_all is_name_byte xs) all).1)
-
-pub name_takes : (text : List ℕ) (r : List ℕ × List ℕ) → name_at text ≡ Some r → (text ≡ r.0 ++ r.1) × IsName r.0
+pub name_takes : (text : List ℕ) (r : List ℕ × List ℕ) → name_at text ≡ Some r → (text ≡ r.0 ++ r.1) × (is_name r.0 ≡ true)
 unfolding name_at
 name_takes text r e =
-    let front = front_of text (after_run is_name_byte text) in
-    let found = cond_some (begins_name front) (front, after_run is_name_byte text) r e in
-    let run = run_front is_name_byte text in
-    let P : List ℕ × List ℕ → Type 0 = λ r. (text ≡ r.0 ++ r.1) × IsName r.0 in
-    subst P found.1 (run.0, is_name front found.0 run.1)
+    let front = front_of text (after_run is_word_byte text) in
+    let found = cond_some (is_name front) (front, after_run is_word_byte text) r e in
+    let run = run_front is_word_byte text in
+    let P : List ℕ × List ℕ → Type 0 = λ r. (text ≡ r.0 ++ r.1) × (is_name r.0 ≡ true) in
+    subst P found.1 (run.0, found.0)
 
--- a letter or an underscore is a letter, a digit or an underscore
-pub start_is_byte : (x : ℕ) → is_name_start x ≡ true → is_name_byte x ≡ true
-start_is_byte x start = one_more (is_in_range 48 57 x) (is_in_range 65 90 x) (is_in_range 97 122 x) (x == 95) start
+-- a nondigit is a letter, a digit or an underscore
+nondigit_in_word : (x : ℕ) → is_nondigit x ≡ true → is_word_byte x ≡ true
+unfolding is_nondigit is_word_byte
+nondigit_in_word x start = one_more (is_in_range 48 57 x) (is_in_range 65 90 x) (is_in_range 97 122 x) (x == 95) start
   where
     one_more : (d a b u : Bool) → ((a || b) || u) ≡ true → (((d || a) || b) || u) ≡ true
     one_more true a b u e = refl
     one_more false a b u e = e
 
-pub name_again : (name rest : List ℕ) → IsName name → after_run is_name_byte rest ≡ rest → name_at (name ++ rest) ≡ Some (name, rest)
+-- the bytes of a name are letters, digits and underscores
+pub name_in_word : (name : List ℕ) → is_name name ≡ true → list_all is_word_byte name ≡ true
+name_in_word [] named = absurd cc
+name_in_word (x ∷ xs) named =
+    let parts = both_true (is_nondigit x) (list_all is_word_byte xs) named in
+    rw (nondigit_in_word x parts.0) parts.1
+
+pub name_again : (name rest : List ℕ) → is_name name ≡ true → after_run is_word_byte rest ≡ rest → name_at (name ++ rest) ≡ Some (name, rest)
 unfolding name_at
-name_again [] rest named stop = absurd named
-name_again (x ∷ xs) rest (start, others) stop =
-    let all : list_all is_name_byte (x ∷ xs) ≡ true = rw (start_is_byte x start) others in
-    let run : after_run is_name_byte ((x ∷ xs) ++ rest) ≡ rest = after_run-append is_name_byte (x ∷ xs) rest all stop in
-    rw (run, front_of-append (x ∷ xs) rest, start) refl
+name_again name rest named stop =
+    let run : after_run is_word_byte (name ++ rest) ≡ rest = after_run-append is_word_byte name rest (name_in_word name named) stop in
+    rw (run, front_of-append name rest, named) refl

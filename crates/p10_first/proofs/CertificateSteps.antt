@@ -3,7 +3,8 @@ use Rattle.std.proofs.Common.{◌≡◌, ℕ, ◌-◌, Bool, true, false, cond, 
 use Rattle.std.proofs.Math.Seq.{take-append_seam, drop-append_seam}
 use Rattle.std.proofs.lemmas.Slice.Eq.{bytes_eq-Decides}
 use Rattle.std.specs.List.{list_all}
-use Rattle.p10_first.specs.CertificateReading.{◌>>=◌, at_line, after_front, after_run, front_of}
+use Rattle.p10_first.specs.CertificateReading.{◌>>=◌, at_line, after_front}
+use Rattle.p10_first.specs.Runs.{after_run, front_of}
 
 -- ---- steps
 
@@ -56,7 +57,7 @@ after_front_again front rest =
 
 -- ---- runs
 
--- a text is a run of bytes that pass, and what is left behind them
+-- a text is a run of bytes that pass, and what is left after them
 pub run_parts : (test : ℕ → Bool) (text : List ℕ) → (front : List ℕ) × (text ≡ front ++ after_run test text) × (list_all test front ≡ true)
 run_parts test [] = ([], refl, refl)
 run_parts test (x ∷ xs) = run_more test x xs (test x) refl (run_parts test xs)

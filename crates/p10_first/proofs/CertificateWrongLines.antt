@@ -5,6 +5,7 @@ use Rattle.std.proofs.lemmas.Int.{ints}
 use Rattle.std.proofs.lemmas.Option.{same_Some, none-some, some_pair_parts}
 use Rattle.p10_base.specs.declared.report.Bounds.{Bounds}
 use Rattle.p10_first.specs.declared.certificate.Certificate.{Certificate}
+use Rattle.p10_first.specs.Names.{is_nondigit}
 use Rattle.p10_first.specs.Certificate.{Claims, claims_of, IsCertificate, certificate_text, first_lines, IsFirstWrongLine}
 use Rattle.p10_first.specs.CertificateReading.{result_map, at_line, FunctionClaim, after_front, function_at, result_at, total_at, certificate_at}
 use Rattle.p10_first.proofs.CertificateSteps.{after_front_takes, after_front_again}
@@ -71,8 +72,8 @@ some_function : FunctionClaim
 some_function = record { name = 97 ∷ []; rank = 0; steps = 0; calls = 0; bytes = 0; alloc = false }
 
 some_function_fits : FitsFunction some_function
-unfolding some_function
-some_function_fits = record { named = (refl, refl); rank = omega arith; steps = omega arith; calls = omega arith; bytes = omega arith }
+unfolding some_function is_nondigit
+some_function_fits = record { named = refl; rank = omega arith; steps = omega arith; calls = omega arith; bytes = omega arith }
 
 some_result_fits : FitsResult (pos 0) (pos 0)
 some_result_fits = record {
@@ -105,13 +106,13 @@ shares text u n f low high total by_function by_result by_total e h =
 
 -- ---- no certificate has the wrong line
 
--- a text that has the first lines of claims is these lines and something behind them
+-- a text that has the first lines of claims is these lines and something after them
 text_from : (text : List ℕ) (n : ℕ) (c : Claims) → first_lines text n ≡ first_lines (certificate_text c) n → (rest : List ℕ) × (first_lines (whole (function_of c) c.low c.high c.total) n ++ rest ≡ text)
 text_from text n c same =
     let (rest, is) = lines_front text n in
     (rest, ap (λ t. first_lines t n ++ rest) (sym (certificate_whole c)) ∙ ap (λ t. t ++ rest) (sym same) ∙ is)
 
--- what stands behind one line in two ways is the same
+-- what stands after one line in two ways is the same
 
 header_same : (a b : List ℕ) → codes "p10cert 1\n" ++ a ≡ codes "p10cert 1\n" ++ b → a ≡ b
 header_same a b e = same_Some a b (sym (after_front_again (codes "p10cert 1\n") a) ∙ ap (after_front (codes "p10cert 1\n")) e ∙ after_front_again (codes "p10cert 1\n") b)

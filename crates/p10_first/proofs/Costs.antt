@@ -1,10 +1,9 @@
 -- The steps of a run are those that the program costs; so an accepted certificate bounds every run.
-use Rattle.std.proofs.Common.{◌≡◌, ◌≢◌, ℕ, ◌+◌, ◌*◌, ◌<◌, ◌≤◌, zero, suc, List, [], ◌∷◌, length, refl, sym, ◌∙◌, ap, subst, arith, Option, Some, None, Result, Ok, Err, ℤ, pos, slice_get, slice_set, replicate, ◌⊎◌, inl, inr}
+use Rattle.std.proofs.Common.{◌≡◌, ◌≢◌, ℕ, ◌+◌, ◌*◌, ◌<◌, ◌≤◌, zero, suc, List, [], ◌∷◌, length, refl, sym, ap, subst, arith, Option, Some, None, Result, Ok, Err, ℤ, pos, slice_get, slice_set, replicate, inl, inr}
 use Rattle.std.specs.Prelude.{sum_by}
 use Rattle.std.proofs.lemmas.Bool.{cases_lt}
 use Rattle.std.proofs.lemmas.List.{length-replicate}
 use Rattle.std.proofs.lemmas.List.Sums.{sum_by-cons}
-use Rattle.p10_base.specs.declared.report.Bounds.{Bounds}
 use Rattle.p10_int.specs.declared.types.IntType.TheVariants.{Int}
 use Rattle.p10_int.specs.declared.operators.Stop.{Stop}
 use Rattle.p10_int.specs.declared.operators.BinOp.TheVariants.{Add}
@@ -18,8 +17,8 @@ use Rattle.p10_first.specs.declared.program.Program.{Program}
 use Rattle.p10_first.specs.declared.conditions.Condition.{Condition}
 use Rattle.p10_first.specs.declared.conditions.Condition.TheVariants.{K1, K5, K11, K12, K14}
 use Rattle.p10_first.specs.Certificate.{Claims}
-use Rattle.p10_first.specs.Meaning.{World, Frame, Outcome, Returned, Undefined, StepsSpent, Went, Gives, Ends, take_step, take_steps, after, read_of, evaluate_atom, operated, add_up, evaluate_sum, execute, execute_all, return_number, call_main, outcome_of, opened_frame, depth_of, once_entered, run_of, StaysWithin, Within}
-use Rattle.p10_first.specs.Conditions.{sum_cost, item_cost, cost_of, frame_bytes, Accepts, Holds, IsFirstFailure, number_of_condition}
+use Rattle.p10_first.specs.Meaning.{Frame, Outcome, Returned, Undefined, StepsSpent, Went, Gives, Ends, take_step, take_steps, after, read_of, evaluate_atom, operated, add_up, evaluate_sum, execute, execute_all, return_number, call_main, outcome_of, opened_frame, depth_of, once_entered, Within}
+use Rattle.p10_first.specs.Conditions.{sum_cost, item_cost, cost_of, frame_bytes, Accepts, IsFirstFailure, number_of_condition}
 
 -- ## What a part of a run costs
 

@@ -1,5 +1,6 @@
 -- The lemmas of this crate, by subject.
 pub mod Places
+pub mod DecimalNumbers
 pub mod Spelling
 pub mod Taking
 pub mod Again
@@ -10,9 +11,6 @@ pub mod CertificateLines
 pub mod CertificateLaws
 pub mod CertificateFrontLines
 pub mod CertificateWrongLines
-pub mod WordsCut
-pub mod WordsLoop
-pub mod WordsStand
 pub mod Costs
 pub mod Timed
 pub mod RunsByHand

@@ -1,5 +1,5 @@
 -- The number of a name among names that are borrowed.
-use Rattle.std.proofs.Common.{◌≡◌, ℕ, ◌+◌, List, [], ◌∷◌, Bool, true, false, cond, bytes_eq, map, refl, Option, Some, Bor}
+use Rattle.std.proofs.Common.{◌≡◌, ℕ, ◌+◌, List, [], ◌∷◌, Bool, true, false, cond, bytes_eq, map, refl, Some, Bor}
 use Rattle.std.specs.List.{position_from}
 use Rattle.p10_first.specs.Reading.{number_of}
 

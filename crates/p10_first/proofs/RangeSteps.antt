@@ -1,11 +1,11 @@
 -- The steps of the pass over ranges, as the code takes them.
-use Rattle.std.proofs.Common.{◌≡◌, ℕ, ◌+◌, ◌^◌, ◌<◌, ◌≤◌, Bool, true, false, ℤ, pos, negsuc, ◌+ℤ◌, ◌<ℤ◌, ◌≤ℤ◌, refl, sym, ◌∙◌, ap, subst, arith, Option, Some, None, ◌⊎◌, inl, inr, if◌then◌else◌, cond, List, ◌∷◌, [], drop}
+use Rattle.std.proofs.Common.{◌≡◌, ◌^◌, Bool, true, false, ℤ, pos, negsuc, ◌+ℤ◌, ◌<ℤ◌, refl, sym, ◌∙◌, ap, arith, Option, Some, None, ◌⊎◌, inl, inr, if◌then◌else◌}
 use Rattle.std.proofs.lemmas.Int.{ints, int_max_is, int_min_is}
 use Rattle.std.proofs.lemmas.Bool.{cases_lt}
-use Rattle.std.specs.Prelude.{int_le, int_lt, option_and_then}
+use Rattle.std.specs.Prelude.{int_le}
 use Rattle.std.specs.Bool.{passes}
 use Rattle.std.specs.Int.{int_min, int_max, saturate_signed, w128}
-use Rattle.std.specs.Int.Signed.{le_z_yes, lt_z_yes}
+use Rattle.std.specs.Int.Signed.{le_z_yes}
 use Rattle.p10_int.specs.declared.types.IntType.TheVariants.{Int}
 use Rattle.p10_int.specs.Types.{least_of, greatest_of}
 use Rattle.p10_first.specs.declared.ranges.Range.{Range}

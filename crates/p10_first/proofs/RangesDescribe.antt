@@ -1,10 +1,8 @@
 -- The pass over ranges meets each run: where a run goes on, so does the pass, and its ranges describe the frame.
-use Rattle.std.proofs.Common.{◌≡◌, ℕ, zero, suc, ◌+◌, Bool, true, false, List, [], ◌∷◌, refl, sym, ◌∙◌, ap, subst, arith, Option, Some, None, Result, Ok, Err, ℤ, pos, ◌+ℤ◌, ◌≤ℤ◌, ◌<ℤ◌, slice_get, slice_set, replicate, length, if◌then◌else◌, ◌⊎◌, inl, inr}
+use Rattle.std.proofs.Common.{◌≡◌, ℕ, zero, suc, Bool, true, false, List, [], ◌∷◌, refl, sym, ap, subst, arith, Option, Some, None, Result, Ok, Err, ℤ, pos, ◌+ℤ◌, ◌≤ℤ◌, slice_get, slice_set, replicate, length, if◌then◌else◌}
 use Rattle.std.proofs.lemmas.Int.{ints, int_max_is, int_min_is}
-use Rattle.std.specs.Prelude.{IsSomeAnd, is_some, int_le, int_lt, slice_index_or, option_map, option_and_then, ◌&&◌}
-use Rattle.std.specs.Bool.{passes}
+use Rattle.std.specs.Prelude.{IsSomeAnd, is_some, int_le, option_map, option_and_then}
 use Rattle.std.specs.Int.{int_min, int_max}
-use Rattle.std.specs.Int.Signed.{le_z_yes}
 use Rattle.p10_int.specs.declared.types.IntType.TheVariants.{Int}
 use Rattle.p10_int.specs.declared.operators.Stop.{Stop}
 use Rattle.p10_int.specs.declared.operators.Stop.TheVariants.{U1}
@@ -22,8 +20,8 @@ use Rattle.p10_first.specs.declared.program.Program.{Program}
 use Rattle.p10_first.specs.declared.conditions.Condition.TheVariants.{K5}
 use Rattle.p10_first.specs.Certificate.{Claims}
 use Rattle.p10_first.specs.Conditions.{Accepts}
-use Rattle.p10_first.specs.Meaning.{Frame, Went, Gives, Ends, take_step, take_steps, after, read_of, evaluate_atom, operated, add_up, evaluate_sum, execute, execute_all, return_number, call_main}
-use Rattle.p10_first.specs.Ranges.{Ranges, Lies, int_range, range_only, unless_empty, met, added, range_at, range_of_atom, range_added_up, range_of_sum, ranges_assigned, ranges_after, ranges_after_all, first_ranges, ranges_at_return, is_reached, DescribesOne, Describes}
+use Rattle.p10_first.specs.Meaning.{Frame, Went, Gives, Ends, take_step, take_steps, after, read_of, evaluate_atom, operated, add_up, evaluate_sum, execute, execute_all, call_main}
+use Rattle.p10_first.specs.Ranges.{Ranges, Lies, int_range, range_only, met, added, range_at, range_of_atom, range_added_up, range_of_sum, ranges_after, ranges_after_all, first_ranges, ranges_at_return, is_reached, DescribesOne, Describes}
 
 -- ## What a part of a run gives, if it gives a value
 

@@ -1,18 +1,20 @@
 -- Words, and the atoms, sums and items that they spell.
-use Rattle.std.proofs.Common.{◌≡◌, ◌≢◌, ℕ, ◌+◌, ◌<◌, ◌≤◌, zero, suc, List, [], ◌∷◌, ◌++◌, Bool, true, false, not, cond, bytes_eq, length, get_or, refl, sym, ◌∙◌, ap, subst, arith, append_assoc, append-nil, codes, Option, Some, None, option_map, option_and_then, decimal, zero-add, All}
+use Rattle.std.proofs.Common.{◌≡◌, ℕ, ◌+◌, ◌<◌, ◌≤◌, zero, suc, List, [], ◌∷◌, ◌++◌, Bool, true, false, cond, bytes_eq, length, get_or, refl, sym, ◌∙◌, ap, subst, arith, append_assoc, append-nil, codes, Option, Some, None, option_map, option_and_then, decimal, All, nat_le}
 use Rattle.std.specs.List.{position_from}
 use Rattle.std.proofs.lemmas.Slice.Eq.{bytes_eq-Decides}
-use Rattle.std.proofs.lemmas.Bool.{cond_both, both_ways, leb-true, ltb-true, and_parts, true≢false, not-true}
+use Rattle.std.proofs.lemmas.Bool.{both_ways, leb-true, ltb-true}
 use Rattle.std.proofs.lemmas.Option.{cond_some, option_and_then_some, none-some, same_Some}
-use Rattle.std.proofs.lemmas.List.{get_or_append_left, get_or-append_right}
-use Rattle.std.proofs.lemmas.List.Elements.{All-head, All-tail, All-append, All-push}
+use Rattle.std.proofs.lemmas.List.{get_or_append_left}
+use Rattle.std.proofs.lemmas.List.Elements.{All-head, All-tail}
 use Rattle.p10_first.specs.declared.program.Atom.{Atom}
 use Rattle.p10_first.specs.declared.program.Atom.TheVariants.{Number, Variable}
 use Rattle.p10_first.specs.declared.program.Sum.{Sum}
 use Rattle.p10_first.specs.declared.program.Item.{Item}
 use Rattle.p10_first.specs.declared.program.Item.TheVariants.{Declare, Initialise, Assign}
 use Rattle.p10_first.specs.Form.{Text, name_of, atom_word, addend_words, sum_words, item_words, items_words, AtomFits, SumFits, ItemFits, ItemsFit, declared_after, greatest_int}
-use Rattle.p10_first.specs.Reading.{numeral, number_of, atom_of, below, digits_number, number_or_variable}
+use Rattle.p10_first.specs.Reading.{numeral, number_of, atom_of, below, if_int, number_or_variable}
+use Rattle.p10_first.specs.Runs.{numeral_of}
+use Rattle.p10_first.proofs.DecimalNumbers.{numeral_of_takes}
 
 pub is_text : (a b : List ℕ) → bytes_eq a b ≡ true → a ≡ b
 is_text a b e = (bytes_eq-Decides a b).0 e
@@ -72,11 +74,9 @@ number_of_none names word e v inside same = both_ways _ (none_at (λ name. bytes
 
 pub numeral_takes : (word : Text) (n : ℕ) → numeral word ≡ Some n → (decimal n ≡ word) × (n ≤ greatest_int)
 unfolding numeral
-numeral_takes word n e =
-    let parts = cond_some _ _ _ e in
-    let tests = and_parts _ _ parts.0 in
-    let bounds = and_parts _ _ tests.0 in
-    (subst (λ m. decimal m ≡ word) parts.1 (is_text _ _ tests.1), subst (λ m. m ≤ greatest_int) parts.1 (leb-true _ _ bounds.1))
+numeral_takes word n e = option_and_then_some if_int (numeral_of word) n e (λ value read small.
+    let parts = cond_some (nat_le value greatest_int) value n small in
+    (subst (λ m. decimal m ≡ word) parts.1 (sym (numeral_of_takes word value read)), subst (λ m. m ≤ greatest_int) parts.1 (leb-true _ _ parts.0)))
 
 pub atom_of_takes : (declared : ℕ) (names : List Text) (word : Text) (a : Atom) → atom_of declared names word ≡ Some a → (atom_word names a ≡ word) × AtomFits declared a
 unfolding atom_of

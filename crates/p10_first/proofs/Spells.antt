@@ -1,5 +1,5 @@
 -- Words that spell a program, and what is read from them.
-use Rattle.std.proofs.Common.{◌≡◌, ℕ, List, [], ◌∷◌, ◌++◌, Bool, true, false, bytes_eq, refl, sym, ◌∙◌, ap, subst, codes, Option, Some, None, option_and_then, cond, IfSome, IfNone, IfOk, Result, Ok, Err, ◌<◌, ◌≤◌, length, get_or, drop, drop-cons, length-drop, suc, arith}
+use Rattle.std.proofs.Common.{◌≡◌, ℕ, List, [], ◌∷◌, ◌++◌, Bool, false, refl, sym, ◌∙◌, ap, subst, codes, Option, Some, None, option_and_then, IfSome, IfNone, IfOk, Result, Ok, Err, ◌<◌, ◌≤◌, length, get_or, drop, drop-cons, length-drop, suc, arith}
 use Rattle.std.proofs.lemmas.Bool.{and_parts}
 use Rattle.std.proofs.lemmas.Option.{cond_some, option_and_then_some, none-some, same_Some}
 use Rattle.p10_first.specs.declared.program.Program.{Program}
@@ -7,14 +7,14 @@ use Rattle.std.proofs.lemmas.List.{nil_from_length}
 use Rattle.p10_base.specs.declared.word.Word.{Word}
 use Rattle.p10_first.specs.declared.reader.Reader.{Reader}
 use Rattle.p10_first.specs.Reader.{Takes, reading_of}
-use Rattle.p10_first.specs.Form.{Text, texts, head_words, items_words, return_words, program_words, IsProgram, Spells}
-use Rattle.p10_first.specs.Reading.{is_head, behind_head, body_of, program_of, Reading, step, steps, start, whole_at}
+use Rattle.p10_first.specs.Form.{Text, texts, head_words, items_words, return_words, Spells}
+use Rattle.p10_first.specs.Reading.{after_head, body_of, program_of, Reading, step, steps, start, whole_at}
 use Rattle.p10_first.proofs.Spelling.{is_text}
-use Rattle.p10_first.proofs.Taking.{TakesBody, body_takes}
+use Rattle.p10_first.proofs.Taking.{body_takes}
 use Rattle.p10_first.proofs.Again.{body_again}
 
-head_takes : (words body : List Text) → behind_head words ≡ Some body → words ≡ head_words ++ body
-unfolding behind_head
+head_takes : (words body : List Text) → after_head words ≡ Some body → words ≡ head_words ++ body
+unfolding after_head
 head_takes (a ∷ b ∷ c ∷ d ∷ e ∷ f ∷ rest) body is =
     let parts = cond_some _ _ _ is in
     let f_is = and_parts _ _ parts.0 in
@@ -31,19 +31,19 @@ head_takes (a ∷ b ∷ c ∷ d ∷ e ∷ f ∷ rest) body is =
     rw (a_same, b_same, c_same, d_same, e_same, f_same, parts.1) refl
 head_takes _ body is = absurd (none-some body is)
 
-head_again : (body : List Text) → behind_head (head_words ++ body) ≡ Some body
-unfolding behind_head
+head_again : (body : List Text) → after_head (head_words ++ body) ≡ Some body
+unfolding after_head
 head_again body = refl
 
 pub program_of_takes : (words : List Text) (p : Program) → program_of words ≡ Some p → Spells words p
 program_of_takes words p e =
-    option_and_then_some body_of (behind_head words) p e (λ body head rest.
+    option_and_then_some body_of (after_head words) p e (λ body head rest.
     let takes = body_takes body p rest in
     record { names = takes.names; is_program = takes.is_program; words_are = head_takes words body head ∙ ap (λ (b : List Text). head_words ++ b) takes.words_are })
 
 pub program_of_again : (words : List Text) (p : Program) → Spells words p → program_of words ≡ Some p
 program_of_again words p s =
-    ap (λ ws. option_and_then body_of (behind_head ws)) s.words_are
+    ap (λ ws. option_and_then body_of (after_head ws)) s.words_are
     ∙ ap (λ o. option_and_then body_of o) (head_again (items_words s.names p.items ++ return_words p.returned))
     ∙ body_again s.names p s.is_program
 
@@ -62,15 +62,15 @@ Spells-unique words p q sp sq = same_Some p q (sym (program_of_again words p sp)
 
 -- ## The clauses of the reader
 
-pub read_found : {E : Type 0} (words body : List Text) (r : Result (Option Program) E) → Some body ≡ behind_head words → IfOk r (λ o. o ≡ body_of body) → IfOk r (λ o. IfSome o (Spells words))
+pub read_found : {E : Type 0} (words body : List Text) (r : Result (Option Program) E) → Some body ≡ after_head words → IfOk r (λ o. o ≡ body_of body) → IfOk r (λ o. IfSome o (Spells words))
 read_found words body (Ok o) head is = found words o (ap (λ h. option_and_then body_of h) (sym head) ∙ sym is)
 read_found words body (Err e) head is = tt
 
-pub read_none : {E : Type 0} (words body : List Text) (r : Result (Option Program) E) → Some body ≡ behind_head words → IfOk r (λ o. o ≡ body_of body) → IfOk r (λ o. IfNone o ((other : Program) → Spells words other → ⊥))
+pub read_none : {E : Type 0} (words body : List Text) (r : Result (Option Program) E) → Some body ≡ after_head words → IfOk r (λ o. o ≡ body_of body) → IfOk r (λ o. IfNone o ((other : Program) → Spells words other → ⊥))
 read_none words body (Ok o) head is = none words o (ap (λ h. option_and_then body_of h) (sym head) ∙ sym is)
 read_none words body (Err e) head is = tt
 
-pub no_head : (words : List Text) → None ≡ behind_head words → (other : Program) → Spells words other → ⊥
+pub no_head : (words : List Text) → None ≡ after_head words → (other : Program) → Spells words other → ⊥
 no_head words head other s = none-some other (ap (λ h. option_and_then body_of h) head ∙ program_of_again words other s)
 
 drop_past : (words : List Word) (i : ℕ) → length words ≤ i → drop i words ≡ []

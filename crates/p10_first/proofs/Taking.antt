@@ -1,22 +1,21 @@
 -- Words that are read are those of the program that comes out: at each moment the words so far are
 -- spelled by what the reading has.
-use Rattle.std.proofs.Common.{◌≡◌, ℕ, ◌+◌, ◌<◌, ◌≤◌, suc, List, [], ◌∷◌, ◌++◌, Bool, true, false, bytes_eq, length, length-append, refl, sym, ◌∙◌, ap, subst, arith, append_assoc, append-nil, codes, Option, Some, None, option_map, option_and_then, decimal, All, is_none, ◌⊎◌, inl, inr}
+use Rattle.std.proofs.Common.{◌≡◌, ℕ, ◌+◌, ◌<◌, ◌≤◌, List, [], ◌∷◌, ◌++◌, true, bytes_eq, length, length-append, refl, sym, ◌∙◌, ap, subst, arith, append_assoc, append-nil, codes, Option, Some, None, decimal, All, is_none, ◌⊎◌, inl, inr}
 use Rattle.std.proofs.lemmas.Bool.{and_parts, cases_eq}
 use Rattle.std.proofs.lemmas.Option.{cond_some, option_and_then_some, none-some, same_Some}
-use Rattle.std.proofs.lemmas.List.{get_or_append_left, get_or-append_right}
 use Rattle.std.proofs.Math.Seq.{get_or-append_seam}
 use Rattle.std.proofs.lemmas.List.Elements.{All-push, All-nil}
 use Rattle.p10_first.specs.declared.program.Atom.{Atom}
 use Rattle.p10_first.specs.declared.program.Sum.{Sum}
 use Rattle.p10_first.specs.declared.program.Item.{Item}
-use Rattle.p10_first.specs.declared.program.Item.TheVariants.{Declare, Initialise, Assign}
+use Rattle.p10_first.specs.declared.program.Item.TheVariants.{Declare}
 use Rattle.p10_first.specs.declared.program.Program.{Program}
 use Rattle.p10_first.specs.declared.reader.Target.{Target}
 use Rattle.p10_first.specs.declared.reader.Target.TheVariants.{New, Old}
 use Rattle.p10_first.specs.declared.reader.Expecting.{Expecting}
 use Rattle.p10_first.specs.declared.reader.Expecting.TheVariants.{AnItem, NewName, Declared, Assigned, FirstAtom, NextAtom, Joint, Value, End, Brace, Nothing}
-use Rattle.p10_first.specs.Form.{Text, name_of, atom_word, addend_words, sum_words, item_words, items_words, return_words, AtomFits, SumFits, ItemFits, ItemsFit, declared_after, greatest_int, is_variable_name, AreApart, IsProgram}
-use Rattle.p10_first.specs.Reading.{Reading, expect, add_item, clear_others, numeral, number_of, atom_of, readable, item_for, step_at, step, steps, start, whole_at, body_of, operand_of, item_step, new_name_step, declared_step, word_step, first_atom_step, next_atom_step, joint_step, value_step}
+use Rattle.p10_first.specs.Form.{Text, name_of, atom_word, addend_words, sum_words, item_words, items_words, return_words, AtomFits, ItemFits, ItemsFit, declared_after, greatest_int, is_variable_name, AreApart, IsProgram}
+use Rattle.p10_first.specs.Reading.{Reading, expect, add_item, clear_others, atom_of, readable, item_for, step_at, step, steps, start, whole_at, body_of, operand_of, item_step, new_name_step, declared_step, word_step, first_atom_step, next_atom_step, joint_step, value_step}
 use Rattle.p10_first.proofs.Spelling.{is_text, cond_cases, map_some, number_of_takes, number_of_none, numeral_takes, atom_of_takes, name_grows, items_grow, addends_push, items_push, fit_push}
 
 -- ## The words so far

@@ -1,5 +1,5 @@
 -- The number of steps that a run may take decides only whether it ends for want of them.
-use Rattle.std.proofs.Common.{◌≡◌, ◌≢◌, ℕ, ◌+◌, ◌-◌, ◌<◌, ◌≤◌, zero, suc, List, [], ◌∷◌, length, refl, sym, ◌∙◌, ap, subst, arith, Option, Some, None, Result, Ok, Err, Bool, true, false, ℤ, pos, ◌+ℤ◌, slice_get, slice_set, replicate, if◌then◌else◌, ◌⊎◌, inl, inr}
+use Rattle.std.proofs.Common.{◌≡◌, ℕ, ◌+◌, ◌-◌, ◌<◌, zero, suc, List, [], ◌∷◌, length, refl, sym, ◌∙◌, ap, subst, arith, Option, Some, None, Ok, Err, Bool, true, false, ℤ, pos, ◌+ℤ◌, slice_get, slice_set, replicate, if◌then◌else◌, ◌⊎◌, inl, inr}
 use Rattle.std.proofs.lemmas.Bool.{cases_lt}
 use Rattle.p10_int.specs.declared.types.IntType.TheVariants.{Int}
 use Rattle.p10_int.specs.declared.operators.Stop.{Stop}
@@ -13,7 +13,7 @@ use Rattle.p10_first.specs.declared.program.Sum.{Sum}
 use Rattle.p10_first.specs.declared.program.Item.{Item}
 use Rattle.p10_first.specs.declared.program.Item.TheVariants.{Declare, Initialise, Assign}
 use Rattle.p10_first.specs.declared.program.Program.{Program}
-use Rattle.p10_first.specs.Meaning.{Frame, Outcome, Returned, Undefined, StepsSpent, Went, Gives, Ends, take_step, take_steps, after, read_of, evaluate_atom, operated, add_up, evaluate_sum, execute, execute_all, return_number, call_main}
+use Rattle.p10_first.specs.Meaning.{Frame, Outcome, Undefined, StepsSpent, Went, Gives, Ends, take_step, take_steps, after, read_of, evaluate_atom, operated, add_up, evaluate_sum, execute, execute_all, return_number, call_main}
 use Rattle.p10_first.specs.Conditions.{cost_of}
 use Rattle.p10_first.specs.Laws.{TakesItsCost}
 use Rattle.p10_first.proofs.Costs.{cost_is_exact}

@@ -1,10 +1,9 @@
 -- The text of a certificate with one function, and the claims that it makes.
-use Rattle.std.specs.Prelude.{◌≡◌, ◌≢◌, ℕ, zero, suc, ◌-◌, ◌^◌, ◌<◌, ◌≤◌, Bool, true, false, ◌||◌, ◌==◌, if◌then◌else◌, IsTrue, List, [], ◌∷◌, ◌++◌, ℤ, pos, neg_ℤ, ◌≤ℤ◌, codes, decimal}
-use Rattle.std.specs.Char.{is_ascii_alphabetic, is_ascii_alphanumeric}
+use Rattle.std.specs.Prelude.{◌≡◌, ◌≢◌, ℕ, zero, suc, ◌-◌, ◌^◌, ◌<◌, ◌≤◌, Bool, true, false, ◌==◌, if◌then◌else◌, List, [], ◌∷◌, ◌++◌, ℤ, pos, neg_ℤ, ◌≤ℤ◌, codes, decimal}
 use Rattle.std.specs.Fmt.{signed_decimal}
-use Rattle.std.specs.List.{list_all}
 use Rattle.p10_base.specs.declared.report.Bounds.{Bounds}
 use Rattle.p10_first.specs.declared.certificate.Certificate.{Certificate}
+use Rattle.p10_first.specs.Names.{is_name}
 
 -- What a certificate claims: of one function its name, rank, steps, calls, bytes, whether it allocates and the
 -- range of its result, and of the whole program its bounds.
@@ -59,19 +58,6 @@ certificate_text c =
 
 -- ---- which claims a certificate may make
 
--- a letter or an underscore (C99 6.4.2.1)
-abbrev pub is_name_start : ℕ → Bool
-is_name_start byte = is_ascii_alphabetic byte || byte == 95
-
--- a letter, a digit or an underscore (C99 6.4.2.1)
-abbrev pub is_name_byte : ℕ → Bool
-is_name_byte byte = is_ascii_alphanumeric byte || byte == 95
-
--- A name of C: a letter or an underscore, and then letters, digits and underscores (C99 6.4.2.1). Keywords are names too.
-abbrev pub IsName : List ℕ → Type 0
-IsName [] = ⊥
-IsName (first ∷ others) = IsTrue (is_name_start first) × IsTrue (list_all is_name_byte others)
-
 -- the greatest number of steps, calls or bytes
 abbrev pub greatest_count : ℕ
 greatest_count = 10 ^ 18
@@ -87,7 +73,7 @@ pub record IsEnd (z : ℤ) : Type 0 where
 
 -- The claims that a certificate may make.
 pub record IsCertificate (c : Claims) : Type 0 where
-  pub named : IsName c.name
+  pub named : is_name c.name ≡ true
   pub rank : c.rank < 2 ^ 32
   pub steps : c.steps ≤ greatest_count
   pub calls : c.calls ≤ greatest_count
@@ -102,7 +88,7 @@ pub record IsCertificate (c : Claims) : Type 0 where
 
 -- ---- the first line that no certificate has
 
--- the first lines of a text, each with its LF, and at the end of the text what stands behind its last LF
+-- the first lines of a text, each with its LF, and at the end of the text what stands after its last LF
 unfoldable pub first_lines : List ℕ → ℕ → List ℕ
 first_lines [] count = []
 first_lines (byte ∷ text) zero = []

@@ -1,45 +1,24 @@
--- How a certificate is read, on lists of bytes: each reader gives a value and what stands behind it. Only clauses of
+-- How a certificate is read, on lists of bytes: each reader gives a value and what stands after it. Only clauses of
 -- private functions cite this file; the laws in proofs/ lead from it to the text of a certificate.
-use Rattle.std.specs.Prelude.{ℕ, ◌+◌, ◌-◌, ◌*◌, Bool, false, ◌==◌, nat_le, if◌then◌else◌, List, [], ◌∷◌, length, take, drop, fold, ℤ, pos, neg_ℤ, int_le, codes, decimal, bytes_eq, Option, Some, None, option_and_then, Result, Ok, Err}
+use Rattle.std.specs.Prelude.{ℕ, Bool, ◌==◌, nat_le, if◌then◌else◌, List, [], ◌∷◌, length, take, drop, ℤ, pos, neg_ℤ, int_le, codes, bytes_eq, Option, Some, None, option_and_then, Result, Ok, Err}
 use Rattle.std.specs.Char.{is_ascii_digit}
 use Rattle.p10_base.specs.declared.report.Bounds.{Bounds}
 use Rattle.p10_first.specs.declared.certificate.FunctionLine.{FunctionLine}
-use Rattle.p10_first.specs.Certificate.{Claims, is_name_start, is_name_byte, greatest_count, greatest_size}
+use Rattle.p10_first.specs.Names.{is_word_byte, is_name}
+use Rattle.p10_first.specs.Runs.{after_run, front_of, numeral_of}
+use Rattle.p10_first.specs.Certificate.{Claims, greatest_count, greatest_size}
 
 infixl 10 ◌>>=◌
 abbrev pub ◌>>=◌ : {A B : Type 0} → Option A → (A → Option B) → Option B
 o >>= f = option_and_then f o
 
--- ---- runs and fixed texts
+-- ---- fixed texts
 
--- what stands behind a fixed text that the bytes begin with
+-- what stands after a fixed text that the bytes begin with
 unfoldable pub after_front : List ℕ → List ℕ → Option (List ℕ)
 after_front front text = if bytes_eq (take (length front) text) front then Some (drop (length front) text) else None
 
--- what is left behind the bytes at the front that pass the test
-abbrev pub after_run : (ℕ → Bool) → List ℕ → List ℕ
-after_run test [] = []
-after_run test (x ∷ xs) = if test x then after_run test xs else (x ∷ xs)
-
--- what stands in front of the rest of a text
-abbrev pub front_of : List ℕ → List ℕ → List ℕ
-front_of text rest = take (length text - length rest) text
-
 -- ---- numbers
-
--- the most digits of a number
-abbrev pub most_digits : ℕ
-most_digits = 21
-
--- the number that the bytes spell where they are digits
-abbrev pub value_of : List ℕ → ℕ
-value_of digits = fold (λ value byte. 10 * value + (byte - 48)) 0 digits
-
--- the number whose decimal form these bytes are
-unfoldable pub numeral_of : List ℕ → Option ℕ
-numeral_of digits = if nat_le (length digits) most_digits
-    then (if bytes_eq (decimal (value_of digits)) digits then Some (value_of digits) else None)
-    else None
 
 -- a number that is at most `most`
 unfoldable pub number_at : ℕ → List ℕ → Option (ℕ × List ℕ)
@@ -47,11 +26,11 @@ number_at most text =
     numeral_of (front_of text (after_run is_ascii_digit text)) >>= λ value.
     if nat_le value most then Some (value, after_run is_ascii_digit text) else None
 
--- a number behind a label
+-- a number after a label
 unfoldable pub labelled_at : List ℕ → ℕ → List ℕ → Option (ℕ × List ℕ)
 labelled_at label most text = after_front label text >>= λ rest. number_at most rest
 
--- a number below zero, behind its sign
+-- a number below zero, after its sign
 unfoldable pub negative_at : List ℕ → Option (ℤ × List ℕ)
 negative_at text = number_at greatest_size text >>= λ (size, rest).
     if size == 0 then None else Some (neg_ℤ (pos size), rest)
@@ -67,15 +46,11 @@ signed_at (first ∷ others) = if first == 45 then negative_at others else posit
 
 -- ---- names
 
--- whether a run of name bytes begins as a name does
-abbrev pub begins_name : List ℕ → Bool
-begins_name [] = false
-begins_name (first ∷ others) = is_name_start first
-
 -- a name of C
 unfoldable pub name_at : List ℕ → Option (List ℕ × List ℕ)
-name_at text = if begins_name (front_of text (after_run is_name_byte text))
-    then Some (front_of text (after_run is_name_byte text), after_run is_name_byte text)
+name_at text =
+    if is_name (front_of text (after_run is_word_byte text))
+    then Some (front_of text (after_run is_word_byte text), after_run is_word_byte text)
     else None
 
 -- ---- the lines

@@ -1,5 +1,5 @@
 -- What a program of the first form costs, and the conditions on a program and its certificate.
-use Rattle.std.specs.Prelude.{◌≡◌, ℕ, true, ◌+◌, ◌*◌, ◌<◌, ◌≤◌, List, length, codes, pos, ◌≤ℤ◌, sum_by}
+use Rattle.std.specs.Prelude.{◌≡◌, ℕ, true, ◌+◌, ◌*◌, ◌<◌, ◌≤◌, length, codes, pos, ◌≤ℤ◌, sum_by}
 use Rattle.p10_int.specs.declared.types.IntType.TheVariants.{Int}
 use Rattle.p10_int.specs.Types.{least_of, greatest_of}
 use Rattle.p10_first.specs.declared.program.Sum.{Sum}
@@ -32,11 +32,9 @@ abbrev pub frame_bytes : Program → ℕ
 frame_bytes p = 4 * p.variables
 
 -- ## The conditions
--- Of the fourteen conditions of a certificate the other nine hold of every program of this form and every
--- certificate of one function: K2 and K3 ask something of each call, K6 to K10 of each loop, and there is
--- neither; K4 asks that `main` has no parameter and that no cycle of calls can be entered, and K13 that a
--- function that allocates or frees says so and that none does so after initialisation, and nothing here
--- allocates or frees.
+-- The other nine of a certificate's fourteen conditions always hold for a program of this form and a certificate of
+-- one function, so they are left out: there is no call (K2, K3), no parameter and no task loop that could end (K4),
+-- no loop (K6 to K10), and nothing that allocates or frees memory (K13).
 
 -- the function is `main`, and the range of its result lies in that of `int`
 abbrev pub NamesMain : Claims → Type 0

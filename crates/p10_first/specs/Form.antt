@@ -1,15 +1,16 @@
 -- The words of a program of the first form, and which programs there are.
 -- The form is a part of C99 6.7, 6.8 and 6.9: `int main ( void ) { items return N ; }`.
-use Rattle.std.specs.Prelude.{◌≡◌, ℕ, ◌+◌, ◌<◌, ◌≤◌, List, [], ◌∷◌, ◌++◌, All, codes, bytes_eq, decimal, slice_index_or, length, IsTrue, Bool, not, nat_le, ◌&&◌, ◌||◌, true, false, map}
-use Rattle.std.specs.List.{list_all, flat_map}
+use Rattle.std.specs.Prelude.{unsigned_abs, ◌≡◌, ℕ, ◌+◌, ◌<◌, ◌≤◌, List, [], ◌∷◌, ◌++◌, All, codes, decimal, slice_index_or, length, Bool, not, ◌&&◌, true, map}
 use Rattle.p10_first.specs.declared.program.Atom.{Atom}
 use Rattle.p10_first.specs.declared.program.Atom.TheVariants.{Number, Variable}
 use Rattle.p10_first.specs.declared.program.Sum.{Sum}
 use Rattle.p10_first.specs.declared.program.Item.{Item}
 use Rattle.p10_first.specs.declared.program.Item.TheVariants.{Declare, Initialise, Assign}
 use Rattle.p10_first.specs.declared.program.Program.{Program}
+use Rattle.p10_int.specs.declared.types.IntType.TheVariants.{Int}
+use Rattle.p10_int.specs.Types.{greatest_of}
 use Rattle.p10_base.specs.declared.word.Word.{Word}
-use Rattle.p10_first.specs.Names.{is_reserved}
+use Rattle.p10_first.specs.Names.{is_name, is_reserved}
 
 -- ## The words that spell a program, where its variables have these names
 
@@ -25,7 +26,7 @@ abbrev pub atom_word : List Text → Atom → Text
 atom_word names (Number n) = decimal n
 atom_word names (Variable v) = name_of names v
 
--- the further atoms of a sum, each behind its `+`
+-- the further atoms of a sum, each after its `+`
 abbrev pub addend_words : List Text → List Atom → List Text
 addend_words names [] = []
 addend_words names (a ∷ others) = codes "+" ∷ atom_word names a ∷ addend_words names others
@@ -42,7 +43,7 @@ abbrev pub items_words : List Text → List Item → List Text
 items_words names [] = []
 items_words names (i ∷ items) = item_words names i ++ items_words names items
 
--- the words before the items, and those behind them
+-- the words before the items, and those after them
 abbrev pub head_words : List Text
 head_words = codes "int" ∷ codes "main" ∷ codes "(" ∷ codes "void" ∷ codes ")" ∷ codes "{" ∷ []
 
@@ -55,25 +56,13 @@ program_words names p = head_words ++ (items_words names p.items ++ return_words
 
 -- ## Which programs there are
 
--- a letter or `_` (C99 6.4.2.1)
-abbrev pub is_letter : ℕ → Bool
-is_letter b = (nat_le 97 b && nat_le b 122) || (nat_le 65 b && nat_le b 90) || nat_le 95 b && nat_le b 95
-
-abbrev pub is_digit : ℕ → Bool
-is_digit b = nat_le 48 b && nat_le b 57
-
--- a C name: a letter or `_`, then letters, digits and `_`
-abbrev pub is_name : Text → Bool
-is_name [] = false
-is_name (b ∷ bytes) = is_letter b && list_all (λ c. is_letter c || is_digit c) bytes
-
 -- a name that a variable may have: no keyword, not `main`, and no library function
 abbrev pub is_variable_name : Text → Bool
 is_variable_name word = is_name word && not (is_reserved word)
 
 -- the greatest value of an `int`
 abbrev pub greatest_int : ℕ
-greatest_int = 2147483647
+greatest_int = unsigned_abs (greatest_of Int)
 
 -- an operand is a constant of type `int`, or one of the variables that are declared so far
 abbrev pub AtomFits : ℕ → Atom → Type 0
@@ -91,13 +80,13 @@ ItemFits declared (Declare v) = v ≡ declared
 ItemFits declared (Initialise v s) = (v ≡ declared) × SumFits declared s
 ItemFits declared (Assign v s) = (v < declared) × SumFits declared s
 
--- how many variables are declared behind an item
+-- how many variables are declared after an item
 abbrev pub declared_after : ℕ → Item → ℕ
 declared_after declared (Declare v) = declared + 1
 declared_after declared (Initialise v s) = declared + 1
 declared_after declared (Assign v s) = declared
 
--- each item fits where so many variables are declared before them, and `last` behind them
+-- each item fits where so many variables are declared before them, and `last` after them
 abbrev pub ItemsFit : ℕ → List Item → ℕ → Type 0
 ItemsFit declared [] last = declared ≡ last
 ItemsFit declared (i ∷ items) last = ItemFits declared i × ItemsFit (declared_after declared i) items last

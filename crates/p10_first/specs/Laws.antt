@@ -8,8 +8,7 @@ use Rattle.p10_first.specs.declared.program.Program.{Program}
 use Rattle.p10_first.specs.declared.conditions.Condition.{Condition}
 use Rattle.p10_first.specs.Certificate.{Claims, IsCertificate, certificate_text, IsFirstWrongLine}
 use Rattle.p10_first.specs.Form.{Text, Spells}
-use Rattle.p10_first.specs.Words.{PlacedWord, AllStand}
-use Rattle.p10_first.specs.Meaning.{Frame, Outcome, Went, Gives, Ends, Undefined, StepsSpent, execute_all, opened_frame, call_main, Within}
+use Rattle.p10_first.specs.Meaning.{Frame, Outcome, Gives, Ends, Undefined, StepsSpent, execute_all, opened_frame, call_main, Within}
 use Rattle.p10_first.specs.Ranges.{Describes, ranges_at_return, is_reached}
 use Rattle.p10_first.specs.Conditions.{cost_of, Accepts, IsFirstFailure}
 
@@ -105,10 +104,6 @@ pub record RunsByHand : Type 0 where
 -- where a condition is the first that doesn't hold, not all hold
 abbrev pub FailsOrAccepts : Type 0
 FailsOrAccepts = (p : Program) (c : Claims) (k : Condition) → IsFirstFailure p c k → Accepts p c → ⊥
-
--- a text has at most one list of words
-abbrev pub HasOneListOfWords : Type 0
-HasOneListOfWords = (text : List ℕ) (some others : List PlacedWord) → AllStand 0 text some → AllStand 0 text others → some ≡ others
 
 -- the text of a certificate tells its claims
 abbrev pub TextTellsClaims : Type 0

@@ -1,6 +1,6 @@
 -- The definitions that the contracts of this crate cite.
 pub mod Names
-pub mod Words
+pub mod Runs
 pub mod Form
 pub mod Reading
 pub mod Reader

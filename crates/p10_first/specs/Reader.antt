@@ -1,5 +1,5 @@
 -- What the reader's fields say.
-use Rattle.std.specs.Prelude.{◌≡◌, Bool, Option, Some, None, MatchBool, map, List, ℕ}
+use Rattle.std.specs.Prelude.{◌≡◌, Bool, Option, Some, None, MatchBool, map}
 use Rattle.p10_first.specs.declared.reader.Reader.{Reader}
 use Rattle.p10_first.specs.Reading.{Reading}
 

@@ -1,5 +1,5 @@
 -- Reading the words of a body one by one: what the words so far say, and which word may come next.
-use Rattle.std.specs.Prelude.{◌≡◌, ℕ, ◌+◌, ◌-◌, ◌*◌, List, [], ◌∷◌, ◌++◌, codes, bytes_eq, decimal, length, Bool, nat_le, nat_lt, ◌&&◌, true, false, Option, Some, None, option_map, option_and_then, is_none, if◌then◌else◌, map, fold}
+use Rattle.std.specs.Prelude.{ℕ, List, [], ◌∷◌, ◌++◌, codes, bytes_eq, length, Bool, nat_le, nat_lt, ◌&&◌, Option, Some, None, option_map, option_and_then, is_none, if◌then◌else◌}
 use Rattle.std.specs.List.{position_from}
 use Rattle.p10_first.specs.declared.program.Atom.{Atom}
 use Rattle.p10_first.specs.declared.program.Atom.TheVariants.{Number, Variable}
@@ -12,6 +12,7 @@ use Rattle.p10_first.specs.declared.reader.Target.TheVariants.{New, Old}
 use Rattle.p10_first.specs.declared.reader.Expecting.{Expecting}
 use Rattle.p10_first.specs.declared.reader.Expecting.TheVariants.{AnItem, NewName, Declared, Assigned, FirstAtom, NextAtom, Joint, Value, End, Brace, Nothing}
 use Rattle.p10_first.specs.Form.{Text, is_variable_name, greatest_int}
+use Rattle.p10_first.specs.Runs.{numeral_of}
 
 -- what the words so far say
 pub record Reading : Type 0 where
@@ -30,13 +31,13 @@ add_item item r = record r { items = r.items ++ item ∷ []; expecting = AnItem 
 abbrev pub clear_others : Reading → Reading
 clear_others r = record r { others = [] }
 
--- the value of decimal digits
-abbrev pub digits_number : Text → ℕ
-digits_number digits = fold (λ value byte. 10 * value + (byte - 48)) 0 digits
+-- a number, if it is a value of type `int`
+abbrev pub if_int : ℕ → Option ℕ
+if_int n = if nat_le n greatest_int then Some n else None
 
 -- the number that a word spells, if it is a constant of type `int`
 unfoldable pub numeral : Text → Option ℕ
-numeral word = if (nat_le (length word) 10 && nat_le (digits_number word) greatest_int) && bytes_eq (decimal (digits_number word)) word then Some (digits_number word) else None
+numeral word = option_and_then if_int (numeral_of word)
 
 -- the number of the variable with this name
 unfoldable pub number_of : List Text → Text → Option ℕ
@@ -136,7 +137,7 @@ abbrev pub whole_at : Expecting → Reading → Option Program
 whole_at (Nothing n) r = Some (record { variables = length r.names; items = r.items; returned = n })
 whole_at _ r = None
 
--- the program behind the six words of the head
+-- the program after the six words of the head
 unfoldable pub body_of : List Text → Option Program
 body_of words = option_and_then (λ (r : Reading). whole_at r.expecting r) (steps words start)
 
@@ -144,11 +145,11 @@ body_of words = option_and_then (λ (r : Reading). whole_at r.expecting r) (step
 abbrev pub is_head : Text → Text → Text → Text → Text → Text → Bool
 is_head a b c d e f = bytes_eq a (codes "int") && bytes_eq b (codes "main") && bytes_eq c (codes "(") && bytes_eq d (codes "void") && bytes_eq e (codes ")") && bytes_eq f (codes "{")
 
--- the words behind them
-unfoldable pub behind_head : List Text → Option (List Text)
-behind_head (a ∷ b ∷ c ∷ d ∷ e ∷ f ∷ body) = if is_head a b c d e f then Some body else None
-behind_head _ = None
+-- the words after them
+unfoldable pub after_head : List Text → Option (List Text)
+after_head (a ∷ b ∷ c ∷ d ∷ e ∷ f ∷ body) = if is_head a b c d e f then Some body else None
+after_head _ = None
 
 -- the program that the words of a file spell
 abbrev pub program_of : List Text → Option Program
-program_of words = option_and_then body_of (behind_head words)
+program_of words = option_and_then body_of (after_head words)

@@ -1,15 +1,15 @@
 //! The text of a certificate: five lines that claim the name, rank, costs and result of one function
 //! and the bounds of the whole program.
 //!
-//! Each reader takes a text and gives a value and what stands behind it, or nothing where the text
+//! Each reader takes a text and gives a value and what stands after it, or nothing where the text
 //! doesn't begin as it should. All work on slices of the one text and take no memory.
 
 ghost use Rattle.std.specs.Prelude.{◌≡◌, ◌≢◌, ℕ, ◌≤◌, length, option_map, option_copied, IfSome, IfOk, IfErr, OnErr};
-ghost use Rattle.p10_first.specs.CertificateReading.{result_map, after_front, after_run, numeral_of, number_at, labelled_at, certificate_at, function_at, function_claim, result_at, total_at, signed_at, negative_at, positive_at, name_at, begins_name, value_of, most_digits};
-ghost use Rattle.p10_first.specs.Certificate.{Claims, IsCertificate, IsFirstWrongLine, certificate_text, claims_of, is_name_byte};
-ghost use Rattle.std.specs.Char.{is_ascii_digit};
+ghost use Rattle.p10_first.specs.CertificateReading.{result_map, after_front, number_at, labelled_at, certificate_at, function_at, function_claim, result_at, total_at, signed_at, negative_at, positive_at, name_at};
+ghost use Rattle.p10_first.specs.Certificate.{Claims, IsCertificate, IsFirstWrongLine, certificate_text, claims_of};
 
-use itoa::Buffer;
+use crate::bytes::{after_word_bytes, is_name};
+use crate::numerals::{after_digits, numeral};
 use p10_base::Bounds;
 
 /// What a certificate claims of one function and of the whole program.
@@ -41,9 +41,6 @@ const GREATEST_COUNT: u128 = 1_000_000_000_000_000_000;
 /// The greatest size of an end of a result's range.
 const GREATEST_SIZE: u128 = 100_000_000_000_000_000_000;
 
-/// The most digits of a number: those of `GREATEST_SIZE`.
-const MOST_DIGITS: usize = 21;
-
 /// The most that a rank can be.
 const GREATEST_RANK: u128 = 4_294_967_295;
 
@@ -60,7 +57,7 @@ struct FunctionLine<'c> {
 
 /// Reads a certificate, whose name then stands in the text.
 ///
-/// An error is the number of the line, counted from 1, that no certificate has behind the lines before it.
+/// An error is the number of the line, counted from 1, that no certificate has after the lines before it.
 /// A line without LF is refused at its own number, and a text that ends early at the line after its last.
 pub fn read(text: &[u8]) -> Result<Certificate<'_>, u64>
     ensures found { IfOk result
@@ -120,7 +117,7 @@ fn function_line(text: &[u8]) -> Option<(FunctionLine<'_>, &[u8])>
     Some((function, rest))
 }
 
-/// The line of the function's result: its least value, its greatest and what stands behind the line.
+/// The line of the function's result: its least value, its greatest and what stands after the line.
 #[tactic(auto, unfolding(crate::specs::CertificateReading::result_at))]
 fn result_line(text: &[u8]) -> Option<(i128, i128, &[u8])>
     ensures { option_map (λ x. (x.0, x.1, x.2.now)) result ≡ result_at text.now }
@@ -154,7 +151,7 @@ fn total_line(text: &[u8]) -> Option<(Bounds, &[u8])>
     Some((total, rest))
 }
 
-/// What stands behind the label, if the text begins with it.
+/// What stands after the label, if the text begins with it.
 #[tactic(auto, unfolding(crate::specs::CertificateReading::after_front))]
 fn after<'t>(text: &'t [u8], label: &[u8]) -> Option<&'t [u8]>
     ensures { option_copied result ≡ after_front label.now text.now }
@@ -162,7 +159,7 @@ fn after<'t>(text: &'t [u8], label: &[u8]) -> Option<&'t [u8]>
     text.strip_prefix(label)
 }
 
-/// A number behind a label.
+/// A number after a label.
 #[tactic(auto, unfolding(crate::specs::CertificateReading::labelled_at))]
 fn labelled<'t>(text: &'t [u8], label: &[u8], most: u128) -> Option<(u128, &'t [u8])>
     ensures exact { option_map (λ x. (x.0, x.1.now)) result ≡ labelled_at label.now most text.now }
@@ -184,51 +181,6 @@ fn number(text: &[u8], most: u128) -> Option<(u128, &[u8])>
     } else {
         None
     }
-}
-
-/// The number whose decimal form these bytes are.
-#[tactic(auto, unfolding(crate::specs::CertificateReading::numeral_of))]
-fn numeral(digits: &[u8]) -> Option<u128>
-    ensures { result ≡ numeral_of digits.now }
-{
-    if digits.len() > MOST_DIGITS {
-        return None;
-    }
-    // `itoa` writes each number in one way, so no other spelling of it passes.
-    let value = value_of(digits);
-    let mut buffer = Buffer::new();
-    if buffer.format(value).as_bytes() == digits {
-        Some(value)
-    } else {
-        None
-    }
-}
-
-/// The number that the bytes spell where they are digits.
-fn value_of(digits: &[u8]) -> u128
-    requires { length digits.now ≤ most_digits }
-    ensures { result ≡ value_of digits.now }
-{
-    let mut value: u128 = 0;
-    for byte in digits {
-        value = 10 * value + u128::from(byte.saturating_sub(b'0'));
-    }
-    value
-}
-
-/// What is left behind the digits that the text begins with.
-fn after_digits(text: &[u8]) -> &[u8]
-    ensures rest { result.now ≡ after_run is_ascii_digit text.now }
-    ensures shorter { length result.now ≤ length text.now }
-{
-    let mut rest = text;
-    while let [first, others @ ..] = rest {
-        if !first.is_ascii_digit() {
-            break;
-        }
-        rest = others;
-    }
-    rest
 }
 
 /// A number with its sign, of at most `GREATEST_SIZE`.
@@ -269,36 +221,11 @@ fn positive(text: &[u8]) -> Option<(i128, &[u8])>
 fn name(text: &[u8]) -> Option<(&[u8], &[u8])>
     ensures { option_map (λ x. (x.0.now, x.1.now)) result ≡ name_at text.now }
 {
-    let rest = after_name(text);
+    let rest = after_word_bytes(text);
     let name = &text[..text.len() - rest.len()];
-    if begins_name(name) {
+    if is_name(name) {
         Some((name, rest))
     } else {
         None
     }
-}
-
-/// Whether a run of name bytes begins as a name does.
-fn begins_name(name: &[u8]) -> bool
-    ensures { result ≡ begins_name name.now }
-{
-    match name {
-        [first, ..] => first.is_ascii_alphabetic() || *first == b'_',
-        [] => false,
-    }
-}
-
-/// What is left behind the letters, digits and underscores that the text begins with.
-fn after_name(text: &[u8]) -> &[u8]
-    ensures rest { result.now ≡ after_run is_name_byte text.now }
-    ensures shorter { length result.now ≤ length text.now }
-{
-    let mut rest = text;
-    while let [first, others @ ..] = rest {
-        if !first.is_ascii_alphanumeric() && *first != b'_' {
-            break;
-        }
-        rest = others;
-    }
-    rest
 }

@@ -1,7 +1,7 @@
 //! What holds of the definitions of the first form: each function does nothing, and its contract is
 //! the law.
 
-ghost use Rattle.p10_first.specs.Laws.{CostIsExact, CostIsEnough, AcceptedIsWithin, SpellsOneProgram, FailsOnce, ReturnsItsNumber, RangesFollowRuns, ReturnIsReached, ReturnsAsClaimed, StepsChangeNoValue, StepsChangeNoStop, EndsAreThree, RunsByHand, FailsOrAccepts, HasOneListOfWords, TextTellsClaims, HasOneWrongLine, CertificateHasNoWrongLine};
+ghost use Rattle.p10_first.specs.Laws.{CostIsExact, CostIsEnough, AcceptedIsWithin, SpellsOneProgram, FailsOnce, ReturnsItsNumber, RangesFollowRuns, ReturnIsReached, ReturnsAsClaimed, StepsChangeNoValue, StepsChangeNoStop, EndsAreThree, RunsByHand, FailsOrAccepts, TextTellsClaims, HasOneWrongLine, CertificateHasNoWrongLine};
 
 /// A call of `main` that returns took just the steps that the program costs.
 pub fn cost_is_exact()
@@ -73,11 +73,6 @@ pub fn runs_by_hand()
 /// Where a condition is the first that doesn't hold, not all hold.
 pub fn failure_is_no_acceptance()
     ensures { FailsOrAccepts }
-{}
-
-/// A text has at most one list of words.
-pub fn a_text_has_one_list_of_words()
-    ensures { HasOneListOfWords }
 {}
 
 /// The text of a certificate tells its claims.

@@ -3,10 +3,12 @@
 
 ghost use Rattle.std.specs.Prelude.{◌≡◌, ◌&&◌, ◌||◌, ◌≤◌, bytes_eq, length, map, IfOk, Some, None, IfSome, IfNone, option_map, OnOk};
 ghost use Rattle.std.specs.List.{list_any, list_all, position_from};
-ghost use Rattle.p10_first.specs.Form.{is_letter, is_digit, is_name, is_variable_name, texts, Spells};
+ghost use Rattle.p10_first.specs.Form.{is_variable_name, texts, Spells};
 ghost use Rattle.p10_first.specs.Names.{is_reserved};
-ghost use Rattle.p10_first.specs.Reading.{digits_number, numeral, number_of, atom_of, is_head, behind_head, body_of};
+ghost use Rattle.p10_first.specs.Reading.{numeral, number_of, atom_of, is_head, after_head, body_of};
 
+use crate::bytes::is_name;
+use crate::numerals::numeral;
 use crate::{Atom, Item, Program, Sum};
 use p10_base::{ListBuf, Word};
 use std::alloc::{AllocError, Global};
@@ -26,23 +28,23 @@ enum Target {
 enum Expecting {
     /// An item, or `return`.
     AnItem,
-    /// The name behind `int`.
+    /// The name after `int`.
     NewName,
-    /// `;` or `=` behind the name of a declaration.
+    /// `;` or `=` after the name of a declaration.
     Declared(usize),
-    /// `=` behind the name of an assignment.
+    /// `=` after the name of an assignment.
     Assigned(usize),
     /// The first atom of a sum.
     FirstAtom(Target),
-    /// An atom behind `+`; the first one is known.
+    /// An atom after `+`; the first one is known.
     NextAtom(Target, Atom),
-    /// `+` or `;` behind an atom.
+    /// `+` or `;` after an atom.
     Joint(Target, Atom),
-    /// The value behind `return`.
+    /// The value after `return`.
     Value,
-    /// `;` behind that value.
+    /// `;` after that value.
     End(u32),
-    /// `}` behind that `;`.
+    /// `}` after that `;`.
     Brace(u32),
     /// No further word.
     Nothing(u32),
@@ -69,50 +71,11 @@ fn is_kept(word: &[u8]) -> bool
     is_among(word, &RESERVED)
 }
 
-fn letter(byte: u8) -> bool
-    ensures { result ≡ is_letter byte }
-{
-    (97 <= byte && byte <= 122) || (65 <= byte && byte <= 90) || byte == 95
-}
-
-fn digit(byte: u8) -> bool
-    ensures { result ≡ is_digit byte }
-{
-    48 <= byte && byte <= 57
-}
-
-fn all_continue(bytes: &[u8]) -> bool
-    ensures { result ≡ list_all (λ byte. is_letter byte || is_digit byte) bytes.now }
-{
-    bytes.iter().all(|byte| letter(*byte) || digit(*byte))
-}
-
-fn spells_name(word: &[u8]) -> bool
-    ensures { result ≡ is_name word.now }
-{
-    match word {
-        [] => false,
-        [first, others @ ..] => letter(*first) && all_continue(others),
-    }
-}
-
 /// Whether a variable may have this name.
 fn names_variable(word: &[u8]) -> bool
     ensures { result ≡ is_variable_name word.now }
 {
-    spells_name(word) && !is_kept(word)
-}
-
-/// The value of decimal digits, of which there are at most 10.
-fn value_of(digits: &[u8]) -> u64
-    requires { length digits.now ≤ 10 }
-    ensures { result ≡ digits_number digits.now }
-{
-    let mut value: u64 = 0;
-    for byte in digits {
-        value = 10 * value + u64::from(byte.saturating_sub(b'0'));
-    }
-    value
+    is_name(word) && !is_kept(word)
 }
 
 /// The constant of type `int` that a word spells.
@@ -120,15 +83,9 @@ fn value_of(digits: &[u8]) -> u64
 fn number(word: &[u8]) -> Option<u32>
     ensures { result ≡ numeral word.now }
 {
-    if word.len() > 10 {
-        return None;
-    }
-    let value = value_of(word);
-    let mut buffer = itoa::Buffer::new();
-    if value <= 2_147_483_647 && buffer.format(value).as_bytes() == word {
-        Some(value as u32)
-    } else {
-        None
+    match numeral(word) {
+        Some(value) if value <= 2_147_483_647 => Some(value as u32),
+        _ => None,
     }
 }
 
@@ -385,10 +342,10 @@ fn begins_main(
         && is(brace, b"{")
 }
 
-/// The words behind `int main ( void ) {`.
-#[tactic(auto, unfolding(crate::specs::Reading::behind_head))]
+/// The words after `int main ( void ) {`.
+#[tactic(auto, unfolding(crate::specs::Reading::after_head))]
 fn after_head<'w, 's>(words: &'w [Word<'s>]) -> Option<&'w [Word<'s>]>
-    ensures { option_map (λ body. texts body.now) result ≡ behind_head (texts words.now) }
+    ensures { option_map (λ body. texts body.now) result ≡ after_head (texts words.now) }
 {
     let [int, main, open, void, close, brace, body @ ..] = words else {
         return None;
@@ -402,7 +359,7 @@ fn after_head<'w, 's>(words: &'w [Word<'s>]) -> Option<&'w [Word<'s>]>
     }
 }
 
-/// The program whose words behind the head are these.
+/// The program whose words after the head are these.
 fn read_body(alloc: Global, words: &[Word<'_>]) -> Result<Option<Program>, AllocError>
     ensures { IfOk result (λ program. program ≡ body_of (texts words.now)) }
 {

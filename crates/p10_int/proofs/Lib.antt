@@ -12,3 +12,4 @@ pub mod BitTables
 pub mod Dividing
 pub mod Complements
 pub mod Operands
+pub mod Sums

@@ -62,7 +62,8 @@ IsRightOperand op t b = InRange t b
 unfoldable pub complement : IntType → ℤ → ℤ
 complement t a = value_of t (modulus_of t - 1 - pattern_of t a)
 
--- a binary operator at a type to which its operands are converted: for shifts the left operand's (C99 6.5.5 to 6.5.12)
+-- a binary operator at a type to which its operands are converted: for shifts the left operand's (C99 6.5.5 to 6.5.12).
+-- After promotion no type is below `int`; at those the same rule holds, with `_Bool` an unsigned type of width 1
 abbrev pub operate : BinOp → IntType → ℤ → ℤ → Result ℤ Stop
 operate Add t a b = fitted t U1 (a +ℤ b)
 operate Sub t a b = fitted t U1 (a -ℤ b)

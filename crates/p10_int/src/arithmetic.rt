@@ -26,7 +26,6 @@ pub fn fit(t: IntType, stop: Stop, z: i128) -> Result<i128, Stop>
 }
 
 /// `a * b`, whose exact value may need 128 bits and no sign.
-#[tactic(auto, using(crate::proofs::Carried::carried))]
 pub fn multiply(t: IntType, a: i128, b: i128) -> Result<i128, Stop>
     requires left { InRange t a }
     requires right { InRange t b }

@@ -40,30 +40,50 @@ pub enum Stop {
 /// A binary operator that evaluates both operands.
 #[derive(Clone, Copy, Debug, PartialEq, Eq)]
 pub enum BinOp {
+    /// `+` (C99 6.5.6).
     Add,
+    /// `-` (C99 6.5.6).
     Sub,
+    /// `*` (C99 6.5.5).
     Mul,
+    /// `/`, rounded toward zero (C99 6.5.5).
     Div,
+    /// `%`, with the sign of the dividend (C99 6.5.5).
     Rem,
+    /// `<<` (C99 6.5.7).
     Shl,
+    /// `>>`, rounded toward minus infinity (C99 6.5.7).
     Shr,
+    /// `&` (C99 6.5.10).
     And,
+    /// `|` (C99 6.5.12).
     Or,
+    /// `^` (C99 6.5.11).
     Xor,
+    /// `<` (C99 6.5.8).
     Lt,
+    /// `>` (C99 6.5.8).
     Gt,
+    /// `<=` (C99 6.5.8).
     Le,
+    /// `>=` (C99 6.5.8).
     Ge,
+    /// `==` (C99 6.5.9).
     Eq,
+    /// `!=` (C99 6.5.9).
     Ne,
 }
 
 /// A unary operator on a value.
 #[derive(Clone, Copy, Debug, PartialEq, Eq)]
 pub enum UnOp {
+    /// `+` (C99 6.5.3.3).
     Plus,
+    /// `-` (C99 6.5.3.3).
     Neg,
+    /// `!` (C99 6.5.3.3).
     Not,
+    /// `~` (C99 6.5.3.3).
     Com,
 }
 
@@ -71,8 +91,9 @@ pub enum UnOp {
 ///
 /// `t` is the type to which the operands were converted: the common type of the usual conversions,
 /// and for a shift the promoted type of its left operand. A comparison gives 0 or 1. A shift count
-/// may be any number.
-#[tactic(auto, using(crate::proofs::Carried::carried, std::proofs::lemmas::Nat::or_lt, std::proofs::lemmas::Nat::xor_lt), unfolding(crate::specs::Operators::bitwise))]
+/// may be any number. Promotion leaves no type below `int`; at those the same rule holds, with
+/// `_Bool` an unsigned type of width 1.
+#[tactic(auto, using(crate::proofs::Carried::carried), unfolding(crate::specs::Operators::bitwise))]
 pub fn apply(op: BinOp, t: IntType, a: i128, b: i128) -> Result<i128, Stop>
     requires left { InRange t a }
     requires right { IsRightOperand op t b }

@@ -48,8 +48,9 @@ cut_double b t = refl
 
 cut_quote : (b : Bool) (q : ℕ) (t : List ℕ) → is_quote q ≡ true → cut_at b (q ∷ t) ≡ literal_at q t
 cut_quote b q t e = elim (quote_is q e) [
-    inl h ↦ subst (λ (x : ℕ). cut_at b (x ∷ t) ≡ literal_at x t) (sym h) (cut_single b t)
-  | inr h ↦ subst (λ (x : ℕ). cut_at b (x ∷ t) ≡ literal_at x t) (sym h) (cut_double b t) ]
+  | inl h ↦ subst (λ (x : ℕ). cut_at b (x ∷ t) ≡ literal_at x t) (sym h) (cut_single b t)
+  | inr h ↦ subst (λ (x : ℕ). cut_at b (x ∷ t) ≡ literal_at x t) (sym h) (cut_double b t)
+]
 
 cut_line : (b : Bool) (t : List ℕ) → cut_at b (47 ∷ (47 ∷ t)) ≡ (Comment, after_line 0 0 (47 ∷ (47 ∷ t)))
 unfolding cut_at is_blank is_nondigit begins_number is_digit is_quote begins_byte
@@ -71,8 +72,9 @@ comment_parts : (c : ℕ) (t : List ℕ) → begins_comment (c ∷ t) ≡ false 
 unfolding begins_comment begins_byte
 comment_parts c [] e = elim (is_either (c == 47)) [ inl h ↦ (rw h refl, rw h refl) | inr h ↦ (rw h refl, rw h refl) ]
 comment_parts c (d ∷ t) e = elim (is_either (c == 47)) [
-    inl h ↦ (let f = rw h at e in let (x, y) = or_neither (d == 42) (d == 47) f in (rw (h, y) refl, rw (h, x) refl))
-  | inr h ↦ (rw h refl, rw h refl) ]
+  | inl h ↦ (let f = rw h at e in let (x, y) = or_neither (d == 42) (d == 47) f in (rw (h, y) refl, rw (h, x) refl))
+  | inr h ↦ (rw h refl, rw h refl)
+]
 
 header_none : (c : ℕ) (t : List ℕ) → after_header t ≡ None → header_at (c ∷ t) ≡ punctuator_at (c ∷ t)
 unfolding header_at
@@ -83,9 +85,10 @@ unfolding cut_at
 cut_untaken b c t is =
     let (x, y) = comment_parts c t is.comment in
     elim (is_either (b && (c == 60))) [
-        inl e ↦ (let (f, g) = and_both b (c == 60) e in
-            rw (is.blank, is.nondigit, is.number, is.quote, x, y, is.splice, e) (header_none c t (is.header f (same_number c 60 g))))
-      | inr e ↦ rw (is.blank, is.nondigit, is.number, is.quote, x, y, is.splice, e) refl ]
+      | inl e ↦ (let (f, g) = and_both b (c == 60) e in
+          rw (is.blank, is.nondigit, is.number, is.quote, x, y, is.splice, e) (header_none c t (is.header f (same_number c 60 g))))
+      | inr e ↦ rw (is.blank, is.nondigit, is.number, is.quote, x, y, is.splice, e) refl
+    ]
 
 -- all of two lists that are joined
 pub both_all : (test : ℕ → Bool) (xs ys : List ℕ) → list_all test xs ≡ true → list_all test ys ≡ true → list_all test (xs ++ ys) ≡ true
@@ -102,10 +105,10 @@ again_name : (b : Bool) (text rest : List ℕ) → IsLongest b Name text rest �
 again_name b [] rest is = absurd is.lexeme
 again_name b (c ∷ cs) rest is =
     let stop : begins_with is_name_byte rest ≡ false = not_false _ (λ h.
-        let (d, after, e, passes) = begins_some is_name_byte rest h in
-        let all : list_all is_name_byte (cs ++ d ∷ []) ≡ true = both_all is_name_byte cs (d ∷ []) is.lexeme.1 (rw passes refl) in
-        let more = is.longest Name (d ∷ []) after e (is.lexeme.0, all) in
-        cc) in
+    let (d, after, e, passes) = begins_some is_name_byte rest h in
+    let all : list_all is_name_byte (cs ++ d ∷ []) ≡ true = both_all is_name_byte cs (d ∷ []) is.lexeme.1 (rw passes refl) in
+    let more = is.longest Name (d ∷ []) after e (is.lexeme.0, all) in
+    cc) in
     cut_name b c (cs ++ rest) is.lexeme.0 ∙ pair_is (Lexeme Name) _ _ (run_again is_name_byte cs rest is.lexeme.1 stop)
 
 again_number : (b : Bool) (text rest : List ℕ) → IsLongest b Number text rest → cut_at b (text ++ rest) ≡ (Lexeme Number, rest)
@@ -113,7 +116,7 @@ again_number b [] rest is = absurd is.lexeme
 again_number b (c ∷ cs) rest is =
     cut_number b c (cs ++ rest) (number_grows c cs rest is.lexeme.0)
     ∙ pair_is (Lexeme Number) _ _ (number_again c cs rest is.lexeme.1 (λ d after e all.
-        let more = is.longest Number (d ∷ []) after e (number_grows c cs (d ∷ []) is.lexeme.0, all) in cc))
+    let more = is.longest Number (d ∷ []) after e (number_grows c cs (d ∷ []) is.lexeme.0, all) in cc))
 
 literal_some : (q : ℕ) (t rest : List ℕ) → after_literal q 0 false t ≡ Some rest → literal_at q t ≡ (Lexeme (kind_of_quote q), rest)
 unfolding literal_at
@@ -126,7 +129,7 @@ literal_none q t e = rw (e, literal_at) refl
 again_quoted : (b : Bool) (q : ℕ) (text rest : List ℕ) → IsQuoteByte q → IsQuoted q text → cut_at b (text ++ rest) ≡ (Lexeme (kind_of_quote q), rest)
 again_quoted b q text rest is quoted =
     let whole : text ++ rest ≡ q ∷ (quoted.inside ++ q ∷ rest) =
-        ap (λ (x : List ℕ). x ++ rest) quoted.parts ∙ ap (λ (x : List ℕ). q ∷ x) (append_assoc quoted.inside (q ∷ []) rest) in
+    ap (λ (x : List ℕ). x ++ rest) quoted.parts ∙ ap (λ (x : List ℕ). q ∷ x) (append_assoc quoted.inside (q ∷ []) rest) in
     ap (cut_at b) whole ∙ (cut_quote b q (quoted.inside ++ q ∷ rest) is.quote
     ∙ literal_some q (quoted.inside ++ q ∷ rest) rest (literal_again q is.lf is.cr is.backslash 0 false quoted.inside rest quoted.quotable (omega arith)))
 
@@ -137,7 +140,7 @@ header_some t rest e = rw (e, header_at) refl
 again_header : (b : Bool) (text rest : List ℕ) → b ≡ true → IsHeaderName text → cut_at b (text ++ rest) ≡ (Lexeme Str, rest)
 again_header b text rest asked header =
     let whole : text ++ rest ≡ 60 ∷ (header.inside ++ 62 ∷ rest) =
-        ap (λ (x : List ℕ). x ++ rest) header.parts ∙ ap (λ (x : List ℕ). 60 ∷ x) (append_assoc header.inside (62 ∷ []) rest) in
+    ap (λ (x : List ℕ). x ++ rest) header.parts ∙ ap (λ (x : List ℕ). 60 ∷ x) (append_assoc header.inside (62 ∷ []) rest) in
     ap (λ (x : Bool). cut_at x (text ++ rest)) asked ∙ (ap (cut_at true) whole
     ∙ (cut_angle (header.inside ++ 62 ∷ rest) ∙ header_some (header.inside ++ 62 ∷ rest) rest (header_again header.inside rest header.one_line)))
 
@@ -147,7 +150,7 @@ split_angle : (cs inside rest after : List ℕ) → cs ++ rest ≡ inside ++ 62 
 split_angle [] inside rest after e all = (inside, refl, e)
 split_angle (c ∷ cs) [] rest after e all =
     absurd (let (x, y) = and_both (not (c == 62)) (list_all (λ d. not (d == 62)) cs) all in
-        let h = head_is _ _ _ _ e in let f = not_true (c == 62) x in let g = number_same c 62 h in cc)
+    let h = head_is _ _ _ _ e in let f = not_true (c == 62) x in let g = number_same c 62 h in cc)
 split_angle (c ∷ cs) (i ∷ inside) rest after e all =
     let (x, y) = and_both (not (c == 62)) (list_all (λ d. not (d == 62)) cs) all in
     let (more, p, q) = split_angle cs inside rest after (tail_is _ _ _ _ e) y in
@@ -160,28 +163,38 @@ cases_of (Some x) = inr (x, refl)
 -- a punctuator that is the longest lexeme is no beginning of an include name
 no_header : (b : Bool) (c : ℕ) (cs rest : List ℕ) → IsLongest b Punct (c ∷ cs) rest → b ≡ true → c ≡ 60 → after_header (cs ++ rest) ≡ None
 no_header b c cs rest is asked here = elim (cases_of (after_header (cs ++ rest))) [
-    inl none ↦ none
+  | inl none ↦ none
   | inr (after, some) ↦
-        (let (inside, parts, all) = header_takes (cs ++ rest) after some in
-        let mark : is_punctuator (60 ∷ cs) ≡ true = ap (λ (x : ℕ). is_punctuator (x ∷ cs)) (sym here) ∙ is.lexeme in
-        let (more, p, q) = split_angle cs inside rest after parts (no_angle cs mark) in
-        let longer = is.longest Str (more ++ 62 ∷ []) after (q ∙ sym (append_assoc more (62 ∷ []) after))
-            (inr (asked, record { inside = inside; one_line = all;
-                parts = ap (λ (x : ℕ). x ∷ (cs ++ (more ++ 62 ∷ []))) here ∙ ap (λ (x : List ℕ). 60 ∷ x) (sym (append_assoc cs more (62 ∷ [])) ∙ ap (λ (x : List ℕ). x ++ 62 ∷ []) (sym p)) })) in
-        absurd (let n = ap length longer in omega (arith, n, length-append more (62 ∷ [])))) ]
+      (let (inside, parts, all) = header_takes (cs ++ rest) after some in
+      let mark : is_punctuator (60 ∷ cs) ≡ true = ap (λ (x : ℕ). is_punctuator (x ∷ cs)) (sym here) ∙ is.lexeme in
+      let (more, p, q) = split_angle cs inside rest after parts (no_angle cs mark) in
+      let longer = is.longest Str (more ++ 62 ∷ []) after (q ∙ sym (append_assoc more (62 ∷ []) after))
+      (inr (
+        asked,
+        record {
+          inside = inside;
+          one_line = all;
+          parts = ap (λ (x : ℕ). x ∷ (cs ++ (more ++ 62 ∷ []))) here ∙ ap (λ (x : List ℕ). 60 ∷ x) (sym (append_assoc cs more (62 ∷ [])) ∙ ap (λ (x : List ℕ). x ++ 62 ∷ []) (sym p));
+        },
+      )) in
+      absurd (let n = ap length longer in omega (arith, n, length-append more (62 ∷ []))))
+]
 
 -- nor of a number
 number_not : (b : Bool) (c : ℕ) (cs rest : List ℕ) → IsLongest b Punct (c ∷ cs) rest → begins_number (c ∷ (cs ++ rest)) ≡ true → ⊥
 unfolding begins_digit begins_number
 number_not b c [] [] is h = elim (number_head c [] h) [
-    inl x ↦ (let class = (punctuator_class c is.lexeme).digit in cc)
-  | inr (x, y) ↦ cc ]
+  | inl x ↦ (let class = (punctuator_class c is.lexeme).digit in cc)
+  | inr (x, y) ↦ cc
+]
 number_not b c [] (d ∷ rest) is h = elim (number_head c (d ∷ rest) h) [
-    inl x ↦ (let class = (punctuator_class c is.lexeme).digit in cc)
-  | inr (x, y) ↦ (let more = is.longest Number (d ∷ []) rest refl (h, digit_goes_on c d y) in cc) ]
+  | inl x ↦ (let class = (punctuator_class c is.lexeme).digit in cc)
+  | inr (x, y) ↦ (let more = is.longest Number (d ∷ []) rest refl (h, digit_goes_on c d y) in cc)
+]
 number_not b c (d ∷ cs) rest is h = elim (number_head c (d ∷ (cs ++ rest)) h) [
-    inl x ↦ (let class = (punctuator_class c (punctuator_head c (d ∷ cs) is.lexeme)).digit in cc)
-  | inr (x, y) ↦ (let second = punctuator_second c d cs is.lexeme in cc) ]
+  | inl x ↦ (let class = (punctuator_class c (punctuator_head c (d ∷ cs) is.lexeme)).digit in cc)
+  | inr (x, y) ↦ (let second = punctuator_second c d cs is.lexeme in cc)
+]
 
 some_text : (text : List ℕ) → is_punctuator text ≡ true → 0 < length text
 some_text [] e = absurd (no_empty e)
@@ -199,25 +212,30 @@ punct_at b text rest is =
     let most : length text ≤ n = length_most text rest is.lexeme in
     let some : 0 < length text = some_text text is.lexeme in
     let same : n ≡ length text = elim (length_sound (text ++ rest)) [
-        inl h ↦ omega arith
+      | inl h ↦ omega arith
       | inr (sound, short, h) ↦
-            (let m = n - length text in
-            let e : n ≡ length text + m = omega arith in
-            let front : take n (text ++ rest) ≡ text ++ take m rest = ap (λ (x : ℕ). take x (text ++ rest)) e ∙ take_past text rest m in
-            let longer = is.longest Punct (take m rest) (drop m rest) (sym (take-append-drop m rest)) (ap is_punctuator (sym front) ∙ sound) in
-            let lengths : length (take m rest) ≡ m = length-take-le m rest (omega (arith, length-append text rest)) in
-            let none : length (take m rest) ≡ 0 = ap length longer in
-            omega arith) ] in
+          (let m = n - length text in
+          let e : n ≡ length text + m = omega arith in
+          let front : take n (text ++ rest) ≡ text ++ take m rest = ap (λ (x : ℕ). take x (text ++ rest)) e ∙ take_past text rest m in
+          let longer = is.longest Punct (take m rest) (drop m rest) (sym (take-append-drop m rest)) (ap is_punctuator (sym front) ∙ sound) in
+          let lengths : length (take m rest) ≡ m = length-take-le m rest (omega (arith, length-append text rest)) in
+          let none : length (take m rest) ≡ 0 = ap length longer in
+          omega arith)
+    ] in
     rw (positive_test n (omega arith)) (pair_is (Lexeme Punct) (drop n (text ++ rest)) rest (ap (λ (x : ℕ). drop x (text ++ rest)) same ∙ drop_at text rest (length text) refl))
 
 -- a punctuator that is the longest lexeme is nothing else
 punct_untaken : (b : Bool) (c : ℕ) (cs rest : List ℕ) → IsLongest b Punct (c ∷ cs) rest → begins_comment (c ∷ (cs ++ rest)) ≡ false → IsUntaken b c (cs ++ rest)
 punct_untaken b c cs rest is comment =
     let class = punctuator_class c (punctuator_head c cs is.lexeme) in record {
-    blank = class.blank; nondigit = class.nondigit; quote = class.quote; comment = comment;
-    number = not_false _ (λ h. number_not b c cs rest is h);
-    splice = no_splice c (cs ++ rest) class.splice;
-    header = no_header b c cs rest is }
+      blank = class.blank;
+      nondigit = class.nondigit;
+      quote = class.quote;
+      comment = comment;
+      number = not_false _ (λ h. number_not b c cs rest is h);
+      splice = no_splice c (cs ++ rest) class.splice;
+      header = no_header b c cs rest is;
+    }
 
 -- the longest punctuator is cut off
 again_punct : (b : Bool) (text rest : List ℕ) → IsLongest b Punct text rest → begins_comment (text ++ rest) ≡ false → cut_at b (text ++ rest) ≡ (Lexeme Punct, rest)
@@ -229,7 +247,7 @@ again_line : (b : Bool) (text rest : List ℕ) → IsLineComment text rest → c
 again_line b text rest is =
     let whole : text ++ rest ≡ 47 ∷ (47 ∷ (is.inside ++ rest)) = ap (λ (x : List ℕ). x ++ rest) is.parts in
     ap (cut_at b) whole ∙ (cut_line b (is.inside ++ rest) ∙ pair_is Comment (after_line 0 0 (47 ∷ (47 ∷ (is.inside ++ rest)))) rest
-        (ap (after_line 0 0) (sym whole) ∙ line_again 0 0 text rest is.line.one_line is.line.ends))
+    (ap (after_line 0 0) (sym whole) ∙ line_again 0 0 text rest is.line.one_line is.line.ends))
 
 comment_some : (t rest : List ℕ) → after_comment t ≡ Some rest → comment_at t ≡ (Comment, rest)
 unfolding comment_at
@@ -242,9 +260,9 @@ comment_none t e = rw (e, comment_at) refl
 again_block : (b : Bool) (text rest : List ℕ) → IsBlockComment text → cut_at b (text ++ rest) ≡ (Comment, rest)
 again_block b text rest is =
     let whole : text ++ rest ≡ 47 ∷ (42 ∷ (is.inside ++ 42 ∷ (47 ∷ rest))) =
-        ap (λ (x : List ℕ). x ++ rest) is.parts ∙ ap (λ (x : List ℕ). 47 ∷ (42 ∷ x)) (append_assoc is.inside (42 ∷ (47 ∷ [])) rest) in
+    ap (λ (x : List ℕ). x ++ rest) is.parts ∙ ap (λ (x : List ℕ). 47 ∷ (42 ∷ x)) (append_assoc is.inside (42 ∷ (47 ∷ [])) rest) in
     ap (cut_at b) whole ∙ (cut_block b (is.inside ++ 42 ∷ (47 ∷ rest))
-        ∙ comment_some (is.inside ++ 42 ∷ (47 ∷ rest)) rest (comment_again is.inside rest is.first))
+    ∙ comment_some (is.inside ++ 42 ∷ (47 ∷ rest)) rest (comment_again is.inside rest is.first))
 
 again_open_comment : (b : Bool) (text rest : List ℕ) → IsOpenComment text rest → cut_at b (text ++ rest) ≡ (OpenComment, rest)
 again_open_comment b text rest is =
@@ -260,25 +278,29 @@ again_open_literal b text rest is =
     let lf : (q == 10) ≡ false = other_number q 10 byte.lf in
     let line : on_one_line 0 q is.body ≡ true = (let h : on_one_line 0 0 (q ∷ is.body) ≡ true = ap (on_one_line 0 0) (sym is.parts) ∙ is.line.one_line in rw lf at h) in
     let ends : (rest ≡ []) ⊎ ((after : List ℕ) × (rest ≡ 10 ∷ after) × (on_one_line 0 q (is.body ++ 10 ∷ []) ≡ false)) = elim is.line.ends [
-        inl h ↦ inl h
-      | inr (after, h, k) ↦ inr (after, h, (let m : on_one_line 0 0 (q ∷ (is.body ++ 10 ∷ [])) ≡ false = ap (λ (x : List ℕ). on_one_line 0 0 (x ++ 10 ∷ [])) (sym is.parts) ∙ k in rw lf at m)) ] in
+      | inl h ↦ inl h
+      | inr (after, h, k) ↦ inr (after, h, (let m : on_one_line 0 0 (q ∷ (is.body ++ 10 ∷ [])) ≡ false = ap (λ (x : List ℕ). on_one_line 0 0 (x ++ 10 ∷ [])) (sym is.parts) ∙ k in rw lf at m))
+    ] in
     let none : after_literal q 0 false (is.body ++ rest) ≡ None = elim (cases_of (after_literal q 0 false (is.body ++ rest))) [
-        inl h ↦ h
-      | inr (after, h) ↦ (let x = literal_takes q byte.lf byte.cr 0 false (is.body ++ rest) after h in absurd (is.unclosed x.inside after x.parts x.quotable)) ] in
+      | inl h ↦ h
+      | inr (after, h) ↦ (let x = literal_takes q byte.lf byte.cr 0 false (is.body ++ rest) after h in absurd (is.unclosed x.inside after x.parts x.quotable))
+    ] in
     ap (cut_at b) whole ∙ (cut_quote b q (is.body ++ rest) is.quoted
-        ∙ (literal_none q (is.body ++ rest) none ∙ pair_is OpenLiteral (after_line 0 q (is.body ++ rest)) rest (line_again 0 q is.body rest line ends)))
+    ∙ (literal_none q (is.body ++ rest) none ∙ pair_is OpenLiteral (after_line 0 q (is.body ++ rest)) rest (line_again 0 q is.body rest line ends)))
 
 -- a splice begins with a backslash
 splice_head : (c : ℕ) (t : List ℕ) → 0 < splice_length (c ∷ t) → c ≡ 92
 splice_head c t some = elim (is_either (c == 92)) [
-    inl e ↦ same_number c 92 e
-  | inr e ↦ absurd (let h = no_splice c t (λ x. let f = number_same c 92 x in cc) in omega arith) ]
+  | inl e ↦ same_number c 92 e
+  | inr e ↦ absurd (let h = no_splice c t (λ x. let f = number_same c 92 x in cc) in omega arith)
+]
 
 first_splice : (c : ℕ) (t : List ℕ) → joined_after 0 (c ∷ t) ≡ [] → 0 < splice_length (c ∷ t)
 unfolding joined_after
 first_splice c t e = elim (is_either (nat_lt 0 (splice_length (c ∷ t)))) [
-    inl h ↦ positive _ h
-  | inr h ↦ absurd (let f = rw h at e in cc) ]
+  | inl h ↦ positive _ h
+  | inr h ↦ absurd (let f = rw h at e in cc)
+]
 
 again_splices : (b : Bool) (text rest : List ℕ) → AreSplices text → splice_length rest ≡ 0 → cut_at b (text ++ rest) ≡ (Splices, rest)
 again_splices b [] rest are stop = absurd (are.some refl)
@@ -287,9 +309,9 @@ again_splices b (c ∷ t) rest are stop =
     let more : splice_length (c ∷ (t ++ rest)) ≡ splice_length (c ∷ t) = splice_more (c ∷ t) rest some in
     let here : c ≡ 92 = splice_head c t some in
     let there : nat_lt 0 (splice_length (92 ∷ (t ++ rest))) ≡ true =
-        subst (λ (x : ℕ). nat_lt 0 (splice_length (x ∷ (t ++ rest))) ≡ true) here (positive_test _ (omega arith)) in
+    subst (λ (x : ℕ). nat_lt 0 (splice_length (x ∷ (t ++ rest))) ≡ true) here (positive_test _ (omega arith)) in
     let cut : cut_at b (c ∷ (t ++ rest)) ≡ (Splices, after_splices 0 (c ∷ (t ++ rest))) =
-        subst (λ (x : ℕ). cut_at b (x ∷ (t ++ rest)) ≡ (Splices, after_splices 0 (x ∷ (t ++ rest)))) (sym here) (cut_backslash b (t ++ rest) there) in
+    subst (λ (x : ℕ). cut_at b (x ∷ (t ++ rest)) ≡ (Splices, after_splices 0 (x ∷ (t ++ rest)))) (sym here) (cut_backslash b (t ++ rest) there) in
     cut ∙ pair_is Splices (after_splices 0 (c ∷ (t ++ rest))) rest (splices_again 0 (c ∷ t) rest are.only stop (omega arith))
 
 single_slash : is_punctuator (47 ∷ []) ≡ true
@@ -311,33 +333,38 @@ stray_number : (b : Bool) (c : ℕ) (rest : List ℕ) → begins_number (c ∷ r
 unfolding begins_number begins_digit all_go_on_number
 stray_number b c [] h no_word = no_word Number (c ∷ []) [] refl (h, refl)
 stray_number b c (d ∷ rest) h no_word = elim (number_head c (d ∷ rest) h) [
-    inl x ↦ no_word Number (c ∷ []) (d ∷ rest) refl (rw x refl, refl)
-  | inr (x, y) ↦ no_word Number (c ∷ d ∷ []) rest refl (h, digit_goes_on c d y) ]
+  | inl x ↦ no_word Number (c ∷ []) (d ∷ rest) refl (rw x refl, refl)
+  | inr (x, y) ↦ no_word Number (c ∷ d ∷ []) rest refl (h, digit_goes_on c d y)
+]
 
 -- a byte that begins nothing else
 stray_untaken : (b : Bool) (c : ℕ) (rest : List ℕ) → is_blank c ≡ false → is_quote c ≡ false → splice_length (c ∷ rest) ≡ 0
     → ((kind : Kind) (word after : List ℕ) → c ∷ rest ≡ word ++ after → IsLexeme b kind word → ⊥) → IsUntaken b c rest
 stray_untaken b c rest blank quote splice no_word = record {
-    blank = blank; quote = quote; splice = splice;
-    nondigit = not_false _ (λ h. no_word Name (c ∷ []) rest refl (h, refl));
-    number = not_false _ (λ h. stray_number b c rest h no_word);
-    comment = not_false _ (λ h. no_word Punct (c ∷ []) rest refl (subst (λ (x : ℕ). is_punctuator (x ∷ []) ≡ true) (sym (comment_head c rest h)) single_slash));
-    header = λ p q. absurd (no_word Punct (c ∷ []) rest refl (subst (λ (x : ℕ). is_punctuator (x ∷ []) ≡ true) (sym q) single_angle)) }
+  blank = blank;
+  quote = quote;
+  splice = splice;
+  nondigit = not_false _ (λ h. no_word Name (c ∷ []) rest refl (h, refl));
+  number = not_false _ (λ h. stray_number b c rest h no_word);
+  comment = not_false _ (λ h. no_word Punct (c ∷ []) rest refl (subst (λ (x : ℕ). is_punctuator (x ∷ []) ≡ true) (sym (comment_head c rest h)) single_slash));
+  header = λ p q. absurd (no_word Punct (c ∷ []) rest refl (subst (λ (x : ℕ). is_punctuator (x ∷ []) ≡ true) (sym q) single_angle));
+}
 
 stray_at : (b : Bool) (c : ℕ) (rest : List ℕ)
     → ((kind : Kind) (word after : List ℕ) → c ∷ rest ≡ word ++ after → IsLexeme b kind word → ⊥) → punctuator_at (c ∷ rest) ≡ (Stray, rest)
 unfolding punctuator_at
 stray_at b c rest no_word = elim (length_sound (c ∷ rest)) [
-    inl h ↦ rw h refl
+  | inl h ↦ rw h refl
   | inr (sound, short, h) ↦
-        absurd (no_word Punct (take (punctuator_length (c ∷ rest)) (c ∷ rest)) (drop (punctuator_length (c ∷ rest)) (c ∷ rest))
-            (sym (take-append-drop (punctuator_length (c ∷ rest)) (c ∷ rest))) sound) ]
+      absurd (no_word Punct (take (punctuator_length (c ∷ rest)) (c ∷ rest)) (drop (punctuator_length (c ∷ rest)) (c ∷ rest))
+      (sym (take-append-drop (punctuator_length (c ∷ rest)) (c ∷ rest))) sound)
+]
 
 again_stray : (b : Bool) (text rest : List ℕ) → IsStray b text rest → cut_at b (text ++ rest) ≡ (Stray, rest)
 again_stray b text rest is =
     let whole : text ++ rest ≡ is.byte ∷ rest = ap (λ (x : List ℕ). x ++ rest) is.parts in
     ap (cut_at b) whole ∙ (cut_untaken b is.byte rest (stray_untaken b is.byte rest is.not_blank is.not_quote is.not_splice is.no_word)
-        ∙ stray_at b is.byte rest is.no_word)
+    ∙ stray_at b is.byte rest is.no_word)
 
 kind_single : kind_of_quote 39 ≡ Char
 unfolding kind_of_quote

@@ -24,6 +24,7 @@ step_of P quote mode c t n e go = by_read (read_byte quote mode c) refl e
     by_count : (next : Bool × Mode) (o : Option ℕ) → read_byte quote mode c ≡ Some next → count_from quote next.1 t ≡ o → option_map (λ (n : ℕ). (cond next.0 1 0) + n) o ≡ Some n → P
     by_count next None r f g = absurd (cc)
     by_count next (Some m) r f g = go next m r f (let h : (cond next.0 1 0) + m ≡ n = cc in sym h)
+
     by_read : (o : Option (Bool × Mode)) → read_byte quote mode c ≡ o
         → option_and_then (λ (next : Bool × Mode). option_map (λ (n : ℕ). (cond next.0 1 0) + n) (count_from quote next.1 t)) o ≡ Some n → P
     by_read None r f = absurd (cc)
@@ -102,7 +103,7 @@ begun_escape quote c t n m next here e count follows =
     let f : FollowsEscape quote t m = subst (λ (x : Bool × Mode). Follows quote x.1 t m) (sym e) follows in
     let one : n ≡ suc m = count ∙ (ap (λ (x : Bool × Mode). (cond x.0 1 0) + m) (sym e) ∙ one-add m) in
     subst (λ (k : ℕ). Characters (is_allowed quote) k (c ∷ t)) (sym one)
-        (subst (λ (k : ℕ). Characters (is_allowed quote) (suc m) (k ∷ t)) (sym here) (escape m f.body f.rest t f.is_escape f.parts f.others))
+    (subst (λ (k : ℕ). Characters (is_allowed quote) (suc m) (k ∷ t)) (sym here) (escape m f.body f.rest t f.is_escape f.parts f.others))
 
 begun_plain : (quote c : ℕ) (t : List ℕ) (n m : ℕ) (next : Bool × Mode) → c ≢ 92 → is_allowed quote c ≡ true → ◌≡◌ {A = Bool × Mode} (true, Plain) next → n ≡ (cond next.0 1 0) + m
     → Follows quote next.1 t m → Characters (is_allowed quote) n (c ∷ t)
@@ -117,11 +118,11 @@ begun : (quote c : ℕ) (t : List ℕ) (n m : ℕ) (next : Bool × Mode) → beg
 unfolding begin_character
 begun quote c t n m next e count follows =
     decide (λ (o : Option (Bool × Mode)). o ≡ Some next → Characters (is_allowed quote) n (c ∷ t)) (c == 92) _ _
-        (λ h f. begun_escape quote c t n m next (same_number c 92 h) (let x : (true, Escape) ≡ next = cc in x) count follows)
-        (λ h f. decide (λ (o : Option (Bool × Mode)). o ≡ Some next → Characters (is_allowed quote) n (c ∷ t)) (is_allowed quote c) _ _
-            (λ k g. begun_plain quote c t n m next (λ x. let y = number_same c 92 x in cc) k (let x : (true, Plain) ≡ next = cc in x) count follows)
-            (λ k g. absurd (cc)) f)
-        e
+    (λ h f. begun_escape quote c t n m next (same_number c 92 h) (let x : (true, Escape) ≡ next = cc in x) count follows)
+    (λ h f. decide (λ (o : Option (Bool × Mode)). o ≡ Some next → Characters (is_allowed quote) n (c ∷ t)) (is_allowed quote c) _ _
+    (λ k g. begun_plain quote c t n m next (λ x. let y = number_same c 92 x in cc) k (let x : (true, Plain) ≡ next = cc in x) count follows)
+    (λ k g. absurd (cc)) f)
+    e
 
 first_value : (base c : ℕ) (more : List ℕ) → value_from base (digit_value c) more ≤ 255 → value_of base (c ∷ more) ≤ 255
 unfolding value_from
@@ -146,89 +147,148 @@ takes_end quote Plain n e = let h : 0 ≡ n = cc in subst (λ (k : ℕ). Charact
 takes_end quote Escape n e = absurd (cc)
 takes_end quote HexadecimalStart n e = absurd (cc)
 takes_end quote (Octal left value) n e = λ h. let z : 0 ≡ n = cc in record {
-    more = []; rest = []; parts = refl; digits = refl; short = omega arith; stop = inr (begins_nil is_octal); small = h;
-    others = subst (λ (k : ℕ). Characters (is_allowed quote) k []) z none }
+  more = [];
+  rest = [];
+  parts = refl;
+  digits = refl;
+  short = omega arith;
+  stop = inr (begins_nil is_octal);
+  small = h;
+  others = subst (λ (k : ℕ). Characters (is_allowed quote) k []) z none;
+}
 takes_end quote (Hexadecimal value) n e = λ h. let z : 0 ≡ n = cc in record {
-    more = []; rest = []; parts = refl; digits = refl; stop = begins_nil is_hexadecimal; small = h;
-    others = subst (λ (k : ℕ). Characters (is_allowed quote) k []) z none }
+  more = [];
+  rest = [];
+  parts = refl;
+  digits = refl;
+  stop = begins_nil is_hexadecimal;
+  small = h;
+  others = subst (λ (k : ℕ). Characters (is_allowed quote) k []) z none;
+}
 
 takes_escape : (quote c : ℕ) (t : List ℕ) (n : ℕ) (next : Bool × Mode) (m : ℕ) → read_byte quote Escape c ≡ Some next → n ≡ (cond next.0 1 0) + m
     → Follows quote next.1 t m → FollowsEscape quote (c ∷ t) n
 unfolding read_byte
 takes_escape quote c t n next m read total follows =
     decide (λ (o : Option (Bool × Mode)). o ≡ Some next → FollowsEscape quote (c ∷ t) n) (is_simple_escape c) _ _
-        (λ h f.
-            let e : ◌≡◌ {A = Bool × Mode} (false, Plain) next = cc in
-            record { body = c ∷ []; rest = t; parts = refl; is_escape = simple c h; others = moved quote t n m Plain next e total follows })
-        (λ h. decide (λ (o : Option (Bool × Mode)). o ≡ Some next → FollowsEscape quote (c ∷ t) n) (is_octal c) _ _
-            (λ k f.
-                let e : ◌≡◌ {A = Bool × Mode} (false, Octal 2 (digit_value c)) next = cc in
-                let g : FollowsOctal quote 2 (digit_value c) t n = moved quote t n m (Octal 2 (digit_value c)) next e total follows (octal_small c k) in
-                record { body = c ∷ g.more; rest = g.rest; parts = ap (λ (x : List ℕ). c ∷ x) g.parts; others = g.others;
-                    is_escape = octal c g.more (both_and _ _ k g.digits) g.short g.stop (first_value 8 c g.more g.small) })
-            (λ k. decide (λ (o : Option (Bool × Mode)). o ≡ Some next → FollowsEscape quote (c ∷ t) n) (c == 120) _ _
-                (λ l f.
-                    let e : ◌≡◌ {A = Bool × Mode} (false, HexadecimalStart) next = cc in
-                    let g : FollowsStart quote t n = moved quote t n m HexadecimalStart next e total follows in
-                    record { body = 120 ∷ (g.first ∷ g.more); rest = g.rest; others = g.others;
-                        parts = ap (λ (x : ℕ). x ∷ t) (same_number c 120 l) ∙ ap (λ (x : List ℕ). 120 ∷ x) g.parts;
-                        is_escape = hexadecimal g.first g.more g.digits g.stop g.small })
-                (λ l f. absurd (cc))))
-        read
+    (λ h f.
+    let e : ◌≡◌ {A = Bool × Mode} (false, Plain) next = cc in
+    record { body = c ∷ []; rest = t; parts = refl; is_escape = simple c h; others = moved quote t n m Plain next e total follows })
+    (λ h. decide (λ (o : Option (Bool × Mode)). o ≡ Some next → FollowsEscape quote (c ∷ t) n) (is_octal c) _ _
+    (λ k f.
+    let e : ◌≡◌ {A = Bool × Mode} (false, Octal 2 (digit_value c)) next = cc in
+    let g : FollowsOctal quote 2 (digit_value c) t n = moved quote t n m (Octal 2 (digit_value c)) next e total follows (octal_small c k) in
+    record {
+      body = c ∷ g.more;
+      rest = g.rest;
+      parts = ap (λ (x : List ℕ). c ∷ x) g.parts;
+      others = g.others;
+      is_escape = octal c g.more (both_and _ _ k g.digits) g.short g.stop (first_value 8 c g.more g.small);
+    })
+    (λ k. decide (λ (o : Option (Bool × Mode)). o ≡ Some next → FollowsEscape quote (c ∷ t) n) (c == 120) _ _
+    (λ l f.
+    let e : ◌≡◌ {A = Bool × Mode} (false, HexadecimalStart) next = cc in
+    let g : FollowsStart quote t n = moved quote t n m HexadecimalStart next e total follows in
+    record {
+      body = 120 ∷ (g.first ∷ g.more);
+      rest = g.rest;
+      others = g.others;
+      parts = ap (λ (x : ℕ). x ∷ t) (same_number c 120 l) ∙ ap (λ (x : List ℕ). 120 ∷ x) g.parts;
+      is_escape = hexadecimal g.first g.more g.digits g.stop g.small;
+    })
+    (λ l f. absurd (cc))))
+    read
 
 takes_octal : (quote left value c : ℕ) (t : List ℕ) (n : ℕ) (next : Bool × Mode) (m : ℕ) → read_byte quote (Octal left value) c ≡ Some next → n ≡ (cond next.0 1 0) + m
     → Follows quote next.1 t m → value ≤ 255 → FollowsOctal quote left value (c ∷ t) n
 unfolding read_byte add_octal value_from
 takes_octal quote left value c t n next m read total follows most =
     decide (λ (o : Option (Bool × Mode)). o ≡ Some next → FollowsOctal quote left value (c ∷ t) n) (nat_lt 0 left && is_octal c) _ _
-        (λ h f.
-            let (some, digit) = and_both (nat_lt 0 left) (is_octal c) h in
-            let room : 0 < left = below 0 left some in
-            decide (λ (o : Option (Bool × Mode)). o ≡ Some next → FollowsOctal quote left value (c ∷ t) n) (nat_lt (value * 8 + digit_value c) 256) _ _
-                (λ k l.
-                    let e : ◌≡◌ {A = Bool × Mode} (false, Octal (left - 1) (value * 8 + digit_value c)) next = cc in
-                    let fit : value * 8 + digit_value c < 256 = below _ _ k in
-                    let g : FollowsOctal quote (left - 1) (value * 8 + digit_value c) t n =
-                        moved quote t n m (Octal (left - 1) (value * 8 + digit_value c)) next e total follows (omega arith) in
-                    let g_short = g.short in
-                    record { more = c ∷ g.more; rest = g.rest; parts = ap (λ (x : List ℕ). c ∷ x) g.parts; digits = both_and _ _ digit g.digits;
-                        short = omega arith; stop = elim g.stop [ inl x ↦ inl (omega arith) | inr x ↦ inr x ]; small = g.small; others = g.others })
-                (λ k l. absurd (cc)) f)
-        (λ h f. record { more = []; rest = c ∷ t; parts = refl; digits = refl; short = omega arith; small = most;
-            stop = elim (is_either (is_octal c)) [ inl x ↦ inl (no_room left c h x) | inr x ↦ inr (begins_false is_octal c t x) ];
-            others = begun quote c t n m next f total follows })
-        read
+    (λ h f.
+    let (some, digit) = and_both (nat_lt 0 left) (is_octal c) h in
+    let room : 0 < left = below 0 left some in
+    decide (λ (o : Option (Bool × Mode)). o ≡ Some next → FollowsOctal quote left value (c ∷ t) n) (nat_lt (value * 8 + digit_value c) 256) _ _
+    (λ k l.
+    let e : ◌≡◌ {A = Bool × Mode} (false, Octal (left - 1) (value * 8 + digit_value c)) next = cc in
+    let fit : value * 8 + digit_value c < 256 = below _ _ k in
+    let g : FollowsOctal quote (left - 1) (value * 8 + digit_value c) t n =
+    moved quote t n m (Octal (left - 1) (value * 8 + digit_value c)) next e total follows (omega arith) in
+    let g_short = g.short in
+    record {
+      more = c ∷ g.more;
+      rest = g.rest;
+      parts = ap (λ (x : List ℕ). c ∷ x) g.parts;
+      digits = both_and _ _ digit g.digits;
+      short = omega arith;
+      stop = elim g.stop [ inl x ↦ inl (omega arith) | inr x ↦ inr x ];
+      small = g.small;
+      others = g.others;
+    })
+    (λ k l. absurd (cc)) f)
+    (λ h f. record {
+      more = [];
+      rest = c ∷ t;
+      parts = refl;
+      digits = refl;
+      short = omega arith;
+      small = most;
+      stop = elim (is_either (is_octal c)) [ inl x ↦ inl (no_room left c h x) | inr x ↦ inr (begins_false is_octal c t x) ];
+      others = begun quote c t n m next f total follows;
+    })
+    read
 
 takes_start : (quote c : ℕ) (t : List ℕ) (n : ℕ) (next : Bool × Mode) (m : ℕ) → read_byte quote HexadecimalStart c ≡ Some next → n ≡ (cond next.0 1 0) + m
     → Follows quote next.1 t m → FollowsStart quote (c ∷ t) n
 unfolding read_byte
 takes_start quote c t n next m read total follows =
     decide (λ (o : Option (Bool × Mode)). o ≡ Some next → FollowsStart quote (c ∷ t) n) (is_hexadecimal c) _ _
-        (λ h f.
-            let e : ◌≡◌ {A = Bool × Mode} (false, Hexadecimal (digit_value c)) next = cc in
-            let g : FollowsHexadecimal quote (digit_value c) t n = moved quote t n m (Hexadecimal (digit_value c)) next e total follows (hexadecimal_small c h) in
-            record { first = c; more = g.more; rest = g.rest; parts = ap (λ (x : List ℕ). c ∷ x) g.parts; digits = both_and _ _ h g.digits;
-                stop = g.stop; small = first_value 16 c g.more g.small; others = g.others })
-        (λ h f. absurd (cc)) read
+    (λ h f.
+    let e : ◌≡◌ {A = Bool × Mode} (false, Hexadecimal (digit_value c)) next = cc in
+    let g : FollowsHexadecimal quote (digit_value c) t n = moved quote t n m (Hexadecimal (digit_value c)) next e total follows (hexadecimal_small c h) in
+    record {
+      first = c;
+      more = g.more;
+      rest = g.rest;
+      parts = ap (λ (x : List ℕ). c ∷ x) g.parts;
+      digits = both_and _ _ h g.digits;
+      stop = g.stop;
+      small = first_value 16 c g.more g.small;
+      others = g.others;
+    })
+    (λ h f. absurd (cc)) read
 
 takes_hexadecimal : (quote value c : ℕ) (t : List ℕ) (n : ℕ) (next : Bool × Mode) (m : ℕ) → read_byte quote (Hexadecimal value) c ≡ Some next → n ≡ (cond next.0 1 0) + m
     → Follows quote next.1 t m → value ≤ 255 → FollowsHexadecimal quote value (c ∷ t) n
 unfolding read_byte add_hexadecimal value_from
 takes_hexadecimal quote value c t n next m read total follows most =
     decide (λ (o : Option (Bool × Mode)). o ≡ Some next → FollowsHexadecimal quote value (c ∷ t) n) (is_hexadecimal c) _ _
-        (λ h f.
-            decide (λ (o : Option (Bool × Mode)). o ≡ Some next → FollowsHexadecimal quote value (c ∷ t) n) (nat_lt (value * 16 + digit_value c) 256) _ _
-                (λ k l.
-                    let e : ◌≡◌ {A = Bool × Mode} (false, Hexadecimal (value * 16 + digit_value c)) next = cc in
-                    let fit : value * 16 + digit_value c < 256 = below _ _ k in
-                    let g : FollowsHexadecimal quote (value * 16 + digit_value c) t n =
-                        moved quote t n m (Hexadecimal (value * 16 + digit_value c)) next e total follows (omega arith) in
-                    record { more = c ∷ g.more; rest = g.rest; parts = ap (λ (x : List ℕ). c ∷ x) g.parts; digits = both_and _ _ h g.digits;
-                        stop = g.stop; small = g.small; others = g.others })
-                (λ k l. absurd (cc)) f)
-        (λ h f. record { more = []; rest = c ∷ t; parts = refl; digits = refl; small = most; stop = begins_false is_hexadecimal c t h;
-            others = begun quote c t n m next f total follows })
-        read
+    (λ h f.
+    decide (λ (o : Option (Bool × Mode)). o ≡ Some next → FollowsHexadecimal quote value (c ∷ t) n) (nat_lt (value * 16 + digit_value c) 256) _ _
+    (λ k l.
+    let e : ◌≡◌ {A = Bool × Mode} (false, Hexadecimal (value * 16 + digit_value c)) next = cc in
+    let fit : value * 16 + digit_value c < 256 = below _ _ k in
+    let g : FollowsHexadecimal quote (value * 16 + digit_value c) t n =
+    moved quote t n m (Hexadecimal (value * 16 + digit_value c)) next e total follows (omega arith) in
+    record {
+      more = c ∷ g.more;
+      rest = g.rest;
+      parts = ap (λ (x : List ℕ). c ∷ x) g.parts;
+      digits = both_and _ _ h g.digits;
+      stop = g.stop;
+      small = g.small;
+      others = g.others;
+    })
+    (λ k l. absurd (cc)) f)
+    (λ h f. record {
+      more = [];
+      rest = c ∷ t;
+      parts = refl;
+      digits = refl;
+      small = most;
+      stop = begins_false is_hexadecimal c t h;
+      others = begun quote c t n m next f total follows;
+    })
+    read
 
 takes_step : (quote c : ℕ) (t : List ℕ) (mode : Mode) (n : ℕ) (next : Bool × Mode) (m : ℕ) → read_byte quote mode c ≡ Some next → n ≡ (cond next.0 1 0) + m
     → Follows quote next.1 t m → Follows quote mode (c ∷ t) n
@@ -336,7 +396,7 @@ again_octal quote left value (c ∷ more) rest n all short stop small e =
     let grows = value_grows 7 (value * 8 + digit_value c) more in
     let fit : value * 8 + digit_value c < 256 = omega arith in
     quiet quote (Octal left value) (Octal (left - 1) (value * 8 + digit_value c)) c (more ++ rest) n (octal_more quote left value c (omega arith) x fit)
-        (again_octal quote (left - 1) (value * 8 + digit_value c) more rest n y (omega arith) (elim stop [ inl h ↦ inl (omega arith) | inr h ↦ inr h ]) small e)
+    (again_octal quote (left - 1) (value * 8 + digit_value c) more rest n y (omega arith) (elim stop [ inl h ↦ inl (omega arith) | inr h ↦ inr h ]) small e)
 
 hexadecimal_stops : (quote value : ℕ) (rest : List ℕ) (n : ℕ) → begins_with is_hexadecimal rest ≡ false → count_from quote Plain rest ≡ Some n
     → count_from quote (Hexadecimal value) rest ≡ Some n
@@ -354,7 +414,7 @@ again_hexadecimal quote value (c ∷ more) rest n all stop small e =
     let grows = value_grows 15 (value * 16 + digit_value c) more in
     let fit : value * 16 + digit_value c < 256 = omega arith in
     quiet quote (Hexadecimal value) (Hexadecimal (value * 16 + digit_value c)) c (more ++ rest) n (hexadecimal_more quote value c x fit)
-        (again_hexadecimal quote (value * 16 + digit_value c) more rest n y stop small e)
+    (again_hexadecimal quote (value * 16 + digit_value c) more rest n y stop small e)
 
 value_first : (base c : ℕ) (more : List ℕ) → value_of base (c ∷ more) ≤ 255 → value_from base (digit_value c) more ≤ 255
 unfolding value_from
@@ -365,12 +425,12 @@ again_escape quote _ rest n (simple c h) e = quiet quote Escape Plain c rest n (
 again_escape quote _ rest n (octal c more all short stop small) e =
     let (x, y) = and_both (is_octal c) (list_all is_octal more) all in
     quiet quote Escape (Octal 2 (digit_value c)) c (more ++ rest) n (escape_octal quote c x)
-        (again_octal quote 2 (digit_value c) more rest n y short stop (value_first 8 c more small) e)
+    (again_octal quote 2 (digit_value c) more rest n y short stop (value_first 8 c more small) e)
 again_escape quote _ rest n (hexadecimal c more all stop small) e =
     let (x, y) = and_both (is_hexadecimal c) (list_all is_hexadecimal more) all in
     quiet quote Escape HexadecimalStart 120 (c ∷ (more ++ rest)) n (escape_x quote)
-        (quiet quote HexadecimalStart (Hexadecimal (digit_value c)) c (more ++ rest) n (start_hexadecimal quote c x)
-            (again_hexadecimal quote (digit_value c) more rest n y stop (value_first 16 c more small) e))
+    (quiet quote HexadecimalStart (Hexadecimal (digit_value c)) c (more ++ rest) n (start_hexadecimal quote c x)
+    (again_hexadecimal quote (digit_value c) more rest n y stop (value_first 16 c more small) e))
 
 -- well-formed characters are read
 agains : (quote n : ℕ) (text : List ℕ) → Characters (is_allowed quote) n text → count_from quote Plain text ≡ Some n
@@ -399,5 +459,6 @@ unfolding is_quoted_constant
 yes_literal quote n inside one characters =
     let e = agains quote n (joined inside) characters in
     elim (is_either (quote == 39)) [
-        inl h ↦ rw (h, e) (number_same n 1 (one (same_number quote 39 h)))
-      | inr h ↦ rw (h, e) refl ]
+      | inl h ↦ rw (h, e) (number_same n 1 (one (same_number quote 39 h)))
+      | inr h ↦ rw (h, e) refl
+    ]

@@ -39,7 +39,7 @@ found_name : (b : Bool) (c : ℕ) (t : List ℕ) → is_nondigit c ≡ true → 
 found_name b c t e =
     let (front, parts, all, stop) = run_takes is_name_byte t in
     let longest : IsLongest b Name (c ∷ front) (after_run is_name_byte t) =
-        record { lexeme = (e, all); longest = name_longest b c front (after_run is_name_byte t) e all stop } in
+    record { lexeme = (e, all); longest = name_longest b c front (after_run is_name_byte t) e all stop } in
     (c ∷ front, ap (λ (x : List ℕ). c ∷ x) parts, (longest, no_comment c (front ++ after_run is_name_byte t) (nondigit_is c e).3))
 
 pub digit_goes_on : (old d : ℕ) → is_digit d ≡ true → all_go_on_number old (d ∷ []) ≡ true
@@ -68,7 +68,7 @@ found_number b c t e =
     let (front, parts, all, stop) = number_takes c t in
     let begins = number_front c t front (after_number c t) e parts stop in
     let longest : IsLongest b Number (c ∷ front) (after_number c t) =
-        record { lexeme = (begins, all); longest = number_longest b c front (after_number c t) begins stop } in
+    record { lexeme = (begins, all); longest = number_longest b c front (after_number c t) begins stop } in
     (c ∷ front, ap (λ (x : List ℕ). c ∷ x) parts, (longest, no_comment c (front ++ after_number c t) (number_not_blank c t e).4))
 
 -- a literal with its closing quote is the longest lexeme
@@ -77,9 +77,11 @@ found_quoted : (b : Bool) (q : ℕ) (t rest : List ℕ) (kind : Kind) → IsQuot
 found_quoted b q t rest kind is e lexeme =
     let h = literal_takes q is.lf is.cr 0 false t rest e in
     let longest : IsLongest b kind (q ∷ (h.inside ++ q ∷ [])) rest =
-        record { lexeme = lexeme h.inside h.quotable; longest = quoted_longest b q h.inside rest is h.quotable } in
-    (q ∷ (h.inside ++ q ∷ []), ap (λ (x : List ℕ). q ∷ x) (h.parts ∙ sym (append_assoc h.inside (q ∷ []) rest)),
-        (longest, no_comment q ((h.inside ++ q ∷ []) ++ rest) is.slash))
+    record { lexeme = lexeme h.inside h.quotable; longest = quoted_longest b q h.inside rest is h.quotable } in (
+      q ∷ (h.inside ++ q ∷ []),
+      ap (λ (x : List ℕ). q ∷ x) (h.parts ∙ sym (append_assoc h.inside (q ∷ []) rest)),
+      (longest, no_comment q ((h.inside ++ q ∷ []) ++ rest) is.slash),
+    )
 
 -- a line that doesn't close its literal
 found_open : (b : Bool) (q : ℕ) (t : List ℕ) → IsQuoteByte q → after_literal q 0 false t ≡ None → Found b (q ∷ t) (OpenLiteral, after_line 0 q t)
@@ -145,11 +147,11 @@ found_splices : (b : Bool) (c : ℕ) (t : List ℕ) → nat_lt 0 (splice_length 
 found_splices b c t e =
     let h = splices_takes 0 (c ∷ t) (omega arith) in
     let some : h.front ≢ [] = λ n.
-        let same : c ∷ t ≡ after_splices 0 (c ∷ t) = h.parts ∙ ap (λ (x : List ℕ). x ++ after_splices 0 (c ∷ t)) n in
-        let stop = h.stop in
-        let zero_there : splice_length (c ∷ t) ≡ 0 = ap splice_length same ∙ stop in
-        let more_than = positive _ e in
-        omega arith in
+    let same : c ∷ t ≡ after_splices 0 (c ∷ t) = h.parts ∙ ap (λ (x : List ℕ). x ++ after_splices 0 (c ∷ t)) n in
+    let stop = h.stop in
+    let zero_there : splice_length (c ∷ t) ≡ 0 = ap splice_length same ∙ stop in
+    let more_than = positive _ e in
+    omega arith in
     let splices : AreSplices h.front = record { some = some; only = h.only } in
     (h.front, h.parts, (splices, h.stop))
 
@@ -257,21 +259,24 @@ found_angle : (b : Bool) (t : List ℕ) → b ≡ true → (after_header t ≡ N
 unfolding header_at
 found_angle b t asked others =
     by_option (λ (x : Piece × List ℕ). Found b (60 ∷ t) x) (after_header t) (λ (r : List ℕ). (Lexeme Str, r)) (punctuator_at (60 ∷ t))
-        (λ r e.
-            let (inside, parts, all) = header_takes t r e in
-            let longest : IsLongest b Str (60 ∷ (inside ++ 62 ∷ [])) r =
-                record { lexeme = inr (asked, record { inside = inside; parts = refl; one_line = all }); longest = header_longest b inside r all } in
-            (60 ∷ (inside ++ 62 ∷ []), ap (λ (x : List ℕ). 60 ∷ x) (parts ∙ sym (append_assoc inside (62 ∷ []) r)),
-                (longest, no_comment 60 ((inside ++ 62 ∷ []) ++ r) (omega arith))))
-        (λ e. found_punctuator b 60 t (others e))
+    (λ r e.
+    let (inside, parts, all) = header_takes t r e in
+    let longest : IsLongest b Str (60 ∷ (inside ++ 62 ∷ [])) r =
+    record { lexeme = inr (asked, record { inside = inside; parts = refl; one_line = all }); longest = header_longest b inside r all } in (
+      60 ∷ (inside ++ 62 ∷ []),
+      ap (λ (x : List ℕ). 60 ∷ x) (parts ∙ sym (append_assoc inside (62 ∷ []) r)),
+      (longest, no_comment 60 ((inside ++ 62 ∷ []) ++ r) (omega arith)),
+    ))
+    (λ e. found_punctuator b 60 t (others e))
 
 -- no comment begins where neither of its beginnings stands
 pub comment_false : (c : ℕ) (t : List ℕ) → ((c == 47) && begins_byte 47 t) ≡ false → ((c == 47) && begins_byte 42 t) ≡ false → begins_comment (c ∷ t) ≡ false
 unfolding begins_comment begins_byte
 comment_false c [] e f = refl
 comment_false c (d ∷ t) e f = elim (is_either (c == 47)) [
-    inl h ↦ rw (h, (let x = rw h at e in x), (let x = rw h at f in x)) refl
-  | inr h ↦ rw h refl ]
+  | inl h ↦ rw (h, (let x = rw h at e in x), (let x = rw h at f in x)) refl
+  | inr h ↦ rw h refl
+]
 
 -- what is cut off is a piece
 pub found : (b : Bool) (c : ℕ) (t : List ℕ) → Found b (c ∷ t) (cut_at b (c ∷ t))
@@ -282,23 +287,30 @@ found b c t =
     (λ n2. decide (Found b (c ∷ t)) (begins_number (c ∷ t)) _ _ (λ e. found_number b c t e)
     (λ n3. decide (Found b (c ∷ t)) (is_quote c) _ _ (λ e. found_literal b c t e)
     (λ n4. decide (Found b (c ∷ t)) ((c == 47) && begins_byte 47 t) _ _
-        (λ e.
-            let (x, y) = and_both (c == 47) (begins_byte 47 t) e in
-            let whole : c ∷ t ≡ 47 ∷ (47 ∷ drop 1 t) = ap (λ (z : ℕ). z ∷ t) (same_number c 47 x) ∙ ap (λ (z : List ℕ). 47 ∷ z) (begins_is 47 t y) in
-            subst (λ (w : List ℕ). Found b w (Comment, after_line 0 0 w)) (sym whole) (found_line b (drop 1 t)))
+    (λ e.
+    let (x, y) = and_both (c == 47) (begins_byte 47 t) e in
+    let whole : c ∷ t ≡ 47 ∷ (47 ∷ drop 1 t) = ap (λ (z : ℕ). z ∷ t) (same_number c 47 x) ∙ ap (λ (z : List ℕ). 47 ∷ z) (begins_is 47 t y) in
+    subst (λ (w : List ℕ). Found b w (Comment, after_line 0 0 w)) (sym whole) (found_line b (drop 1 t)))
     (λ n5. decide (Found b (c ∷ t)) ((c == 47) && begins_byte 42 t) _ _
-        (λ e.
-            let (x, y) = and_both (c == 47) (begins_byte 42 t) e in
-            let whole : c ∷ t ≡ 47 ∷ (42 ∷ drop 1 t) = ap (λ (z : ℕ). z ∷ t) (same_number c 47 x) ∙ ap (λ (z : List ℕ). 47 ∷ z) (begins_is 42 t y) in
-            subst (λ (w : List ℕ). Found b w (comment_at (drop 1 t))) (sym whole) (found_block b (drop 1 t)))
+    (λ e.
+    let (x, y) = and_both (c == 47) (begins_byte 42 t) e in
+    let whole : c ∷ t ≡ 47 ∷ (42 ∷ drop 1 t) = ap (λ (z : ℕ). z ∷ t) (same_number c 47 x) ∙ ap (λ (z : List ℕ). 47 ∷ z) (begins_is 42 t y) in
+    subst (λ (w : List ℕ). Found b w (comment_at (drop 1 t))) (sym whole) (found_block b (drop 1 t)))
     (λ n6. decide (Found b (c ∷ t)) (nat_lt 0 (splice_length (c ∷ t))) _ _ (λ e. found_splices b c t e)
     (λ n7. decide (Found b (c ∷ t)) (b && (c == 60)) _ _
-        (λ e.
-            let (x, y) = and_both b (c == 60) e in
-            let here : c ≡ 60 = same_number c 60 y in
-            subst (λ (z : ℕ). Found b (z ∷ t) (header_at (z ∷ t))) (sym here)
-                (found_angle b t x (λ none. subst (λ (z : ℕ). IsUntaken b z t) here
-                    (record { blank = n1; nondigit = n2; number = n3; quote = n4; comment = comment_false c t n5 n6; splice = none_test _ n7; header = λ p q. none }))))
-        (λ n8. found_punctuator b c t
-            (record { blank = n1; nondigit = n2; number = n3; quote = n4; comment = comment_false c t n5 n6; splice = none_test _ n7;
-                header = λ p q. absurd (let h = both_and b (c == 60) p (number_same c 60 q) in cc) })))))))))
+    (λ e.
+    let (x, y) = and_both b (c == 60) e in
+    let here : c ≡ 60 = same_number c 60 y in
+    subst (λ (z : ℕ). Found b (z ∷ t) (header_at (z ∷ t))) (sym here)
+    (found_angle b t x (λ none. subst (λ (z : ℕ). IsUntaken b z t) here
+    (record { blank = n1; nondigit = n2; number = n3; quote = n4; comment = comment_false c t n5 n6; splice = none_test _ n7; header = λ p q. none }))))
+    (λ n8. found_punctuator b c t
+    (record {
+      blank = n1;
+      nondigit = n2;
+      number = n3;
+      quote = n4;
+      comment = comment_false c t n5 n6;
+      splice = none_test _ n7;
+      header = λ p q. absurd (let h = both_and b (c == 60) p (number_same c 60 q) in cc);
+    })))))))))

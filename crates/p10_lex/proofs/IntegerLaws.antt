@@ -54,9 +54,13 @@ unsigned_head : (a : ℕ) (s : List ℕ) → is_unsigned_suffix (a ∷ s) ≡ tr
 unfolding is_unsigned_suffix
 unsigned_head a [] e = inl e
 unsigned_head a (b ∷ []) e = elim (or_either (is_u a && is_l b) (is_l a && is_u b) e) [
-    inl h ↦ inl (and_both (is_u a) (is_l b) h).0 | inr h ↦ inr (and_both (is_l a) (is_u b) h).0 ]
+  | inl h ↦ inl (and_both (is_u a) (is_l b) h).0
+  | inr h ↦ inr (and_both (is_l a) (is_u b) h).0
+]
 unsigned_head a (b ∷ c ∷ []) e = elim (or_either (is_u a && (is_l b && (b == c))) (is_l a && ((a == b) && is_u c)) e) [
-    inl h ↦ inl (and_both (is_u a) (is_l b && (b == c)) h).0 | inr h ↦ inr (and_both (is_l a) ((a == b) && is_u c) h).0 ]
+  | inl h ↦ inl (and_both (is_u a) (is_l b && (b == c)) h).0
+  | inr h ↦ inr (and_both (is_l a) ((a == b) && is_u c) h).0
+]
 unsigned_head a (b ∷ c ∷ d ∷ s) e = absurd (cc)
 
 u_is : (a : ℕ) → is_u a ≡ true → (a ≡ 117) ⊎ (a ≡ 85)
@@ -77,8 +81,9 @@ unfolding is_signed_suffix is_unsigned_suffix
 not_both [] e = absurd (cc)
 not_both (a ∷ []) e = u_not_l a e
 not_both (a ∷ b ∷ []) e = elim (or_either (is_u a && is_l b) (is_l a && is_u b) e) [
-    inl h ↦ rw (u_not_l a (and_both (is_u a) (is_l b) h).0) refl
-  | inr h ↦ (let (x, y) = and_both (is_l a) (is_u b) h in rw (x, other_number a b (λ (k : a ≡ b). let f = u_not_l b y in let g = ap is_l k in cc)) refl) ]
+  | inl h ↦ rw (u_not_l a (and_both (is_u a) (is_l b) h).0) refl
+  | inr h ↦ (let (x, y) = and_both (is_l a) (is_u b) h in rw (x, other_number a b (λ (k : a ≡ b). let f = u_not_l b y in let g = ap is_l k in cc)) refl)
+]
 not_both (a ∷ b ∷ c ∷ s) e = refl
 
 -- the letters of suffixes are no digits of the class
@@ -104,12 +109,22 @@ integer_yes base limit more digit text p q e =
     let (front, parts, all, stop) = run_takes digit text in
     let same = front_is front (after_run digit text) text parts in
     decide (λ (b : Bool). b ≡ true → IsInteger base digit limit more text) (is_signed_suffix (after_run digit text)) _ _
-        (λ h f. record { digits = front; suffix = after_run digit text; parts = parts; in_base = all;
-            typed = inl (h, fits_value base limit 0 front p (ap (fits base limit 0) (sym same) ∙ f)) })
-        (λ h f. let (x, y) = and_both (is_unsigned_suffix (after_run digit text)) (fits base more 0 (front_of text (after_run digit text))) f in
-            record { digits = front; suffix = after_run digit text; parts = parts; in_base = all;
-            typed = inr (x, fits_value base more 0 front q (ap (fits base more 0) (sym same) ∙ y)) })
-        e
+    (λ h f. record {
+      digits = front;
+      suffix = after_run digit text;
+      parts = parts;
+      in_base = all;
+      typed = inl (h, fits_value base limit 0 front p (ap (fits base limit 0) (sym same) ∙ f));
+    })
+    (λ h f. let (x, y) = and_both (is_unsigned_suffix (after_run digit text)) (fits base more 0 (front_of text (after_run digit text))) f in
+    record {
+      digits = front;
+      suffix = after_run digit text;
+      parts = parts;
+      in_base = all;
+      typed = inr (x, fits_value base more 0 front q (ap (fits base more 0) (sym same) ∙ y));
+    })
+    e
 
 either_suffix : (base limit more : ℕ) (digit : ℕ → Bool) (text : List ℕ) (is : IsInteger base digit limit more text) → (is_signed_suffix is.suffix ≡ true) ⊎ (is_unsigned_suffix is.suffix ≡ true)
 either_suffix base limit more digit text is = elim is.typed [ inl (h, k) ↦ inl h | inr (h, k) ↦ inr h ]
@@ -118,11 +133,12 @@ yes_integer : (base limit more : ℕ) (digit : ℕ → Bool) (text : List ℕ) �
 unfolding is_integer
 yes_integer base limit more digit text apart is =
     let run : after_run digit text ≡ is.suffix =
-        ap (after_run digit) is.parts ∙ run_again digit is.digits is.suffix is.in_base (suffix_stops digit apart is.suffix (either_suffix (suc base) limit more digit text is)) in
+    ap (after_run digit) is.parts ∙ run_again digit is.digits is.suffix is.in_base (suffix_stops digit apart is.suffix (either_suffix (suc base) limit more digit text is)) in
     let front : front_of text is.suffix ≡ is.digits = front_is is.digits is.suffix text is.parts in
     elim is.typed [
-        inl (h, k) ↦ rw (run, h, front) (value_fits base limit 0 is.digits k)
-      | inr (h, k) ↦ rw (run, not_both is.suffix h, h, front) (value_fits base more 0 is.digits k) ]
+      | inl (h, k) ↦ rw (run, h, front) (value_fits base limit 0 is.digits k)
+      | inr (h, k) ↦ rw (run, not_both is.suffix h, h, front) (value_fits base more 0 is.digits k)
+    ]
 
 decimal_apart : HasNoSuffix is_digit
 unfolding is_digit
@@ -183,12 +199,19 @@ is_begun x d after a b = rw (a, b) refl
 
 hexadecimal_yes : (c : ℕ) (rest : List ℕ) → c ≡ 48 → begins_hexadecimal rest ≡ true → is_integer 16 is_hexadecimal (2 ^ 64) (2 ^ 64) (drop 1 rest) ≡ true
     → (c ≡ 48) × (x digit : ℕ) × (after : List ℕ) × (rest ≡ x ∷ (digit ∷ after)) × ((x == 120) || (x == 88) ≡ true)
-        × (is_hexadecimal digit ≡ true) × IsInteger 16 is_hexadecimal (2 ^ 64) (2 ^ 64) (digit ∷ after)
+    × (is_hexadecimal digit ≡ true) × IsInteger 16 is_hexadecimal (2 ^ 64) (2 ^ 64) (digit ∷ after)
 hexadecimal_yes c rest zero_is begins e =
     let (x, d, after, parts, x_is, d_is) = hexadecimal_begins rest begins in
-    let tail : drop 1 rest ≡ d ∷ after = ap (λ (t : List ℕ). drop 1 t) parts in
-    (zero_is, x, d, after, parts, elim x_is [ inl h ↦ rw (number_same x 120 h) refl | inr h ↦ (let k = number_same x 88 h in or_right (x == 120) (x == 88) k) ], d_is,
-        integer_yes 16 (2 ^ 64) (2 ^ 64) is_hexadecimal (d ∷ after) (omega arith) (omega arith) (ap (is_integer 16 is_hexadecimal (2 ^ 64) (2 ^ 64)) (sym tail) ∙ e))
+    let tail : drop 1 rest ≡ d ∷ after = ap (λ (t : List ℕ). drop 1 t) parts in (
+      zero_is,
+      x,
+      d,
+      after,
+      parts,
+      elim x_is [ inl h ↦ rw (number_same x 120 h) refl | inr h ↦ (let k = number_same x 88 h in or_right (x == 120) (x == 88) k) ],
+      d_is,
+      integer_yes 16 (2 ^ 64) (2 ^ 64) is_hexadecimal (d ∷ after) (omega arith) (omega arith) (ap (is_integer 16 is_hexadecimal (2 ^ 64) (2 ^ 64)) (sym tail) ∙ e),
+    )
 
 octal_parts : (c x : ℕ) (after digits suffix : List ℕ) → c ≡ 48 → (x ≡ 120) ⊎ (x ≡ 88) → c ∷ (x ∷ after) ≡ digits ++ suffix → list_all is_octal digits ≡ true
     → (is_signed_suffix suffix ≡ true) ⊎ (is_unsigned_suffix suffix ≡ true) → ⊥
@@ -200,11 +223,13 @@ octal_parts c x after [] suffix zero_is x_is parts all either =
 octal_parts c x after (d ∷ []) suffix zero_is x_is parts all either =
     let tail : x ∷ after ≡ suffix = cc in
     elim either [
-        inl h ↦ (let g = l_is x (signed_head x after (ap is_signed_suffix tail ∙ h)) in
-            elim x_is [ inl k ↦ elim g [ inl m ↦ omega arith | inr m ↦ omega arith ] | inr k ↦ elim g [ inl m ↦ omega arith | inr m ↦ omega arith ] ])
+      | inl h ↦ (let g = l_is x (signed_head x after (ap is_signed_suffix tail ∙ h)) in
+          elim x_is [ inl k ↦ elim g [ inl m ↦ omega arith | inr m ↦ omega arith ] | inr k ↦ elim g [ inl m ↦ omega arith | inr m ↦ omega arith ] ])
       | inr h ↦ elim (unsigned_head x after (ap is_unsigned_suffix tail ∙ h)) [
-            inl y ↦ (let g = u_is x y in elim x_is [ inl k ↦ elim g [ inl m ↦ omega arith | inr m ↦ omega arith ] | inr k ↦ elim g [ inl m ↦ omega arith | inr m ↦ omega arith ] ])
-          | inr y ↦ (let g = l_is x y in elim x_is [ inl k ↦ elim g [ inl m ↦ omega arith | inr m ↦ omega arith ] | inr k ↦ elim g [ inl m ↦ omega arith | inr m ↦ omega arith ] ]) ] ]
+        | inl y ↦ (let g = u_is x y in elim x_is [ inl k ↦ elim g [ inl m ↦ omega arith | inr m ↦ omega arith ] | inr k ↦ elim g [ inl m ↦ omega arith | inr m ↦ omega arith ] ])
+        | inr y ↦ (let g = l_is x y in elim x_is [ inl k ↦ elim g [ inl m ↦ omega arith | inr m ↦ omega arith ] | inr k ↦ elim g [ inl m ↦ omega arith | inr m ↦ omega arith ] ])
+      ]
+    ]
 octal_parts c x after (d ∷ f ∷ digits) suffix zero_is x_is parts all either =
     let second : x ≡ f = cc in
     let (a, b) = and_both (is_octal d) (is_octal f && list_all is_octal digits) all in
@@ -216,13 +241,14 @@ pub integer_yes_all : (text : List ℕ) → (c : ℕ) (rest : List ℕ) → text
 unfolding is_integer_constant
 integer_yes_all text c rest same begins e =
     decide (λ (b : Bool). b ≡ true → IsIntegerConstant (c ∷ rest)) (c == 48) _ _
-        (λ h. decide (λ (b : Bool). b ≡ true → IsIntegerConstant (c ∷ rest)) (begins_hexadecimal rest) _ _
-            (λ k f. inr (inr (hexadecimal_yes c rest (same_number c 48 h) k f)))
-            (λ k f. inr (inl (same_number c 48 h, integer_yes 8 (2 ^ 64) (2 ^ 64) is_octal (c ∷ rest) (omega arith) (omega arith) f))))
-        (λ h f. elim (number_head c rest begins) [
-            inl d ↦ inl (d, (λ k. let x = number_same c 48 k in cc), integer_yes 10 (2 ^ 63) (2 ^ 64) is_digit (c ∷ rest) (omega arith) (omega arith) f)
-          | inr (d, k) ↦ absurd (dot_no_integer c rest d f) ])
-        e
+    (λ h. decide (λ (b : Bool). b ≡ true → IsIntegerConstant (c ∷ rest)) (begins_hexadecimal rest) _ _
+    (λ k f. inr (inr (hexadecimal_yes c rest (same_number c 48 h) k f)))
+    (λ k f. inr (inl (same_number c 48 h, integer_yes 8 (2 ^ 64) (2 ^ 64) is_octal (c ∷ rest) (omega arith) (omega arith) f))))
+    (λ h f. elim (number_head c rest begins) [
+      | inl d ↦ inl (d, (λ k. let x = number_same c 48 k in cc), integer_yes 10 (2 ^ 63) (2 ^ 64) is_digit (c ∷ rest) (omega arith) (omega arith) f)
+      | inr (d, k) ↦ absurd (dot_no_integer c rest d f)
+    ])
+    e
 
 -- the second byte of an octal constant is an octal digit, or begins a suffix
 octal_second : (c x : ℕ) (after : List ℕ) → c ≡ 48 → (x ≡ 120) ⊎ (x ≡ 88) → IsInteger 8 is_octal (2 ^ 64) (2 ^ 64) (c ∷ (x ∷ after)) → ⊥
@@ -234,8 +260,8 @@ yes_integer_all c rest (inl (d, nonzero, is)) =
     rw (other_number c 48 nonzero) (yes_integer 9 (2 ^ 63) (2 ^ 64) is_digit (c ∷ rest) decimal_apart is)
 yes_integer_all c rest (inr (inl (zero_is, is))) =
     let none : begins_hexadecimal rest ≡ false = not_false _ (λ h.
-        let (x, d, after, parts, x_is, d_is) = hexadecimal_begins rest h in
-        octal_second c x (d ∷ after) zero_is x_is (subst (λ (t : List ℕ). IsInteger 8 is_octal (2 ^ 64) (2 ^ 64) (c ∷ t)) parts is)) in
+    let (x, d, after, parts, x_is, d_is) = hexadecimal_begins rest h in
+    octal_second c x (d ∷ after) zero_is x_is (subst (λ (t : List ℕ). IsInteger 8 is_octal (2 ^ 64) (2 ^ 64) (c ∷ t)) parts is)) in
     rw (number_same c 48 zero_is, none) (yes_integer 7 (2 ^ 64) (2 ^ 64) is_octal (c ∷ rest) octal_apart is)
 yes_integer_all c rest (inr (inr (zero_is, x, d, after, parts, x_is, d_is, is))) =
     let some : begins_hexadecimal rest ≡ true = ap begins_hexadecimal parts ∙ is_begun x d after x_is d_is in

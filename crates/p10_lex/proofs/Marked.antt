@@ -26,8 +26,9 @@ trigraph_head c (d ∷ f ∷ t) e = same_number c 63 (and_both (c == 63) _ e).0
 
 pub splice_head : (c : ℕ) (t : List ℕ) → 0 < splice_length (c ∷ t) → c ≡ 92
 splice_head c t some = elim (is_either (c == 92)) [
-    inl e ↦ same_number c 92 e
-  | inr e ↦ absurd (let h = no_splice c t (λ x. let f = number_same c 92 x in cc) in omega arith) ]
+  | inl e ↦ same_number c 92 e
+  | inr e ↦ absurd (let h = no_splice c t (λ x. let f = number_same c 92 x in cc) in omega arith)
+]
 
 pub no_trigraph : (text rest : List ℕ) (i : ℕ) → HasNoMark text → i < length text → begins_trigraph (drop i (text ++ rest)) ≡ true → ⊥
 no_trigraph [] rest i all within e = omega arith
@@ -69,14 +70,15 @@ line_end_mark (b ∷ []) =
     decide (λ (n : ℕ). HasNoMark (take n (b ∷ []))) (b == 10) _ _ (λ e. let h = same_number b 10 e in rw h refl) (λ e. refl)
 line_end_mark (b ∷ c ∷ t) =
     decide (λ (n : ℕ). HasNoMark (take n (b ∷ c ∷ t))) (b == 10) _ _ (λ e. let h = same_number b 10 e in rw h refl)
-        (λ f. decide (λ (n : ℕ). HasNoMark (take n (b ∷ c ∷ t))) ((b == 13) && (c == 10)) _ _
-            (λ e. let (x, y) = and_both (b == 13) (c == 10) e in let h = same_number b 13 x in let k = same_number c 10 y in rw (h, k) refl) (λ e. refl))
+    (λ f. decide (λ (n : ℕ). HasNoMark (take n (b ∷ c ∷ t))) ((b == 13) && (c == 10)) _ _
+    (λ e. let (x, y) = and_both (b == 13) (c == 10) e in let h = same_number b 13 x in let k = same_number c 10 y in rw (h, k) refl) (λ e. refl))
 
 after_backslash : (c : ℕ) (t : List ℕ) → 0 < splice_length (c ∷ t) → splice_length (c ∷ t) ≡ 1 + line_end_length t
 unfolding splice_length
 after_backslash c t some = elim (is_either ((c == 92) && nat_lt 0 (line_end_length t))) [
-    inl e ↦ rw e refl
-  | inr e ↦ absurd (let h = rw e at some in omega (arith, h)) ]
+  | inl e ↦ rw e refl
+  | inr e ↦ absurd (let h = rw e at some in omega (arith, h))
+]
 
 both_marks : (xs ys : List ℕ) → HasNoMark xs → HasNoMark ys → HasNoMark (xs ++ ys)
 both_marks [] ys a b = b
@@ -89,16 +91,17 @@ splices_mark zero [] e = refl
 splices_mark (suc skip) [] e = refl
 splices_mark (suc skip) (c ∷ t) e = splices_mark skip t e
 splices_mark zero (c ∷ t) e = elim (is_either (nat_lt 0 (splice_length (c ∷ t)))) [
-    inl h ↦
-        (let some = positive _ h in
-        let n : splice_length (c ∷ t) - 1 ≡ line_end_length t = omega (arith, after_backslash c t some) in
-        let here : c ≡ 92 = splice_head c t some in
-        let rest = splices_mark (splice_length (c ∷ t) - 1) t (rw h at e) in
-        let behind : HasNoMark (drop (line_end_length t) t) = subst (λ (k : ℕ). HasNoMark (drop k t)) n rest in
-        let all : HasNoMark (take (line_end_length t) t ++ drop (line_end_length t) t) = both_marks (take (line_end_length t) t) (drop (line_end_length t) t) (line_end_mark t) behind in
-        let whole : HasNoMark t = subst (λ (x : List ℕ). HasNoMark x) (take-append-drop (line_end_length t) t) all in
-        rw here whole)
-  | inr h ↦ absurd (let f = rw h at e in cc) ]
+  | inl h ↦
+      (let some = positive _ h in
+      let n : splice_length (c ∷ t) - 1 ≡ line_end_length t = omega (arith, after_backslash c t some) in
+      let here : c ≡ 92 = splice_head c t some in
+      let rest = splices_mark (splice_length (c ∷ t) - 1) t (rw h at e) in
+      let behind : HasNoMark (drop (line_end_length t) t) = subst (λ (k : ℕ). HasNoMark (drop k t)) n rest in
+      let all : HasNoMark (take (line_end_length t) t ++ drop (line_end_length t) t) = both_marks (take (line_end_length t) t) (drop (line_end_length t) t) (line_end_mark t) behind in
+      let whole : HasNoMark t = subst (λ (x : List ℕ). HasNoMark x) (take-append-drop (line_end_length t) t) all in
+      rw here whole)
+  | inr h ↦ absurd (let f = rw h at e in cc)
+]
 
 pub all_splices_mark : (text : List ℕ) → joined text ≡ [] → HasNoMark text
 all_splices_mark text e = splices_mark 0 text e
@@ -132,11 +135,11 @@ mark_none o zero t e i a b = absurd (omega arith)
 mark_none o (suc k) [] e i a b = absurd (omega arith)
 mark_none o (suc k) (c ∷ t) e i a b =
     decide (λ (r : Option Fault). r ≡ None → (splice_length (drop i (c ∷ t)) ≡ 0) × (begins_trigraph (drop i (c ∷ t)) ≡ false)) (nat_lt 0 (splice_length (c ∷ t))) _ _
-        (λ h f. absurd (cc))
-        (λ h. decide (λ (r : Option Fault). r ≡ None → (splice_length (drop i (c ∷ t)) ≡ 0) × (begins_trigraph (drop i (c ∷ t)) ≡ false)) (begins_trigraph (c ∷ t)) _ _
-            (λ g f. absurd (cc))
-            (λ g f. at_or_past i c t (none_test _ h) g (λ j p. mark_none (o + 1) k t f j (omega arith) (omega arith))))
-        e
+    (λ h f. absurd (cc))
+    (λ h. decide (λ (r : Option Fault). r ≡ None → (splice_length (drop i (c ∷ t)) ≡ 0) × (begins_trigraph (drop i (c ∷ t)) ≡ false)) (begins_trigraph (c ∷ t)) _ _
+    (λ g f. absurd (cc))
+    (λ g f. at_or_past i c t (none_test _ h) g (λ j p. mark_none (o + 1) k t f j (omega arith) (omega arith))))
+    e
 
 pub mark_some : (o k : ℕ) (t : List ℕ) (fault : Fault) → mark_at o k t ≡ Some fault → IsFirstMark o k t fault
 unfolding mark_at
@@ -144,20 +147,23 @@ mark_some o zero t fault e = absurd (cc)
 mark_some o (suc k) [] fault e = absurd (cc)
 mark_some o (suc k) (c ∷ t) fault e =
     decide (λ (r : Option Fault). r ≡ Some fault → IsFirstMark o (suc k) (c ∷ t) fault) (nat_lt 0 (splice_length (c ∷ t))) _ _
-        (λ h f.
-            let z : o + 0 ≡ o = omega arith in
-            let p : fault_of 6 o 1 ≡ fault = cc in
-            record { at = 0; within = omega arith; is = inl (ap (λ (x : ℕ). fault_of 6 x 1) z ∙ p, positive _ h); before = λ j q. absurd (omega arith) })
-        (λ h. decide (λ (r : Option Fault). r ≡ Some fault → IsFirstMark o (suc k) (c ∷ t) fault) (begins_trigraph (c ∷ t)) _ _
-            (λ g f.
-                let z : o + 0 ≡ o = omega arith in
-                let p : fault_of 5 o 3 ≡ fault = cc in
-                record { at = 0; within = omega arith; is = inr (ap (λ (x : ℕ). fault_of 5 x 3) z ∙ p, none_test _ h, g); before = λ j q. absurd (omega arith) })
-            (λ g f.
-                let m = mark_some (o + 1) k t fault f in
-                let z : o + suc m.at ≡ (o + 1) + m.at = omega arith in
-                let m_within = m.within in
-                record { at = suc m.at; within = omega arith;
-                    is = elim m.is [ inl (p, q) ↦ inl (ap (λ (x : ℕ). fault_of 6 x 1) z ∙ p, q) | inr (p, q, r) ↦ inr (ap (λ (x : ℕ). fault_of 5 x 3) z ∙ p, q, r) ];
-                    before = λ j q. at_or_past_under j m.at c t (none_test _ h) g q (λ i p. m.before i p) }))
-        e
+    (λ h f.
+    let z : o + 0 ≡ o = omega arith in
+    let p : fault_of 6 o 1 ≡ fault = cc in
+    record { at = 0; within = omega arith; is = inl (ap (λ (x : ℕ). fault_of 6 x 1) z ∙ p, positive _ h); before = λ j q. absurd (omega arith) })
+    (λ h. decide (λ (r : Option Fault). r ≡ Some fault → IsFirstMark o (suc k) (c ∷ t) fault) (begins_trigraph (c ∷ t)) _ _
+    (λ g f.
+    let z : o + 0 ≡ o = omega arith in
+    let p : fault_of 5 o 3 ≡ fault = cc in
+    record { at = 0; within = omega arith; is = inr (ap (λ (x : ℕ). fault_of 5 x 3) z ∙ p, none_test _ h, g); before = λ j q. absurd (omega arith) })
+    (λ g f.
+    let m = mark_some (o + 1) k t fault f in
+    let z : o + suc m.at ≡ (o + 1) + m.at = omega arith in
+    let m_within = m.within in
+    record {
+      at = suc m.at;
+      within = omega arith;
+      is = elim m.is [ inl (p, q) ↦ inl (ap (λ (x : ℕ). fault_of 6 x 1) z ∙ p, q) | inr (p, q, r) ↦ inr (ap (λ (x : ℕ). fault_of 5 x 3) z ∙ p, q, r) ];
+      before = λ j q. at_or_past_under j m.at c t (none_test _ h) g q (λ i p. m.before i p);
+    }))
+    e

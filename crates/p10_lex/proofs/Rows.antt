@@ -77,7 +77,6 @@ pub same_rank : (m n : ℕ) → 0 < m → m < 7 → 0 < n → n < 7 → rank_of 
 unfolding rank_of
 same_rank m n a b c d e = grind (arith, nat_tests)
 
-
 -- the first row that holds at a piece is this fault's
 abbrev pub IsFirst : Bool → Piece → List ℕ → List ℕ → Fault → Type 0
 IsFirst tight piece text rest fault = IsFirstRow tight piece text rest fault.number fault.offset fault.extent
@@ -157,7 +156,7 @@ pub open_literal_row : (tight : Bool) (text rest : List ℕ) → IsOpenLiteral t
 open_literal_row tight text rest is =
     let (a, b) = quote_no_mark is.quote is.quoted in
     subst (λ (x : List ℕ). IsFirstRow tight OpenLiteral x rest 3 0 1) (sym is.parts)
-        (record { row = literal_without_end refl; first = open_literal_first tight is.quote is.body rest a b })
+    (record { row = literal_without_end refl; first = open_literal_first tight is.quote is.body rest a b })
 
 stray_first : (tight : Bool) (c : ℕ) (rest : List ℕ) → c ≢ 63 → (m j d : ℕ) → Row tight Stray (c ∷ []) rest m j d → (0 < j) ⊎ ((0 ≡ j) × (rank_of 1 ≤ rank_of m))
 unfolding is_literal
@@ -178,7 +177,7 @@ pub stray_row : (b tight : Bool) (text rest : List ℕ) → IsStray b text rest 
 stray_row b tight text rest is =
     let a : is.byte ≢ 63 = λ h. is.no_word Punct (is.byte ∷ []) rest refl (subst (λ (x : ℕ). is_punctuator (x ∷ []) ≡ true) (sym h) question_mark) in
     subst (λ (x : List ℕ). IsFirstRow tight Stray x rest 1 0 1) (sym is.parts)
-        (record { row = bad_byte refl; first = stray_first tight is.byte rest a })
+    (record { row = bad_byte refl; first = stray_first tight is.byte rest a })
 
 -- rows at splices
 pub splices_first : (tight : Bool) (text rest : List ℕ) → HasNoMark text → (m j d : ℕ) → Row tight Splices text rest m j d
@@ -196,13 +195,15 @@ splices_first tight text rest a n i e (splice_in_literal j h k l) = absurd (cc)
 first_splice : (c : ℕ) (t : List ℕ) → joined_after 0 (c ∷ t) ≡ [] → 0 < splice_length (c ∷ t)
 unfolding joined_after
 first_splice c t e = elim (is_either (nat_lt 0 (splice_length (c ∷ t)))) [
-    inl h ↦ positive _ h
-  | inr h ↦ absurd (let f = rw h at e in cc) ]
+  | inl h ↦ positive _ h
+  | inr h ↦ absurd (let f = rw h at e in cc)
+]
 
 pub splices_row : (tight : Bool) (text rest : List ℕ) → AreSplices text → tight ≡ true → is_tight rest ≡ true → IsFirstRow tight Splices text rest 6 0 1
 splices_row tight [] rest are a b = absurd (are.some refl)
 splices_row tight (c ∷ t) rest are a b =
     let some = first_splice c t are.only in
     let more : splice_length (c ∷ (t ++ rest)) ≡ splice_length (c ∷ t) = splice_more (c ∷ t) rest some in record {
-    row = splice_between 0 refl a b (omega arith) (omega arith);
-    first = λ m j d row. (splices_first tight (c ∷ t) rest (all_splices_mark (c ∷ t) are.only) m j d row).2 }
+      row = splice_between 0 refl a b (omega arith) (omega arith);
+      first = λ m j d row. (splices_first tight (c ∷ t) rest (all_splices_mark (c ∷ t) are.only) m j d row).2;
+    }

@@ -30,9 +30,11 @@ middle before text after n e =
 one_slice : (file : ℕ) (s : State) (kind : Kind) (whole before text after : List ℕ) → whole ≡ before ++ (text ++ after) → length before ≡ s.place → 0 < length text
     → IsSlice file whole (record { kind = kind; text = text; at = span_of file s.place (s.place + length text); first = is_start s.line })
 one_slice file s kind whole before text after parts place some = record {
-    of_file = refl; some = omega arith;
-    within = omega (arith, ap length parts, length-append before (text ++ after), length-append text after);
-    slice = middle before text after s.place place ∙ ap (λ (x : List ℕ). slice_range x s.place (s.place + length text)) (sym parts) }
+  of_file = refl;
+  some = omega arith;
+  within = omega (arith, ap length parts, length-append before (text ++ after), length-append text after);
+  slice = middle before text after s.place place ∙ ap (λ (x : List ℕ). slice_range x s.place (s.place + length text)) (sym parts);
+}
 
 word_slices : (file : ℕ) (s : State) (piece : Piece) (whole before text after : List ℕ) (words : List LexedWord)
     → whole ≡ before ++ (text ++ after) → length before ≡ s.place → 0 < length text → AreSlices file whole (s.place + length text) words
@@ -54,7 +56,7 @@ pieces_slices file whole (p ∷ ps) s before bytes rest parts place (after, e, i
     let whole_is : whole ≡ before ++ (p.text ++ after) = parts ∙ ap (λ (x : List ℕ). before ++ x) e in
     let next : whole ≡ (before ++ p.text) ++ after = whole_is ∙ sym (append_assoc before p.text after) in
     word_slices file s p.piece whole before p.text after (words_of file (advance s p.piece p.text) ps) whole_is place (piece_some _ _ _ _ is)
-        (pieces_slices file whole ps (advance s p.piece p.text) (before ++ p.text) after rest next (omega (arith, length-append before p.text)) cuts)
+    (pieces_slices file whole ps (advance s p.piece p.text) (before ++ p.text) after rest next (omega (arith, length-append before p.text)) cuts)
 
 -- the words of a file are slices
 lexes_slices : (file : ℕ) (bytes : List ℕ) (words : List LexedWord) → Lexes file bytes words → AreSlices file bytes 0 words

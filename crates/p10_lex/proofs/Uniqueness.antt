@@ -26,8 +26,8 @@ cut_words {file} end (goes_on s piece text rest whole words _ parts is none give
     let first_here = subst (λ (y : State). IsPiece (is_include y.line) p.piece p.text after) same first in
     let (a, b, c) = same_piece _ piece p.piece text p.text rest after is first_here (sym parts ∙ parts') in
     let next : advance t p.piece p.text ≡ advance s piece text =
-        ap (λ (y : State). advance y p.piece p.text) same
-        ∙ (ap (λ (y : Piece). advance s y p.text) (sym a) ∙ ap (λ (y : List ℕ). advance s piece y) (sym b)) in
+    ap (λ (y : State). advance y p.piece p.text) same
+    ∙ (ap (λ (y : Piece). advance s y p.text) (sym a) ∙ ap (λ (y : List ℕ). advance s piece y) (sym b)) in
     let cuts_here = subst (λ (y : List ℕ). Cuts (advance t p.piece p.text) y ps []) (sym c) cuts in
     let y = cut_words end gives e (advance t p.piece p.text) next ps cuts_here in
     ap (λ (z : State). word_before file z.place z.line p.piece p.text (words_of file (advance t p.piece p.text) ps)) same
@@ -65,9 +65,13 @@ same_words file bytes words others is are =
 has_by_end : (file : ℕ) (bytes : List ℕ) (found : List LexedWord) (end : Option Refusal) → Gives file beginning bytes found end → HasWordsOrOneRefusal file bytes
 has_by_end file bytes found None gives = inl (found, lexes_from file bytes found gives)
 has_by_end file bytes found (Some refusal) gives =
-    inr (refusal, found, refuses_from file bytes found refusal gives,
-        (λ others other is. let e = (refuses_is file bytes others found other (Some refusal) gives is).0 in cc),
-        (λ words is. let e = (lexes_is file bytes words found (Some refusal) gives is).0 in cc))
+    inr (
+      refusal,
+      found,
+      refuses_from file bytes found refusal gives,
+      (λ others other is. let e = (refuses_is file bytes others found other (Some refusal) gives is).0 in cc),
+      (λ words is. let e = (lexes_is file bytes words found (Some refusal) gives is).0 in cc),
+    )
 
 -- a file has words, or one refusal
 pub words_or_refusal : (file : ℕ) (bytes : List ℕ) → HasWordsOrOneRefusal file bytes
@@ -96,7 +100,7 @@ same_by file bytes found end gives (Ok words) (Err (Refused r)) x y (a, b, is) (
 same_by file bytes found end gives (Ok words) (Err (Over l)) x y (a, b, is) (inl (c, d)) = absurd (omega arith)
 same_by file bytes found end gives (Ok words) (Err (Over l)) x y (a, b, is) (inr (c, d, others, more, are)) =
     absurd (let e = (lexes_is file bytes words found end gives is).1 in let f = begins_is file bytes others found end gives are in
-        omega (arith, ap length e, ap length f))
+    omega (arith, ap length e, ap length f))
 same_by file bytes found end gives (Err (Refused r)) (Ok words) x y (c, others, d, are) (a, b, is) =
     absurd (let e = (lexes_is file bytes words found end gives is).0 in let f = (refuses_is file bytes others found r end gives are).0 in cc)
 same_by file bytes found end gives (Err (Refused r)) (Err (Refused q)) x y (a, words, b, is) (c, others, d, are) =
@@ -106,15 +110,15 @@ same_by file bytes found end gives (Err (Refused r)) (Err (Refused q)) x y (a, w
 same_by file bytes found end gives (Err (Refused r)) (Err (Over l)) x y (a, words, b, is) (inl (c, d)) = absurd (omega arith)
 same_by file bytes found end gives (Err (Refused r)) (Err (Over l)) x y (a, words, b, is) (inr (c, d, others, more, are)) =
     absurd (let e = (refuses_is file bytes words found r end gives is).1 in let f = begins_is file bytes others found end gives are in
-        omega (arith, ap length e, ap length f))
+    omega (arith, ap length e, ap length f))
 same_by file bytes found end gives (Err (Over l)) (Ok words) x y (inl (c, d)) (a, b, is) = absurd (omega arith)
 same_by file bytes found end gives (Err (Over l)) (Ok words) x y (inr (c, d, others, more, are)) (a, b, is) =
     absurd (let e = (lexes_is file bytes words found end gives is).1 in let f = begins_is file bytes others found end gives are in
-        omega (arith, ap length e, ap length f))
+    omega (arith, ap length e, ap length f))
 same_by file bytes found end gives (Err (Over l)) (Err (Refused r)) x y (inl (c, d)) (a, words, b, is) = absurd (omega arith)
 same_by file bytes found end gives (Err (Over l)) (Err (Refused r)) x y (inr (c, d, others, more, are)) (a, words, b, is) =
     absurd (let e = (refuses_is file bytes words found r end gives is).1 in let f = begins_is file bytes others found end gives are in
-        omega (arith, ap length e, ap length f))
+    omega (arith, ap length e, ap length f))
 same_by file bytes found end gives (Err (Over l)) (Err (Over m)) x y (inl (a, b)) (inl (c, d)) = same_over l m (a ∙ sym c)
 same_by file bytes found end gives (Err (Over l)) (Err (Over m)) x y (inl (a, b)) (inr (c, d, others, more, are)) = absurd (omega arith)
 same_by file bytes found end gives (Err (Over l)) (Err (Over m)) x y (inr (c, d, others, more, are)) (inl (a, b)) = absurd (omega arith)

@@ -121,12 +121,15 @@ record IsReadable (kind : Kind) (text rest : List ℕ) : Type 0 where
 
 bad_literal : (tight : Bool) (kind : Kind) (text rest : List ℕ) → IsReadable kind text rest → is_literal_constant text ≡ false → IsFirstRow tight (Lexeme kind) text rest 4 0 (length text)
 bad_literal tight kind text rest is e = record {
-    row = bad_constant kind refl (is.bad e);
-    first = λ m j d row. elim (literal_cases tight kind text rest is.no_name m j d row) [
-        inl (h, k, l) ↦ inr (sym k, subst (λ (x : ℕ). rank_of 4 ≤ rank_of x) (sym h) (rank_is 4))
-      | inr other ↦ inl (elim other [
-            inl (h, k, l) ↦ trigraph_behind is.first j is.others rest is.no_mark (ap (λ (x : List ℕ). begins_trigraph (drop j (x ++ rest))) (sym is.parts) ∙ l)
-          | inr (h, k, l) ↦ splice_behind is.first j is.others rest is.no_splice (subst (λ (x : List ℕ). 0 < splice_length (drop j (x ++ rest))) is.parts l) ]) ] }
+  row = bad_constant kind refl (is.bad e);
+  first = λ m j d row. elim (literal_cases tight kind text rest is.no_name m j d row) [
+    | inl (h, k, l) ↦ inr (sym k, subst (λ (x : ℕ). rank_of 4 ≤ rank_of x) (sym h) (rank_is 4))
+    | inr other ↦ inl (elim other [
+      | inl (h, k, l) ↦ trigraph_behind is.first j is.others rest is.no_mark (ap (λ (x : List ℕ). begins_trigraph (drop j (x ++ rest))) (sym is.parts) ∙ l)
+      | inr (h, k, l) ↦ splice_behind is.first j is.others rest is.no_splice (subst (λ (x : List ℕ). 0 < splice_length (drop j (x ++ rest))) is.parts l)
+    ])
+  ];
+}
 
 no_comment_word : (kind : Kind) → is_comment (Lexeme kind) ≡ false
 unfolding is_comment
@@ -135,55 +138,68 @@ no_comment_word kind = refl
 marked_literal : (tight : Bool) (kind : Kind) (text rest : List ℕ) (fault : Fault) → IsReadable kind text rest → is_literal_constant text ≡ true
     → IsFirstMark 0 (length text) (text ++ rest) fault → IsFirst tight (Lexeme kind) text rest fault
 marked_literal tight kind text rest fault is e mark = elim mark.is [
-    inl (f, some) ↦
-        (let at_zero : 0 + mark.at ≡ mark.at = omega arith in
-        let here : IsFirstRow tight (Lexeme kind) text rest 6 mark.at 1 = record {
-            row = splice_in_literal mark.at is.literal mark.within some;
-            first = λ m j d row. elim (literal_cases tight kind text rest is.no_name m j d row) [
-                inl (h, k, l) ↦ absurd (l (is.constant e))
-              | inr other ↦ elim (order mark.at j) [
-                    inl h ↦ inl h
-                  | inr later ↦ elim later [
-                        inl same ↦ elim other [
-                            inl (h, k, l) ↦ absurd (apart (drop mark.at (text ++ rest)) some (ap (λ (x : ℕ). begins_trigraph (drop x (text ++ rest))) same ∙ l))
-                          | inr (h, k, l) ↦ inr (same, subst (λ (x : ℕ). rank_of 6 ≤ rank_of x) (sym h) (rank_is 6)) ]
-                      | inr sooner ↦ absurd (let (x, y) = mark.before j sooner in elim other [ inl (h, k, l) ↦ cc | inr (h, k, l) ↦ omega arith ]) ] ] ] } in
-        subst (λ (x : Fault). IsFirst tight (Lexeme kind) text rest x) (ap (λ (x : ℕ). fault_of 6 x 1) (sym at_zero) ∙ f) here)
+  | inl (f, some) ↦
+      (let at_zero : 0 + mark.at ≡ mark.at = omega arith in
+      let here : IsFirstRow tight (Lexeme kind) text rest 6 mark.at 1 = record {
+        row = splice_in_literal mark.at is.literal mark.within some;
+        first = λ m j d row. elim (literal_cases tight kind text rest is.no_name m j d row) [
+          | inl (h, k, l) ↦ absurd (l (is.constant e))
+          | inr other ↦ elim (order mark.at j) [
+            | inl h ↦ inl h
+            | inr later ↦ elim later [
+              | inl same ↦ elim other [
+                | inl (h, k, l) ↦ absurd (apart (drop mark.at (text ++ rest)) some (ap (λ (x : ℕ). begins_trigraph (drop x (text ++ rest))) same ∙ l))
+                | inr (h, k, l) ↦ inr (same, subst (λ (x : ℕ). rank_of 6 ≤ rank_of x) (sym h) (rank_is 6))
+              ]
+              | inr sooner ↦ absurd (let (x, y) = mark.before j sooner in elim other [ inl (h, k, l) ↦ cc | inr (h, k, l) ↦ omega arith ])
+            ]
+          ]
+        ];
+      } in
+      subst (λ (x : Fault). IsFirst tight (Lexeme kind) text rest x) (ap (λ (x : ℕ). fault_of 6 x 1) (sym at_zero) ∙ f) here)
   | inr (f, none, some) ↦
-        (let at_zero : 0 + mark.at ≡ mark.at = omega arith in
-        let here : IsFirstRow tight (Lexeme kind) text rest 5 mark.at 3 = record {
-            row = trigraph mark.at (no_comment_word kind) mark.within some;
-            first = λ m j d row. elim (literal_cases tight kind text rest is.no_name m j d row) [
-                inl (h, k, l) ↦ absurd (l (is.constant e))
-              | inr other ↦ elim (order mark.at j) [
-                    inl h ↦ inl h
-                  | inr later ↦ elim later [
-                        inl same ↦ elim other [
-                            inl (h, k, l) ↦ inr (same, subst (λ (x : ℕ). rank_of 5 ≤ rank_of x) (sym h) (rank_is 5))
-                          | inr (h, k, l) ↦ absurd (let z : splice_length (drop j (text ++ rest)) ≡ 0 = ap (λ (x : ℕ). splice_length (drop x (text ++ rest))) (sym same) ∙ none in omega arith) ]
-                      | inr sooner ↦ absurd (let (x, y) = mark.before j sooner in elim other [ inl (h, k, l) ↦ cc | inr (h, k, l) ↦ omega arith ]) ] ] ] } in
-        subst (λ (x : Fault). IsFirst tight (Lexeme kind) text rest x) (ap (λ (x : ℕ). fault_of 5 x 3) (sym at_zero) ∙ f) here) ]
+      (let at_zero : 0 + mark.at ≡ mark.at = omega arith in
+      let here : IsFirstRow tight (Lexeme kind) text rest 5 mark.at 3 = record {
+        row = trigraph mark.at (no_comment_word kind) mark.within some;
+        first = λ m j d row. elim (literal_cases tight kind text rest is.no_name m j d row) [
+          | inl (h, k, l) ↦ absurd (l (is.constant e))
+          | inr other ↦ elim (order mark.at j) [
+            | inl h ↦ inl h
+            | inr later ↦ elim later [
+              | inl same ↦ elim other [
+                | inl (h, k, l) ↦ inr (same, subst (λ (x : ℕ). rank_of 5 ≤ rank_of x) (sym h) (rank_is 5))
+                | inr (h, k, l) ↦ absurd (let z : splice_length (drop j (text ++ rest)) ≡ 0 = ap (λ (x : ℕ). splice_length (drop x (text ++ rest))) (sym same) ∙ none in omega arith)
+              ]
+              | inr sooner ↦ absurd (let (x, y) = mark.before j sooner in elim other [ inl (h, k, l) ↦ cc | inr (h, k, l) ↦ omega arith ])
+            ]
+          ]
+        ];
+      } in
+      subst (λ (x : Fault). IsFirst tight (Lexeme kind) text rest x) (ap (λ (x : ℕ). fault_of 5 x 3) (sym at_zero) ∙ f) here)
+]
 
 literal_first : (tight : Bool) (kind : Kind) (text rest : List ℕ) (fault : Fault) → IsReadable kind text rest → literal_fault text (text ++ rest) ≡ Some fault
     → IsFirst tight (Lexeme kind) text rest fault
 unfolding literal_fault
 literal_first tight kind text rest fault is e =
     decide (λ (o : Option Fault). o ≡ Some fault → IsFirst tight (Lexeme kind) text rest fault) (is_literal_constant text) _ _
-        (λ h f. marked_literal tight kind text rest fault is h (mark_some 0 (length text) (text ++ rest) fault f))
-        (λ h f. let g : fault_of 4 0 (length text) ≡ fault = cc in subst (λ (x : Fault). IsFirst tight (Lexeme kind) text rest x) g (bad_literal tight kind text rest is h))
-        e
+    (λ h f. marked_literal tight kind text rest fault is h (mark_some 0 (length text) (text ++ rest) fault f))
+    (λ h f. let g : fault_of 4 0 (length text) ≡ fault = cc in subst (λ (x : Fault). IsFirst tight (Lexeme kind) text rest x) g (bad_literal tight kind text rest is h))
+    e
 
 literal_none : (tight : Bool) (kind : Kind) (text rest : List ℕ) → IsReadable kind text rest → literal_fault text (text ++ rest) ≡ None → NoneHolds tight (Lexeme kind) text rest
 unfolding literal_fault
 literal_none tight kind text rest is e =
     decide (λ (o : Option Fault). o ≡ None → NoneHolds tight (Lexeme kind) text rest) (is_literal_constant text) _ _
-        (λ h f n i d row. elim (literal_cases tight kind text rest is.no_name n i d row) [
-            inl (x, y, z) ↦ z (is.constant h)
-          | inr other ↦ elim other [
-                inl (x, y, z) ↦ (let (p, q) = mark_none 0 (length text) (text ++ rest) f i y (omega (arith, length-append text rest)) in cc)
-              | inr (x, y, z) ↦ (let (p, q) = mark_none 0 (length text) (text ++ rest) f i y (omega (arith, length-append text rest)) in omega arith) ] ])
-        (λ h f. absurd (cc))
-        e
+    (λ h f n i d row. elim (literal_cases tight kind text rest is.no_name n i d row) [
+      | inl (x, y, z) ↦ z (is.constant h)
+      | inr other ↦ elim other [
+        | inl (x, y, z) ↦ (let (p, q) = mark_none 0 (length text) (text ++ rest) f i y (omega (arith, length-append text rest)) in cc)
+        | inr (x, y, z) ↦ (let (p, q) = mark_none 0 (length text) (text ++ rest) f i y (omega (arith, length-append text rest)) in omega arith)
+      ]
+    ])
+    (λ h f. absurd (cc))
+    e
 
 literal_of : (q : ℕ) (inside : List ℕ) → is_literal_constant (q ∷ (inside ++ q ∷ [])) ≡ (q == 60) || is_quoted_constant q inside
 unfolding is_literal_constant
@@ -209,9 +225,16 @@ quoted_bad q text angle e is =
 readable_char : (text rest : List ℕ) → IsQuoted 39 text → IsReadable Char text rest
 unfolding is_literal
 readable_char text rest quoted = record {
-    first = 39; others = quoted.inside ++ 39 ∷ []; parts = quoted.parts; no_mark = omega arith; no_splice = omega arith;
-    no_name = λ h. cc; literal = refl;
-    constant = quoted_constant 39 text refl quoted; bad = quoted_bad 39 text refl }
+  first = 39;
+  others = quoted.inside ++ 39 ∷ [];
+  parts = quoted.parts;
+  no_mark = omega arith;
+  no_splice = omega arith;
+  no_name = λ h. cc;
+  literal = refl;
+  constant = quoted_constant 39 text refl quoted;
+  bad = quoted_bad 39 text refl;
+}
 
 no_quote_angle : (xs ys : List ℕ) → 34 ∷ xs ≡ 60 ∷ ys → ⊥
 no_quote_angle xs ys e = let h = head_is 34 60 xs ys e in omega arith
@@ -219,10 +242,16 @@ no_quote_angle xs ys e = let h = head_is 34 60 xs ys e in omega arith
 readable_string : (text rest : List ℕ) → IsQuoted 34 text → IsReadable Str text rest
 unfolding is_literal
 readable_string text rest quoted = record {
-    first = 34; others = quoted.inside ++ 34 ∷ []; parts = quoted.parts; no_mark = omega arith; no_splice = omega arith;
-    no_name = λ h. cc; literal = refl;
-    constant = λ e. inl (quoted_constant 34 text refl quoted e);
-    bad = λ e is. elim is [ inl x ↦ quoted_bad 34 text refl e x | inr x ↦ no_quote_angle (quoted.inside ++ 34 ∷ []) (x.inside ++ 62 ∷ []) (sym quoted.parts ∙ x.parts) ] }
+  first = 34;
+  others = quoted.inside ++ 34 ∷ [];
+  parts = quoted.parts;
+  no_mark = omega arith;
+  no_splice = omega arith;
+  no_name = λ h. cc;
+  literal = refl;
+  constant = λ e. inl (quoted_constant 34 text refl quoted e);
+  bad = λ e is. elim is [ inl x ↦ quoted_bad 34 text refl e x | inr x ↦ no_quote_angle (quoted.inside ++ 34 ∷ []) (x.inside ++ 62 ∷ []) (sym quoted.parts ∙ x.parts) ];
+}
 
 angle_constant : (t : List ℕ) → is_literal_constant (60 ∷ t) ≡ true
 unfolding is_literal_constant
@@ -231,10 +260,16 @@ angle_constant t = refl
 readable_header : (text rest : List ℕ) → IsHeaderName text → IsReadable Str text rest
 unfolding is_literal
 readable_header text rest header = record {
-    first = 60; others = header.inside ++ 62 ∷ []; parts = header.parts; no_mark = omega arith; no_splice = omega arith;
-    no_name = λ h. cc; literal = refl;
-    constant = λ e. inr header;
-    bad = λ e is. (let f = ap is_literal_constant (sym header.parts) ∙ e in let g = angle_constant (header.inside ++ 62 ∷ []) in cc) }
+  first = 60;
+  others = header.inside ++ 62 ∷ [];
+  parts = header.parts;
+  no_mark = omega arith;
+  no_splice = omega arith;
+  no_name = λ h. cc;
+  literal = refl;
+  constant = λ e. inr header;
+  bad = λ e is. (let f = ap is_literal_constant (sym header.parts) ∙ e in let g = angle_constant (header.inside ++ 62 ∷ []) in cc);
+}
 
 name_byte : (c : ℕ) → is_nondigit c ≡ true → is_name_byte c ≡ true
 unfolding is_name_byte
@@ -261,11 +296,15 @@ number_no_mark (c ∷ cs) is = both_and _ _ (head_mark c cs is.0) (number_mark c
 
 name_row : (tight : Bool) (text rest : List ℕ) → IsName text → text ≡ codes "L" → begins_with is_quote rest ≡ true → IsFirstRow tight (Lexeme Name) text rest 4 0 1
 name_row tight text rest is wide quote = record {
-    row = wide_literal refl wide quote; first = λ m j d row. (name_first tight text rest (name_mark text is) m j d row).2 }
+  row = wide_literal refl wide quote;
+  first = λ m j d row. (name_first tight text rest (name_mark text is) m j d row).2;
+}
 
 number_row : (tight : Bool) (text rest : List ℕ) → IsNumber text → (IsIntegerConstant text → ⊥) → IsFirstRow tight (Lexeme Number) text rest 4 0 (length text)
 number_row tight text rest is bad = record {
-    row = bad_constant Number refl bad; first = λ m j d row. (number_first tight text rest (number_no_mark text is) m j d row).1 }
+  row = bad_constant Number refl bad;
+  first = λ m j d row. (number_first tight text rest (number_no_mark text is) m j d row).1;
+}
 
 number_bad : (text : List ℕ) → IsNumber text → is_integer_constant text ≡ false → IsIntegerConstant text → ⊥
 number_bad [] is e constant = absurd is
@@ -284,8 +323,9 @@ punct_row : (tight : Bool) (text rest : List ℕ) → is_punctuator text ≡ tru
 unfolding is_punctuator
 punct_row tight [] rest is mark = absurd (cc)
 punct_row tight (c ∷ t) rest is mark = record {
-    row = trigraph 0 (no_comment_word Punct) (omega arith) mark;
-    first = λ m j d row. (punct_first tight c t rest (punctuator_mark c t is) m j d row).1 }
+  row = trigraph 0 (no_comment_word Punct) (omega arith) mark;
+  first = λ m j d row. (punct_first tight c t rest (punctuator_mark c t is) m j d row).1;
+}
 
 -- the first row that holds at a word is found
 word_row : (b tight : Bool) (kind : Kind) (text rest : List ℕ) (fault : Fault) → IsLexeme b kind text → word_fault kind text (text ++ rest) rest ≡ Some fault
@@ -293,23 +333,23 @@ word_row : (b tight : Bool) (kind : Kind) (text rest : List ℕ) (fault : Fault)
 unfolding word_fault
 word_row b tight Name text rest fault is e =
     decide (λ (o : Option Fault). o ≡ Some fault → IsFirst tight (Lexeme Name) text rest fault) (same_text text (codes "L") && begins_with is_quote rest) _ _
-        (λ h f. let (x, y) = and_both (same_text text (codes "L")) (begins_with is_quote rest) h in
-            let g : fault_of 4 0 1 ≡ fault = cc in
-            subst (λ (z : Fault). IsFirst tight (Lexeme Name) text rest z) g (name_row tight text rest is (same_is text (codes "L") x) y))
-        (λ h f. absurd (cc)) e
+    (λ h f. let (x, y) = and_both (same_text text (codes "L")) (begins_with is_quote rest) h in
+    let g : fault_of 4 0 1 ≡ fault = cc in
+    subst (λ (z : Fault). IsFirst tight (Lexeme Name) text rest z) g (name_row tight text rest is (same_is text (codes "L") x) y))
+    (λ h f. absurd (cc)) e
 word_row b tight Number text rest fault is e =
     decide (λ (o : Option Fault). o ≡ Some fault → IsFirst tight (Lexeme Number) text rest fault) (is_integer_constant text) _ _
-        (λ h f. absurd (cc))
-        (λ h f. let g : fault_of 4 0 (length text) ≡ fault = cc in
-            subst (λ (z : Fault). IsFirst tight (Lexeme Number) text rest z) g (number_row tight text rest is (number_bad text is h))) e
+    (λ h f. absurd (cc))
+    (λ h f. let g : fault_of 4 0 (length text) ≡ fault = cc in
+    subst (λ (z : Fault). IsFirst tight (Lexeme Number) text rest z) g (number_row tight text rest is (number_bad text is h))) e
 word_row b tight Char text rest fault is e = literal_first tight Char text rest fault (readable_char text rest is) e
 word_row b tight Str text rest fault (inl is) e = literal_first tight Str text rest fault (readable_string text rest is) e
 word_row b tight Str text rest fault (inr (asked, is)) e = literal_first tight Str text rest fault (readable_header text rest is) e
 word_row b tight Punct text rest fault is e =
     decide (λ (o : Option Fault). o ≡ Some fault → IsFirst tight (Lexeme Punct) text rest fault) (begins_trigraph (text ++ rest)) _ _
-        (λ h f. let g : fault_of 5 0 3 ≡ fault = cc in
-            subst (λ (z : Fault). IsFirst tight (Lexeme Punct) text rest z) g (punct_row tight text rest is h))
-        (λ h f. absurd (cc)) e
+    (λ h f. let g : fault_of 5 0 3 ≡ fault = cc in
+    subst (λ (z : Fault). IsFirst tight (Lexeme Punct) text rest z) g (punct_row tight text rest is h))
+    (λ h f. absurd (cc)) e
 word_row b tight Mark text rest fault is e = absurd is
 
 -- where none is found at a word, none holds
@@ -337,9 +377,9 @@ first_row b tight Blank text rest fault is e = absurd (cc)
 first_row b tight Comment text rest fault is e = absurd (cc)
 first_row b tight Splices text rest fault is e =
     decide (λ (o : Option Fault). o ≡ Some fault → IsFirst tight Splices text rest fault) (tight && is_tight rest) _ _
-        (λ h f. let (x, y) = and_both tight (is_tight rest) h in
-            let g : fault_of 6 0 1 ≡ fault = cc in subst (λ (z : Fault). IsFirst tight Splices text rest z) g (splices_row tight text rest is.0 x y))
-        (λ h f. absurd (cc)) e
+    (λ h f. let (x, y) = and_both tight (is_tight rest) h in
+    let g : fault_of 6 0 1 ≡ fault = cc in subst (λ (z : Fault). IsFirst tight Splices text rest z) g (splices_row tight text rest is.0 x y))
+    (λ h f. absurd (cc)) e
 first_row b tight OpenComment text rest fault is e =
     let g : fault_of 2 0 2 ≡ fault = cc in subst (λ (z : Fault). IsFirst tight OpenComment text rest z) g (open_comment_row tight text rest)
 first_row b tight OpenLiteral text rest fault is e =

@@ -30,8 +30,8 @@ abbrev pub HasWordsOrOneRefusal : ℕ → List ℕ → Type 0
 HasWordsOrOneRefusal file bytes =
     ((words : List LexedWord) × Lexes file bytes words)
     ⊎ ((refusal : Refusal) × (before : List LexedWord) × Refuses file bytes before refusal
-        × ((words : List LexedWord) (other : Refusal) → Refuses file bytes words other → other ≡ refusal)
-        × ((words : List LexedWord) → Lexes file bytes words → ⊥))
+    × ((words : List LexedWord) (other : Refusal) → Refuses file bytes words other → other ≡ refusal)
+    × ((words : List LexedWord) → Lexes file bytes words → ⊥))
 
 -- What lexing answers: the words, the refusal, or a passed limit. M1 allows 1,048,576 bytes, and is tested
 -- first. M2 allows 262,144 words, and is passed before a refusal only by words that end before its place.

@@ -12,25 +12,21 @@ ghost use Rattle.p10_lex.specs.Lexes.{Lexes, HasWordsOrOneRefusal, Answers};
 pub fn words_are_unique()
     ensures { (file : ℕ) (bytes : List ℕ) (words others : List LexedWord)
         → Lexes file bytes words → Lexes file bytes others → words ≡ others }
-{
-}
+{}
 
 /// Every list of bytes has words, or exactly one refusal.
 pub fn each_file_has_words_or_one_refusal()
     ensures { (file : ℕ) (bytes : List ℕ) → HasWordsOrOneRefusal file bytes }
-{
-}
+{}
 
 /// Want of memory apart, a file has one answer.
 pub fn answers_are_unique()
     ensures { (file : ℕ) (bytes : List ℕ) (a b : Result (List LexedWord) LexFault) → a ≢ Err Memory → b ≢ Err Memory
         → Answers file bytes a → Answers file bytes b → a ≡ b }
-{
-}
+{}
 
 /// A refusal has one of the codes X1 to X6.
 pub fn refusals_have_codes()
     ensures { (file : ℕ) (bytes : List ℕ) (refusal : Refusal)
         → Answers file bytes (Err (Refused refusal)) → (refusal.family ≡ X) × (1 ≤ refusal.number) × (refusal.number ≤ 6) }
-{
-}
+{}

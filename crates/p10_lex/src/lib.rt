@@ -22,5 +22,10 @@ mod splices;
 mod words;
 
 pub use fault::LexFault;
-pub use laws::{answers_are_unique, each_file_has_words_or_one_refusal, refusals_have_codes, words_are_unique};
+pub use laws::{
+    answers_are_unique, each_file_has_words_or_one_refusal, refusals_have_codes, words_are_unique,
+};
 pub use words::lex;
+
+#[cfg(test)]
+mod tests;
