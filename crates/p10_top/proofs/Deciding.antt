@@ -85,8 +85,9 @@ begins_in sources name text is =
 lies_in : (sources : Gathered) (name text : List ℕ) (at : Span) → sources ≡ one_root name text → at.file ≡ 0 → at.start ≤ length text → LiesIn sources at
 lies_in sources name text at is file start =
     let in_root : LiesIn (one_root name text) at = record {
-          held = omega (arith, file);
-          within = subst (λ n. at.start ≤ length (text_of (one_root name text) n)) (sym file) start } in
+      held = omega (arith, file);
+      within = subst (λ n. at.start ≤ length (text_of (one_root name text) n)) (sym file) start;
+    } in
     subst (λ (g : Gathered). LiesIn g at) (sym is) in_root
 
 -- ## The answers
@@ -110,7 +111,8 @@ decides_refused held names sources text refusal load lexed placed = record {
   text = text;
   is_right = (load.source, lexed);
   shows = load.gathered;
-  has_place = (lies_in sources names.source text refusal.span load.gathered placed.0 (omega (arith, placed.1)), refused_is_code 0 text refusal lexed) }
+  has_place = (lies_in sources names.source text refusal.span load.gathered placed.0 (omega (arith, placed.1)), refused_is_code 0 text refusal lexed);
+}
 
 decides_many : (held : Option (List Named)) (names : Names) (sources : Gathered) (text : List ℕ) (limit : Limit) → Loaded held names sources text → LexAnswers 0 text (Err (Over limit)) → Decides held names sources TooManyWords
 decides_many held names sources text limit load lexed = record { text = text; is_right = (load.source, over_words 0 text limit load.source.short lexed); shows = tt; has_place = tt }
@@ -123,9 +125,9 @@ without_words held names sources text LexMemory load lexed placed = tt
 pub decides_without_words : (held : Option (List Named)) (names : Names) (sources : Gathered) (text seen : List ℕ) (file : ℕ) (fault : LexFault) (r : Result Answer Trouble) → r ≡ answer_without_words fault → Loaded held names sources text → file ≡ 0 → seen ≡ text → LexAnswers file seen (Err fault) → IsPlaced file seen fault → IfOk r (Decides held names sources)
 decides_without_words held names sources text seen file fault r is load first same lexed placed =
     subst (λ (r : Result Answer Trouble). IfOk r (Decides held names sources)) (sym is)
-      (without_words held names sources text fault load
-        (subst (λ (n : ℕ). LexAnswers n text (Err fault)) first (subst (λ (t : List ℕ). LexAnswers file t (Err fault)) same lexed))
-        (subst (λ (n : ℕ). IsPlaced n text fault) first (subst (λ (t : List ℕ). IsPlaced file t fault) same placed)))
+    (without_words held names sources text fault load
+    (subst (λ (n : ℕ). LexAnswers n text (Err fault)) first (subst (λ (t : List ℕ). LexAnswers file t (Err fault)) same lexed))
+    (subst (λ (n : ℕ). IsPlaced n text fault) first (subst (λ (t : List ℕ). IsPlaced file t fault) same placed)))
 
 has_words : (held : Option (List Named)) (names : Names) (sources : Gathered) (text seen : List ℕ) (file : ℕ) (words : List LexedWord) → Loaded held names sources text → file ≡ 0 → seen ≡ text → LexAnswers file seen (Ok words) → HasWords held names text words
 has_words held names sources text seen file words load first same lexed = record { source = load.source; lexed = subst (λ (n : ℕ). LexAnswers n text (Ok words)) first (subst (λ (t : List ℕ). LexAnswers file t (Ok words)) same lexed) }
@@ -135,7 +137,8 @@ decides_absent held later names sources text seen file words load first same lex
   text = text;
   is_right = (words, has_words held names sources text seen file words load first same lexed, subst (λ (h : Option (List Named)). Lacks h names.certificate) unchanged lacks);
   shows = tt;
-  has_place = tt }
+  has_place = tt;
+}
 
 has_certificate : (held : Option (List Named)) (names : Names) (bytes wanted : List ℕ) → IsFront held names.certificate certificate_limit bytes → length bytes ≤ certificate_limit → bytes ≡ wanted → HasCertificate held names wanted
 has_certificate held names bytes wanted front short same =
@@ -155,13 +158,15 @@ judged_by held names sources text bytes words (Failing k at) load cut slices fro
       text = text;
       is_right = (words, p, c, record { program = record { cut = cut; spell = spell }; certificate = has_certificate held names bytes (certificate_text c) front short text_is; is_certificate = is_certificate }, fails, at_is);
       shows = load.gathered;
-      has_place = subst (λ (a : Span). LiesIn sources a) (sym at_is) (lies_in sources names.source text (place_of words k) load.gathered within.file within.start) }
+      has_place = subst (λ (a : Span). LiesIn sources a) (sym at_is) (lies_in sources names.source text (place_of words k) load.gathered within.file within.start);
+    }
 judged_by held names sources text bytes words (Accepted bounds) load cut slices front (p, spell, (c, short, text_is, is_certificate, accepts, total)) =
     record {
       text = text;
       is_right = (words, p, c, record { program = record { cut = cut; spell = spell }; certificate = has_certificate held names bytes (certificate_text c) front short text_is; is_certificate = is_certificate }, accepts, total);
       shows = tt;
-      has_place = tt }
+      has_place = tt;
+    }
 judged_by held names sources text bytes words AbsentSource load cut slices front (p, spell, none) = absurd none
 judged_by held names sources text bytes words SourceTooLong load cut slices front (p, spell, none) = absurd none
 judged_by held names sources text bytes words (Refused refusal) load cut slices front (p, spell, none) = absurd none
@@ -173,5 +178,5 @@ judged_by held names sources text bytes words NoMemory load cut slices front (p,
 pub decides_judged : (held later : Option (List Named)) (names : Names) (sources : Gathered) (text seen bytes : List ℕ) (file : ℕ) (words : List LexedWord) (answer : Answer) → Loaded held names sources text → file ≡ 0 → seen ≡ text → LexAnswers file seen (Ok words) → AreSlices file seen 0 words → later ≡ held → IsFront later names.certificate certificate_limit bytes → IsJudged words bytes answer → Decides held names sources answer
 decides_judged held later names sources text seen bytes file words answer load first same lexed slices unchanged second judged =
     judged_by held names sources text bytes words answer load (has_words held names sources text seen file words load first same lexed)
-      (subst (λ (n : ℕ). AreSlices n text 0 words) first (subst (λ (t : List ℕ). AreSlices file t 0 words) same slices))
-      (subst (λ (h : Option (List Named)). IsFront h names.certificate certificate_limit bytes) unchanged second) judged
+    (subst (λ (n : ℕ). AreSlices n text 0 words) first (subst (λ (t : List ℕ). AreSlices file t 0 words) same slices))
+    (subst (λ (h : Option (List Named)). IsFront h names.certificate certificate_limit bytes) unchanged second) judged

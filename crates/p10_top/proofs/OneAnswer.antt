@@ -96,8 +96,17 @@ passes files before after names text NotBuilt number (words, cut, held, none) ea
 passes files before after names text CertificateTooLong number (words, p, program, long) earlier plain = record { source = λ at. there _ text program.cut.source.given; short = λ at. (text, program.cut.source.given, program.cut.source.short); lexed = λ at. (text, Ok words, program.cut.source.given, program.cut.lexed, tt); words = λ at. (text, words, program.cut.source.given, program.cut.lexed); certificate = λ at. longer_is_there (file_of names.certificate files) _ long; program = λ at. (text, words, p, record { given = program.cut.source.given; lexed = program.cut.lexed; spell = program.spell }); certificate_short = never 7 number (omega (arith, earlier)); claims = never 8 number (omega (arith, earlier)); accepted = never 9 number (omega (arith, earlier)) }
 passes files before after names text (BadCertificate line) number (words, p, bytes, program, certificate, wrong) earlier plain = record { source = λ at. there _ text program.cut.source.given; short = λ at. (text, program.cut.source.given, program.cut.source.short); lexed = λ at. (text, Ok words, program.cut.source.given, program.cut.lexed, tt); words = λ at. (text, words, program.cut.source.given, program.cut.lexed); certificate = λ at. there _ bytes certificate.given; program = λ at. (text, words, p, record { given = program.cut.source.given; lexed = program.cut.lexed; spell = program.spell }); certificate_short = λ at. (bytes, certificate.given, certificate.short); claims = never 8 number (omega (arith, earlier)); accepted = never 9 number (omega (arith, earlier)) }
 passes files before after names text (Failing k place) number (words, p, c, judges, fails, place_is) earlier plain = record { source = λ at. there _ text judges.program.cut.source.given; short = λ at. (text, judges.program.cut.source.given, judges.program.cut.source.short); lexed = λ at. (text, Ok words, judges.program.cut.source.given, judges.program.cut.lexed, tt); words = λ at. (text, words, judges.program.cut.source.given, judges.program.cut.lexed); certificate = λ at. there _ (certificate_text c) judges.certificate.given; program = λ at. (text, words, p, record { given = judges.program.cut.source.given; lexed = judges.program.cut.lexed; spell = judges.program.spell }); certificate_short = λ at. (certificate_text c, judges.certificate.given, judges.certificate.short); claims = λ at. (c, judges.certificate.given, judges.is_certificate); accepted = never 9 number (omega (arith, earlier)) }
-passes files before after names text (Accepted bounds) number (words, p, c, judges, accepts, total) earlier plain = record { source = λ at. there _ text judges.program.cut.source.given; short = λ at. (text, judges.program.cut.source.given, judges.program.cut.source.short); lexed = λ at. (text, Ok words, judges.program.cut.source.given, judges.program.cut.lexed, tt); words = λ at. (text, words, judges.program.cut.source.given, judges.program.cut.lexed); certificate = λ at. there _ (certificate_text c) judges.certificate.given; program = λ at. (text, words, p, record { given = judges.program.cut.source.given; lexed = judges.program.cut.lexed; spell = judges.program.spell }); certificate_short = λ at. (certificate_text c, judges.certificate.given, judges.certificate.short); claims = λ at. (c, judges.certificate.given, judges.is_certificate);
-  accepted = λ at. (text, words, p, c, record { given = judges.program.cut.source.given; lexed = judges.program.cut.lexed; spell = judges.program.spell }, judges.certificate.given, judges.is_certificate, accepts) }
+passes files before after names text (Accepted bounds) number (words, p, c, judges, accepts, total) earlier plain = record {
+  source = λ at. there _ text judges.program.cut.source.given;
+  short = λ at. (text, judges.program.cut.source.given, judges.program.cut.source.short);
+  lexed = λ at. (text, Ok words, judges.program.cut.source.given, judges.program.cut.lexed, tt);
+  words = λ at. (text, words, judges.program.cut.source.given, judges.program.cut.lexed);
+  certificate = λ at. there _ (certificate_text c) judges.certificate.given;
+  program = λ at. (text, words, p, record { given = judges.program.cut.source.given; lexed = judges.program.cut.lexed; spell = judges.program.spell });
+  certificate_short = λ at. (certificate_text c, judges.certificate.given, judges.certificate.short);
+  claims = λ at. (c, judges.certificate.given, judges.is_certificate);
+  accepted = λ at. (text, words, p, c, record { given = judges.program.cut.source.given; lexed = judges.program.cut.lexed; spell = judges.program.spell }, judges.certificate.given, judges.is_certificate, accepts);
+}
 passes files before after names text ReadFault number right earlier plain = absurd (omega (arith, plain))
 passes files before after names text NoMemory number right earlier plain = absurd (omega (arith, plain))
 

@@ -77,10 +77,12 @@ place_within text words p k slices spell = by_condition k
   where
     count : 10 ≤ length words
     count = many_lexed words p spell
+
     at_number : (i : ℕ) → i < length words → IsWithin text (place_at words i)
     at_number i inside =
         let slice = slice_at 0 text 0 words (record { kind = Punct; text = []; at = record { file = 0; start = 0; end = 0 }; first = false }) slices i inside in
         record { file = slice.of_file; start = omega (arith, slice.some, slice.within) }
+
     by_condition : (k : Condition) → IsWithin text (place_of words k)
     by_condition K1 = at_number 1 (omega (arith, count))
     by_condition K5 = at_number (length words - 4) (omega (arith, count))

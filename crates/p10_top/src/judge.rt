@@ -7,8 +7,7 @@ ghost use Rattle.p10_top.specs.Judging.{IsJudged, IsWeighed};
 
 use crate::answer::Answer;
 use p10_base::{Span, Word};
-use p10_first::certificate;
-use p10_first::{Condition, Program, failing};
+use p10_first::{Condition, Program, certificate, failing};
 use std::alloc::{AllocError, Global};
 
 /// The most bytes of a certificate.
@@ -53,11 +52,7 @@ fn weigh(
 ///
 /// # Errors
 /// Want of memory alone.
-pub fn judge(
-    alloc: Global,
-    words: &[Word<'_>],
-    certificate: &[u8],
-) -> Result<Answer, AllocError>
+pub fn judge(alloc: Global, words: &[Word<'_>], certificate: &[u8]) -> Result<Answer, AllocError>
     ensures { IfOk result (IsJudged (map seen words.now) certificate.now) }
 {
     match p10_first::read(alloc, words)? {

@@ -21,6 +21,8 @@ mod judge;
 pub mod laws;
 mod load;
 mod tell;
+#[cfg(test)]
+mod tests;
 mod verify;
 
 pub use p10_first as first;

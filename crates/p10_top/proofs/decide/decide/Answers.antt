@@ -35,4 +35,4 @@ returns-clause-right g c =
     let with_words = subst (λ (ws : List Word). IsJudged (map seen ws) c.deref-2.result.now c.in_ok-judge.field-0) c.deref.ensures.value c.in_ok-judge.ensures in
     let judged = subst (λ (bytes : List ℕ). IsJudged (map seen c.in-Ok.words.items) bytes c.in_ok-judge.field-0) c.deref-2.ensures.value with_words in
     decides_judged _ _ _ _ c.in-Some.text.items c.text.result.now c.in-Some-2.certificate.items _ _ _ load first same c.in-Ok.ensures.answers c.in-Ok.ensures.slices
-      c.load.ensures.held (MatchOption-at_some _ _ _ c.in-Some-2.is c.in_ok-certificate.ensures.present) judged
+    c.load.ensures.held (MatchOption-at_some _ _ _ c.in-Some-2.is c.in_ok-certificate.ensures.present) judged

@@ -1,0 +1,237 @@
+-- The directives, and the words that spell them (C99 6.10).
+use Rattle.std.specs.Prelude.{◌≡◌, ℕ, ◌==◌, List, [], ◌∷◌, ◌++◌, length, map, Bool, true, false, ◌&&◌, ◌||◌, Option, Some, None, option_map, bytes_eq, codes, slice_index_or, ◌-◌, ◌⊎◌}
+use Rattle.std.specs.List.{list_any}
+use Rattle.p10_base.specs.declared.span.Span.{Span}
+use Rattle.p10_base.specs.declared.word.Kind.{Kind}
+use Rattle.p10_base.specs.declared.word.Kind.TheVariants.{Str}
+use Rattle.p10_base.specs.declared.word.Word.{Word}
+use Rattle.p10_base.specs.declared.report.Refusal.{Refusal}
+use Rattle.p10_base.specs.declared.report.Family.TheVariants.{D}
+use Rattle.p10_direct.specs.declared.keyword.Keyword.{Keyword}
+use Rattle.p10_direct.specs.declared.keyword.Keyword.TheVariants as keyword
+use Rattle.p10_direct.specs.Spelling.{Text, is_name, is_name_kind, is_punctuator}
+use Rattle.p10_direct.specs.Keywords.{keyword_of}
+
+-- ## Directives as plain values
+
+-- a macro: its name, its parameters if it is function-like, and its replacement list (C99 6.10.3)
+pub record PlainMacro : Type 0 where
+  pub name : Text
+  pub parameters : Option (List Text)
+  pub body : List Word
+
+-- a directive that borrows nothing
+pub data PlainDirective : Type 0 where
+  Null : PlainDirective
+  -- the name, and whether it stood between angle brackets
+  Include : List ℕ → Bool → PlainDirective
+  Define : PlainMacro → PlainDirective
+  Undef : List ℕ → PlainDirective
+  If : List Word → PlainDirective
+  Elif : List Word → PlainDirective
+  Ifdef : List ℕ → PlainDirective
+  Ifndef : List ℕ → PlainDirective
+  Else : PlainDirective
+  Endif : PlainDirective
+  Once : PlainDirective
+  InitDone : PlainDirective
+  TaskLoop : PlainDirective
+  OtherPragma : PlainDirective
+
+-- ## Definitions
+
+-- the words of a definition: the name, the words of the parameter list if it is function-like, and the replacement list
+pub record Definition : Type 0 where
+  pub name : Word
+  pub parameters : Option (List Word)
+  pub body : List Word
+
+-- whether a word is the `(` of a parameter list: it stands directly behind the name (C99 6.10p1, `lparen`)
+abbrev pub opens_list : Word → Word → Bool
+opens_list name word = is_punctuator (codes "(") word && (name.at.end == word.at.start)
+
+abbrev pub is_ellipsis : Word → Bool
+is_ellipsis word = is_punctuator (codes "...") word
+
+-- parameters are names, but the last may be `...`
+abbrev pub AreParameters : List Word → Type 0
+AreParameters [] = Unit {0}
+AreParameters (word ∷ []) = is_name_kind word.kind || is_ellipsis word ≡ true
+AreParameters (word ∷ words) = (is_name_kind word.kind ≡ true) × AreParameters words
+
+-- further parameters, each behind a comma, then `)`, then the rest
+abbrev pub Continues : List Word → List Word → List Word → Type 0
+Continues [] (close ∷ words) rest = (is_punctuator (codes ")") close ≡ true) × (words ≡ rest)
+Continues (parameter ∷ parameters) (comma ∷ word ∷ words) rest = (is_punctuator (codes ",") comma ≡ true) × (word ≡ parameter) × Continues parameters words rest
+Continues _ _ rest = ⊥
+
+-- parameters between commas, then `)`, then the rest
+abbrev pub IsList : List Word → List Word → List Word → Type 0
+IsList [] words rest = Continues [] words rest
+IsList (parameter ∷ parameters) (word ∷ words) rest = (word ≡ parameter) × Continues parameters words rest
+IsList (parameter ∷ parameters) [] rest = ⊥
+
+-- no `(` stands directly behind the name
+abbrev pub HasNoList : Word → List Word → Type 0
+HasNoList name [] = Unit {0}
+HasNoList name (word ∷ words) = opens_list name word ≡ false
+
+abbrev pub DefinesBehind : Word → Option (List Word) → List Word → List Word → Type 0
+DefinesBehind name None body words = HasNoList name words × (words ≡ body)
+DefinesBehind name (Some parameters) body (paren ∷ words) = (opens_list name paren ≡ true) × AreParameters parameters × IsList parameters words body
+DefinesBehind name (Some parameters) body [] = ⊥
+
+-- the words behind `define` are this definition: `NAME list` or `NAME(parameters) list` (C99 6.10p1)
+abbrev pub Defines : Definition → List Word → Type 0
+Defines definition [] = ⊥
+Defines definition (name ∷ words) = (name ≡ definition.name) × (is_name_kind name.kind ≡ true) × DefinesBehind name definition.parameters definition.body words
+
+-- the texts of words
+abbrev pub texts_of : List Word → List Text
+texts_of words = map (λ (word : Word). word.text.now) words
+
+-- a text stands in the list twice
+abbrev pub has_repeat : List Text → Bool
+has_repeat [] = false
+has_repeat (text ∷ texts) = list_any (λ other. bytes_eq other text) texts || has_repeat texts
+
+-- a word that no replacement list may have: `#`, `##` (C99 6.10.3.2, 6.10.3.3) and `...`
+abbrev pub is_refused : Word → Bool
+is_refused word = is_punctuator (codes "#") word || is_punctuator (codes "##") word || is_ellipsis word
+
+abbrev pub has_repeated : Option (List Text) → Bool
+has_repeated None = false
+has_repeated (Some parameters) = has_repeat parameters
+
+-- a macro that is refused: its name is `defined`, a parameter stands twice, or the replacement list has a refused word
+abbrev pub is_bad_macro : PlainMacro → Bool
+is_bad_macro plain = bytes_eq plain.name (codes "defined") || has_repeated plain.parameters || list_any is_refused plain.body
+
+abbrev pub macro_of : Definition → PlainMacro
+macro_of definition = record { name = definition.name.text.now; parameters = option_map texts_of definition.parameters; body = definition.body }
+
+abbrev pub has_ellipsis : Option (List Word) → Bool
+has_ellipsis None = false
+has_ellipsis (Some parameters) = list_any is_ellipsis parameters
+
+-- a definition that is refused: one with `...` among its parameters, or of a macro that is refused
+abbrev pub is_bad : Definition → Bool
+is_bad definition = has_ellipsis definition.parameters || is_bad_macro (macro_of definition)
+
+-- ## The words of a directive
+
+-- one word
+abbrev pub One : (Word → Type 0) → List Word → Type 0
+One P (word ∷ []) = P word
+One P _ = ⊥
+
+-- the word is a name with this text
+abbrev pub IsNamed : Text → Word → Type 0
+IsNamed name word = (is_name_kind word.kind ≡ true) × (word.text.now ≡ name)
+
+abbrev pub is_string_kind : Kind → Bool
+is_string_kind Str = true
+is_string_kind _ = false
+
+-- the name of an include between its delimiters (C99 6.4.7)
+abbrev pub enclosed : Bool → Text → Text
+enclosed true name = 60 ∷ name ++ 62 ∷ []
+enclosed false name = 34 ∷ name ++ 34 ∷ []
+
+-- a pragma that is none of this program's: not of `p10`, and not just `once`
+abbrev pub IsOther : List Word → Type 0
+IsOther [] = Unit {0}
+IsOther (word ∷ []) = (is_name (codes "p10") word ≡ false) × (is_name (codes "once") word ≡ false)
+IsOther (word ∷ words) = is_name (codes "p10") word ≡ false
+
+-- `p10`, and one word with this text
+abbrev pub IsOwn : Text → List Word → Type 0
+IsOwn text (word ∷ words) = (is_name (codes "p10") word ≡ true) × One (λ last. is_name text last ≡ true) words
+IsOwn text [] = ⊥
+
+-- the words behind a directive's name spell it
+abbrev pub SpellsNamed : PlainDirective → Option Keyword → List Word → Type 0
+SpellsNamed (Include name angle) (Some keyword.Include) words = One (λ word. (is_string_kind word.kind ≡ true) × (word.text.now ≡ enclosed angle name)) words
+SpellsNamed (Define plain) (Some keyword.Define) words = (definition : Definition) × Defines definition words × (is_bad definition ≡ false) × (macro_of definition ≡ plain)
+SpellsNamed (Undef name) (Some keyword.Undef) words = One (IsNamed name) words
+SpellsNamed (If condition) (Some keyword.If) words = words ≡ condition
+SpellsNamed (Elif condition) (Some keyword.Elif) words = words ≡ condition
+SpellsNamed (Ifdef name) (Some keyword.Ifdef) words = One (IsNamed name) words
+SpellsNamed (Ifndef name) (Some keyword.Ifndef) words = One (IsNamed name) words
+SpellsNamed Else (Some keyword.Else) words = words ≡ []
+SpellsNamed Endif (Some keyword.Endif) words = words ≡ []
+SpellsNamed Once (Some keyword.Pragma) words = One (λ word. is_name (codes "once") word ≡ true) words
+SpellsNamed InitDone (Some keyword.Pragma) words = IsOwn (codes "init_done") words
+SpellsNamed TaskLoop (Some keyword.Pragma) words = IsOwn (codes "task_loop") words
+SpellsNamed OtherPragma (Some keyword.Pragma) words = IsOther words
+SpellsNamed _ _ words = ⊥
+
+abbrev pub SpellsBehind : PlainDirective → List Word → Type 0
+SpellsBehind Null words = words ≡ []
+SpellsBehind directive (word ∷ words) = SpellsNamed directive (keyword_of word) words
+SpellsBehind directive [] = ⊥
+
+-- the words of a line spell a directive
+abbrev pub Spells : PlainDirective → List Word → Type 0
+Spells directive [] = ⊥
+Spells directive (hash ∷ words) = (is_punctuator (codes "#") hash ≡ true) × SpellsBehind directive words
+
+-- ## Refused directives
+
+-- a directive's place: from its `#` to the end of its last word
+abbrev pub place_of : List Word → Span
+place_of [] = record { file = 0; start = 0; end = 0 }
+place_of (hash ∷ words) = record { file = hash.at.file; start = hash.at.start; end = (slice_index_or (hash ∷ words) (length (hash ∷ words) - 1) hash).at.end }
+
+-- the words behind `define` have no name, or are a definition that is refused; the second is refused at its name
+abbrev pub DefinesBadly : Span → Span → List Word → Type 0
+DefinesBadly whole at [] = at ≡ whole
+DefinesBadly whole at (name ∷ words) = ((is_name_kind name.kind ≡ false) × (at ≡ whole)) ⊎ ((definition : Definition) × Defines definition (name ∷ words) × (is_bad definition ≡ true) × (at ≡ definition.name.at))
+
+abbrev pub IsBadNamed : Span → Span → Option Keyword → List Word → Type 0
+IsBadNamed whole at (Some keyword.Define) words = DefinesBadly whole at words
+IsBadNamed whole at _ words = ⊥
+
+abbrev pub IsBadBehind : Span → Span → List Word → Type 0
+IsBadBehind whole at [] = ⊥
+IsBadBehind whole at (word ∷ words) = IsBadNamed whole at (keyword_of word) words
+
+-- the line is a bad definition, which is refused at this place
+abbrev pub IsBadDefinition : Span → List Word → Type 0
+IsBadDefinition at [] = ⊥
+IsBadDefinition at (hash ∷ words) = (is_punctuator (codes "#") hash ≡ true) × IsBadBehind (place_of (hash ∷ words)) at words
+
+-- ## What comes of a line
+
+pub data Outcome : Type 0 where
+  Read : PlainDirective → Outcome
+  -- an unknown directive, or one of another form
+  BadForm : Outcome
+  -- a bad definition, refused at this place
+  BadDefinition : Span → Outcome
+
+abbrev pub IsOutcome : List Word → Outcome → Type 0
+IsOutcome line (Read directive) = Spells directive line
+IsOutcome line (BadDefinition at) = IsBadDefinition at line
+IsOutcome line BadForm = ((directive : PlainDirective) → Spells directive line → ⊥) × ((at : Span) → IsBadDefinition at line → ⊥)
+
+-- the refusal in which it ends, where the line has this place
+abbrev pub refusal_of : Span → Outcome → Option Refusal
+refusal_of whole (Read directive) = None
+refusal_of whole BadForm = Some (record { family = D; number = 1; span = whole })
+refusal_of whole (BadDefinition at) = Some (record { family = D; number = 4; span = at })
+
+-- the line is refused in this way
+pub record IsRefused (line : List Word) (refusal : Refusal) : Type 0 where
+  pub outcome : Outcome
+  pub is_outcome : IsOutcome line outcome
+  pub refused : refusal_of (place_of line) outcome ≡ Some refusal
+
+-- each line has one outcome
+pub record OneOutcome (line : List Word) : Type 0 where
+  pub outcome : Outcome
+  pub is_outcome : IsOutcome line outcome
+  pub only : (other : Outcome) → IsOutcome line other → other ≡ outcome
+
+abbrev pub LinesHaveOneOutcome : Type 0
+LinesHaveOneOutcome = (line : List Word) → OneOutcome line

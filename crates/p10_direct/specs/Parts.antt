@@ -1,0 +1,23 @@
+-- Parts that the code has read, as the definitions see them.
+use Rattle.std.specs.Prelude.{ℕ, List, drop}
+use Rattle.p10_base.specs.declared.word.Word.{Word}
+use Rattle.p10_direct.specs.declared.part.Part.{Part}
+use Rattle.p10_direct.specs.declared.part.Start.{Start as Coded}
+use Rattle.p10_direct.specs.declared.part.Start.TheVariants as coded
+use Rattle.p10_direct.specs.Tokens.{Token, tokens_of}
+use Rattle.p10_direct.specs.Values.{Value}
+use Rattle.p10_direct.specs.Valued.{value_read, constant_read}
+use Rattle.p10_direct.specs.Climbing.{Found, Start, Group, Sign, Lone, Nothing}
+
+-- the words from a place on
+unfoldable pub from : ℕ → List Word → List Token
+from place words = tokens_of (drop place words)
+
+abbrev pub found_of : List Word → Part → Found Value
+found_of words part = record { what = value_read part.value; depth = part.depth; rest = from part.place words }
+
+abbrev pub start_read : Coded → Start
+start_read coded.Group = Group
+start_read (coded.Sign op) = Sign op
+start_read (coded.Lone constant) = Lone (constant_read constant)
+start_read coded.Nothing = Nothing

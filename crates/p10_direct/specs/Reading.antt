@@ -1,0 +1,150 @@
+-- Reading a directive from its words, from the first on.
+use Rattle.std.specs.Prelude.{ℕ, ◌-◌, ◌==◌, List, [], ◌∷◌, ◌++◌, length, take, drop, Bool, true, false, ◌&&◌, nat_le, Option, Some, None, if◌then◌else◌, codes, bytes_eq, slice_index}
+use Rattle.std.specs.List.{list_any}
+use Rattle.p10_base.specs.declared.span.Span.{Span}
+use Rattle.p10_base.specs.declared.word.Word.{Word}
+use Rattle.p10_direct.specs.declared.keyword.Keyword.{Keyword}
+use Rattle.p10_direct.specs.declared.keyword.Keyword.TheVariants as keyword
+use Rattle.p10_direct.specs.Spelling.{Text, is_name, is_name_kind, is_punctuator}
+use Rattle.p10_direct.specs.Keywords.{keyword_of}
+use Rattle.p10_direct.specs.Directives.{PlainDirective, Null, Include, Define, Undef, If, Elif, Ifdef, Ifndef, Else, Endif, Once, InitDone, TaskLoop, OtherPragma, is_string_kind, opens_list, is_ellipsis, is_bad_macro, Outcome, Read, BadForm, BadDefinition}
+
+-- ## Definitions
+
+-- what a parameter list is
+pub data Parameters : Type 0 where
+  Wrong : Parameters
+  -- one that has `...`
+  Variadic : Parameters
+  -- the names, and the words behind the list
+  Names : List Text → List Word → Parameters
+
+-- a parameter and the word behind it: none, `...` and `)`, a name and `)`, or a name and a comma
+pub data Parameter : Type 0 where
+  No : Parameter
+  Rest : Parameter
+  Last : List ℕ → Parameter
+  Further : List ℕ → Parameter
+
+abbrev pub parameter_of : List Word → Parameter
+parameter_of (word ∷ separator ∷ words) =
+    if is_ellipsis word then (if is_punctuator (codes ")") separator then Rest else No)
+    else if is_name_kind word.kind then
+    (if is_punctuator (codes ")") separator then Last word.text.now
+    else if is_punctuator (codes ",") separator then Further word.text.now
+    else No)
+    else No
+parameter_of _ = No
+
+-- the list that goes on with these words, where these names were read
+abbrev pub names_behind : List Text → List Word → Parameters
+names_behind names (word ∷ separator ∷ words) =
+    if is_ellipsis word then (if is_punctuator (codes ")") separator then Variadic else Wrong)
+    else if is_name_kind word.kind then
+    (if is_punctuator (codes ")") separator then Names (names ++ word.text.now ∷ []) words
+    else if is_punctuator (codes ",") separator then names_behind (names ++ word.text.now ∷ []) words
+    else Wrong)
+    else Wrong
+names_behind names _ = Wrong
+
+abbrev pub parameters_of : List Word → Parameters
+parameters_of [] = Wrong
+parameters_of (word ∷ words) = if is_punctuator (codes ")") word then Names [] words else names_behind [] (word ∷ words)
+
+-- the first text stands again
+abbrev pub first_repeats : List Text → Bool
+first_repeats [] = false
+first_repeats (text ∷ texts) = list_any (λ other. bytes_eq other text) texts
+
+abbrev pub judged : Word → Option (List Text) → List Word → Outcome
+judged name parameters body =
+    if is_bad_macro (record { name = name.text.now; parameters = parameters; body = body })
+    then BadDefinition name.at
+    else Read (Define (record { name = name.text.now; parameters = parameters; body = body }))
+
+abbrev pub judged_list : Word → Parameters → Outcome
+judged_list name Wrong = BadForm
+judged_list name Variadic = BadDefinition name.at
+judged_list name (Names names body) = judged name (Some names) body
+
+abbrev pub has_list : Word → List Word → Bool
+has_list name [] = false
+has_list name (word ∷ words) = opens_list name word
+
+abbrev pub defined_of : Word → List Word → Outcome
+defined_of name words = if has_list name words then judged_list name (parameters_of (drop 1 words)) else judged name None words
+
+abbrev pub definition_of : Span → List Word → Outcome
+definition_of whole [] = BadDefinition whole
+definition_of whole (name ∷ words) = if is_name_kind name.kind then defined_of name words else BadDefinition whole
+
+-- ## Other directives
+
+-- the text between two bytes that begin and end it
+abbrev pub inside : ℕ → ℕ → Text → Option Text
+inside opening closing text =
+    if (nat_le 2 (length text) && slice_index text 0 == opening) && slice_index text (length text - 1) == closing
+    then Some (take (length text - 1 - 1) (drop 1 text))
+    else None
+
+abbrev pub quoted_or_wrong : Option Text → Outcome
+quoted_or_wrong (Some name) = Read (Include name false)
+quoted_or_wrong None = BadForm
+
+abbrev pub include_between : Option Text → Text → Outcome
+include_between (Some name) text = Read (Include name true)
+include_between None text = quoted_or_wrong (inside 34 34 text)
+
+abbrev pub include_of : List Word → Outcome
+include_of (word ∷ []) = if is_string_kind word.kind then include_between (inside 60 62 word.text.now) word.text.now else BadForm
+include_of _ = BadForm
+
+-- the one name of the words
+abbrev pub only_name_of : List Word → Option Text
+only_name_of (word ∷ []) = if is_name_kind word.kind then Some word.text.now else None
+only_name_of _ = None
+
+abbrev pub read_or_wrong : (Text → PlainDirective) → Option Text → Outcome
+read_or_wrong directive (Some name) = Read (directive name)
+read_or_wrong directive None = BadForm
+
+-- one name, of which the directive speaks
+abbrev pub of_name : (Text → PlainDirective) → List Word → Outcome
+of_name directive words = read_or_wrong directive (only_name_of words)
+
+abbrev pub alone : PlainDirective → List Word → Outcome
+alone directive [] = Read directive
+alone directive _ = BadForm
+
+abbrev pub own_of : List Word → Outcome
+own_of (word ∷ []) = if is_name (codes "init_done") word then Read InitDone else if is_name (codes "task_loop") word then Read TaskLoop else BadForm
+own_of _ = BadForm
+
+abbrev pub is_nil : List Word → Bool
+is_nil [] = true
+is_nil _ = false
+
+abbrev pub pragma_of : List Word → Outcome
+pragma_of [] = Read OtherPragma
+pragma_of (word ∷ words) =
+    if is_name (codes "p10") word then own_of words
+    else if is_name (codes "once") word && is_nil words then Read Once
+    else Read OtherPragma
+
+abbrev pub named_outcome : Span → Option Keyword → List Word → Outcome
+named_outcome whole None words = BadForm
+named_outcome whole (Some keyword.Include) words = include_of words
+named_outcome whole (Some keyword.Define) words = definition_of whole words
+named_outcome whole (Some keyword.Undef) words = of_name Undef words
+named_outcome whole (Some keyword.If) words = Read (If words)
+named_outcome whole (Some keyword.Elif) words = Read (Elif words)
+named_outcome whole (Some keyword.Ifdef) words = of_name Ifdef words
+named_outcome whole (Some keyword.Ifndef) words = of_name Ifndef words
+named_outcome whole (Some keyword.Else) words = alone Else words
+named_outcome whole (Some keyword.Endif) words = alone Endif words
+named_outcome whole (Some keyword.Pragma) words = pragma_of words
+
+-- what comes of the words behind `#`
+abbrev pub outcome_behind : Span → List Word → Outcome
+outcome_behind whole [] = Read Null
+outcome_behind whole (word ∷ words) = named_outcome whole (keyword_of word) words

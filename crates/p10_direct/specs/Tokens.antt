@@ -1,0 +1,25 @@
+-- Words without their places.
+use Rattle.std.specs.Prelude.{List, Bool, ◌&&◌, map, bytes_eq}
+use Rattle.p10_base.specs.declared.word.Kind.{Kind}
+use Rattle.p10_base.specs.declared.word.Kind.TheVariants.{Punct}
+use Rattle.p10_base.specs.declared.word.Word.{Word}
+use Rattle.p10_direct.specs.Spelling.{Text, is_punctuator_kind}
+
+-- a word's kind and spelling
+pub record Token : Type 0 where
+  pub kind : Kind
+  pub text : Text
+
+abbrev pub token_of : Word → Token
+token_of word = record { kind = word.kind; text = word.text.now }
+
+abbrev pub tokens_of : List Word → List Token
+tokens_of words = map token_of words
+
+-- the punctuator with this spelling
+abbrev pub sign_token : Text → Token
+sign_token text = record { kind = Punct; text = text }
+
+-- whether it is this punctuator
+abbrev pub is_mark : Text → Token → Bool
+is_mark text token = is_punctuator_kind token.kind && bytes_eq token.text text

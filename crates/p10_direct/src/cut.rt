@@ -1,0 +1,97 @@
+//! Cuts the words of a file into directive lines and runs of text.
+
+ghost use Rattle.std.specs.Prelude.{◌≡◌, ◌<◌, length, Some, IfOk, map};
+ghost use Rattle.p10_direct.specs.Lines.{AreCut, LinesAreUnique, piece_of, begins_directive};
+ghost use Rattle.p10_direct.specs.Cutting.{behind, split, first_piece_of};
+ghost use Rattle.p10_direct.specs.Balance.{first_unbalanced};
+
+use crate::balance::first_break;
+use crate::keyword::punctuates;
+use crate::{Line, Lines};
+use p10_base::{ListBuf, Word};
+use std::alloc::{AllocError, Global};
+
+/// The lines of a file with these words: directive lines, and runs of text between them. A line
+/// begins at the first word, and at each word that has `first` set.
+pub fn lines<'w, 's>(alloc: Global, words: &'w [Word<'s>]) -> Result<Lines<'w, 's>, AllocError>
+    ensures cut { IfOk result (λ found. AreCut words.now (map piece_of found.lines)) }
+    ensures unbalanced { IfOk result (λ found. found.unbalanced ≡ first_unbalanced (map piece_of found.lines)) }
+{
+    let mut lines = ListBuf::of(Vec::new(alloc));
+    let mut place = 0;
+    while place < words.len() {
+        let (line, after) = first_line(&words[place..]);
+        lines.push(line)?;
+        place = words.len() - after.len();
+    }
+    let unbalanced = first_break(alloc, lines.as_slice())?;
+    Ok(Lines { lines, unbalanced })
+}
+
+/// The words of a file are cut in one way only.
+pub fn one_cut()
+    ensures { LinesAreUnique }
+{}
+
+/// The first line or run, and the words behind it.
+fn first_line<'w, 's>(words: &'w [Word<'s>]) -> (Line<'w, 's>, &'w [Word<'s>])
+    requires { 0 < length words.now }
+    ensures value { Some (piece_of result.0, result.1.now) ≡ first_piece_of words.now }
+    ensures shorter { length result.1.now < length words.now }
+{
+    if punctuates(&words[0], b"#") {
+        let (line, after) = split_line(words);
+        (Line::Directive(line), after)
+    } else {
+        let (run, after) = split_text(words);
+        (Line::Text(run), after)
+    }
+}
+
+/// The words before the second line, and those from there on.
+fn split_line<'w, 's>(words: &'w [Word<'s>]) -> (&'w [Word<'s>], &'w [Word<'s>])
+    requires { 0 < length words.now }
+    ensures value { (result.0.now, result.1.now) ≡ split (λ word. word.first) words.now }
+    ensures shorter { length result.1.now < length words.now }
+{
+    let after = behind_line(&words[1..]);
+    (&words[..words.len() - after.len()], after)
+}
+
+/// The words before the first directive behind the first word, and those from there on.
+fn split_text<'w, 's>(words: &'w [Word<'s>]) -> (&'w [Word<'s>], &'w [Word<'s>])
+    requires { 0 < length words.now }
+    ensures value { (result.0.now, result.1.now) ≡ split begins_directive words.now }
+    ensures shorter { length result.1.now < length words.now }
+{
+    let after = behind_text(&words[1..]);
+    (&words[..words.len() - after.len()], after)
+}
+
+/// The words from the first that begins a line on.
+fn behind_line<'w, 's>(words: &'w [Word<'s>]) -> &'w [Word<'s>]
+    ensures { result.now ≡ behind (λ word. word.first) words.now }
+{
+    let mut rest = words;
+    while let [word, others @ ..] = rest {
+        if word.first {
+            break;
+        }
+        rest = others;
+    }
+    rest
+}
+
+/// The words from the first that begins a directive on.
+fn behind_text<'w, 's>(words: &'w [Word<'s>]) -> &'w [Word<'s>]
+    ensures { result.now ≡ behind begins_directive words.now }
+{
+    let mut rest = words;
+    while let [word, others @ ..] = rest {
+        if word.first && punctuates(word, b"#") {
+            break;
+        }
+        rest = others;
+    }
+    rest
+}

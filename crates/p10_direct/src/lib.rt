@@ -1,0 +1,34 @@
+//! The directives of the preprocessor (C99 6.10): the lines of a file, one directive read or
+//! refused, and the truth of an `#if` condition.
+//!
+//! Entry points: [`lines`], which cuts a file's words into directive lines and runs of text;
+//! [`directive`], which reads one directive line; and [`truth`], which tells what a condition is.
+//! Invariant: the words of the lines, joined, are the words of the file.
+//! Which lines are obeyed, the replacement of macros, the files that an include names, and a name
+//! that is defined twice are left to the crates above.
+#![tactic(auto)]
+
+mod balance;
+mod base;
+mod condition;
+mod constant;
+mod cut;
+mod definition;
+mod evaluate;
+mod form;
+mod keyword;
+mod line;
+mod mark;
+mod operator;
+mod part;
+mod read;
+mod value;
+
+pub use condition::{one_condition, truth};
+pub use cut::{lines, one_cut};
+pub use form::{DirectFault, Directive, Macro};
+pub use line::{Line, Lines};
+pub use read::{directive, one_outcome};
+
+#[cfg(test)]
+mod tests;

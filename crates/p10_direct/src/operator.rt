@@ -1,0 +1,137 @@
+//! The operators of a condition.
+
+ghost use Rattle.std.specs.Prelude.{◌≡◌, ◌≤◌};
+ghost use Rattle.p10_direct.specs.Operators.{sign_of, binary_of, logical_of, comparison_of, arithmetical_of, level_of_binary};
+ghost use Rattle.p10_direct.specs.Tokens.{token_of};
+
+use crate::keyword::punctuates;
+use p10_base::Word;
+use p10_int::{BinOp, UnOp};
+
+/// An operator between two operands.
+#[derive(Clone, Copy)]
+pub enum Binary {
+    /// One that evaluates both operands.
+    Apply(BinOp),
+    /// `&&`.
+    AndAlso,
+    /// `||`.
+    OrElse,
+}
+
+/// The operator that the word is before an operand.
+#[tactic(auto, unfolding(crate::specs::Operators::sign_of))]
+pub fn sign_operator(word: &Word<'_>) -> Option<UnOp>
+    ensures { result ≡ sign_of (token_of word.now) }
+{
+    if punctuates(word, b"+") {
+        Some(UnOp::Plus)
+    } else if punctuates(word, b"-") {
+        Some(UnOp::Neg)
+    } else if punctuates(word, b"~") {
+        Some(UnOp::Com)
+    } else if punctuates(word, b"!") {
+        Some(UnOp::Not)
+    } else {
+        None
+    }
+}
+
+/// The operator that the word is between two operands.
+#[tactic(auto, unfolding(crate::specs::Operators::binary_of))]
+pub fn binary_operator(word: &Word<'_>) -> Option<Binary>
+    ensures { result ≡ binary_of (token_of word.now) }
+{
+    if let Some(op) = logical(word) {
+        return Some(op);
+    }
+    if let Some(op) = comparison(word) {
+        return Some(op);
+    }
+    arithmetical(word)
+}
+
+/// `||`, `&&`, `|`, `^` or `&`.
+#[tactic(auto, unfolding(crate::specs::Operators::logical_of))]
+fn logical(word: &Word<'_>) -> Option<Binary>
+    ensures { result ≡ logical_of (token_of word.now) }
+{
+    if punctuates(word, b"||") {
+        Some(Binary::OrElse)
+    } else if punctuates(word, b"&&") {
+        Some(Binary::AndAlso)
+    } else if punctuates(word, b"|") {
+        Some(Binary::Apply(BinOp::Or))
+    } else if punctuates(word, b"^") {
+        Some(Binary::Apply(BinOp::Xor))
+    } else if punctuates(word, b"&") {
+        Some(Binary::Apply(BinOp::And))
+    } else {
+        None
+    }
+}
+
+/// `==`, `!=`, `<`, `>`, `<=` or `>=`.
+#[tactic(auto, unfolding(crate::specs::Operators::comparison_of))]
+fn comparison(word: &Word<'_>) -> Option<Binary>
+    ensures { result ≡ comparison_of (token_of word.now) }
+{
+    if punctuates(word, b"==") {
+        Some(Binary::Apply(BinOp::Eq))
+    } else if punctuates(word, b"!=") {
+        Some(Binary::Apply(BinOp::Ne))
+    } else if punctuates(word, b"<") {
+        Some(Binary::Apply(BinOp::Lt))
+    } else if punctuates(word, b">") {
+        Some(Binary::Apply(BinOp::Gt))
+    } else if punctuates(word, b"<=") {
+        Some(Binary::Apply(BinOp::Le))
+    } else if punctuates(word, b">=") {
+        Some(Binary::Apply(BinOp::Ge))
+    } else {
+        None
+    }
+}
+
+/// `<<`, `>>`, `+`, `-`, `*`, `/` or `%`.
+#[tactic(auto, unfolding(crate::specs::Operators::arithmetical_of))]
+fn arithmetical(word: &Word<'_>) -> Option<Binary>
+    ensures { result ≡ arithmetical_of (token_of word.now) }
+{
+    if punctuates(word, b"<<") {
+        Some(Binary::Apply(BinOp::Shl))
+    } else if punctuates(word, b">>") {
+        Some(Binary::Apply(BinOp::Shr))
+    } else if punctuates(word, b"+") {
+        Some(Binary::Apply(BinOp::Add))
+    } else if punctuates(word, b"-") {
+        Some(Binary::Apply(BinOp::Sub))
+    } else if punctuates(word, b"*") {
+        Some(Binary::Apply(BinOp::Mul))
+    } else if punctuates(word, b"/") {
+        Some(Binary::Apply(BinOp::Div))
+    } else if punctuates(word, b"%") {
+        Some(Binary::Apply(BinOp::Rem))
+    } else {
+        None
+    }
+}
+
+/// How tightly the operator binds, from 1 to 10 (C99 6.5.5 to 6.5.14).
+pub fn binding(op: Binary) -> u32
+    ensures value { result ≡ level_of_binary op }
+    ensures small { result ≤ 10 }
+{
+    match op {
+        Binary::OrElse => 1,
+        Binary::AndAlso => 2,
+        Binary::Apply(BinOp::Or) => 3,
+        Binary::Apply(BinOp::Xor) => 4,
+        Binary::Apply(BinOp::And) => 5,
+        Binary::Apply(BinOp::Eq | BinOp::Ne) => 6,
+        Binary::Apply(BinOp::Lt | BinOp::Gt | BinOp::Le | BinOp::Ge) => 7,
+        Binary::Apply(BinOp::Shl | BinOp::Shr) => 8,
+        Binary::Apply(BinOp::Add | BinOp::Sub) => 9,
+        Binary::Apply(BinOp::Mul | BinOp::Div | BinOp::Rem) => 10,
+    }
+}
