@@ -1,5 +1,6 @@
+/* The demand of one channel. */
 int main(void) {
-    int setpoint = 1200;
+    int setpoint = 1200;   // counts
     int trim = 35;
     int demand = setpoint + trim + 5;
     demand = demand + trim;

@@ -1,0 +1,59 @@
+"""Runs commands and measures them; the scripts beside this one share it."""
+import os
+import pathlib
+import subprocess
+
+ROOT = pathlib.Path(__file__).resolve().parent.parent
+
+# Runs a command and prints its wall time in nanoseconds, its peak memory in KiB and its status. It is a
+# program of its own, since a child of a script would begin with the script's own peak.
+PROBE = r"""
+#include <stdio.h>
+#include <stdlib.h>
+#include <sys/resource.h>
+#include <sys/wait.h>
+#include <time.h>
+#include <unistd.h>
+int main(int count, char **words) {
+    struct timespec begin, end;
+    struct rusage usage;
+    int status;
+    clock_gettime(CLOCK_MONOTONIC, &begin);
+    pid_t child = fork();
+    if (child == 0) {
+        if (!freopen("/dev/null", "w", stdout) || !freopen("/dev/null", "w", stderr)) _exit(126);
+        execvp(words[1], words + 1);
+        _exit(127);
+    }
+    wait4(child, &status, 0, &usage);
+    clock_gettime(CLOCK_MONOTONIC, &end);
+    printf("%lld %ld %d\n", (end.tv_sec - begin.tv_sec) * 1000000000LL + end.tv_nsec - begin.tv_nsec,
+           usage.ru_maxrss, WIFEXITED(status) ? WEXITSTATUS(status) : -1);
+    return 0;
+}
+"""
+
+
+def built_p10():
+    """The path of the proved program, which is built where it isn't yet."""
+    subprocess.run([ROOT / "p10"], stderr=subprocess.DEVNULL)
+    return str(ROOT / "build" / "p10")
+
+
+def built_probe(folder):
+    probe = os.path.join(folder, "probe")
+    subprocess.run(["cc", "-O1", "-x", "c", "-", "-o", probe], input=PROBE, text=True, check=True)
+    return probe
+
+
+def measure(probe, commands, repeats):
+    """For each command, a list of words with its wanted status: the least wall time in seconds and the
+    greatest peak memory in KiB. The commands take turns, so that none has the quieter machine."""
+    runs = [[] for _ in commands]
+    for _ in range(repeats):
+        for number, (words, wanted) in enumerate(commands):
+            time, peak, status = subprocess.run([probe, *words], check=True, capture_output=True, text=True).stdout.split()
+            if int(status) != wanted:
+                raise SystemExit(f"{words} ended with {status}, not {wanted}")
+            runs[number].append((int(time) / 1e9, int(peak)))
+    return [(min(r[0] for r in each), max(r[1] for r in each)) for each in runs]
