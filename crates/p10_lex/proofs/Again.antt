@@ -1,31 +1,31 @@
 -- A piece at the front of a text is what is cut off there.
-use Rattle.std.proofs.Common.{◌≡◌, ◌≢◌, ℕ, zero, suc, ◌+◌, ◌-◌, ◌<◌, ◌≤◌, List, [], ◌∷◌, ◌++◌, length, take, drop, refl, sym, ◌∙◌, ap, subst, arith, Bool, true, false, cond, ◌⊎◌, inl, inr, append_assoc, length-append, length-take-le}
-use Rattle.std.specs.Prelude.{◌==◌, nat_le, nat_lt, ◌&&◌, ◌||◌, not, Option, Some, None}
+use Rattle.std.proofs.Common.{◌≡◌, ◌≢◌, ℕ, suc, ◌+◌, ◌-◌, ◌<◌, ◌≤◌, List, [], ◌∷◌, ◌++◌, length, take, drop, refl, sym, ◌∙◌, ap, subst, arith, Bool, true, false, ◌⊎◌, inl, inr, append_assoc, length-append, length-take-le}
+use Rattle.std.specs.Prelude.{◌==◌, nat_lt, ◌&&◌, ◌||◌, not, Option, Some, None}
 use Rattle.std.specs.List.{list_all}
 use Rattle.std.proofs.lemmas.List.{append-nil, take-append-drop, drop_at}
-use Rattle.std.proofs.lemmas.Bool.Decides.{nat_tests}
 use Rattle.p10_base.specs.declared.word.Kind.{Kind}
 use Rattle.p10_base.specs.declared.word.Kind.TheVariants.{Name, Number, Char, Str, Punct, Mark}
 use Rattle.p10_lex.specs.declared.pieces.Piece.{Piece}
 use Rattle.p10_lex.specs.declared.pieces.Piece.TheVariants.{Blank, Splices, Comment, OpenComment, OpenLiteral, Stray, Lexeme}
 use Rattle.p10_lex.specs.Bytes.{is_blank, is_nondigit, is_digit, is_quote, is_name_byte}
-use Rattle.p10_lex.specs.Splices.{joined, joined_after, splice_length, AreSplices, on_one_line, ReachesLineEnd}
-use Rattle.p10_lex.specs.Lexemes.{begins_digit, begins_number, goes_on_number, all_go_on_number, is_quotable, IsQuoted, IsHeaderName, is_header_byte, is_punctuator, single_punctuators, IsLexeme, IsLongest}
+use Rattle.p10_lex.specs.Splices.{joined_after, splice_length, AreSplices, on_one_line}
+use Rattle.p10_lex.specs.Lexemes.{begins_digit, begins_number, all_go_on_number, IsQuoted, IsHeaderName, is_punctuator, single_punctuators, IsLexeme, IsLongest}
 use Rattle.p10_lex.specs.Constants.{begins_with}
 use Rattle.p10_lex.specs.Pieces.{begins_comment, begins_byte, IsPiece, IsStray, IsLineComment, IsBlockComment, IsOpenComment, IsOpenLiteral}
 use Rattle.p10_lex.specs.Runs.{after_run, after_number, after_line, after_comment, after_literal, after_header, after_splices, punctuator_length}
 use Rattle.p10_lex.specs.Reading.{kind_of_quote, literal_at, comment_at, punctuator_at, header_at, cut_at}
-use Rattle.p10_lex.proofs.Classes.{decide, and_both, both_and, or_either, or_neither, same_number, number_same, other_number, not_true, not_false, nondigit_is, nondigit_not_blank, digit_is, number_head, number_not_blank, quote_is}
-use Rattle.p10_lex.proofs.RunLaws.{all_both, run_again, number_again, header_takes, header_again, comment_again, comment_again_open, line_again}
-use Rattle.p10_lex.proofs.SpliceLaws.{literal_takes, literal_again, splices_again, splice_more, splice_short, no_splice, none_test, positive, positive_test, is_either}
+use Rattle.p10_lex.proofs.Classes.{and_both, or_neither, same_number, number_same, other_number, not_true, not_false, nondigit_not_blank, number_head, number_not_blank, quote_is}
+use Rattle.p10_lex.proofs.RunLaws.{run_again, number_again, header_takes, header_again, comment_again, comment_again_open, line_again}
+use Rattle.p10_lex.proofs.SpliceLaws.{literal_takes, literal_again, splices_again, splice_more, no_splice, positive, positive_test, is_either}
 use Rattle.p10_lex.proofs.Punctuation.{punctuator_head, punctuator_class, punctuator_second, no_angle, length_sound, length_most}
 use Rattle.p10_lex.proofs.Longest.{IsQuoteByte, single_quote, double_quote, quote_byte, head_is, tail_is}
-use Rattle.p10_lex.proofs.Found.{IsUntaken, number_grows, digit_goes_on, nil_of, no_empty}
+use Rattle.p10_lex.proofs.Found.{IsUntaken, number_grows, digit_goes_on, no_empty}
 
 -- pairs with equal parts are equal
 pair_is : {A B : Type 0} (a : A) (b c : B) → b ≡ c → ◌≡◌ {A = A × B} (a, b) (a, c)
 pair_is {A} {B} a b c e = ap (λ (x : B). let p : A × B = (a, x) in p) e
 
+-- what the first bytes of a text say of its piece
 cut_blank : (b : Bool) (c : ℕ) (t : List ℕ) → is_blank c ≡ true → cut_at b (c ∷ t) ≡ (Blank, t)
 unfolding cut_at
 cut_blank b c t e = rw e refl
@@ -68,6 +68,7 @@ cut_angle : (t : List ℕ) → cut_at true (60 ∷ t) ≡ header_at (60 ∷ t)
 unfolding cut_at is_blank is_nondigit begins_number is_digit is_quote
 cut_angle t = rw (no_splice 60 t (omega arith)) refl
 
+-- where no comment begins, neither of its beginnings stands
 comment_parts : (c : ℕ) (t : List ℕ) → begins_comment (c ∷ t) ≡ false → (((c == 47) && begins_byte 47 t) ≡ false) × (((c == 47) && begins_byte 42 t) ≡ false)
 unfolding begins_comment begins_byte
 comment_parts c [] e = elim (is_either (c == 47)) [ inl h ↦ (rw h refl, rw h refl) | inr h ↦ (rw h refl, rw h refl) ]
@@ -76,10 +77,12 @@ comment_parts c (d ∷ t) e = elim (is_either (c == 47)) [
   | inr h ↦ (rw h refl, rw h refl)
 ]
 
+-- without an include name a punctuator is sought
 header_none : (c : ℕ) (t : List ℕ) → after_header t ≡ None → header_at (c ∷ t) ≡ punctuator_at (c ∷ t)
 unfolding header_at
 header_none c t e = rw (e, header_at) refl
 
+-- where nothing else stands, a punctuator is sought
 cut_untaken : (b : Bool) (c : ℕ) (t : List ℕ) → IsUntaken b c t → cut_at b (c ∷ t) ≡ punctuator_at (c ∷ t)
 unfolding cut_at
 cut_untaken b c t is =
@@ -101,6 +104,7 @@ unfolding begins_with
 begins_some test [] e = absurd (cc)
 begins_some test (c ∷ rest) e = (c, rest, refl, e)
 
+-- a name is cut off
 again_name : (b : Bool) (text rest : List ℕ) → IsLongest b Name text rest → cut_at b (text ++ rest) ≡ (Lexeme Name, rest)
 again_name b [] rest is = absurd is.lexeme
 again_name b (c ∷ cs) rest is =
@@ -111,6 +115,7 @@ again_name b (c ∷ cs) rest is =
     cc) in
     cut_name b c (cs ++ rest) is.lexeme.0 ∙ pair_is (Lexeme Name) _ _ (run_again is_name_byte cs rest is.lexeme.1 stop)
 
+-- a number is cut off
 again_number : (b : Bool) (text rest : List ℕ) → IsLongest b Number text rest → cut_at b (text ++ rest) ≡ (Lexeme Number, rest)
 again_number b [] rest is = absurd is.lexeme
 again_number b (c ∷ cs) rest is =
@@ -118,14 +123,17 @@ again_number b (c ∷ cs) rest is =
     ∙ pair_is (Lexeme Number) _ _ (number_again c cs rest is.lexeme.1 (λ d after e all.
     let more = is.longest Number (d ∷ []) after e (number_grows c cs (d ∷ []) is.lexeme.0, all) in cc))
 
+-- a literal with its end
 literal_some : (q : ℕ) (t rest : List ℕ) → after_literal q 0 false t ≡ Some rest → literal_at q t ≡ (Lexeme (kind_of_quote q), rest)
 unfolding literal_at
 literal_some q t rest e = rw (e, literal_at) refl
 
+-- a literal without
 literal_none : (q : ℕ) (t : List ℕ) → after_literal q 0 false t ≡ None → literal_at q t ≡ (OpenLiteral, after_line 0 q t)
 unfolding literal_at
 literal_none q t e = rw (e, literal_at) refl
 
+-- a literal is cut off
 again_quoted : (b : Bool) (q : ℕ) (text rest : List ℕ) → IsQuoteByte q → IsQuoted q text → cut_at b (text ++ rest) ≡ (Lexeme (kind_of_quote q), rest)
 again_quoted b q text rest is quoted =
     let whole : text ++ rest ≡ q ∷ (quoted.inside ++ q ∷ rest) =
@@ -133,10 +141,12 @@ again_quoted b q text rest is quoted =
     ap (cut_at b) whole ∙ (cut_quote b q (quoted.inside ++ q ∷ rest) is.quote
     ∙ literal_some q (quoted.inside ++ q ∷ rest) rest (literal_again q is.lf is.cr is.backslash 0 false quoted.inside rest quoted.quotable (omega arith)))
 
+-- an include name with its end
 header_some : (t rest : List ℕ) → after_header t ≡ Some rest → header_at (60 ∷ t) ≡ (Lexeme Str, rest)
 unfolding header_at
 header_some t rest e = rw (e, header_at) refl
 
+-- an include name is cut off
 again_header : (b : Bool) (text rest : List ℕ) → b ≡ true → IsHeaderName text → cut_at b (text ++ rest) ≡ (Lexeme Str, rest)
 again_header b text rest asked header =
     let whole : text ++ rest ≡ 60 ∷ (header.inside ++ 62 ∷ rest) =
@@ -156,6 +166,7 @@ split_angle (c ∷ cs) (i ∷ inside) rest after e all =
     let (more, p, q) = split_angle cs inside rest after (tail_is _ _ _ _ e) y in
     (more, ap (λ (z : ℕ). z ∷ inside) (sym (head_is _ _ _ _ e)) ∙ ap (λ (z : List ℕ). c ∷ z) p, q)
 
+-- an option is empty or full
 cases_of : (o : Option (List ℕ)) → (o ≡ None) ⊎ ((x : List ℕ) × (o ≡ Some x))
 cases_of None = inl refl
 cases_of (Some x) = inr (x, refl)
@@ -196,10 +207,12 @@ number_not b c (d ∷ cs) rest is h = elim (number_head c (d ∷ (cs ++ rest)) h
   | inr (x, y) ↦ (let second = punctuator_second c d cs is.lexeme in cc)
 ]
 
+-- a punctuator has a byte
 some_text : (text : List ℕ) → is_punctuator text ≡ true → 0 < length text
 some_text [] e = absurd (no_empty e)
 some_text (c ∷ t) e = omega arith
 
+-- a front that goes past the first of two texts
 take_past : (text rest : List ℕ) (m : ℕ) → take (length text + m) (text ++ rest) ≡ text ++ take m rest
 take_past [] rest m = let e : 0 + m ≡ m = omega arith in rw e refl
 take_past (c ∷ text) rest m = let e : suc (length text) + m ≡ suc (length text + m) = omega arith in rw e (ap (λ (x : List ℕ). c ∷ x) (take_past text rest m))
@@ -243,20 +256,24 @@ again_punct b [] rest is comment = absurd (no_empty is.lexeme)
 again_punct b (c ∷ cs) rest is comment =
     cut_untaken b c (cs ++ rest) (punct_untaken b c cs rest is comment) ∙ punct_at b (c ∷ cs) rest is
 
+-- a line comment is cut off
 again_line : (b : Bool) (text rest : List ℕ) → IsLineComment text rest → cut_at b (text ++ rest) ≡ (Comment, rest)
 again_line b text rest is =
     let whole : text ++ rest ≡ 47 ∷ (47 ∷ (is.inside ++ rest)) = ap (λ (x : List ℕ). x ++ rest) is.parts in
     ap (cut_at b) whole ∙ (cut_line b (is.inside ++ rest) ∙ pair_is Comment (after_line 0 0 (47 ∷ (47 ∷ (is.inside ++ rest)))) rest
     (ap (after_line 0 0) (sym whole) ∙ line_again 0 0 text rest is.line.one_line is.line.ends))
 
+-- a block comment with its end
 comment_some : (t rest : List ℕ) → after_comment t ≡ Some rest → comment_at t ≡ (Comment, rest)
 unfolding comment_at
 comment_some t rest e = rw (e, comment_at) refl
 
+-- a block comment without
 comment_none : (t : List ℕ) → after_comment t ≡ None → comment_at t ≡ (OpenComment, [])
 unfolding comment_at
 comment_none t e = rw (e, comment_at) refl
 
+-- a block comment is cut off
 again_block : (b : Bool) (text rest : List ℕ) → IsBlockComment text → cut_at b (text ++ rest) ≡ (Comment, rest)
 again_block b text rest is =
     let whole : text ++ rest ≡ 47 ∷ (42 ∷ (is.inside ++ 42 ∷ (47 ∷ rest))) =
@@ -264,11 +281,13 @@ again_block b text rest is =
     ap (cut_at b) whole ∙ (cut_block b (is.inside ++ 42 ∷ (47 ∷ rest))
     ∙ comment_some (is.inside ++ 42 ∷ (47 ∷ rest)) rest (comment_again is.inside rest is.first))
 
+-- a comment without end is cut off
 again_open_comment : (b : Bool) (text rest : List ℕ) → IsOpenComment text rest → cut_at b (text ++ rest) ≡ (OpenComment, rest)
 again_open_comment b text rest is =
     let whole : text ++ rest ≡ 47 ∷ (42 ∷ is.inside) = ap (λ (x : List ℕ). text ++ x) is.last ∙ (append-nil text ∙ is.parts) in
     ap (cut_at b) whole ∙ (cut_block b is.inside ∙ (comment_none is.inside (comment_again_open is.inside is.open_end) ∙ pair_is OpenComment [] rest (sym is.last)))
 
+-- a literal without end is cut off
 again_open_literal : (b : Bool) (text rest : List ℕ) → IsOpenLiteral text rest → cut_at b (text ++ rest) ≡ (OpenLiteral, rest)
 unfolding on_one_line
 again_open_literal b text rest is =
@@ -295,6 +314,7 @@ splice_head c t some = elim (is_either (c == 92)) [
   | inr e ↦ absurd (let h = no_splice c t (λ x. let f = number_same c 92 x in cc) in omega arith)
 ]
 
+-- splices begin with a splice
 first_splice : (c : ℕ) (t : List ℕ) → joined_after 0 (c ∷ t) ≡ [] → 0 < splice_length (c ∷ t)
 unfolding joined_after
 first_splice c t e = elim (is_either (nat_lt 0 (splice_length (c ∷ t)))) [
@@ -302,6 +322,7 @@ first_splice c t e = elim (is_either (nat_lt 0 (splice_length (c ∷ t)))) [
   | inr h ↦ absurd (let f = rw h at e in cc)
 ]
 
+-- splices are cut off
 again_splices : (b : Bool) (text rest : List ℕ) → AreSplices text → splice_length rest ≡ 0 → cut_at b (text ++ rest) ≡ (Splices, rest)
 again_splices b [] rest are stop = absurd (are.some refl)
 again_splices b (c ∷ t) rest are stop =
@@ -314,14 +335,17 @@ again_splices b (c ∷ t) rest are stop =
     subst (λ (x : ℕ). cut_at b (x ∷ (t ++ rest)) ≡ (Splices, after_splices 0 (x ∷ (t ++ rest)))) (sym here) (cut_backslash b (t ++ rest) there) in
     cut ∙ pair_is Splices (after_splices 0 (c ∷ (t ++ rest))) rest (splices_again 0 (c ∷ t) rest are.only stop (omega arith))
 
+-- a slash is a punctuator
 single_slash : is_punctuator (47 ∷ []) ≡ true
 unfolding is_punctuator single_punctuators
 single_slash = refl
 
+-- so is `<`
 single_angle : is_punctuator (60 ∷ []) ≡ true
 unfolding is_punctuator single_punctuators
 single_angle = refl
 
+-- a comment begins with a slash
 comment_head : (c : ℕ) (t : List ℕ) → begins_comment (c ∷ t) ≡ true → c ≡ 47
 unfolding begins_comment
 comment_head c [] e = absurd (cc)
@@ -350,6 +374,7 @@ stray_untaken b c rest blank quote splice no_word = record {
   header = λ p q. absurd (no_word Punct (c ∷ []) rest refl (subst (λ (x : ℕ). is_punctuator (x ∷ []) ≡ true) (sym q) single_angle));
 }
 
+-- where no word begins, no punctuator is found
 stray_at : (b : Bool) (c : ℕ) (rest : List ℕ)
     → ((kind : Kind) (word after : List ℕ) → c ∷ rest ≡ word ++ after → IsLexeme b kind word → ⊥) → punctuator_at (c ∷ rest) ≡ (Stray, rest)
 unfolding punctuator_at
@@ -360,24 +385,29 @@ stray_at b c rest no_word = elim (length_sound (c ∷ rest)) [
       (sym (take-append-drop (punctuator_length (c ∷ rest)) (c ∷ rest))) sound)
 ]
 
+-- a byte that begins nothing is cut off
 again_stray : (b : Bool) (text rest : List ℕ) → IsStray b text rest → cut_at b (text ++ rest) ≡ (Stray, rest)
 again_stray b text rest is =
     let whole : text ++ rest ≡ is.byte ∷ rest = ap (λ (x : List ℕ). x ++ rest) is.parts in
     ap (cut_at b) whole ∙ (cut_untaken b is.byte rest (stray_untaken b is.byte rest is.not_blank is.not_quote is.not_splice is.no_word)
     ∙ stray_at b is.byte rest is.no_word)
 
+-- the kind of a single quote
 kind_single : kind_of_quote 39 ≡ Char
 unfolding kind_of_quote
 kind_single = refl
 
+-- the kind of a double quote
 kind_double : kind_of_quote 34 ≡ Str
 unfolding kind_of_quote
 kind_double = refl
 
+-- a literal of a kind is cut off
 again_kind : (b : Bool) (q : ℕ) (kind : Kind) (text rest : List ℕ) → IsQuoteByte q → kind_of_quote q ≡ kind → IsQuoted q text → cut_at b (text ++ rest) ≡ (Lexeme kind, rest)
 again_kind b q kind text rest byte e quoted =
     again_quoted b q text rest byte quoted ∙ ap (λ (k : Kind). let p : Piece × List ℕ = (Lexeme k, rest) in p) e
 
+-- a string or an include name is cut off
 again_string : (b : Bool) (text rest : List ℕ) → IsLexeme b Str text → cut_at b (text ++ rest) ≡ (Lexeme Str, rest)
 again_string b text rest (inl is) = again_kind b 34 Str text rest double_quote kind_double is
 again_string b text rest (inr (asked, is)) = again_header b text rest asked is
@@ -398,10 +428,12 @@ again b (Lexeme Str) text rest (is, comment) = again_string b text rest is.lexem
 again b (Lexeme Punct) text rest (is, comment) = again_punct b text rest is comment
 again b (Lexeme Mark) text rest (is, comment) = absurd is.lexeme
 
+-- a text that is not empty has a byte
 some_cells : (text : List ℕ) → text ≢ [] → 0 < length text
 some_cells [] h = absurd (h refl)
 some_cells (c ∷ t) h = omega arith
 
+-- a lexeme has a byte
 lexeme_some : (b : Bool) (kind : Kind) (text : List ℕ) → IsLexeme b kind text → 0 < length text
 lexeme_some b Name [] is = absurd is
 lexeme_some b Name (c ∷ t) is = omega arith

@@ -1,20 +1,16 @@
 -- Every file has words or one refusal, and which it is follows from the pieces up to the first row that holds.
-use Rattle.std.proofs.Common.{◌≡◌, ◌≢◌, ℕ, zero, suc, ◌+◌, ◌-◌, ◌<◌, ◌≤◌, List, [], ◌∷◌, ◌++◌, length, take, refl, sym, ◌∙◌, ap, subst, arith, Bool, true, false, ◌⊎◌, inl, inr, append_assoc, length-append}
-use Rattle.std.specs.Prelude.{Option, Some, None, Result, Ok, Err}
-use Rattle.std.proofs.lemmas.List.{take_at, append-nil}
+use Rattle.std.proofs.Common.{◌≡◌, ℕ, zero, suc, ◌+◌, ◌≤◌, List, [], ◌∷◌, ◌++◌, length, refl, sym, ◌∙◌, ap, subst, arith, inl, inr, length-append}
+use Rattle.std.specs.Prelude.{Option, Some, None}
 use Rattle.p10_base.specs.declared.report.Refusal.{Refusal}
-use Rattle.p10_base.specs.declared.report.Limit.{Limit}
 use Rattle.p10_lex.specs.declared.pieces.Piece.{Piece}
 use Rattle.p10_lex.specs.declared.faults.Fault.{Fault}
-use Rattle.p10_lex.specs.declared.fault.LexFault.{LexFault}
-use Rattle.p10_lex.specs.declared.fault.LexFault.TheVariants.{Refused, Over, Memory}
-use Rattle.p10_lex.specs.Pieces.{IsPiece, Cut, State, advance, beginning, state_after, is_include, Cuts, LexedWord, word_before, words_of}
-use Rattle.p10_lex.specs.Refusals.{Row, refusal_at, Holds, Precedes}
-use Rattle.p10_lex.specs.Lexes.{Lexes, Refuses, Begins, Answers}
+use Rattle.p10_lex.specs.Pieces.{IsPiece, State, advance, beginning, is_include, LexedWord, word_before}
+use Rattle.p10_lex.specs.Refusals.{refusal_at, Precedes}
+use Rattle.p10_lex.specs.Lexes.{Lexes, Refuses, Begins}
 use Rattle.p10_lex.specs.Reading.{cut_at, fault_at}
 use Rattle.p10_lex.proofs.Cutting.{cut_takes, piece_some}
 use Rattle.p10_lex.proofs.WordRows.{first_row, no_row}
-use Rattle.p10_lex.proofs.FirstRefusal.{Gives, ends, stops, goes_on, cut_of, holds_of, answered, IsAnswered}
+use Rattle.p10_lex.proofs.FirstRefusal.{Gives, ends, stops, goes_on, cut_of, holds_of, answered}
 
 -- a file that isn't refused has its words
 pub lexes_from : (file : ℕ) (bytes : List ℕ) (words : List LexedWord) → Gives file beginning bytes words None → Lexes file bytes words
@@ -59,6 +55,7 @@ goes_on_at file s piece text rest whole words end parts is e gives =
     goes_on s piece text rest whole words end parts is
     (no_row (is_include s.line) s.tight piece text rest is (ap (λ (x : List ℕ). fault_at s.tight piece text x rest) (sym parts) ∙ e)) gives
 
+-- what the first piece gives, by its first row
 given_by : (file : ℕ) (s : State) (piece : Piece) (text rest whole : List ℕ) → whole ≡ text ++ rest → IsPiece (is_include s.line) piece text rest
     → (found : Option Fault) → fault_at s.tight piece text whole rest ≡ found
     → ((words : List LexedWord) × (end : Option Refusal) × Gives file (advance s piece text) rest words end)

@@ -1,17 +1,16 @@
 -- Which literals have well-formed characters.
-use Rattle.std.proofs.Common.{◌≡◌, ◌≢◌, ℕ, zero, suc, ◌+◌, ◌-◌, ◌*◌, ◌^◌, ◌<◌, ◌≤◌, List, [], ◌∷◌, ◌++◌, length, take, drop, refl, sym, ◌∙◌, ap, subst, arith, Bool, true, false, cond, ◌⊎◌, inl, inr, append_assoc, length-append, zero-add, one-add}
-use Rattle.std.specs.Prelude.{◌==◌, nat_le, nat_lt, ◌&&◌, ◌||◌, not, Option, Some, None, is_some, unwrap_or, codes}
+use Rattle.std.proofs.Common.{◌≡◌, ◌≢◌, ℕ, zero, suc, ◌+◌, ◌-◌, ◌*◌, ◌<◌, ◌≤◌, List, [], ◌∷◌, ◌++◌, length, refl, sym, ◌∙◌, ap, subst, arith, Bool, true, false, cond, ◌⊎◌, inl, inr, zero-add, one-add}
+use Rattle.std.specs.Prelude.{◌==◌, nat_lt, ◌&&◌, not, Option, Some, None, is_some, unwrap_or, codes}
 use Rattle.std.specs.Option.{option_map, option_and_then}
-use Rattle.std.specs.List.{list_all, list_any}
-use Rattle.std.proofs.lemmas.List.{take_at}
+use Rattle.std.specs.List.{list_all}
 use Rattle.std.proofs.lemmas.Bool.Decides.{nat_tests}
 use Rattle.p10_lex.specs.declared.characters.Mode.{Mode}
 use Rattle.p10_lex.specs.declared.characters.Mode.TheVariants.{Plain, Escape, Octal, HexadecimalStart, Hexadecimal}
 use Rattle.p10_lex.specs.Bytes.{is_digit, is_octal, is_hexadecimal, digit_value}
-use Rattle.p10_lex.specs.Splices.{joined, joined_after}
-use Rattle.p10_lex.specs.Constants.{value_from, value_of, is_simple_escape, begins_with, IsEscape, simple, octal, hexadecimal, Characters, none, plain, escape, is_allowed, IsLiteral}
-use Rattle.p10_lex.specs.Values.{begin_character, add_octal, add_hexadecimal, read_byte, may_end, count_from, is_quoted_constant, is_literal_constant}
-use Rattle.p10_lex.proofs.Classes.{decide, and_both, both_and, or_either, same_number, number_same, other_number, not_true, not_false, any_byte}
+use Rattle.p10_lex.specs.Splices.{joined}
+use Rattle.p10_lex.specs.Constants.{value_from, value_of, is_simple_escape, begins_with, IsEscape, simple, octal, hexadecimal, Characters, none, plain, escape, is_allowed}
+use Rattle.p10_lex.specs.Values.{begin_character, add_octal, add_hexadecimal, read_byte, may_end, count_from, is_quoted_constant}
+use Rattle.p10_lex.proofs.Classes.{decide, and_both, both_and, same_number, number_same, other_number, not_true, not_false, any_byte}
 use Rattle.p10_lex.proofs.SpliceLaws.{is_either}
 use Rattle.p10_lex.proofs.IntegerLaws.{below, is_below, value_grows}
 
@@ -78,25 +77,31 @@ Follows quote (Octal left value) text n = value ≤ 255 → FollowsOctal quote l
 Follows quote HexadecimalStart text n = FollowsStart quote text n
 Follows quote (Hexadecimal value) text n = value ≤ 255 → FollowsHexadecimal quote value text n
 
+-- a text does not begin with a byte that does not pass
 begins_false : (test : ℕ → Bool) (c : ℕ) (t : List ℕ) → test c ≡ false → begins_with test (c ∷ t) ≡ false
 unfolding begins_with
 begins_false test c t e = e
 
+-- nor does the empty text
 begins_nil : (test : ℕ → Bool) → begins_with test [] ≡ false
 unfolding begins_with
 begins_nil test = refl
 
+-- the value of one octal digit
 octal_small : (c : ℕ) → is_octal c ≡ true → digit_value c ≤ 255
 unfolding is_octal digit_value
 octal_small c e = grind (arith, nat_tests)
 
+-- the value of one hexadecimal digit
 hexadecimal_small : (c : ℕ) → is_hexadecimal c ≡ true → digit_value c ≤ 255
 unfolding is_hexadecimal digit_value is_digit
 hexadecimal_small c e = grind (arith, nat_tests)
 
+-- the value of the first digit
 zero_first : (base c : ℕ) (more : List ℕ) → value_from base (0 * base + digit_value c) more ≡ value_from base (digit_value c) more
 zero_first base c more = let e : 0 * base + digit_value c ≡ digit_value c = omega arith in ap (λ (x : ℕ). value_from base x more) e
 
+-- an escape begins
 begun_escape : (quote c : ℕ) (t : List ℕ) (n m : ℕ) (next : Bool × Mode) → c ≡ 92 → ◌≡◌ {A = Bool × Mode} (true, Escape) next → n ≡ (cond next.0 1 0) + m
     → Follows quote next.1 t m → Characters (is_allowed quote) n (c ∷ t)
 begun_escape quote c t n m next here e count follows =
@@ -105,6 +110,7 @@ begun_escape quote c t n m next here e count follows =
     subst (λ (k : ℕ). Characters (is_allowed quote) k (c ∷ t)) (sym one)
     (subst (λ (k : ℕ). Characters (is_allowed quote) (suc m) (k ∷ t)) (sym here) (escape m f.body f.rest t f.is_escape f.parts f.others))
 
+-- a plain character begins
 begun_plain : (quote c : ℕ) (t : List ℕ) (n m : ℕ) (next : Bool × Mode) → c ≢ 92 → is_allowed quote c ≡ true → ◌≡◌ {A = Bool × Mode} (true, Plain) next → n ≡ (cond next.0 1 0) + m
     → Follows quote next.1 t m → Characters (is_allowed quote) n (c ∷ t)
 begun_plain quote c t n m next here allowed e count follows =
@@ -124,10 +130,12 @@ begun quote c t n m next e count follows =
     (λ k g. absurd (cc)) f)
     e
 
+-- the value behind the first digit
 first_value : (base c : ℕ) (more : List ℕ) → value_from base (digit_value c) more ≤ 255 → value_of base (c ∷ more) ≤ 255
 unfolding value_from
 first_value base c more h = subst (λ (x : ℕ). x ≤ 255) (sym (zero_first base c more)) h
 
+-- no digit may be added
 no_room : (left c : ℕ) → (nat_lt 0 left && is_octal c) ≡ false → is_octal c ≡ true → 0 ≡ left
 no_room zero c e h = refl
 no_room (suc left) c e h = absurd (let f = is_below 0 (suc left) (omega arith) in let g = both_and _ _ f h in cc)
@@ -136,11 +144,13 @@ no_room (suc left) c e h = absurd (let f = is_below 0 (suc left) (omega arith) i
 same_count : (n m : ℕ) (mode : Mode) (next : Bool × Mode) → ◌≡◌ {A = Bool × Mode} (false, mode) next → n ≡ (cond next.0 1 0) + m → m ≡ n
 same_count n m mode next e count = sym (count ∙ (ap (λ (x : Bool × Mode). (cond x.0 1 0) + m) (sym e) ∙ zero-add m))
 
+-- what follows a mode that begins no character
 moved : (quote : ℕ) (t : List ℕ) (n m : ℕ) (mode : Mode) (next : Bool × Mode) → ◌≡◌ {A = Bool × Mode} (false, mode) next → n ≡ (cond next.0 1 0) + m
     → Follows quote next.1 t m → Follows quote mode t n
 moved quote t n m mode next e count follows =
     subst (λ (k : ℕ). Follows quote mode t k) (same_count n m mode next e count) (subst (λ (x : Bool × Mode). Follows quote x.1 t m) (sym e) follows)
 
+-- a text may end here
 takes_end : (quote : ℕ) (mode : Mode) (n : ℕ) → count_from quote mode [] ≡ Some n → Follows quote mode [] n
 unfolding count_from may_end value_from
 takes_end quote Plain n e = let h : 0 ≡ n = cc in subst (λ (k : ℕ). Characters (is_allowed quote) k []) h none
@@ -166,6 +176,7 @@ takes_end quote (Hexadecimal value) n e = λ h. let z : 0 ≡ n = cc in record {
   others = subst (λ (k : ℕ). Characters (is_allowed quote) k []) z none;
 }
 
+-- the byte behind a backslash
 takes_escape : (quote c : ℕ) (t : List ℕ) (n : ℕ) (next : Bool × Mode) (m : ℕ) → read_byte quote Escape c ≡ Some next → n ≡ (cond next.0 1 0) + m
     → Follows quote next.1 t m → FollowsEscape quote (c ∷ t) n
 unfolding read_byte
@@ -199,6 +210,7 @@ takes_escape quote c t n next m read total follows =
     (λ l f. absurd (cc))))
     read
 
+-- a byte behind octal digits
 takes_octal : (quote left value c : ℕ) (t : List ℕ) (n : ℕ) (next : Bool × Mode) (m : ℕ) → read_byte quote (Octal left value) c ≡ Some next → n ≡ (cond next.0 1 0) + m
     → Follows quote next.1 t m → value ≤ 255 → FollowsOctal quote left value (c ∷ t) n
 unfolding read_byte add_octal value_from
@@ -237,6 +249,7 @@ takes_octal quote left value c t n next m read total follows most =
     })
     read
 
+-- the byte behind `\x`
 takes_start : (quote c : ℕ) (t : List ℕ) (n : ℕ) (next : Bool × Mode) (m : ℕ) → read_byte quote HexadecimalStart c ≡ Some next → n ≡ (cond next.0 1 0) + m
     → Follows quote next.1 t m → FollowsStart quote (c ∷ t) n
 unfolding read_byte
@@ -257,6 +270,7 @@ takes_start quote c t n next m read total follows =
     })
     (λ h f. absurd (cc)) read
 
+-- a byte behind hexadecimal digits
 takes_hexadecimal : (quote value c : ℕ) (t : List ℕ) (n : ℕ) (next : Bool × Mode) (m : ℕ) → read_byte quote (Hexadecimal value) c ≡ Some next → n ≡ (cond next.0 1 0) + m
     → Follows quote next.1 t m → value ≤ 255 → FollowsHexadecimal quote value (c ∷ t) n
 unfolding read_byte add_hexadecimal value_from
@@ -290,6 +304,7 @@ takes_hexadecimal quote value c t n next m read total follows most =
     })
     read
 
+-- one byte in any mode
 takes_step : (quote c : ℕ) (t : List ℕ) (mode : Mode) (n : ℕ) (next : Bool × Mode) (m : ℕ) → read_byte quote mode c ≡ Some next → n ≡ (cond next.0 1 0) + m
     → Follows quote next.1 t m → Follows quote mode (c ∷ t) n
 unfolding read_byte
@@ -317,75 +332,92 @@ read_new : (quote : ℕ) (mode : Mode) (c : ℕ) (t : List ℕ) → read_byte qu
 unfolding count_from
 read_new quote mode c t e = ap (option_and_then (λ (x : Bool × Mode). option_map (λ (n : ℕ). (cond x.0 1 0) + n) (count_from quote x.1 t))) e
 
+-- a byte that begins no character
 quiet : (quote : ℕ) (mode next : Mode) (c : ℕ) (t : List ℕ) (n : ℕ) → read_byte quote mode c ≡ Some (false, next) → count_from quote next t ≡ Some n → count_from quote mode (c ∷ t) ≡ Some n
 quiet quote mode next c t n read count = read_one quote mode c t false next n read count ∙ ap (λ (x : ℕ). let o : Option ℕ = Some x in o) (zero-add n)
 
+-- an octal escape may end the text
 octal_end : (quote left value n : ℕ) → count_from quote Plain [] ≡ Some n → count_from quote (Octal left value) [] ≡ Some n
 unfolding count_from may_end
 octal_end quote left value n e = e
 
+-- so may a hexadecimal one
 hexadecimal_end : (quote value n : ℕ) → count_from quote Plain [] ≡ Some n → count_from quote (Hexadecimal value) [] ≡ Some n
 unfolding count_from may_end
 hexadecimal_end quote value n e = e
 
+-- the empty text has no character
 none_count : (quote : ℕ) → count_from quote Plain [] ≡ Some 0
 unfolding count_from may_end
 none_count quote = refl
 
+-- a byte that goes on with no octal escape
 octal_new : (quote left value c : ℕ) → (0 ≡ left) ⊎ (is_octal c ≡ false) → read_byte quote (Octal left value) c ≡ read_byte quote Plain c
 unfolding read_byte
 octal_new quote zero value c stop = refl
 octal_new quote (suc left) value c (inl h) = absurd (omega arith)
 octal_new quote (suc left) value c (inr h) = rw (is_below 0 (suc left) (omega arith), h) refl
 
+-- a byte that goes on with one
 octal_more : (quote left value c : ℕ) → 0 < left → is_octal c ≡ true → value * 8 + digit_value c < 256
     → read_byte quote (Octal left value) c ≡ Some (false, Octal (left - 1) (value * 8 + digit_value c))
 unfolding read_byte add_octal
 octal_more quote left value c some digit fit = rw (is_below 0 left some, digit, is_below _ _ fit) refl
 
+-- a byte that goes on with no hexadecimal escape
 hexadecimal_new : (quote value c : ℕ) → is_hexadecimal c ≡ false → read_byte quote (Hexadecimal value) c ≡ read_byte quote Plain c
 unfolding read_byte
 hexadecimal_new quote value c h = rw h refl
 
+-- a byte that goes on with one
 hexadecimal_more : (quote value c : ℕ) → is_hexadecimal c ≡ true → value * 16 + digit_value c < 256
     → read_byte quote (Hexadecimal value) c ≡ Some (false, Hexadecimal (value * 16 + digit_value c))
 unfolding read_byte add_hexadecimal
 hexadecimal_more quote value c digit fit = rw (digit, is_below _ _ fit) refl
 
+-- an escape of one byte
 escape_simple : (quote c : ℕ) → is_simple_escape c ≡ true → read_byte quote Escape c ≡ Some (false, Plain)
 unfolding read_byte
 escape_simple quote c h = rw h refl
 
+-- an octal digit is no escape of one byte
 octal_not_simple : (c : ℕ) → is_octal c ≡ true → is_simple_escape c ≡ false
 unfolding is_simple_escape is_octal
 octal_not_simple c h = not_false _ (λ e. let f = not_true _ (any_byte (λ d. not (is_octal d)) (codes "'\"?\\abtnvfr") c refl e) in cc)
 
+-- an octal digit behind a backslash
 escape_octal : (quote c : ℕ) → is_octal c ≡ true → read_byte quote Escape c ≡ Some (false, Octal 2 (digit_value c))
 unfolding read_byte
 escape_octal quote c h = rw (octal_not_simple c h, h) refl
 
+-- `x` behind a backslash
 escape_x : (quote : ℕ) → read_byte quote Escape 120 ≡ Some (false, HexadecimalStart)
 unfolding read_byte is_simple_escape is_octal
 escape_x quote = refl
 
+-- a hexadecimal digit behind `\x`
 start_hexadecimal : (quote c : ℕ) → is_hexadecimal c ≡ true → read_byte quote HexadecimalStart c ≡ Some (false, Hexadecimal (digit_value c))
 unfolding read_byte
 start_hexadecimal quote c h = rw h refl
 
+-- a plain character
 plain_read : (quote c : ℕ) → c ≢ 92 → is_allowed quote c ≡ true → read_byte quote Plain c ≡ Some (true, Plain)
 unfolding read_byte begin_character
 plain_read quote c ne allowed = rw (other_number c 92 ne, allowed) refl
 
+-- a backslash
 backslash_read : (quote : ℕ) → read_byte quote Plain 92 ≡ Some (true, Escape)
 unfolding read_byte begin_character
 backslash_read quote = refl
 
+-- an octal escape is over
 octal_stops : (quote left value : ℕ) (rest : List ℕ) (n : ℕ) → (0 ≡ left) ⊎ (begins_with is_octal rest ≡ false) → count_from quote Plain rest ≡ Some n
     → count_from quote (Octal left value) rest ≡ Some n
 unfolding begins_with
 octal_stops quote left value [] n stop e = octal_end quote left value n e
 octal_stops quote left value (c ∷ t) n stop e = read_new quote (Octal left value) c t (octal_new quote left value c (elim stop [ inl h ↦ inl h | inr h ↦ inr h ])) ∙ e
 
+-- octal digits are read
 again_octal : (quote left value : ℕ) (more rest : List ℕ) (n : ℕ) → list_all is_octal more ≡ true → length more ≤ left
     → (length more ≡ left) ⊎ (begins_with is_octal rest ≡ false) → value_from 8 value more ≤ 255 → count_from quote Plain rest ≡ Some n
     → count_from quote (Octal left value) (more ++ rest) ≡ Some n
@@ -398,12 +430,14 @@ again_octal quote left value (c ∷ more) rest n all short stop small e =
     quiet quote (Octal left value) (Octal (left - 1) (value * 8 + digit_value c)) c (more ++ rest) n (octal_more quote left value c (omega arith) x fit)
     (again_octal quote (left - 1) (value * 8 + digit_value c) more rest n y (omega arith) (elim stop [ inl h ↦ inl (omega arith) | inr h ↦ inr h ]) small e)
 
+-- a hexadecimal escape is over
 hexadecimal_stops : (quote value : ℕ) (rest : List ℕ) (n : ℕ) → begins_with is_hexadecimal rest ≡ false → count_from quote Plain rest ≡ Some n
     → count_from quote (Hexadecimal value) rest ≡ Some n
 unfolding begins_with
 hexadecimal_stops quote value [] n stop e = hexadecimal_end quote value n e
 hexadecimal_stops quote value (c ∷ t) n stop e = read_new quote (Hexadecimal value) c t (hexadecimal_new quote value c stop) ∙ e
 
+-- hexadecimal digits are read
 again_hexadecimal : (quote value : ℕ) (more rest : List ℕ) (n : ℕ) → list_all is_hexadecimal more ≡ true
     → begins_with is_hexadecimal rest ≡ false → value_from 16 value more ≤ 255 → count_from quote Plain rest ≡ Some n
     → count_from quote (Hexadecimal value) (more ++ rest) ≡ Some n
@@ -416,10 +450,12 @@ again_hexadecimal quote value (c ∷ more) rest n all stop small e =
     quiet quote (Hexadecimal value) (Hexadecimal (value * 16 + digit_value c)) c (more ++ rest) n (hexadecimal_more quote value c x fit)
     (again_hexadecimal quote (value * 16 + digit_value c) more rest n y stop small e)
 
+-- the value behind the first digit
 value_first : (base c : ℕ) (more : List ℕ) → value_of base (c ∷ more) ≤ 255 → value_from base (digit_value c) more ≤ 255
 unfolding value_from
 value_first base c more h = subst (λ (x : ℕ). x ≤ 255) (zero_first base c more) h
 
+-- an escape is read
 again_escape : (quote : ℕ) (body rest : List ℕ) (n : ℕ) → IsEscape rest body → count_from quote Plain rest ≡ Some n → count_from quote Escape (body ++ rest) ≡ Some n
 again_escape quote _ rest n (simple c h) e = quiet quote Escape Plain c rest n (escape_simple quote c h) e
 again_escape quote _ rest n (octal c more all short stop small) e =

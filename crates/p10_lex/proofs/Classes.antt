@@ -1,9 +1,9 @@
 -- Classes of bytes exclude each other.
-use Rattle.std.proofs.Common.{◌≡◌, ◌≢◌, ℕ, zero, suc, ◌+◌, ◌-◌, ◌<◌, ◌≤◌, List, [], ◌∷◌, ◌++◌, length, refl, sym, ◌∙◌, ap, subst, arith, Bool, true, false, cond, ◌⊎◌, inl, inr}
-use Rattle.std.specs.Prelude.{◌==◌, nat_le, ◌&&◌, ◌||◌, not}
+use Rattle.std.proofs.Common.{◌≡◌, ◌≢◌, ℕ, ◌≤◌, List, [], ◌∷◌, refl, ◌∙◌, ap, arith, Bool, true, false, cond, ◌⊎◌, inl, inr}
+use Rattle.std.specs.Prelude.{◌==◌, ◌&&◌, ◌||◌, not}
 use Rattle.std.specs.List.{list_all, list_any}
 use Rattle.std.proofs.lemmas.Bool.Decides.{nat_tests}
-use Rattle.p10_lex.specs.Bytes.{is_blank, is_nondigit, is_digit, is_name_byte, is_quote}
+use Rattle.p10_lex.specs.Bytes.{is_blank, is_nondigit, is_digit, is_quote}
 use Rattle.p10_lex.specs.Lexemes.{begins_number, begins_digit}
 
 -- a choice has what both sides have
@@ -11,36 +11,45 @@ pub decide : {A : Type 0} (P : A → Type 0) (b : Bool) (x y : A) → (b ≡ tru
 decide P true x y on off = on refl
 decide P false x y on off = off refl
 
+-- both sides of an `&&` that is true
 pub and_both : (a b : Bool) → (a && b) ≡ true → (a ≡ true) × (b ≡ true)
 and_both true b e = (refl, e)
 and_both false b e = absurd (cc)
 
+-- an `&&` of true sides
 pub both_and : (a b : Bool) → a ≡ true → b ≡ true → (a && b) ≡ true
 both_and true b a e = e
 both_and false b a e = absurd (cc)
 
+-- a true side of an `||`
 pub or_either : (a b : Bool) → (a || b) ≡ true → (a ≡ true) ⊎ (b ≡ true)
 or_either true b e = inl refl
 or_either false b e = inr e
 
+-- both sides of an `||` that is false
 pub or_neither : (a b : Bool) → (a || b) ≡ false → (a ≡ false) × (b ≡ false)
 or_neither true b e = absurd (cc)
 or_neither false b e = (refl, e)
 
+-- what is true under `not` is false
 pub not_true : (a : Bool) → not a ≡ true → a ≡ false
 not_true true e = absurd (cc)
 not_true false e = refl
 
+-- what cannot be true is false
 pub not_false : (a : Bool) → (a ≡ true → ⊥) → a ≡ false
 not_false true h = absurd (h refl)
 not_false false h = refl
 
+-- a test of equality that is true
 pub same_number : (a b : ℕ) → (a == b) ≡ true → a ≡ b
 same_number a b e = grind (arith, nat_tests)
 
+-- equal numbers pass the test
 pub number_same : (a b : ℕ) → a ≡ b → (a == b) ≡ true
 number_same a b e = grind (arith, nat_tests)
 
+-- other numbers do not pass
 pub other_number : (a b : ℕ) → a ≢ b → (a == b) ≡ false
 other_number a b e = grind (arith, nat_tests)
 
@@ -51,26 +60,32 @@ any_byte test (d ∷ ds) c all any =
     let (here, rest) = and_both _ _ all in
     elim (or_either (c == d) (list_any (λ d. c == d) ds) any) [ inl e ↦ ap test (same_number c d e) ∙ here | inr e ↦ any_byte test ds c rest e ]
 
+-- a letter is no white space
 pub nondigit_not_blank : (c : ℕ) → is_nondigit c ≡ true → is_blank c ≡ false
 unfolding is_nondigit is_blank
 nondigit_not_blank c e = grind (arith, nat_tests)
 
+-- nor is a digit
 pub digit_not_blank : (c : ℕ) → is_digit c ≡ true → is_blank c ≡ false
 unfolding is_digit is_blank
 digit_not_blank c e = grind (arith, nat_tests)
 
+-- a digit is no letter
 pub digit_not_nondigit : (c : ℕ) → is_digit c ≡ true → is_nondigit c ≡ false
 unfolding is_digit is_nondigit
 digit_not_nondigit c e = grind (arith, nat_tests)
 
+-- the two quotes
 pub quote_is : (c : ℕ) → is_quote c ≡ true → (c ≡ 39) ⊎ (c ≡ 34)
 unfolding is_quote
 quote_is c e = elim (or_either (c == 39) (c == 34) e) [ inl h ↦ inl (same_number c 39 h) | inr h ↦ inr (same_number c 34 h) ]
 
+-- what a letter is not
 pub nondigit_is : (c : ℕ) → is_nondigit c ≡ true → (c ≢ 39) × (c ≢ 34) × (c ≢ 46) × (c ≢ 47) × (c ≢ 60) × (c ≢ 92)
 unfolding is_nondigit
 nondigit_is c e = (λ h. grind (arith, nat_tests), λ h. grind (arith, nat_tests), λ h. grind (arith, nat_tests), λ h. grind (arith, nat_tests), λ h. grind (arith, nat_tests), λ h. grind (arith, nat_tests))
 
+-- the range of digits
 pub digit_is : (c : ℕ) → is_digit c ≡ true → (48 ≤ c) × (c ≤ 57)
 unfolding is_digit
 digit_is c e = (grind (arith, nat_tests), grind (arith, nat_tests))
@@ -80,6 +95,7 @@ pub number_head : (c : ℕ) (t : List ℕ) → begins_number (c ∷ t) ≡ true 
 unfolding begins_number
 number_head c t e = elim (or_either (is_digit c) ((c == 46) && begins_digit t) e) [ inl h ↦ inl h | inr h ↦ inr (same_number c 46 (and_both _ _ h).0, (and_both _ _ h).1) ]
 
+-- what the first byte of a number is not
 pub number_not_blank : (c : ℕ) (t : List ℕ) → begins_number (c ∷ t) ≡ true → (is_blank c ≡ false) × (is_nondigit c ≡ false) × (c ≢ 39) × (c ≢ 34) × (c ≢ 47) × (c ≢ 60)
 unfolding is_blank is_nondigit
 number_not_blank c t e = elim (number_head c t e) [

@@ -1,5 +1,5 @@
 -- The piece at the front of a text is found, and is the only one.
-use Rattle.std.proofs.Common.{◌≡◌, ◌≢◌, ℕ, zero, suc, ◌+◌, ◌-◌, ◌<◌, ◌≤◌, List, [], ◌∷◌, ◌++◌, length, refl, sym, ◌∙◌, ap, subst, arith, Bool, true, false, ◌⊎◌, inl, inr, append_assoc, length-append}
+use Rattle.std.proofs.Common.{◌≡◌, ℕ, ◌<◌, List, [], ◌∷◌, ◌++◌, length, sym, ◌∙◌, ap, subst, arith, Bool}
 use Rattle.std.proofs.lemmas.List.{append_cancel_right}
 use Rattle.p10_lex.specs.declared.pieces.Piece.{Piece}
 use Rattle.p10_lex.specs.Pieces.{IsPiece}

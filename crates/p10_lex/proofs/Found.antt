@@ -1,29 +1,28 @@
 -- What is cut off at the front of a text is a piece.
-use Rattle.std.proofs.Common.{◌≡◌, ◌≢◌, ℕ, zero, suc, ◌+◌, ◌-◌, ◌<◌, ◌≤◌, List, [], ◌∷◌, ◌++◌, length, take, drop, refl, sym, ◌∙◌, ap, subst, arith, Bool, true, false, cond, ◌⊎◌, inl, inr, append_assoc, length-append, length-take-le}
-use Rattle.std.specs.Prelude.{◌==◌, nat_le, nat_lt, ◌&&◌, ◌||◌, not, Option, Some, None}
-use Rattle.std.specs.List.{list_all}
+use Rattle.std.proofs.Common.{◌≡◌, ◌≢◌, ℕ, ◌<◌, ◌≤◌, List, [], ◌∷◌, ◌++◌, length, take, drop, refl, sym, ◌∙◌, ap, subst, arith, Bool, true, false, ◌⊎◌, inl, inr, append_assoc, length-append, length-take-le}
+use Rattle.std.specs.Prelude.{◌==◌, nat_lt, ◌&&◌, ◌||◌, Option, Some, None}
 use Rattle.std.proofs.lemmas.List.{append-nil, take-append-drop}
-use Rattle.std.proofs.lemmas.Bool.Decides.{nat_tests}
 use Rattle.p10_base.specs.declared.word.Kind.{Kind}
 use Rattle.p10_base.specs.declared.word.Kind.TheVariants.{Name, Number, Char, Str, Punct, Mark}
 use Rattle.p10_lex.specs.declared.pieces.Piece.{Piece}
-use Rattle.p10_lex.specs.declared.pieces.Piece.TheVariants.{Blank, Splices, Comment, OpenComment, OpenLiteral, Stray, Lexeme}
+use Rattle.p10_lex.specs.declared.pieces.Piece.TheVariants.{Splices, Comment, OpenComment, OpenLiteral, Stray, Lexeme}
 use Rattle.p10_lex.specs.Bytes.{is_blank, is_nondigit, is_digit, is_quote, is_name_byte}
-use Rattle.p10_lex.specs.Splices.{joined, splice_length, AreSplices, on_one_line, ReachesLineEnd}
+use Rattle.p10_lex.specs.Splices.{joined, splice_length, AreSplices, on_one_line}
 use Rattle.p10_lex.specs.Lexemes.{begins_digit, begins_number, goes_on_number, all_go_on_number, is_quotable, is_punctuator, IsLexeme, IsLongest}
-use Rattle.p10_lex.specs.Pieces.{begins_comment, begins_byte, IsPiece, IsStray}
+use Rattle.p10_lex.specs.Pieces.{begins_comment, begins_byte, IsPiece}
 use Rattle.p10_lex.specs.Runs.{after_run, after_number, after_line, after_comment, after_literal, after_header, after_splices, punctuator_length}
 use Rattle.p10_lex.specs.Reading.{kind_of_quote, literal_at, comment_at, punctuator_at, header_at, cut_at}
-use Rattle.p10_lex.proofs.Classes.{decide, and_both, both_and, or_either, or_neither, same_number, number_same, other_number, not_true, not_false, nondigit_is, digit_is, number_head, number_not_blank, quote_is}
+use Rattle.p10_lex.proofs.Classes.{decide, and_both, both_and, same_number, number_same, other_number, nondigit_is, number_head, number_not_blank, quote_is}
 use Rattle.p10_lex.proofs.RunLaws.{run_takes, number_takes, header_takes, header_again, comment_takes, comment_open, line_takes, begins_is}
 use Rattle.p10_lex.proofs.SpliceLaws.{literal_takes, literal_again, splices_takes, none_test, positive, is_either}
-use Rattle.p10_lex.proofs.Punctuation.{punctuator_head, length_sound, length_most}
+use Rattle.p10_lex.proofs.Punctuation.{length_sound, length_most}
 use Rattle.p10_lex.proofs.Longest.{name_longest, number_longest, IsQuoteByte, single_quote, double_quote, quoted_longest, header_longest, head_is, tail_is}
 
 -- a piece with what is left behind it stands at the front of a text
 abbrev pub Found : Bool → List ℕ → Piece × List ℕ → Type 0
 Found b whole x = (text : List ℕ) × (whole ≡ text ++ x.1) × IsPiece b x.0 text x.1
 
+-- a comment begins with a slash
 pub no_comment : (c : ℕ) (t : List ℕ) → c ≢ 47 → begins_comment (c ∷ t) ≡ false
 unfolding begins_comment
 no_comment c [] h = refl
@@ -35,6 +34,7 @@ pub by_option : {A X : Type 0} (P : X → Type 0) (o : Option A) (f : A → X) (
 by_option P (Some r) f x one none = one r refl
 by_option P None f x one none = none refl
 
+-- a name is found
 found_name : (b : Bool) (c : ℕ) (t : List ℕ) → is_nondigit c ≡ true → Found b (c ∷ t) (Lexeme Name, after_run is_name_byte t)
 found_name b c t e =
     let (front, parts, all, stop) = run_takes is_name_byte t in
@@ -42,6 +42,7 @@ found_name b c t e =
     record { lexeme = (e, all); longest = name_longest b c front (after_run is_name_byte t) e all stop } in
     (c ∷ front, ap (λ (x : List ℕ). c ∷ x) parts, (longest, no_comment c (front ++ after_run is_name_byte t) (nondigit_is c e).3))
 
+-- a digit goes on with a number
 pub digit_goes_on : (old d : ℕ) → is_digit d ≡ true → all_go_on_number old (d ∷ []) ≡ true
 unfolding all_go_on_number goes_on_number is_name_byte
 digit_goes_on old d e = elim (or_case (is_nondigit d)) [ inl h ↦ rw h refl | inr h ↦ rw (h, e) refl ]
@@ -50,6 +51,7 @@ digit_goes_on old d e = elim (or_case (is_nondigit d)) [ inl h ↦ rw h refl | i
     or_case true = inl refl
     or_case false = inr refl
 
+-- the front of a number begins as the number does
 number_front : (c : ℕ) (t front rest : List ℕ) → begins_number (c ∷ t) ≡ true → t ≡ front ++ rest
     → ((d : ℕ) (more after : List ℕ) → rest ≡ d ∷ after → all_go_on_number c (front ++ d ∷ more) ≡ true → ⊥) → begins_number (c ∷ front) ≡ true
 unfolding begins_number begins_digit
@@ -63,6 +65,7 @@ number_front c (d ∷ t) (f ∷ front) rest e parts stop =
     let h : d ≡ f = head_is _ _ _ _ parts in
     ap (λ (x : ℕ). is_digit c || ((c == 46) && is_digit x)) (sym h) ∙ e
 
+-- a number is found
 found_number : (b : Bool) (c : ℕ) (t : List ℕ) → begins_number (c ∷ t) ≡ true → Found b (c ∷ t) (Lexeme Number, after_number c t)
 found_number b c t e =
     let (front, parts, all, stop) = number_takes c t in
@@ -105,6 +108,7 @@ found_open b q t is e =
       },
     )
 
+-- a character constant is found
 found_char : (b : Bool) (t : List ℕ) → Found b (39 ∷ t) (literal_at 39 t)
 unfolding literal_at kind_of_quote
 found_char b t =
@@ -112,6 +116,7 @@ found_char b t =
     (λ r e. found_quoted b 39 t r Char single_quote e (λ inside is. record { inside = inside; parts = refl; quotable = is }))
     (λ e. found_open b 39 t single_quote e)
 
+-- a string is found
 found_string : (b : Bool) (t : List ℕ) → Found b (34 ∷ t) (literal_at 34 t)
 unfolding literal_at kind_of_quote
 found_string b t =
@@ -119,18 +124,21 @@ found_string b t =
     (λ r e. found_quoted b 34 t r Str double_quote e (λ inside is. inl (record { inside = inside; parts = refl; quotable = is })))
     (λ e. found_open b 34 t double_quote e)
 
+-- a literal is found
 found_literal : (b : Bool) (c : ℕ) (t : List ℕ) → is_quote c ≡ true → Found b (c ∷ t) (literal_at c t)
 found_literal b c t e = elim (quote_is c e) [
   | inl h ↦ subst (λ (x : ℕ). Found b (x ∷ t) (literal_at x t)) (sym h) (found_char b t)
   | inr h ↦ subst (λ (x : ℕ). Found b (x ∷ t) (literal_at x t)) (sym h) (found_string b t)
 ]
 
+-- a line comment is found
 found_line : (b : Bool) (t : List ℕ) → Found b (47 ∷ (47 ∷ t)) (Comment, after_line 0 0 (47 ∷ (47 ∷ t)))
 unfolding after_line on_one_line
 found_line b t =
     let (front, parts, all, ends) = line_takes 47 47 t in
     (47 ∷ (47 ∷ front), ap (λ (x : List ℕ). 47 ∷ (47 ∷ x)) parts, inl (record { inside = front; parts = refl; line = record { one_line = all; ends = ends } }))
 
+-- a block comment is found
 found_block : (b : Bool) (t : List ℕ) → Found b (47 ∷ (42 ∷ t)) (comment_at t)
 unfolding comment_at
 found_block b t =
@@ -143,6 +151,7 @@ found_block b t =
     ))
     (λ e. (47 ∷ (42 ∷ t), sym (append-nil (47 ∷ (42 ∷ t))), record { inside = t; parts = refl; open_end = comment_open t e; last = refl }))
 
+-- splices are found
 found_splices : (b : Bool) (c : ℕ) (t : List ℕ) → nat_lt 0 (splice_length (c ∷ t)) ≡ true → Found b (c ∷ t) (Splices, after_splices 0 (c ∷ t))
 found_splices b c t e =
     let h = splices_takes 0 (c ∷ t) (omega arith) in
@@ -165,6 +174,7 @@ pub record IsUntaken (b : Bool) (c : ℕ) (t : List ℕ) : Type 0 where
   pub splice : splice_length (c ∷ t) ≡ 0
   pub header : b ≡ true → c ≡ 60 → after_header t ≡ None
 
+-- what begins a number does so in each longer text
 pub number_grows : (c : ℕ) (w after : List ℕ) → begins_number (c ∷ w) ≡ true → begins_number (c ∷ (w ++ after)) ≡ true
 unfolding begins_number begins_digit
 number_grows c [] after e = elim (number_head c [] e) [ inl h ↦ rw h refl | inr (h, k) ↦ absurd (cc) ]
@@ -195,10 +205,12 @@ only_punctuator b c t is Str word after e (inr (asked, lexeme)) =
 only_punctuator b c t is Punct word after e lexeme = lexeme
 only_punctuator b c t is Mark word after e lexeme = absurd lexeme
 
+-- a text of length 0
 pub nil_of : (xs : List ℕ) → length xs ≤ 0 → xs ≡ []
 nil_of [] h = refl
 nil_of (x ∷ xs) h = absurd (omega arith)
 
+-- the longest punctuator is found
 found_punct : (b : Bool) (c : ℕ) (t : List ℕ) → IsUntaken b c t → 0 < punctuator_length (c ∷ t)
     → Found b (c ∷ t) (Lexeme Punct, drop (punctuator_length (c ∷ t)) (c ∷ t))
 found_punct b c t is some =
@@ -226,10 +238,12 @@ found_punct b c t is some =
           ))
     ]
 
+-- the empty text is no punctuator
 pub no_empty : is_punctuator [] ≡ true → ⊥
 unfolding is_punctuator
 no_empty h = cc
 
+-- a byte that begins nothing is found
 found_stray : (b : Bool) (c : ℕ) (t : List ℕ) → IsUntaken b c t → punctuator_length (c ∷ t) ≡ 0 → Found b (c ∷ t) (Stray, t)
 found_stray b c t is none = (
   c ∷ [],
@@ -248,6 +262,7 @@ found_stray b c t is none = (
   },
 )
 
+-- a punctuator, or a byte that begins nothing
 found_punctuator : (b : Bool) (c : ℕ) (t : List ℕ) → IsUntaken b c t → Found b (c ∷ t) (punctuator_at (c ∷ t))
 unfolding punctuator_at
 found_punctuator b c t is =

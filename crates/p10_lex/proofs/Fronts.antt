@@ -1,5 +1,5 @@
 -- What stands before the rest of a text.
-use Rattle.std.proofs.Common.{◌≡◌, ℕ, ◌+◌, ◌-◌, List, ◌++◌, length, take, refl, ◌∙◌, ap, arith, length-append}
+use Rattle.std.proofs.Common.{◌≡◌, ℕ, ◌-◌, List, ◌++◌, length, take, refl, ◌∙◌, ap, arith, length-append}
 use Rattle.std.proofs.lemmas.List.{take_at}
 use Rattle.p10_lex.specs.Values.{front_of}
 

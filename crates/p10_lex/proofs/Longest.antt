@@ -1,16 +1,15 @@
 -- Words are the longest lexemes at their places.
-use Rattle.std.proofs.Common.{◌≡◌, ◌≢◌, ℕ, zero, suc, ◌+◌, ◌-◌, ◌<◌, ◌≤◌, List, [], ◌∷◌, ◌++◌, length, take, drop, refl, sym, ◌∙◌, ap, subst, arith, Bool, true, false, cond, ◌⊎◌, inl, inr, append_assoc, length-append}
-use Rattle.std.specs.Prelude.{◌==◌, nat_le, nat_lt, ◌&&◌, ◌||◌, not, Option, Some, None}
-use Rattle.std.specs.List.{list_all, list_any}
-use Rattle.std.proofs.lemmas.Bool.Decides.{nat_tests}
+use Rattle.std.proofs.Common.{◌≡◌, ◌≢◌, ℕ, List, [], ◌∷◌, ◌++◌, refl, sym, ◌∙◌, ap, subst, arith, Bool, true, false, inl, inr, append_assoc}
+use Rattle.std.specs.Prelude.{◌==◌, not, Option, Some}
+use Rattle.std.specs.List.{list_all}
 use Rattle.p10_base.specs.declared.word.Kind.{Kind}
 use Rattle.p10_base.specs.declared.word.Kind.TheVariants.{Name, Number, Char, Str, Punct, Mark}
-use Rattle.p10_lex.specs.Bytes.{is_blank, is_nondigit, is_digit, is_quote, is_name_byte}
-use Rattle.p10_lex.specs.Splices.{joined, joined_after}
-use Rattle.p10_lex.specs.Lexemes.{begins_digit, begins_number, goes_on_number, all_go_on_number, is_quotable, IsQuoted, is_header_byte, IsHeaderName, is_punctuator, IsLexeme, IsLongest}
+use Rattle.p10_lex.specs.Bytes.{is_blank, is_nondigit, is_quote, is_name_byte}
+use Rattle.p10_lex.specs.Splices.{joined}
+use Rattle.p10_lex.specs.Lexemes.{begins_digit, begins_number, all_go_on_number, is_quotable, is_header_byte, is_punctuator, IsLexeme}
 use Rattle.p10_lex.specs.Constants.{begins_with}
 use Rattle.p10_lex.specs.Runs.{after_literal, after_header}
-use Rattle.p10_lex.proofs.Classes.{decide, and_both, both_and, or_either, or_neither, same_number, number_same, other_number, not_true, not_false, nondigit_is, digit_is, digit_not_nondigit, number_head, number_not_blank, quote_is}
+use Rattle.p10_lex.proofs.Classes.{and_both, nondigit_is, number_head, number_not_blank, quote_is}
 use Rattle.p10_lex.proofs.RunLaws.{all_both, header_again}
 use Rattle.p10_lex.proofs.SpliceLaws.{literal_again}
 use Rattle.p10_lex.proofs.Punctuation.{punctuator_head, punctuator_class, punctuator_second, no_angle}
@@ -24,6 +23,7 @@ run_stops test rest (d ∷ more) after e stop all =
     let here : begins_with test rest ≡ test d = ap (begins_with test) e in
     absurd (cc)
 
+-- a name is the longest lexeme where no byte of a name follows
 pub name_longest : (b : Bool) (c : ℕ) (front rest : List ℕ) → is_nondigit c ≡ true → list_all is_name_byte front ≡ true → begins_with is_name_byte rest ≡ false
     → (other : Kind) (more after : List ℕ) → rest ≡ more ++ after → IsLexeme b other (c ∷ (front ++ more)) → more ≡ []
 name_longest b c front rest here all stop Name more after e lexeme =
@@ -52,6 +52,7 @@ no_number c (d ∷ front) more here is = elim (number_head c (d ∷ front) here)
   | inr (h, k) ↦ (let f = punctuator_second c d (front ++ more) is in cc)
 ]
 
+-- a number is the longest lexeme where no byte goes on with it
 pub number_longest : (b : Bool) (c : ℕ) (front rest : List ℕ) → begins_number (c ∷ front) ≡ true
     → ((d : ℕ) (more after : List ℕ) → rest ≡ d ∷ after → all_go_on_number c (front ++ d ∷ more) ≡ true → ⊥)
     → (other : Kind) (more after : List ℕ) → rest ≡ more ++ after → IsLexeme b other (c ∷ (front ++ more)) → more ≡ []
@@ -75,14 +76,17 @@ pub record IsQuoteByte (q : ℕ) : Type 0 where
   pub blank : is_blank q ≡ false
   pub quote : is_quote q ≡ true
 
+-- a single quote is one
 pub single_quote : IsQuoteByte 39
 unfolding is_nondigit is_blank is_quote
 single_quote = record { lf = omega arith; cr = omega arith; backslash = omega arith; angle = omega arith; slash = omega arith; nondigit = refl; blank = refl; quote = refl }
 
+-- a double quote is one
 pub double_quote : IsQuoteByte 34
 unfolding is_nondigit is_blank is_quote
 double_quote = record { lf = omega arith; cr = omega arith; backslash = omega arith; angle = omega arith; slash = omega arith; nondigit = refl; blank = refl; quote = refl }
 
+-- each quote is one
 pub quote_byte : (q : ℕ) → is_quote q ≡ true → IsQuoteByte q
 quote_byte q e = elim (quote_is q e) [ inl h ↦ subst IsQuoteByte (sym h) single_quote | inr h ↦ subst IsQuoteByte (sym h) double_quote ]
 
@@ -100,9 +104,11 @@ quoted_only q is inside other more here there e =
 pub tail_is : (a b : ℕ) (xs ys : List ℕ) → a ∷ xs ≡ b ∷ ys → xs ≡ ys
 tail_is a b xs ys e = cc
 
+-- the head of a text that is put together
 pub head_is : (a b : ℕ) (xs ys : List ℕ) → a ∷ xs ≡ b ∷ ys → a ≡ b
 head_is a b xs ys e = cc
 
+-- a literal with its closing quote is the longest lexeme
 pub quoted_longest : (b : Bool) (q : ℕ) (inside rest : List ℕ) → IsQuoteByte q → is_quotable q false (joined inside) ≡ true
     → (other : Kind) (more after : List ℕ) → rest ≡ more ++ after → IsLexeme b other (q ∷ ((inside ++ q ∷ []) ++ more)) → more ≡ []
 quoted_longest b q inside rest is here Name more after e lexeme = absurd (let f = is.nondigit in let g = lexeme.0 in cc)

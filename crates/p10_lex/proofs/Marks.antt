@@ -1,13 +1,11 @@
 -- One step of the search for splices and trigraphs.
-use Rattle.std.proofs.Common.{◌≡◌, ℕ, zero, suc, ◌+◌, ◌-◌, ◌<◌, ◌≤◌, List, [], ◌∷◌, length, take, drop, refl, sym, ◌∙◌, ap, arith, false, cond}
-use Rattle.std.specs.Prelude.{nat_lt}
+use Rattle.std.proofs.Common.{◌≡◌, ℕ, zero, suc, ◌+◌, ◌-◌, ◌<◌, ◌≤◌, List, [], ◌∷◌, length, take, drop, refl, arith, false}
 use Rattle.std.proofs.lemmas.List.{take_rest}
-use Rattle.std.proofs.lemmas.Bool.Decides.{nat_tests}
 use Rattle.p10_lex.specs.Splices.{splice_length}
 use Rattle.p10_lex.specs.Refusals.{begins_trigraph}
-use Rattle.p10_lex.specs.Reading.{mark_at, fault_of}
-use Rattle.std.specs.Prelude.{Option, Some}
+use Rattle.p10_lex.specs.Reading.{mark_at}
 
+-- one byte on
 one_step : (o k : ℕ) (c : ℕ) (t : List ℕ) → splice_length (c ∷ t) ≡ 0 → begins_trigraph (c ∷ t) ≡ false → mark_at (o + 1) k t ≡ mark_at o (suc k) (c ∷ t)
 unfolding mark_at
 one_step o k c t s b = rw (s, b) refl

@@ -1,12 +1,11 @@
 -- The longest punctuator at the front of a text.
-use Rattle.std.proofs.Common.{◌≡◌, ◌≢◌, ℕ, zero, suc, ◌+◌, ◌-◌, ◌<◌, ◌≤◌, List, [], ◌∷◌, ◌++◌, length, take, refl, sym, ◌∙◌, ap, subst, arith, Bool, true, false, cond, ◌⊎◌, inl, inr}
-use Rattle.std.specs.Prelude.{◌==◌, nat_le, nat_lt, ◌&&◌, ◌||◌, not, codes}
+use Rattle.std.proofs.Common.{◌≡◌, ◌≢◌, ℕ, suc, ◌<◌, ◌≤◌, List, [], ◌∷◌, ◌++◌, length, take, refl, sym, ◌∙◌, ap, arith, Bool, true, false, ◌⊎◌, inl, inr}
+use Rattle.std.specs.Prelude.{◌==◌, ◌&&◌, ◌||◌, not, codes}
 use Rattle.std.specs.List.{list_all, list_any}
-use Rattle.std.proofs.lemmas.Bool.Decides.{nat_tests}
 use Rattle.p10_lex.specs.Bytes.{is_blank, is_nondigit, is_digit, is_quote}
 use Rattle.p10_lex.specs.Lexemes.{same_text, is_punctuator, single_punctuators, double_punctuators, triple_punctuators}
 use Rattle.p10_lex.specs.Runs.{is_double, is_triple, punctuator_length}
-use Rattle.p10_lex.proofs.Classes.{decide, and_both, both_and, or_either, same_number, number_same, other_number, not_true, any_byte}
+use Rattle.p10_lex.proofs.Classes.{decide, and_both, both_and, or_either, same_number, number_same, not_true, any_byte}
 
 -- equal texts are the same
 pub same_is : (xs ys : List ℕ) → same_text xs ys ≡ true → xs ≡ ys
@@ -18,6 +17,7 @@ same_is (x ∷ xs) (y ∷ ys) e =
     let (a, b) = and_both (x == y) (same_text xs ys) e in
     ap (λ (z : ℕ). z ∷ xs) (same_number x y a) ∙ ap (λ (zs : List ℕ). y ∷ zs) (same_is xs ys b)
 
+-- a text is equal to itself
 pub is_same : (xs : List ℕ) → same_text xs xs ≡ true
 unfolding same_text
 is_same [] = refl
@@ -30,18 +30,22 @@ any_text test (u ∷ us) t all any =
     let (here, rest) = and_both _ _ all in
     elim (or_either (same_text t u) (list_any (same_text t) us) any) [ inl e ↦ ap test (same_is t u e) ∙ here | inr e ↦ any_text test us t rest e ]
 
+-- the test of two bytes, on texts
 unfoldable test_double : List ℕ → Bool
 test_double (a ∷ b ∷ []) = is_double a b
 test_double _ = false
 
+-- the test of three bytes, on texts
 unfoldable test_triple : List ℕ → Bool
 test_triple (a ∷ b ∷ c ∷ []) = is_triple a b c
 test_triple _ = false
 
+-- a punctuator of two bytes passes the test
 double_of : (a b : ℕ) → is_punctuator (a ∷ b ∷ []) ≡ true → is_double a b ≡ true
 unfolding is_punctuator double_punctuators test_double is_double
 double_of a b e = any_text test_double double_punctuators (a ∷ b ∷ []) refl e
 
+-- what passes it is one
 double_is : (a b : ℕ) → is_double a b ≡ true → is_punctuator (a ∷ b ∷ []) ≡ true
 unfolding is_punctuator double_punctuators is_double same_text
 double_is a b e =
@@ -61,10 +65,12 @@ double_is a b e =
       ]
     ]
 
+-- a punctuator of three bytes passes the test
 triple_of : (a b c : ℕ) → is_punctuator (a ∷ b ∷ c ∷ []) ≡ true → is_triple a b c ≡ true
 unfolding is_punctuator triple_punctuators test_triple is_triple
 triple_of a b c e = any_text test_triple triple_punctuators (a ∷ b ∷ c ∷ []) refl e
 
+-- three equal bytes make an equal text
 three : (a b c x y z : ℕ) → ((a == x) && ((b == y) && (c == z))) ≡ true → is_punctuator (x ∷ y ∷ z ∷ []) ≡ true → is_punctuator (a ∷ b ∷ c ∷ []) ≡ true
 three a b c x y z e is =
     let (h, k) = and_both (a == x) ((b == y) && (c == z)) e in
@@ -72,6 +78,7 @@ three a b c x y z e is =
     ap (λ (d : ℕ). is_punctuator (d ∷ b ∷ c ∷ [])) (same_number a x h)
     ∙ (ap (λ (d : ℕ). is_punctuator (x ∷ d ∷ c ∷ [])) (same_number b y l) ∙ (ap (λ (d : ℕ). is_punctuator (x ∷ y ∷ d ∷ [])) (same_number c z m) ∙ is))
 
+-- what passes it is one
 triple_is : (a b c : ℕ) → is_triple a b c ≡ true → is_punctuator (a ∷ b ∷ c ∷ []) ≡ true
 unfolding is_punctuator triple_punctuators is_triple same_text
 triple_is a b c e =
@@ -88,6 +95,7 @@ unfoldable test_head : List ℕ → Bool
 test_head [] = false
 test_head (a ∷ t) = is_punctuator (a ∷ [])
 
+-- the first byte of a punctuator is a punctuator
 pub punctuator_head : (c : ℕ) (t : List ℕ) → is_punctuator (c ∷ t) ≡ true → is_punctuator (c ∷ []) ≡ true
 unfolding is_punctuator double_punctuators triple_punctuators single_punctuators test_head
 punctuator_head c [] e = e
@@ -103,6 +111,7 @@ pub record IsNoOther (c : ℕ) : Type 0 where
   pub quote : is_quote c ≡ false
   pub splice : c ≢ 92
 
+-- it is in no other class
 pub punctuator_class : (c : ℕ) → is_punctuator (c ∷ []) ≡ true → IsNoOther c
 unfolding is_punctuator single_punctuators is_blank is_nondigit is_digit is_quote
 punctuator_class c e = record {
@@ -118,6 +127,7 @@ unfoldable test_angle : List ℕ → Bool
 test_angle [] = true
 test_angle (a ∷ t) = not (a == 60) || list_all (λ d. not (d == 62)) t
 
+-- a punctuator that begins with `<` has no `>`
 pub no_angle : (t : List ℕ) → is_punctuator (60 ∷ t) ≡ true → list_all (λ d. not (d == 62)) t ≡ true
 unfolding is_punctuator double_punctuators triple_punctuators test_angle
 no_angle [] e = refl
@@ -166,6 +176,7 @@ unfoldable test_second : List ℕ → Bool
 test_second (a ∷ b ∷ t) = not (is_digit b)
 test_second _ = true
 
+-- its second byte is no digit
 pub punctuator_second : (c d : ℕ) (t : List ℕ) → is_punctuator (c ∷ d ∷ t) ≡ true → is_digit d ≡ false
 unfolding is_punctuator double_punctuators triple_punctuators test_second is_digit
 punctuator_second c d [] e = not_true _ (any_text test_second double_punctuators (c ∷ d ∷ []) refl e)
@@ -177,6 +188,7 @@ unfoldable test_rest : List ℕ → Bool
 test_rest [] = true
 test_rest (a ∷ t) = list_all (λ d. not (d == 63)) t
 
+-- its other bytes are no question marks
 pub punctuator_rest : (c : ℕ) (t : List ℕ) → is_punctuator (c ∷ t) ≡ true → list_all (λ d. not (d == 63)) t ≡ true
 unfolding is_punctuator double_punctuators triple_punctuators test_rest
 punctuator_rest c [] e = refl

@@ -1,14 +1,13 @@
 -- What stands before and behind a run of bytes.
-use Rattle.std.proofs.Common.{◌≡◌, ◌≢◌, ℕ, zero, suc, ◌+◌, ◌-◌, ◌<◌, ◌≤◌, List, [], ◌∷◌, ◌++◌, length, refl, sym, ◌∙◌, ap, subst, arith, Bool, true, false, cond, ◌⊎◌, inl, inr, drop}
-use Rattle.std.specs.Prelude.{◌==◌, nat_le, nat_lt, ◌&&◌, ◌||◌, not, Option, Some, None}
+use Rattle.std.proofs.Common.{◌≡◌, ℕ, List, [], ◌∷◌, ◌++◌, refl, sym, ◌∙◌, ap, Bool, true, false, ◌⊎◌, inl, inr, drop}
+use Rattle.std.specs.Prelude.{◌==◌, ◌&&◌, ◌||◌, not, Option, Some, None}
 use Rattle.std.specs.List.{list_all}
-use Rattle.std.proofs.lemmas.Bool.Decides.{nat_tests}
-use Rattle.p10_lex.specs.Splices.{line_end_length, splice_length, joined_after, is_spliced, on_one_line, ReachesLineEnd}
+use Rattle.p10_lex.specs.Splices.{is_spliced, on_one_line}
 use Rattle.p10_lex.specs.Lexemes.{goes_on_number, all_go_on_number, is_header_byte}
 use Rattle.p10_lex.specs.Constants.{begins_with}
 use Rattle.p10_lex.specs.Pieces.{begins_byte, has_comment_end}
-use Rattle.p10_lex.specs.Runs.{after_run, after_number, after_line, after_comment, after_header, after_splices}
-use Rattle.p10_lex.proofs.Classes.{decide, and_both, both_and, or_neither, or_either, same_number, number_same, not_false, not_true}
+use Rattle.p10_lex.specs.Runs.{after_run, after_number, after_line, after_comment, after_header}
+use Rattle.p10_lex.proofs.Classes.{decide, and_both, both_and, or_neither, same_number, not_false, not_true}
 
 -- a test of all holds of both parts
 pub all_both : (test : ℕ → Bool) (xs ys : List ℕ) → list_all test (xs ++ ys) ≡ true → (list_all test xs ≡ true) × (list_all test ys ≡ true)
@@ -25,6 +24,7 @@ run_takes test (c ∷ t) =
     (λ e. let (front, parts, all, stop) = run_takes test t in (c ∷ front, ap (λ (x : List ℕ). c ∷ x) parts, both_and _ _ e all, stop))
     (λ e. ([], refl, refl, e))
 
+-- a run of bytes that pass, before one that does not, is passed over
 pub run_again : (test : ℕ → Bool) (front rest : List ℕ) → list_all test front ≡ true → begins_with test rest ≡ false → after_run test (front ++ rest) ≡ rest
 unfolding after_run begins_with
 run_again test [] [] all stop = refl
@@ -44,6 +44,7 @@ number_takes old (c ∷ t) =
     (c ∷ front, ap (λ (x : List ℕ). c ∷ x) parts, both_and _ _ e all, λ d more after f g. stop d more after f (and_both _ _ g).1))
     (λ e. ([], refl, refl, λ d more after f g. let h : c ≡ d = cc in let (a, b) = and_both _ _ g in absurd (let i : goes_on_number old c ≡ true = ap (goes_on_number old) h ∙ a in cc)))
 
+-- the bytes of a number are passed over
 pub number_again : (old : ℕ) (front rest : List ℕ) → all_go_on_number old front ≡ true
     → ((d : ℕ) (after : List ℕ) → rest ≡ d ∷ after → all_go_on_number old (front ++ d ∷ []) ≡ true → ⊥) → after_number old (front ++ rest) ≡ rest
 unfolding after_number all_go_on_number
@@ -67,6 +68,7 @@ header_takes (c ∷ t) rest e =
     (c ∷ inside, ap (λ (x : List ℕ). c ∷ x) parts, both_and (not (c == 10) && not (c == 62)) _ (rw (h, k) refl) all)))
     e
 
+-- an include name is passed over
 pub header_again : (inside rest : List ℕ) → list_all is_header_byte inside ≡ true → after_header (inside ++ 62 ∷ rest) ≡ Some rest
 unfolding after_header is_header_byte
 header_again [] rest all = refl
@@ -103,6 +105,7 @@ comment_takes (c ∷ t) rest e =
     (c ∷ inside, ap (λ (x : List ℕ). c ∷ x) parts, rw (sym same, h, none) refl))
     e
 
+-- where no end is found, none is there
 pub comment_open : (text : List ℕ) → after_comment text ≡ None → has_comment_end text ≡ false
 unfolding after_comment has_comment_end
 comment_open [] e = refl
@@ -112,6 +115,7 @@ comment_open (c ∷ t) e =
     (λ h f. rw (h, comment_open t f) refl)
     e
 
+-- a comment up to its first end is passed over
 pub comment_again : (inside rest : List ℕ) → has_comment_end inside ≡ false → after_comment (inside ++ 42 ∷ (47 ∷ rest)) ≡ Some rest
 unfolding after_comment has_comment_end begins_byte
 comment_again [] rest e = refl
@@ -119,6 +123,7 @@ comment_again (c ∷ inside) rest e =
     let (a, b) = or_neither ((c == 42) && begins_byte 47 inside) (has_comment_end inside) e in
     rw (begins_front inside (47 ∷ rest), a) (comment_again inside rest b)
 
+-- where no end is there, none is found
 pub comment_again_open : (text : List ℕ) → has_comment_end text ≡ false → after_comment text ≡ None
 unfolding after_comment has_comment_end
 comment_again_open [] e = refl
@@ -126,10 +131,12 @@ comment_again_open (c ∷ t) e =
     let (a, b) = or_neither ((c == 42) && begins_byte 47 t) (has_comment_end t) e in
     rw a (comment_again_open t b)
 
+-- what `not` makes false is true
 is_true_of : (b : Bool) → not b ≡ false → b ≡ true
 is_true_of true e = refl
 is_true_of false e = absurd (cc)
 
+-- an `&&` with true is its first side
 spliced_of : (b : Bool) → (b && true) ≡ false → b ≡ false
 spliced_of true e = e
 spliced_of false e = refl
@@ -154,6 +161,7 @@ line_takes older old (c ∷ t) =
     let lf : c ≡ 10 = same_number c 10 (is_true_of (c == 10) a) in
     ([], refl, refl, inr (t, ap (λ (x : ℕ). x ∷ t) lf, rw b refl)))
 
+-- a line is passed over
 pub line_again : (older old : ℕ) (front rest : List ℕ) → on_one_line older old front ≡ true
     → (rest ≡ []) ⊎ ((after : List ℕ) × (rest ≡ 10 ∷ after) × (on_one_line older old (front ++ 10 ∷ []) ≡ false))
     → after_line older old (front ++ rest) ≡ rest

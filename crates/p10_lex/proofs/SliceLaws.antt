@@ -1,6 +1,6 @@
 -- Words are slices of their file, and refusals have their places in it.
-use Rattle.std.proofs.Common.{◌≡◌, ◌≢◌, ℕ, zero, suc, ◌+◌, ◌-◌, ◌<◌, ◌≤◌, List, [], ◌∷◌, ◌++◌, length, take, drop, refl, sym, ◌∙◌, ap, subst, arith, Bool, true, false, ◌⊎◌, inl, inr, append_assoc, length-append}
-use Rattle.std.specs.Prelude.{Result, Ok, Err, slice_range}
+use Rattle.std.proofs.Common.{◌≡◌, ℕ, ◌+◌, ◌-◌, ◌<◌, ◌≤◌, List, [], ◌∷◌, ◌++◌, length, take, drop, refl, sym, ◌∙◌, ap, subst, arith, append_assoc, length-append}
+use Rattle.std.specs.Prelude.{Ok, Err, slice_range}
 use Rattle.std.proofs.lemmas.List.{take_at, drop_at}
 use Rattle.p10_base.specs.declared.report.Refusal.{Refusal}
 use Rattle.p10_base.specs.declared.word.Kind.{Kind}
@@ -8,7 +8,7 @@ use Rattle.p10_lex.specs.declared.pieces.Piece.{Piece}
 use Rattle.p10_lex.specs.declared.pieces.Piece.TheVariants.{Blank, Splices, Comment, OpenComment, OpenLiteral, Stray, Lexeme}
 use Rattle.p10_lex.specs.declared.fault.LexFault.{LexFault}
 use Rattle.p10_lex.specs.declared.fault.LexFault.TheVariants.{Refused, Over, Memory}
-use Rattle.p10_lex.specs.Pieces.{IsPiece, Cut, State, advance, beginning, state_after, is_include, Cuts, LexedWord, word_before, words_of, span_of, is_start}
+use Rattle.p10_lex.specs.Pieces.{Cut, State, advance, beginning, state_after, Cuts, LexedWord, word_before, words_of, span_of, is_start}
 use Rattle.p10_lex.specs.Refusals.{Holds}
 use Rattle.p10_lex.specs.Lexes.{Lexes, Answers}
 use Rattle.p10_lex.specs.Slices.{IsSlice, AreSlices, IsPlaced}
@@ -27,6 +27,7 @@ middle before text after n e =
     let count : n + length text - n ≡ length text = omega arith in
     sym (ap (λ (x : List ℕ). take (n + length text - n) x) rest ∙ (ap (λ (k : ℕ). take k (text ++ after)) count ∙ take_at text after (length text) refl))
 
+-- a word is a slice
 one_slice : (file : ℕ) (s : State) (kind : Kind) (whole before text after : List ℕ) → whole ≡ before ++ (text ++ after) → length before ≡ s.place → 0 < length text
     → IsSlice file whole (record { kind = kind; text = text; at = span_of file s.place (s.place + length text); first = is_start s.line })
 one_slice file s kind whole before text after parts place some = record {
@@ -36,6 +37,7 @@ one_slice file s kind whole before text after parts place some = record {
   slice = middle before text after s.place place ∙ ap (λ (x : List ℕ). slice_range x s.place (s.place + length text)) (sym parts);
 }
 
+-- a piece before slices gives slices
 word_slices : (file : ℕ) (s : State) (piece : Piece) (whole before text after : List ℕ) (words : List LexedWord)
     → whole ≡ before ++ (text ++ after) → length before ≡ s.place → 0 < length text → AreSlices file whole (s.place + length text) words
     → AreSlices file whole s.place (word_before file s.place s.line piece text words)

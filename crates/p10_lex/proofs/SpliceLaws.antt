@@ -1,16 +1,18 @@
 -- Splices in literals and between words.
-use Rattle.std.proofs.Common.{◌≡◌, ◌≢◌, ℕ, zero, suc, ◌+◌, ◌-◌, ◌<◌, ◌≤◌, List, [], ◌∷◌, ◌++◌, length, refl, sym, ◌∙◌, ap, subst, arith, Bool, true, false, cond, ◌⊎◌, inl, inr}
-use Rattle.std.specs.Prelude.{◌==◌, nat_le, nat_lt, ◌&&◌, ◌||◌, not, Option, Some, None}
+use Rattle.std.proofs.Common.{◌≡◌, ◌≢◌, ℕ, zero, suc, ◌-◌, ◌<◌, ◌≤◌, List, [], ◌∷◌, ◌++◌, length, refl, sym, ◌∙◌, ap, arith, Bool, true, false, ◌⊎◌, inl, inr}
+use Rattle.std.specs.Prelude.{◌==◌, nat_lt, ◌&&◌, not, Option, Some}
 use Rattle.std.proofs.lemmas.Bool.Decides.{nat_tests}
 use Rattle.p10_lex.specs.Splices.{line_end_length, splice_length, joined_after}
 use Rattle.p10_lex.specs.Lexemes.{is_quotable}
 use Rattle.p10_lex.specs.Runs.{after_literal, after_splices}
-use Rattle.p10_lex.proofs.Classes.{decide, and_both, both_and, same_number, number_same, other_number, not_true}
+use Rattle.p10_lex.proofs.Classes.{decide, and_both, same_number, number_same, other_number, not_true}
 
+-- a test is true or false
 pub is_either : (b : Bool) → (b ≡ true) ⊎ (b ≡ false)
 is_either true = inl refl
 is_either false = inr refl
 
+-- an `&&` with false is false
 and_false : (b : Bool) → (b && false) ≡ false
 and_false true = refl
 and_false false = refl
@@ -28,6 +30,7 @@ pub splice_before : (q : ℕ) → q ≢ 10 → q ≢ 13 → (c : ℕ) (front res
 unfolding splice_length
 splice_before q a b c front rest = rw (line_end_before q a b front rest) refl
 
+-- the end of a line is part of its text
 line_end_short : (t : List ℕ) → line_end_length t ≤ length t
 unfolding line_end_length
 line_end_short [] = omega arith
@@ -36,6 +39,7 @@ line_end_short (b ∷ c ∷ t) =
     decide (λ (n : ℕ). n ≤ suc (suc (length t))) (b == 10) _ _ (λ e. omega arith)
     (λ e. decide (λ (n : ℕ). n ≤ suc (suc (length t))) ((b == 13) && (c == 10)) _ _ (λ e. omega arith) (λ e. omega arith))
 
+-- a splice is part of its text
 pub splice_short : (t : List ℕ) → splice_length t ≤ length t
 unfolding splice_length
 splice_short [] = omega arith
@@ -66,19 +70,24 @@ line_end_front (b ∷ []) (r ∷ rs) some short =
     ]
 line_end_front (b ∷ c ∷ t) rest some short = refl
 
+-- no splice stands in an empty text
 pub no_text : splice_length [] ≡ 0
 unfolding splice_length
 no_text = refl
 
+-- a number above 0 by its test
 pub positive : (n : ℕ) → nat_lt 0 n ≡ true → 0 < n
 positive n e = grind (arith, nat_tests)
 
+-- the test of a number above 0
 pub positive_test : (n : ℕ) → 0 < n → nat_lt 0 n ≡ true
 positive_test n e = grind (arith, nat_tests)
 
+-- a number that is not above 0
 pub none_test : (n : ℕ) → nat_lt 0 n ≡ false → n ≡ 0
 none_test n e = grind (arith, nat_tests)
 
+-- a splice at the front of a text is one of each longer text
 pub splice_more : (t rest : List ℕ) → 0 < splice_length t → splice_length (t ++ rest) ≡ splice_length t
 unfolding splice_length
 splice_more [] rest some = absurd (omega arith)
@@ -88,6 +97,7 @@ splice_more (c ∷ t) rest some =
       | inr e ↦ absurd (let h = rw e at some in omega (arith, h))
     ]
 
+-- and of the front that holds it
 pub splice_front : (c : ℕ) (t rest : List ℕ) → 0 < splice_length (c ∷ (t ++ rest)) → splice_length (c ∷ (t ++ rest)) ≤ suc (length t)
     → splice_length (c ∷ t) ≡ splice_length (c ∷ (t ++ rest))
 unfolding splice_length
@@ -99,6 +109,7 @@ splice_front c t rest some short =
       | inr e ↦ absurd (let h = rw e at some in omega (arith, h))
     ]
 
+-- a splice begins with a backslash
 pub no_splice : (c : ℕ) (t : List ℕ) → c ≢ 92 → splice_length (c ∷ t) ≡ 0
 unfolding splice_length
 no_splice c t h = rw (other_number c 92 h) refl
@@ -138,6 +149,7 @@ pub record IsInside (q skip : ℕ) (escaped : Bool) (text rest : List ℕ) : Typ
   pub quotable : is_quotable q escaped (joined_after skip inside) ≡ true
   pub short : skip ≤ length inside
 
+-- the closing quote that was found closes the literal
 pub literal_takes : (q : ℕ) → q ≢ 10 → q ≢ 13 → (skip : ℕ) (escaped : Bool) (text rest : List ℕ)
     → after_literal q skip escaped text ≡ Some rest → IsInside q skip escaped text rest
 unfolding after_literal joined_after is_quotable
@@ -190,6 +202,7 @@ pub record AreBefore (skip : ℕ) (text rest : List ℕ) : Type 0 where
   pub stop : splice_length rest ≡ 0
   pub short : skip ≤ length front
 
+-- the splices are before, and none follows
 pub splices_takes : (skip : ℕ) (text : List ℕ) → skip ≤ length text → AreBefore skip text (after_splices skip text)
 unfolding after_splices joined_after
 splices_takes zero [] h = record { front = []; parts = refl; only = refl; stop = no_text; short = omega arith }
@@ -207,6 +220,7 @@ splices_takes zero (c ∷ t) h =
     record { front = c ∷ b.front; parts = ap (λ (x : List ℕ). c ∷ x) b.parts; only = rw (there ∙ sym same, e) b.only; stop = b.stop; short = omega arith })
     (λ e. record { front = []; parts = refl; only = refl; stop = none_test _ e; short = omega arith })
 
+-- splices are passed over
 pub splices_again : (skip : ℕ) (front rest : List ℕ) → joined_after skip front ≡ [] → splice_length rest ≡ 0 → skip ≤ length front → after_splices skip (front ++ rest) ≡ rest
 unfolding after_splices joined_after
 splices_again zero [] [] only stop short = refl

@@ -1,18 +1,17 @@
 -- One turn of the loop over pieces.
-use Rattle.std.proofs.Common.{◌≡◌, ◌≢◌, ℕ, zero, suc, ◌+◌, ◌-◌, ◌<◌, ◌≤◌, List, [], ◌∷◌, ◌++◌, length, take, refl, sym, ◌∙◌, ap, subst, arith, Bool, true, false, ◌⊎◌, inl, inr, append_assoc, length-append}
+use Rattle.std.proofs.Common.{◌≡◌, ℕ, zero, suc, ◌+◌, ◌<◌, ◌≤◌, List, [], ◌∷◌, ◌++◌, length, refl, sym, ◌∙◌, ap, subst, arith, Bool, true, false, inr, append_assoc, length-append}
 use Rattle.std.specs.Prelude.{◌==◌}
 use Rattle.std.proofs.lemmas.Bool.Decides.{nat_tests}
-use Rattle.std.specs.Prelude.{Option, Some, None, Result, Ok, Err}
-use Rattle.std.proofs.lemmas.List.{take_at, append-nil}
+use Rattle.std.specs.Prelude.{Option, Some, None, Ok, Err}
+use Rattle.std.proofs.lemmas.List.{append-nil}
 use Rattle.p10_base.specs.declared.report.Refusal.{Refusal}
-use Rattle.p10_base.specs.declared.report.Limit.{Limit}
 use Rattle.p10_lex.specs.declared.pieces.Piece.{Piece}
 use Rattle.p10_lex.specs.declared.pieces.Piece.TheVariants.{Blank, Splices, Comment, OpenComment, OpenLiteral, Stray, Lexeme}
 use Rattle.p10_lex.specs.declared.pieces.Line.{Line}
 use Rattle.p10_lex.specs.declared.faults.Fault.{Fault}
 use Rattle.p10_lex.specs.declared.fault.LexFault.{LexFault}
 use Rattle.p10_lex.specs.declared.fault.LexFault.TheVariants.{Refused, Over, Memory}
-use Rattle.p10_lex.specs.Pieces.{IsPiece, State, advance, beginning, is_include, LexedWord, word_before, line_after, tight_after}
+use Rattle.p10_lex.specs.Pieces.{IsPiece, State, advance, beginning, is_include, LexedWord, word_before}
 use Rattle.p10_lex.specs.Refusals.{refusal_at}
 use Rattle.p10_lex.specs.Lexes.{Answers, IsTooMany}
 use Rattle.p10_lex.specs.Reading.{cut_at, fault_at}
@@ -29,6 +28,7 @@ pub record IsFront (after_include : Bool) (piece : Piece) (whole rest : List ℕ
   pub shorter : length (front_of whole rest) + length rest ≡ length whole
   pub some : length rest < length whole
 
+-- what is cut off is such a piece
 pub front_at : (after_include : Bool) (piece : Piece) (whole rest : List ℕ) → 0 < length whole → (piece, rest) ≡ cut_at after_include whole
     → IsFront after_include piece whole rest
 front_at after_include piece whole rest some e =
@@ -106,10 +106,6 @@ pub last_turn : (file : ℕ) (bytes : List ℕ) (so : List LexedWord) (s : State
 last_turn file bytes so s whole small few inv e =
     let gives = inv [] None (subst (λ (x : List ℕ). Gives file s x [] None) (sym e) (ends s)) in
     (small, few, lexes_from file bytes so (subst (λ (x : List LexedWord). Gives file beginning bytes x None) (append-nil so) gives))
-
--- at the beginning nothing was found
-pub first_turn : (file : ℕ) (bytes : List ℕ) → Continues file bytes [] beginning bytes
-first_turn file bytes words end gives = gives
 
 -- a text that isn't empty has a byte
 has_byte : (n : ℕ) → false ≡ (n == 0) → 0 < n

@@ -1,13 +1,13 @@
 -- A file has one answer.
-use Rattle.std.proofs.Common.{◌≡◌, ◌≢◌, ℕ, zero, suc, ◌+◌, ◌-◌, ◌<◌, ◌≤◌, List, [], ◌∷◌, ◌++◌, length, refl, sym, ◌∙◌, ap, subst, arith, Bool, true, false, ◌⊎◌, inl, inr, length-append}
+use Rattle.std.proofs.Common.{◌≡◌, ◌≢◌, ℕ, List, [], ◌∷◌, length, refl, sym, ◌∙◌, ap, subst, arith, inl, inr, length-append}
 use Rattle.std.specs.Prelude.{Option, Some, None, Result, Ok, Err}
 use Rattle.p10_base.specs.declared.report.Refusal.{Refusal}
 use Rattle.p10_base.specs.declared.report.Limit.{Limit}
 use Rattle.p10_lex.specs.declared.pieces.Piece.{Piece}
 use Rattle.p10_lex.specs.declared.fault.LexFault.{LexFault}
 use Rattle.p10_lex.specs.declared.fault.LexFault.TheVariants.{Refused, Over, Memory}
-use Rattle.p10_lex.specs.Pieces.{IsPiece, Cut, State, advance, beginning, state_after, is_include, Cuts, LexedWord, word_before, words_of}
-use Rattle.p10_lex.specs.Refusals.{Holds, Precedes}
+use Rattle.p10_lex.specs.Pieces.{IsPiece, Cut, State, advance, beginning, is_include, Cuts, LexedWord, word_before, words_of}
+use Rattle.p10_lex.specs.Refusals.{Precedes}
 use Rattle.p10_lex.specs.Lexes.{Lexes, Refuses, Begins, Answers, HasWordsOrOneRefusal}
 use Rattle.p10_lex.proofs.Cutting.{same_piece, piece_some}
 use Rattle.p10_lex.proofs.FirstRefusal.{Gives, ends, stops, goes_on, holds_of, answered}
@@ -62,6 +62,7 @@ same_words file bytes words others is are =
     let (found, end, gives) = total (length bytes) file beginning bytes (omega arith) in
     (lexes_is file bytes words found end gives is).1 ∙ sym (lexes_is file bytes others found end gives are).1
 
+-- words or one refusal, by how the file ends
 has_by_end : (file : ℕ) (bytes : List ℕ) (found : List LexedWord) (end : Option Refusal) → Gives file beginning bytes found end → HasWordsOrOneRefusal file bytes
 has_by_end file bytes found None gives = inl (found, lexes_from file bytes found gives)
 has_by_end file bytes found (Some refusal) gives =
@@ -78,15 +79,19 @@ pub words_or_refusal : (file : ℕ) (bytes : List ℕ) → HasWordsOrOneRefusal 
 words_or_refusal file bytes =
     let (found, end, gives) = total (length bytes) file beginning bytes (omega arith) in has_by_end file bytes found end gives
 
+-- answers with equal words
 same_ok : (words others : List LexedWord) → words ≡ others → ◌≡◌ {A = Result (List LexedWord) LexFault} (Ok words) (Ok others)
 same_ok words others e = ap (λ (x : List LexedWord). let r : Result (List LexedWord) LexFault = Ok x in r) e
 
+-- answers with equal refusals
 same_refused : (r q : Refusal) → r ≡ q → ◌≡◌ {A = Result (List LexedWord) LexFault} (Err (Refused r)) (Err (Refused q))
 same_refused r q e = ap (λ (x : Refusal). let o : Result (List LexedWord) LexFault = Err (Refused x) in o) e
 
+-- answers with equal limits
 same_over : (l m : Limit) → l ≡ m → ◌≡◌ {A = Result (List LexedWord) LexFault} (Err (Over l)) (Err (Over m))
 same_over l m e = ap (λ (x : Limit). let o : Result (List LexedWord) LexFault = Err (Over x) in o) e
 
+-- two answers, each compared with what was found
 same_by : (file : ℕ) (bytes : List ℕ) (found : List LexedWord) (end : Option Refusal) → Gives file beginning bytes found end
     → (a b : Result (List LexedWord) LexFault) → a ≢ Err Memory → b ≢ Err Memory → Answers file bytes a → Answers file bytes b → a ≡ b
 same_by file bytes found end gives (Err Memory) b x y is are = absurd (x refl)

@@ -1,6 +1,6 @@
 -- The first row that holds at a word, and so at any piece.
-use Rattle.std.proofs.Common.{◌≡◌, ◌≢◌, ℕ, zero, suc, ◌+◌, ◌-◌, ◌<◌, ◌≤◌, List, [], ◌∷◌, ◌++◌, length, take, drop, refl, sym, ◌∙◌, ap, subst, arith, Bool, true, false, cond, ◌⊎◌, inl, inr, append_assoc, length-append}
-use Rattle.std.specs.Prelude.{◌==◌, nat_lt, ◌&&◌, ◌||◌, not, Option, Some, None, codes}
+use Rattle.std.proofs.Common.{◌≡◌, ◌≢◌, ℕ, zero, suc, ◌+◌, ◌-◌, ◌<◌, ◌≤◌, List, [], ◌∷◌, ◌++◌, length, take, drop, refl, sym, ◌∙◌, ap, subst, arith, Bool, true, false, ◌⊎◌, inl, inr, length-append}
+use Rattle.std.specs.Prelude.{◌==◌, ◌&&◌, ◌||◌, not, Option, Some, None, codes}
 use Rattle.std.specs.List.{list_all}
 use Rattle.std.proofs.lemmas.List.{take_at}
 use Rattle.p10_base.specs.declared.word.Kind.{Kind}
@@ -9,22 +9,23 @@ use Rattle.p10_lex.specs.declared.pieces.Piece.{Piece}
 use Rattle.p10_lex.specs.declared.pieces.Piece.TheVariants.{Blank, Splices, Comment, OpenComment, OpenLiteral, Stray, Lexeme}
 use Rattle.p10_lex.specs.declared.faults.Fault.{Fault}
 use Rattle.p10_lex.specs.Bytes.{is_quote, is_name_byte, is_nondigit, is_digit}
-use Rattle.p10_lex.specs.Splices.{splice_length, joined}
-use Rattle.p10_lex.specs.Lexemes.{same_text, is_punctuator, begins_number, IsLexeme, IsName, IsNumber, IsQuoted, IsHeaderName, IsLongest}
-use Rattle.p10_lex.specs.Constants.{IsConstant, IsIntegerConstant, IsLiteral, Characters, is_allowed, begins_with}
+use Rattle.p10_lex.specs.Splices.{splice_length}
+use Rattle.p10_lex.specs.Lexemes.{same_text, is_punctuator, begins_number, IsLexeme, IsName, IsNumber, IsQuoted, IsHeaderName}
+use Rattle.p10_lex.specs.Constants.{IsConstant, IsIntegerConstant, IsLiteral, begins_with}
 use Rattle.p10_lex.specs.Pieces.{IsPiece}
 use Rattle.p10_lex.specs.Refusals.{begins_trigraph, is_tight, is_literal, is_comment, Row, bad_byte, comment_without_end, literal_without_end, bad_constant, wide_literal, trigraph, splice_between, splice_in_literal, rank_of}
 use Rattle.p10_lex.specs.Values.{is_integer_constant, is_literal_constant, is_quoted_constant}
-use Rattle.p10_lex.specs.Reading.{fault_at, fault_of, word_fault, literal_fault, mark_at}
-use Rattle.p10_lex.proofs.Classes.{decide, and_both, both_and, same_number, number_same, not_false, number_head}
+use Rattle.p10_lex.specs.Reading.{fault_at, fault_of, word_fault, literal_fault}
+use Rattle.p10_lex.proofs.Classes.{decide, and_both, both_and, same_number, number_head}
 use Rattle.p10_lex.proofs.SpliceLaws.{is_either}
 use Rattle.p10_lex.proofs.Punctuation.{same_is, is_same}
 use Rattle.p10_lex.proofs.IntegerLaws.{integer_yes_all, yes_integer_all}
 use Rattle.p10_lex.proofs.CharacterLaws.{literal_yes, yes_literal}
 use Rattle.p10_lex.proofs.Longest.{head_is}
 use Rattle.p10_lex.proofs.Marked.{HasNoMark, trigraph_head, splice_head, no_trigraph, class_mark, number_mark, all_splices_mark, punctuator_mark, IsFirstMark, mark_none, mark_some}
-use Rattle.p10_lex.proofs.Rows.{IsFirstRow, IsFirst, NoneHolds, rank_is, at_or_behind, trigraph_behind, splice_behind, blank_row, comment_row, open_comment_row, open_literal_row, stray_row, splices_row, splices_first}
+use Rattle.p10_lex.proofs.Rows.{IsFirstRow, IsFirst, NoneHolds, rank_is, trigraph_behind, splice_behind, blank_row, comment_row, open_comment_row, open_literal_row, stray_row, splices_row, splices_first}
 
+-- what may hold at a name
 name_first : (tight : Bool) (text rest : List ℕ) → HasNoMark text → (m j d : ℕ) → Row tight (Lexeme Name) text rest m j d
     → (text ≡ codes "L") × (begins_with is_quote rest ≡ true) × ((0 < j) ⊎ ((0 ≡ j) × (rank_of 4 ≤ rank_of m)))
 unfolding is_literal
@@ -42,6 +43,7 @@ name_first tight text rest a n i e (trigraph j h k l) = absurd (no_trigraph text
 name_first tight text rest a n i e (splice_between j h k l m o) = absurd (cc)
 name_first tight text rest a n i e (splice_in_literal j h k l) = absurd (cc)
 
+-- what may hold at a number
 number_first : (tight : Bool) (text rest : List ℕ) → HasNoMark text → (m j d : ℕ) → Row tight (Lexeme Number) text rest m j d
     → (IsIntegerConstant text → ⊥) × ((0 < j) ⊎ ((0 ≡ j) × (rank_of 4 ≤ rank_of m)))
 unfolding is_literal
@@ -59,6 +61,7 @@ number_first tight text rest a n i e (trigraph j h k l) = absurd (no_trigraph te
 number_first tight text rest a n i e (splice_between j h k l m o) = absurd (cc)
 number_first tight text rest a n i e (splice_in_literal j h k l) = absurd (cc)
 
+-- what may hold at a punctuator
 punct_first : (tight : Bool) (c : ℕ) (t rest : List ℕ) → HasNoMark t → (m j d : ℕ) → Row tight (Lexeme Punct) (c ∷ t) rest m j d
     → (begins_trigraph (c ∷ (t ++ rest)) ≡ true) × ((0 < j) ⊎ ((0 ≡ j) × (rank_of 5 ≤ rank_of m)))
 unfolding is_literal
@@ -84,6 +87,7 @@ Marked kind text rest m j =
     ⊎ (((m ≡ 5) × (j < length text) × (begins_trigraph (drop j (text ++ rest)) ≡ true))
     ⊎ ((m ≡ 6) × (j < length text) × (0 < splice_length (drop j (text ++ rest)))))
 
+-- what may hold at a literal
 literal_cases : (tight : Bool) (kind : Kind) (text rest : List ℕ) → kind ≢ Name → (m j d : ℕ) → Row tight (Lexeme kind) text rest m j d → Marked kind text rest m j
 literal_cases tight kind text rest a n i e (bad_byte h) = absurd (cc)
 literal_cases tight kind text rest a n i e (comment_without_end h) = absurd (cc)
@@ -95,6 +99,7 @@ literal_cases tight kind text rest a n i e (trigraph j h k l) = inr (inl (refl, 
 literal_cases tight kind text rest a n i e (splice_between j h k l m o) = absurd (cc)
 literal_cases tight kind text rest a n i e (splice_in_literal j h k l) = inr (inr (refl, k, l))
 
+-- two numbers are in order
 order : (a b : ℕ) → (a < b) ⊎ ((a ≡ b) ⊎ (b < a))
 order zero zero = inr (inl refl)
 order zero (suc b) = inl (omega arith)
@@ -119,6 +124,7 @@ record IsReadable (kind : Kind) (text rest : List ℕ) : Type 0 where
   constant : is_literal_constant text ≡ true → IsConstant kind text
   bad : is_literal_constant text ≡ false → IsConstant kind text → ⊥
 
+-- X4 is the first row at a literal that is no constant
 bad_literal : (tight : Bool) (kind : Kind) (text rest : List ℕ) → IsReadable kind text rest → is_literal_constant text ≡ false → IsFirstRow tight (Lexeme kind) text rest 4 0 (length text)
 bad_literal tight kind text rest is e = record {
   row = bad_constant kind refl (is.bad e);
@@ -131,10 +137,12 @@ bad_literal tight kind text rest is e = record {
   ];
 }
 
+-- a word is no comment
 no_comment_word : (kind : Kind) → is_comment (Lexeme kind) ≡ false
 unfolding is_comment
 no_comment_word kind = refl
 
+-- the first splice or trigraph is the first row at another one
 marked_literal : (tight : Bool) (kind : Kind) (text rest : List ℕ) (fault : Fault) → IsReadable kind text rest → is_literal_constant text ≡ true
     → IsFirstMark 0 (length text) (text ++ rest) fault → IsFirst tight (Lexeme kind) text rest fault
 marked_literal tight kind text rest fault is e mark = elim mark.is [
@@ -178,6 +186,7 @@ marked_literal tight kind text rest fault is e mark = elim mark.is [
       subst (λ (x : Fault). IsFirst tight (Lexeme kind) text rest x) (ap (λ (x : ℕ). fault_of 5 x 3) (sym at_zero) ∙ f) here)
 ]
 
+-- the first row at a literal is found
 literal_first : (tight : Bool) (kind : Kind) (text rest : List ℕ) (fault : Fault) → IsReadable kind text rest → literal_fault text (text ++ rest) ≡ Some fault
     → IsFirst tight (Lexeme kind) text rest fault
 unfolding literal_fault
@@ -187,6 +196,7 @@ literal_first tight kind text rest fault is e =
     (λ h f. let g : fault_of 4 0 (length text) ≡ fault = cc in subst (λ (x : Fault). IsFirst tight (Lexeme kind) text rest x) g (bad_literal tight kind text rest is h))
     e
 
+-- where none is found, none holds
 literal_none : (tight : Bool) (kind : Kind) (text rest : List ℕ) → IsReadable kind text rest → literal_fault text (text ++ rest) ≡ None → NoneHolds tight (Lexeme kind) text rest
 unfolding literal_fault
 literal_none tight kind text rest is e =
@@ -201,6 +211,7 @@ literal_none tight kind text rest is e =
     (λ h f. absurd (cc))
     e
 
+-- a literal is read by what stands between its quotes
 literal_of : (q : ℕ) (inside : List ℕ) → is_literal_constant (q ∷ (inside ++ q ∷ [])) ≡ (q == 60) || is_quoted_constant q inside
 unfolding is_literal_constant
 literal_of q inside =
@@ -215,6 +226,7 @@ quoted_constant q text angle quoted e =
     let (n, one, characters) = literal_yes q quoted.inside (rw angle at both) in
     record { inside = quoted.inside; parts = quoted.parts; count = n; single = one; characters = characters }
 
+-- a literal that is read as none is none
 quoted_bad : (q : ℕ) (text : List ℕ) → (q == 60) ≡ false → is_literal_constant text ≡ false → IsLiteral q text → ⊥
 quoted_bad q text angle e is =
     let read = ap is_literal_constant (sym is.parts) ∙ e in
@@ -222,6 +234,7 @@ quoted_bad q text angle e is =
     let h = rw angle at both in
     let k = yes_literal q is.count is.inside is.single is.characters in cc
 
+-- a character constant can be read
 readable_char : (text rest : List ℕ) → IsQuoted 39 text → IsReadable Char text rest
 unfolding is_literal
 readable_char text rest quoted = record {
@@ -236,9 +249,11 @@ readable_char text rest quoted = record {
   bad = quoted_bad 39 text refl;
 }
 
+-- a quote is no `<`
 no_quote_angle : (xs ys : List ℕ) → 34 ∷ xs ≡ 60 ∷ ys → ⊥
 no_quote_angle xs ys e = let h = head_is 34 60 xs ys e in omega arith
 
+-- a string can be read
 readable_string : (text rest : List ℕ) → IsQuoted 34 text → IsReadable Str text rest
 unfolding is_literal
 readable_string text rest quoted = record {
@@ -253,10 +268,12 @@ readable_string text rest quoted = record {
   bad = λ e is. elim is [ inl x ↦ quoted_bad 34 text refl e x | inr x ↦ no_quote_angle (quoted.inside ++ 34 ∷ []) (x.inside ++ 62 ∷ []) (sym quoted.parts ∙ x.parts) ];
 }
 
+-- an include name is read as well formed
 angle_constant : (t : List ℕ) → is_literal_constant (60 ∷ t) ≡ true
 unfolding is_literal_constant
 angle_constant t = refl
 
+-- an include name can be read
 readable_header : (text rest : List ℕ) → IsHeaderName text → IsReadable Str text rest
 unfolding is_literal
 readable_header text rest header = record {
@@ -271,54 +288,65 @@ readable_header text rest header = record {
   bad = λ e is. (let f = ap is_literal_constant (sym header.parts) ∙ e in let g = angle_constant (header.inside ++ 62 ∷ []) in cc);
 }
 
+-- a letter is a byte of a name
 name_byte : (c : ℕ) → is_nondigit c ≡ true → is_name_byte c ≡ true
 unfolding is_name_byte
 name_byte c e = rw e refl
 
+-- what cannot be is not
 not_mark : (b : Bool) → (b ≡ true → ⊥) → not b ≡ true
 not_mark true h = absurd (h refl)
 not_mark false h = refl
 
+-- no number begins with a question mark
 head_mark : (c : ℕ) (t : List ℕ) → begins_number (c ∷ t) ≡ true → not (c == 63) ≡ true
 unfolding is_digit
 head_mark c t e = not_mark (c == 63) (λ h.
     let f = same_number c 63 h in
     elim (number_head c t e) [ inl k ↦ (let g = ap is_digit (sym f) ∙ k in cc) | inr (k, l) ↦ omega arith ])
 
+-- a name has no question mark
 name_mark : (text : List ℕ) → IsName text → HasNoMark text
 unfolding is_name_byte is_nondigit is_digit
 name_mark [] is = absurd is
 name_mark (c ∷ cs) is = class_mark is_name_byte (c ∷ cs) refl (both_and (is_name_byte c) (list_all is_name_byte cs) (name_byte c is.0) is.1)
 
+-- nor has a number
 number_no_mark : (text : List ℕ) → IsNumber text → HasNoMark text
 number_no_mark [] is = absurd is
 number_no_mark (c ∷ cs) is = both_and _ _ (head_mark c cs is.0) (number_mark c cs is.1)
 
+-- X4 holds at `L` before a quote
 name_row : (tight : Bool) (text rest : List ℕ) → IsName text → text ≡ codes "L" → begins_with is_quote rest ≡ true → IsFirstRow tight (Lexeme Name) text rest 4 0 1
 name_row tight text rest is wide quote = record {
   row = wide_literal refl wide quote;
   first = λ m j d row. (name_first tight text rest (name_mark text is) m j d row).2;
 }
 
+-- X4 holds at a number that is no constant
 number_row : (tight : Bool) (text rest : List ℕ) → IsNumber text → (IsIntegerConstant text → ⊥) → IsFirstRow tight (Lexeme Number) text rest 4 0 (length text)
 number_row tight text rest is bad = record {
   row = bad_constant Number refl bad;
   first = λ m j d row. (number_first tight text rest (number_no_mark text is) m j d row).1;
 }
 
+-- a number that is read as none is none
 number_bad : (text : List ℕ) → IsNumber text → is_integer_constant text ≡ false → IsIntegerConstant text → ⊥
 number_bad [] is e constant = absurd is
 number_bad (c ∷ cs) is e constant = let f = yes_integer_all c cs constant in cc
 
+-- a number that is read as a constant is one
 number_good : (text : List ℕ) → IsNumber text → is_integer_constant text ≡ true → IsIntegerConstant text
 number_good [] is e = absurd is
 number_good (c ∷ cs) is e = integer_yes_all (c ∷ cs) c cs refl is.0 e
 
+-- only a trigraph holds at a punctuator
 punct_marked : (tight : Bool) (text rest : List ℕ) → is_punctuator text ≡ true → (m j d : ℕ) → Row tight (Lexeme Punct) text rest m j d → begins_trigraph (text ++ rest) ≡ true
 unfolding is_punctuator
 punct_marked tight [] rest is m j d row = absurd (cc)
 punct_marked tight (c ∷ t) rest is m j d row = (punct_first tight c t rest (punctuator_mark c t is) m j d row).0
 
+-- X5 holds at a punctuator that begins a trigraph
 punct_row : (tight : Bool) (text rest : List ℕ) → is_punctuator text ≡ true → begins_trigraph (text ++ rest) ≡ true → IsFirstRow tight (Lexeme Punct) text rest 5 0 3
 unfolding is_punctuator
 punct_row tight [] rest is mark = absurd (cc)

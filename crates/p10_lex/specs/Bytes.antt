@@ -1,5 +1,5 @@
 -- Classes of bytes (C99 5.2.1, 6.4).
-use Rattle.std.specs.Prelude.{ℕ, ◌==◌, ◌+◌, ◌-◌, nat_le, Bool, ◌&&◌, ◌||◌, not, if◌then◌else◌, List, [], ◌∷◌}
+use Rattle.std.specs.Prelude.{ℕ, ◌==◌, ◌-◌, nat_le, Bool, ◌&&◌, ◌||◌, if◌then◌else◌}
 
 -- white space: blank, tab, LF, vertical tab, form feed, CR (C99 6.4p3)
 unfoldable pub is_blank : ℕ → Bool

@@ -1,10 +1,10 @@
 -- Which numbers, characters and strings are constants (C99 6.4.4.1, 6.4.4.4, 6.4.5).
-use Rattle.std.specs.Prelude.{◌≡◌, ◌≢◌, ℕ, zero, suc, ◌==◌, ◌+◌, ◌-◌, ◌*◌, ◌^◌, ◌<◌, ◌≤◌, Bool, true, false, ◌&&◌, ◌||◌, not, if◌then◌else◌, ◌⊎◌, List, [], ◌∷◌, ◌++◌, length, codes}
+use Rattle.std.specs.Prelude.{◌≡◌, ◌≢◌, ℕ, suc, ◌==◌, ◌+◌, ◌*◌, ◌^◌, ◌<◌, ◌≤◌, Bool, true, false, ◌&&◌, ◌||◌, not, ◌⊎◌, List, [], ◌∷◌, ◌++◌, length, codes}
 use Rattle.std.specs.List.{list_all, list_any}
 use Rattle.p10_base.specs.declared.word.Kind.{Kind}
-use Rattle.p10_base.specs.declared.word.Kind.TheVariants.{Name, Number, Char, Str, Punct, Mark}
+use Rattle.p10_base.specs.declared.word.Kind.TheVariants.{Number, Char, Str}
 use Rattle.p10_lex.specs.Bytes.{is_digit, is_octal, is_hexadecimal, digit_value, is_printable}
-use Rattle.p10_lex.specs.Lexemes.{IsQuoted, IsHeaderName}
+use Rattle.p10_lex.specs.Lexemes.{IsHeaderName}
 use Rattle.p10_lex.specs.Splices.{joined}
 
 -- the value of digits after a value

@@ -1,8 +1,7 @@
 -- What lexing a file gives (C99 5.1.1.2, 6.4).
-use Rattle.std.specs.Prelude.{◌≡◌, ◌≢◌, ℕ, ◌<◌, ◌≤◌, Bool, ◌⊎◌, List, [], ◌∷◌, length}
+use Rattle.std.specs.Prelude.{◌≡◌, ℕ, ◌<◌, ◌≤◌, ◌⊎◌, List, [], length}
 use Rattle.std.specs.Prelude.{Result, Ok, Err}
 use Rattle.p10_base.specs.declared.report.Refusal.{Refusal}
-use Rattle.p10_base.specs.declared.report.Limit.{Limit}
 use Rattle.p10_lex.specs.declared.fault.LexFault.{LexFault}
 use Rattle.p10_lex.specs.declared.fault.LexFault.TheVariants.{Refused, Over, Memory}
 use Rattle.p10_lex.specs.Pieces.{Cut, Cuts, beginning, LexedWord, words_of}

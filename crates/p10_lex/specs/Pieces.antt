@@ -1,5 +1,5 @@
 -- The pieces that a file is cut into: words, comments, splices and white space, and what begins none of these.
-use Rattle.std.specs.Prelude.{◌≡◌, ◌≢◌, ℕ, zero, suc, ◌==◌, ◌+◌, Bool, true, false, ◌&&◌, ◌||◌, not, if◌then◌else◌, ◌⊎◌, List, [], ◌∷◌, ◌++◌, length, codes}
+use Rattle.std.specs.Prelude.{◌≡◌, ℕ, ◌==◌, ◌+◌, Bool, true, false, ◌&&◌, ◌||◌, if◌then◌else◌, ◌⊎◌, List, [], ◌∷◌, ◌++◌, length, codes}
 use Rattle.p10_base.specs.declared.word.Kind.{Kind}
 use Rattle.p10_base.specs.declared.word.Word.{Word}
 use Rattle.p10_base.specs.declared.span.Span.{Span}
@@ -63,7 +63,7 @@ pub record IsStray (after_include : Bool) (text rest : List ℕ) : Type 0 where
   pub not_splice : splice_length (byte ∷ rest) ≡ 0
   pub no_word : (kind : Kind) (word after : List ℕ) → byte ∷ rest ≡ word ++ after → IsLexeme after_include kind word → ⊥
 
--- What a piece is, where `rest` stands after its text. `after_include` says that its line begins with `#`
+-- What a piece is, where `rest` stands after its text. A word is the longest lexeme where no comment begins. `after_include` says that its line begins with `#`
 -- and `include` and has no other word yet.
 abbrev pub IsPiece : Bool → Piece → List ℕ → List ℕ → Type 0
 IsPiece after_include Blank text rest = (c : ℕ) × (text ≡ c ∷ []) × (is_blank c ≡ true)

@@ -1,13 +1,12 @@
 -- Where exactly each row of X1 to X6 holds.
-use Rattle.std.specs.Prelude.{◌≡◌, ◌≢◌, ℕ, zero, suc, ◌==◌, ◌+◌, ◌<◌, ◌≤◌, Bool, true, false, ◌&&◌, ◌||◌, not, if◌then◌else◌, ◌⊎◌, List, [], ◌∷◌, ◌++◌, length, drop, codes}
+use Rattle.std.specs.Prelude.{◌≡◌, ℕ, ◌==◌, ◌+◌, ◌<◌, ◌≤◌, Bool, true, false, ◌&&◌, ◌||◌, not, if◌then◌else◌, ◌⊎◌, List, [], ◌∷◌, ◌++◌, length, drop, codes}
 use Rattle.std.specs.List.{list_any}
 use Rattle.p10_base.specs.declared.word.Kind.{Kind}
-use Rattle.p10_base.specs.declared.word.Kind.TheVariants.{Name, Number, Char, Str, Punct, Mark}
-use Rattle.p10_base.specs.declared.report.Family.{Family}
+use Rattle.p10_base.specs.declared.word.Kind.TheVariants.{Name, Char, Str}
 use Rattle.p10_base.specs.declared.report.Family.TheVariants.{X}
 use Rattle.p10_base.specs.declared.report.Refusal.{Refusal}
 use Rattle.p10_lex.specs.declared.pieces.Piece.{Piece}
-use Rattle.p10_lex.specs.declared.pieces.Piece.TheVariants.{Blank, Splices, Comment, OpenComment, OpenLiteral, Stray, Lexeme}
+use Rattle.p10_lex.specs.declared.pieces.Piece.TheVariants.{Splices, Comment, OpenComment, OpenLiteral, Stray, Lexeme}
 use Rattle.p10_lex.specs.Bytes.{is_blank, is_quote}
 use Rattle.p10_lex.specs.Splices.{splice_length}
 use Rattle.p10_lex.specs.Constants.{begins_with, IsConstant}

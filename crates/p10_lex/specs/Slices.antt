@@ -1,6 +1,5 @@
 -- What follows for the words of a file: they are slices of it, in order.
 use Rattle.std.specs.Prelude.{◌≡◌, ℕ, ◌<◌, ◌≤◌, List, [], ◌∷◌, length, slice_range}
-use Rattle.p10_base.specs.declared.report.Refusal.{Refusal}
 use Rattle.p10_lex.specs.declared.fault.LexFault.{LexFault}
 use Rattle.p10_lex.specs.declared.fault.LexFault.TheVariants.{Refused, Over, Memory}
 use Rattle.p10_lex.specs.Pieces.{LexedWord}

@@ -12,7 +12,7 @@ unfoldable pub splice_length : List ℕ → ℕ
 splice_length [] = 0
 splice_length (a ∷ rest) = if (a == 92) && nat_lt 0 (line_end_length rest) then 1 + line_end_length rest else 0
 
--- the text without its splices, of which `skip` bytes of the first one have been passed
+-- the text without its splices, byte by byte: `skip` bytes of a splice have still to be passed
 unfoldable pub joined_after : ℕ → List ℕ → List ℕ
 joined_after skip [] = []
 joined_after (suc skip) (c ∷ rest) = joined_after skip rest

@@ -4,7 +4,7 @@ use p10_base::{Limit, Refusal};
 use thiserror::Error;
 
 /// Why lexing gives no words.
-#[derive(Clone, Copy, Debug, PartialEq, Eq, Error)]
+#[derive(Clone, Copy, Debug, Error)]
 pub enum LexFault {
     /// A row of X1 to X6 holds, and no row before it.
     #[error("the source is refused")]

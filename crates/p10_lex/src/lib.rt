@@ -1,12 +1,13 @@
 //! Cuts a source file into its words, the preprocessing tokens of C (C99 5.1.1.2, 6.4).
 //!
-//! Entry point: [`lex`]. Words borrow the source: each one's text is the slice of the file at its
-//! span. A file is cut into pieces from left to right, one a turn, and the first piece at which a row
-//! of X1 to X6 holds ends the work. Lines of directives, macros and the values of constants are left
-//! to the crates above.
+//! Entry point: [`lex`]. A file is cut into pieces from left to right, one a turn: white space,
+//! splices, comments, words, and what begins none of these. The first piece at which a row of X1 to X6
+//! holds ends the work.
+//!
+//! Invariant: the words so far are those of the pieces so far, and no row holds at these. Words borrow
+//! the source: each one's text is the slice of the file at its span. Directives, macros and the values
+//! of constants are left to the crates above.
 #![tactic(auto)]
-
-ghost use Rattle.std.specs.Prelude.{◌≡◌};
 
 mod bytes;
 mod characters;

@@ -1,5 +1,4 @@
-use Rattle.std.proofs.Common.{arith, ◌≡◌, ◌≤◌, ◌<◌, ◌∙◌, sym, length, length-take, length-drop}
-use Rattle.p10_lex.specs.Splices.{splice_length}
+use Rattle.std.proofs.Common.{arith, ◌∙◌, sym}
 use Rattle.p10_lex.proofs.Marks.{mark_more, length_rest}
 use Rattle.p10_lex.proofs.faults.mark_at.Goals as goal
 

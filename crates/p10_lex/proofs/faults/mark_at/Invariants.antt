@@ -1,4 +1,4 @@
-use Rattle.std.proofs.Common.{◌≡◌, ◌≤◌, ◌+◌, length}
+use Rattle.std.proofs.Common.{◌≡◌, ◌+◌, length}
 use Rattle.p10_lex.specs.Reading.{mark_at}
 use Rattle.p10_lex.proofs.faults.mark_at.Given as goal
 

@@ -1,5 +1,5 @@
 -- Each turn of the loop is one lemma of `Stepping`.
-use Rattle.std.proofs.Common.{arith, ◌≡◌, ◌≤◌, ◌<◌, ◌∙◌, sym, ap, length, map, refl}
+use Rattle.std.proofs.Common.{arith, sym, map}
 use Rattle.std.proofs.lemmas.List.{length-map}
 use Rattle.std.proofs.lemmas.Result.{err_from_is_err_and}
 use Rattle.p10_lex.specs.Pieces.{State, seen}
