@@ -10,3 +10,4 @@ pub mod Places
 pub mod Climbs
 pub mod Trees
 pub mod Truths
+pub mod Heads

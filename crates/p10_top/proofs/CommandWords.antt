@@ -1,8 +1,8 @@
 -- The words of a command, and the names that are read from them.
-use Rattle.std.proofs.Common.{◌≡◌, ℕ, List, [], ◌∷◌, Bool, true, false, bytes_eq, refl, sym, ◌∙◌, ap, subst, codes, cond, Option, Some, None, option_map, IfSome, IfNone}
+use Rattle.std.proofs.Common.{◌≡◌, ℕ, List, [], ◌∷◌, true, refl, sym, ◌∙◌, ap, subst, codes, cond, Option, Some, None, option_map, IfSome, IfNone}
 use Rattle.std.proofs.lemmas.Bool.{and_parts, and_from}
-use Rattle.std.proofs.lemmas.Option.{cond_some, none-some, same_Some}
-use Rattle.p10_first.proofs.Spelling.{is_text, same_text}
+use Rattle.std.proofs.lemmas.Option.{cond_some, none-some}
+use Rattle.p10_first.proofs.Spelling.{is_text}
 use Rattle.p10_top.specs.declared.command.Verify.{Verify}
 use Rattle.p10_top.specs.Command.{Names, names_of, IsVerify, is_verify, verify_of}
 

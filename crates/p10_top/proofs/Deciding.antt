@@ -1,9 +1,8 @@
 -- What an answer rests on: files up to their limits, and what they were judged to be.
-use Rattle.std.proofs.Common.{◌≡◌, ℕ, ◌+◌, ◌<◌, ◌≤◌, zero, suc, List, [], ◌∷◌, ◌++◌, length, take, length-take, refl, sym, ◌∙◌, ap, subst, arith, min, Option, Some, None, IfSome, IsSome, IsSomeAnd, Result, Ok, Err, IfOk}
+use Rattle.std.proofs.Common.{◌≡◌, ℕ, ◌+◌, ◌<◌, ◌≤◌, zero, suc, List, [], ◌∷◌, length, take, length-take, refl, sym, ◌∙◌, ap, subst, arith, min, Option, Some, None, IsSome, IsSomeAnd, Result, Ok, Err, IfOk}
 use Rattle.p10_base.specs.Gathered.{Gathered, nothing_gathered, count_of, text_of, with_file, with_root, LiesIn}
 use Rattle.p10_base.specs.declared.span.Span.{Span}
 use Rattle.p10_world.specs.Files.{Named, file_of, Lacks}
-use Rattle.p10_first.specs.declared.program.Program.{Program}
 use Rattle.p10_base.specs.declared.report.Refusal.{Refusal}
 use Rattle.p10_base.specs.declared.report.Limit.{Limit}
 use Rattle.p10_lex.specs.declared.fault.LexFault.{LexFault}
@@ -11,17 +10,17 @@ use Rattle.p10_lex.specs.declared.fault.LexFault.TheVariants.{Refused as LexRefu
 use Rattle.p10_lex.specs.Pieces.{LexedWord}
 use Rattle.p10_lex.specs.Lexes.{Answers as LexAnswers}
 use Rattle.p10_lex.specs.Slices.{AreSlices, IsPlaced}
-use Rattle.p10_first.specs.Certificate.{Claims, certificate_text}
+use Rattle.p10_first.specs.Certificate.{certificate_text}
 use Rattle.p10_top.specs.declared.answer.Answer.{Answer}
 use Rattle.p10_top.specs.declared.answer.Answer.TheVariants.{AbsentSource, SourceTooLong, Refused, TooManyWords, AbsentCertificate, NotBuilt, CertificateTooLong, BadCertificate, Failing, Accepted, ReadFault, NoMemory}
 use Rattle.p10_top.specs.Command.{Names}
 use Rattle.p10_top.specs.Loading.{Gives, IsHeld, IsLonger, IsFront}
-use Rattle.p10_top.specs.Answers.{HasSource, HasWords, HasProgram, HasCertificate, Judges, place_of, one_root, source_limit, certificate_limit}
+use Rattle.p10_top.specs.Answers.{HasSource, HasWords, HasCertificate, place_of, one_root, source_limit, certificate_limit}
 use Rattle.p10_top.specs.Judging.{IsJudged}
 use Rattle.p10_top.proofs.Sources.{place_within}
 use Rattle.p10_top.proofs.Lexing.{refused_is_code, over_words}
 use Rattle.p10_top.specs.Told.{beginning}
-use Rattle.p10_top.specs.Deciding.{Decides, HasPlace, unfailing, answer_without_words}
+use Rattle.p10_top.specs.Deciding.{Decides, answer_without_words}
 use Rattle.p10_top.specs.declared.load.Trouble.{Trouble}
 
 -- ## Files up to a limit

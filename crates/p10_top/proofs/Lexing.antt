@@ -1,5 +1,5 @@
 -- The codes and limits that lexing answers.
-use Rattle.std.proofs.Common.{◌≡◌, ℕ, ◌+◌, ◌<◌, ◌≤◌, List, length, sym, subst, arith, Err, ◌⊎◌, inl, inr}
+use Rattle.std.proofs.Common.{ℕ, ◌≤◌, List, length, sym, subst, arith, Err, inl, inr}
 use Rattle.p10_base.specs.declared.report.Family.{Family}
 use Rattle.p10_base.specs.declared.report.Refusal.{Refusal}
 use Rattle.p10_base.specs.declared.report.Limit.{Limit}

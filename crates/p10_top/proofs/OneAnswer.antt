@@ -1,8 +1,8 @@
 -- Only one answer is right where files are told: each answer passes the stages before its own, and is
 -- refuted by what a later answer passes.
-use Rattle.std.proofs.Common.{◌≡◌, ◌≢◌, ℕ, ◌+◌, ◌<◌, ◌≤◌, List, [], ◌∷◌, length, map, get_or, refl, sym, ◌∙◌, ap, subst, arith, ◌⊎◌, inl, inr, Option, Some, None, IsSome, IsSomeAnd, is_some, Result, Ok, Err}
+use Rattle.std.proofs.Common.{◌≡◌, ◌≢◌, ℕ, ◌<◌, ◌≤◌, List, [], length, get_or, refl, sym, ◌∙◌, ap, subst, arith, inl, inr, Option, Some, None, IsSome, IsSomeAnd, is_some, Result, Ok, Err}
 use Rattle.std.proofs.lemmas.Bool.{cases_order, both_ways}
-use Rattle.std.proofs.lemmas.Option.{none-some, same_Some}
+use Rattle.std.proofs.lemmas.Option.{same_Some}
 use Rattle.p10_base.specs.declared.report.Bounds.{Bounds}
 use Rattle.p10_base.specs.declared.span.Span.{Span}
 use Rattle.p10_base.specs.declared.report.Refusal.{Refusal}
@@ -13,7 +13,7 @@ use Rattle.p10_lex.specs.Lexes.{Answers as LexAnswers}
 use Rattle.p10_world.specs.Files.{Named, file_of}
 use Rattle.p10_first.specs.declared.program.Program.{Program}
 use Rattle.p10_first.specs.declared.conditions.Condition.{Condition}
-use Rattle.p10_first.specs.Form.{Text, Spells}
+use Rattle.p10_first.specs.Form.{Spells}
 use Rattle.p10_first.specs.Certificate.{Claims, certificate_text, IsCertificate, IsFirstWrongLine}
 use Rattle.p10_first.specs.Conditions.{Accepts, IsFirstFailure}
 use Rattle.p10_lex.proofs.Uniqueness.{same_words, same_answer}
@@ -24,7 +24,7 @@ use Rattle.p10_first.proofs.CertificateWrongLines.{one_wrong_line, no_wrong_line
 use Rattle.p10_top.specs.declared.answer.Answer.{Answer}
 use Rattle.p10_top.specs.declared.answer.Answer.TheVariants.{AbsentSource, SourceTooLong, Refused, TooManyWords, AbsentCertificate, NotBuilt, CertificateTooLong, BadCertificate, Failing, Accepted, ReadFault, NoMemory}
 use Rattle.p10_top.specs.Command.{Names, IsVerify}
-use Rattle.p10_top.specs.Answers.{Seen, IsRight, Judges, texts_of, place_of, source_limit, certificate_limit}
+use Rattle.p10_top.specs.Answers.{Seen, IsRight, texts_of, place_of, source_limit, certificate_limit}
 use Rattle.p10_top.specs.Told.{MaySay, Saying, SaysRight, saying_of, status_of}
 
 -- ## Stages

@@ -1,5 +1,5 @@
 -- What is said, and what a status of 0 promises.
-use Rattle.std.proofs.Common.{◌≡◌, ◌≢◌, ℕ, List, [], ◌++◌, refl, sym, ◌∙◌, ap, subst, arith, ◌⊎◌, inl, inr, Option, Some, None, IfSome}
+use Rattle.std.proofs.Common.{◌≡◌, ◌≢◌, ℕ, List, [], refl, sym, ◌∙◌, ap, subst, arith, inl, inr, Option, Some, None, IfSome}
 use Rattle.std.specs.Io.KnownBytes.{Appends}
 use Rattle.std.proofs.KnownBytes.{Appends-nil}
 use Rattle.p10_base.specs.Gathered.{Gathered}
@@ -13,8 +13,8 @@ use Rattle.p10_top.specs.declared.answer.Answer.{Answer}
 use Rattle.p10_top.specs.declared.answer.Answer.TheVariants.{AbsentSource, SourceTooLong, Refused, TooManyWords, AbsentCertificate, NotBuilt, CertificateTooLong, BadCertificate, Failing, Accepted, ReadFault, NoMemory}
 use Rattle.p10_top.specs.Command.{Names, IsVerify}
 use Rattle.p10_top.specs.Answers.{Seen, IsRight, one_root}
-use Rattle.p10_top.specs.Told.{BothTake, BothTakeFronts, IsNoCommand, MaySay, Saying, SaysRight, Told, Stopped, ToldFor, StoppedFor, err_text, out_text, saying_of, status_of, usage_saying}
-use Rattle.p10_top.specs.Deciding.{Answered, Decides, Shows, unfailing}
+use Rattle.p10_top.specs.Told.{BothTake, BothTakeFronts, IsNoCommand, Saying, Told, Stopped, ToldFor, StoppedFor, err_text, out_text, saying_of, status_of, usage_saying}
+use Rattle.p10_top.specs.Deciding.{Answered, Shows}
 use Rattle.p10_top.specs.Headline.{Verified}
 
 -- ## Texts don't depend on sources that they don't show

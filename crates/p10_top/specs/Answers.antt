@@ -1,5 +1,5 @@
 -- When each answer is right, in the order in which they are tried.
-use Rattle.std.specs.Prelude.{◌≡◌, ℕ, ◌-◌, ◌≤◌, Bool, false, List, [], length, map, Option, Ok, Err, slice_index_or}
+use Rattle.std.specs.Prelude.{◌≡◌, ℕ, ◌-◌, ◌≤◌, false, List, [], length, map, Option, Ok, Err, slice_index_or}
 use Rattle.p10_base.specs.declared.word.Kind.TheVariants.{Punct}
 use Rattle.p10_base.specs.declared.span.Span.{Span}
 use Rattle.p10_base.specs.Gathered.{Gathered, nothing_gathered, with_file, with_root}

@@ -4,7 +4,7 @@ use Rattle.std.specs.Io.KnownBytes.{Appends}
 use Rattle.p10_base.specs.declared.span.Span.{Span}
 use Rattle.p10_base.specs.declared.report.Family.TheVariants.{S}
 use Rattle.p10_base.specs.declared.report.Refusal.{Refusal}
-use Rattle.p10_base.specs.Gathered.{Gathered, LiesIn}
+use Rattle.p10_base.specs.Gathered.{Gathered}
 use Rattle.p10_world.specs.Sink.{TakesFront}
 use Rattle.p10_report.specs.Lines.{accepted_line, failing_line, limit_line, refusal_line}
 use Rattle.p10_report.specs.Messages.{absent_line, bad_certificate_line, out_of_memory_line, read_fault_line, usage_line}
