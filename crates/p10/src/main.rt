@@ -6,15 +6,26 @@ use p10_top::p10_main;
 use p10_world::{HostFiles, HostSink, HostSource};
 use std::alloc::AllocError;
 use std::env;
+use std::io::ErrorKind;
 use std::process::ExitCode;
 use std::rt::Env;
 
 /// The words after the program's name. Where they can't be read, or one isn't UTF-8, there are none,
 /// which is no command.
+///
+/// # Errors
+/// Memory is wanting.
 fn command_line(rt: &(impl Env + AllocGlobal)) -> Result<Vec<String>, AllocError> {
     let mut words = Vec::new(rt.alloc());
-    let Ok(arguments) = env::args(rt) else {
-        return Ok(words);
+    let arguments = match env::args(rt) {
+        Ok(arguments) => arguments,
+        Err(fault) => {
+            return if fault.kind() == ErrorKind::OutOfMemory {
+                Err(AllocError)
+            } else {
+                Ok(words)
+            };
+        }
     };
     for word in arguments.skip(1) {
         words.push(word)?;
