@@ -327,18 +327,18 @@ impl<'s> Reader<'s> {
 fn begins_main(
     int: &[u8],
     main: &[u8],
-    open: &[u8],
+    opening: &[u8],
     void: &[u8],
-    close: &[u8],
+    closing: &[u8],
     brace: &[u8],
 ) -> bool
-    ensures { result ≡ is_head int.now main.now open.now void.now close.now brace.now }
+    ensures { result ≡ is_head int.now main.now opening.now void.now closing.now brace.now }
 {
     is(int, b"int")
         && is(main, b"main")
-        && is(open, b"(")
+        && is(opening, b"(")
         && is(void, b"void")
-        && is(close, b")")
+        && is(closing, b")")
         && is(brace, b"{")
 }
 
@@ -347,11 +347,16 @@ fn begins_main(
 fn after_head<'w, 's>(words: &'w [Word<'s>]) -> Option<&'w [Word<'s>]>
     ensures { option_map (λ body. texts body.now) result ≡ after_head (texts words.now) }
 {
-    let [int, main, open, void, close, brace, body @ ..] = words else {
+    let [int, main, opening, void, closing, brace, body @ ..] = words else {
         return None;
     };
     if begins_main(
-        int.text, main.text, open.text, void.text, close.text, brace.text,
+        int.text,
+        main.text,
+        opening.text,
+        void.text,
+        closing.text,
+        brace.text,
     ) {
         Some(body)
     } else {
