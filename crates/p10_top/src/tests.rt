@@ -1,7 +1,7 @@
 //! The program over files, an input and outputs in memory: the status and every byte of both outputs.
 
 use super::p10_main;
-use p10_world::{MemFiles, MemSink, MemSource};
+use p10_world::{Files, MemFiles, MemSink, MemSource};
 use std::alloc::Global;
 use std::process::Abort;
 use std::test::Fail;
@@ -10,6 +10,7 @@ mod answers;
 mod certificates;
 mod lexing;
 mod limits;
+mod memory;
 mod programs;
 
 /// The words of the command that all tables use.
@@ -87,11 +88,11 @@ fn files_of(
 }
 
 /// Runs the program on the words, and compares all that it answers.
-fn check(
+fn check<F: Files>(
     rt: &impl Abort,
     alloc: Global,
     words: &[&str],
-    files: &mut MemFiles,
+    files: &mut F,
     room: Room,
     want: &Want<'_>,
 ) -> Result<(), Fail> {
