@@ -11,8 +11,8 @@ use std::{fs, rt};
 const PIECE: usize = 4096;
 
 /// The host's files. A name is a path. Only a file of which the host says that there is none is absent;
-/// a directory, a want of permission and each other refusal of the host is a fault. What the files
-/// hold isn't told.
+/// a want of permission, a directory of which a byte is asked for, and each other refusal of the host
+/// is a fault. What the files hold isn't told.
 #[derive(Drop)]
 pub struct HostFiles<R> {
     runtime: R,

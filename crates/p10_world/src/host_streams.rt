@@ -5,6 +5,9 @@ ghost use Rattle.std.specs.Prelude.{◌≡◌};
 use crate::{Failed, Sink, SinkFault, Source};
 use std::io::{Read, Write};
 
+/// How many bytes one call of a source takes at most.
+const PIECE: usize = 4096;
+
 /// A source over a stream of the host, as its standard input. What is left is told where the stream
 /// tells it, and no stream of the host does.
 #[derive(Drop)]
@@ -33,8 +36,14 @@ impl<R: Read + Drop> Source for HostSource<R> {
     ghost faults = { λ host. source_faults_of host };
 
     fn piece(&mut self, buf: &mut [u8]) -> Result<usize, Failed> {
-        match self.stream.read(buf) {
-            Ok(count) => Ok(count),
+        // A read that fails may leave bytes behind, and `buf` is to stay as it is then.
+        let mut piece = [0u8; PIECE];
+        let most = buf.len().min(PIECE);
+        match self.stream.read(&mut piece[..most]) {
+            Ok(count) => {
+                buf[..count].copy_from_slice(&piece[..count]);
+                Ok(count)
+            }
             Err(_) => {
                 self.faults = self.faults.saturating_add(1);
                 Err(Failed)

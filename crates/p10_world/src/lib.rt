@@ -91,12 +91,13 @@ pub trait Source {
     ///
     /// # Errors
     ///
-    /// [`Failed`] only where the count of faults rose; what is left is then as before.
+    /// [`Failed`] only where the count of faults rose; what is left and `buf` are then as before.
     fn piece(&mut self, buf: &mut [u8]) -> Result<usize, Failed>
         ensures bound { IfOk result (λ count. count ≤ length buf.old) }
         ensures given { IfOk result (λ count. GivesNext (left self.old) (left self.new) count buf.new) }
         ensures end { IfOk result (λ count. EndsAtZero (left self.new) count buf.new) }
         ensures kept { OnErr result (Keeps (left self.old) (left self.new)) }
+        ensures untouched { OnErr result (buf.new ≡ buf.old) }
         ensures failed { OnErr result (Rose (faults self.old) (faults self.new)) }
         ensures count { faults self.old ≤ faults self.new };
 }

@@ -1,7 +1,8 @@
 //! A sink in memory, which fails where its room ends.
 
-ghost use Rattle.std.specs.Prelude.{◌≡◌, ◌↔◌, ◌≤◌, ◌-◌, [], ◌++◌, Some, length, vec_len, vec_capacity, IfOk, IfErr, IsOk, OnOk, OnErr};
+ghost use Rattle.std.specs.Prelude.{◌≡◌, ◌↔◌, ◌≤◌, ◌-◌, [], ◌++◌, Some, length, vec_len, vec_capacity, nat_le, if◌then◌else◌, IfOk, IfErr, IsOk, OnOk, OnErr};
 ghost use Rattle.p10_world.specs.Faults.{Rose};
+ghost use Rattle.p10_world.specs.Plan.{next_count};
 ghost use Rattle.p10_world.specs.Sink.{TakesFront, TakesPart};
 
 use crate::{Sink, SinkFault};
@@ -66,6 +67,7 @@ impl Sink for MemSink {
         ensures front { OnErr result (TakesFront (Some (taken_of self.old)) (Some (taken_of self.new)) bytes.now) }
         ensures wrote { IfErr result (λ fault. fault.wrote ≡ room_of self.old) }
         ensures room { room_of self.new ≡ room_of self.old - length bytes.now }
+        ensures counted { faults_of self.new ≡ (if nat_le (length bytes.now) (room_of self.old) then faults_of self.old else next_count (faults_of self.old)) }
         ensures failed { OnErr result (Rose (faults_of self.old) (faults_of self.new)) }
         ensures count { faults_of self.old ≤ faults_of self.new }
     {

@@ -54,6 +54,7 @@ impl Source for MemSource {
         ensures given { IfOk result (λ count. GivesNext (Some (left_of self.old)) (Some (left_of self.new)) count buf.new) }
         ensures end { IfOk result (λ count. EndsAtZero (Some (left_of self.new)) count buf.new) }
         ensures kept { OnErr result (left_of self.new ≡ left_of self.old) }
+        ensures untouched { OnErr result (buf.new ≡ buf.old) }
         ensures planned { IsErr result ↔ IsTrue (fails_next (plan_of self.old)) }
         ensures failed { OnErr result (Rose (faults_of (plan_of self.old)) (faults_of (plan_of self.new))) }
         ensures count { faults_of (plan_of self.old) ≤ faults_of (plan_of self.new) }
