@@ -80,3 +80,18 @@ impl TextBuf {
         self.text.as_str()
     }
 }
+
+#[cfg(test)]
+mod tests {
+    use super::*;
+    use std::test::Fail;
+
+    #[test]
+    fn push_puts_behind(rt: HostRuntime) -> Result<(), Fail> {
+        let mut numbers = ListBuf::of(Vec::from_slice(rt.alloc(), &[1u32])?);
+        assert!(rt; numbers.push(2) == Ok(()));
+        assert!(rt; numbers.push(0) == Ok(()));
+        assert!(rt; numbers.as_slice() == [1, 2, 0].as_slice());
+        Ok(())
+    }
+}

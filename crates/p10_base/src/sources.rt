@@ -244,4 +244,46 @@ mod tests {
         }
         Ok(())
     }
+
+    // A header is linked twice: for its name between quotes in `a.c`, and between angle brackets in itself.
+    #[test]
+    fn files_roots_and_links(rt: HostRuntime) -> Result<(), Fail> {
+        let alloc = rt.alloc();
+        let mut sources = Sources::new(alloc);
+        let name = String::from_str(alloc, "a.c")?;
+        assert!(rt; sources.push(name, Vec::new(alloc)) == Ok(0));
+        assert!(rt; sources.count() == 1);
+        let name = String::from_str(alloc, "b.h")?;
+        assert!(rt; sources.push(name, Vec::from_slice(alloc, b"b")?) == Ok(1));
+        assert!(rt; sources.count() == 2);
+        assert!(rt; sources.name(1) == "b.h");
+        assert!(rt; sources.text(0) == b"".as_slice());
+        assert!(rt; sources.text(1) == b"b".as_slice());
+
+        assert!(rt; sources.roots() == 0);
+        assert!(rt; sources.push_root(1) == Ok(()));
+        assert!(rt; sources.roots() == 1);
+        assert!(rt; sources.root(0) == 1);
+
+        assert!(rt; sources.candidate(0, b"b.h", false).is_none());
+        assert!(rt; sources.link(0, b"b.h", false, 1) == Ok(()));
+        assert!(rt; sources.count() == 2);
+        assert!(rt; sources.candidate(1, b"b.h", true).is_none());
+        assert!(rt; sources.link(1, b"b.h", true, 1) == Ok(()));
+        let rows: [(u32, &[u8], bool, Option<u32>); 6] = [
+            (0, b"b.h", false, Some(1)),
+            (0, b"b.h", true, None),
+            (1, b"b.h", true, Some(1)),
+            (1, b"b.h", false, None),
+            (0, b"b", false, None),
+            (2, b"b.h", false, None),
+        ];
+        for (from, name, angle, to) in rows {
+            assert!(rt;
+                sources.candidate(from, name, angle) == to,
+                "in {from}, {angle}"
+            );
+        }
+        Ok(())
+    }
 }
