@@ -1,4 +1,7 @@
-//! Each line once, as the worked examples of the command line show it.
+//! Each line once, as the worked examples of the command line show it, and the text of each code.
+
+ghost use Rattle.std.specs.Prelude.{IsTrue};
+ghost use Rattle.p10_report.specs.Codes.{IsCode};
 
 use super::*;
 use p10_base::Family;
@@ -73,6 +76,95 @@ fn refusals(rt: HostRuntime) -> Result<(), Fail> {
         put_refusal(&mut out, &sources, &refusal)?;
         assert!(rt; out.taken() == row.line.as_bytes());
     }
+    Ok(())
+}
+
+/// The lines of all codes in their order, for the first byte of `a.c`.
+static ALL_CODES: &str = "\
+a.c:1:1: refused X1: bad byte
+a.c:1:1: refused X2: comment without end
+a.c:1:1: refused X3: literal without end
+a.c:1:1: refused X4: bad constant
+a.c:1:1: refused X5: trigraph
+a.c:1:1: refused X6: splice in a word
+a.c:1:1: refused D1: bad directive
+a.c:1:1: refused D2: unbalanced conditional
+a.c:1:1: refused D3: bad condition
+a.c:1:1: refused D4: bad macro definition
+a.c:1:1: refused D5: include not found
+a.c:1:1: refused D6: recursive macro
+a.c:1:1: refused D7: wrong number of macro arguments
+a.c:1:1: refused D8: macro call without end
+a.c:1:1: refused G1: not C of this grammar
+a.c:1:1: refused S0: not built yet
+a.c:1:1: refused S1: unknown name
+a.c:1:1: refused S2: operand types not allowed
+a.c:1:1: refused S3: target can't be changed
+a.c:1:1: refused S4: types don't fit
+a.c:1:1: refused S5: wrong number of arguments
+a.c:1:1: refused S6: call of something other than a function's name
+a.c:1:1: refused S7: assignment or step as an operand
+a.c:1:1: refused S8: comma operator
+a.c:1:1: refused S9: unspecified order of a call
+a.c:1:1: refused S10: cast not allowed
+a.c:1:1: refused S11: allocation of another form
+a.c:1:1: refused S12: unknown member
+a.c:1:1: refused S13: constant expression required
+a.c:1:1: refused S14: value of a void expression
+a.c:1:1: refused S15: struct as argument or result
+a.c:1:1: refused S16: size of a type without one
+a.c:1:1: refused S17: address of something without one
+a.c:1:1: refused S18: constant expression that stops
+a.c:1:1: refused S19: floating or complex type
+a.c:1:1: refused S20: union or bit-field
+a.c:1:1: refused S21: array length not a positive constant
+a.c:1:1: refused S22: specifier not in the subset
+a.c:1:1: refused S23: function without a full prototype
+a.c:1:1: refused S24: pointer type not in the subset
+a.c:1:1: refused S25: incomplete type
+a.c:1:1: refused S26: defined twice or declared differently
+a.c:1:1: refused S27: not defined in the program
+a.c:1:1: refused S28: main missing, of another form, or used
+a.c:1:1: refused S29: label or jump not allowed
+a.c:1:1: refused S30: misplaced p10 pragma
+";
+
+/// Whether a code has a text.
+fn is_code(family: Family, number: u8) -> bool
+    ensures { IsTrue result → IsCode family number }
+{
+    match family {
+        Family::X => 1 <= number && number <= 6,
+        Family::D => 1 <= number && number <= 8,
+        Family::G => number == 1,
+        Family::S => number <= 30,
+    }
+}
+
+#[test]
+fn all_codes_have_their_texts(rt: HostRuntime) -> Result<(), Fail> {
+    let alloc = rt.alloc();
+    let sources = one_file(alloc, "a.c", b"")?;
+    let span = Span {
+        file: 0,
+        start: 0,
+        end: 0,
+    };
+    assert!(rt; sources.count() == 1);
+    let mut out = MemSink::new(alloc, 4_000, None)?;
+    for family in [Family::X, Family::D, Family::G, Family::S] {
+        for number in 0..=255u8 {
+            if is_code(family, number) {
+                let refusal = Refusal {
+                    family,
+                    number,
+                    span,
+                };
+                put_refusal(&mut out, &sources, &refusal)?;
+            }
+        }
+    }
+    assert_eq!(rt; str::from_utf8(out.taken()), Ok(ALL_CODES));
     Ok(())
 }
 
