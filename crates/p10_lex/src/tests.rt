@@ -13,7 +13,7 @@ struct Row {
     shown: &'static str,
 }
 
-static ROWS: [Row; 49] = [
+static ROWS: [Row; 50] = [
     Row {
         text: b"a+++b",
         shown: "N0-1* P1-3 P3-4 N4-5 ",
@@ -89,6 +89,10 @@ static ROWS: [Row; 49] = [
     Row {
         text: b"/*\n*/a",
         shown: "N5-6* ",
+    },
+    Row {
+        text: b"// \xe9",
+        shown: "",
     },
     Row {
         text: b"// c \\\n d\ne",
@@ -212,6 +216,45 @@ static ROWS: [Row; 49] = [
     },
 ];
 
+/// Files at the outer edges of a row of X1 to X6, and the refused place.
+static REFUSED: [(&[u8], &str); 30] = [
+    // numbers without a type, with another suffix or without digits
+    (b"9223372036854775808", "X4 0-19"),
+    (b"18446744073709551616u", "X4 0-21"),
+    (b"0x10000000000000000", "X4 0-19"),
+    (b"02000000000000000000000", "X4 0-23"),
+    (b"1lL", "X4 0-3"),
+    (b"1uu", "X4 0-3"),
+    (b"0x", "X4 0-2"),
+    // values over 255, escapes without digits, none or two characters, and bytes that aren't printable ASCII
+    (b"'\\400'", "X4 0-6"),
+    (b"'\\x100'", "X4 0-7"),
+    (b"'\\x'", "X4 0-4"),
+    (b"''", "X4 0-2"),
+    (b"'ab'", "X4 0-4"),
+    (b"'\x7f'", "X4 0-3"),
+    (b"'\xe9'", "X4 0-3"),
+    (b"'\t'", "X4 0-3"),
+    // a backslash that makes no splice
+    (b"a \\b", "X1 2-3"),
+    (b"\\", "X1 0-1"),
+    // a splice doesn't end a comment; a comment that has begun is white space behind a splice
+    (b"/* *\\\n/", "X2 0-2"),
+    (b"a\\\n/*", "X2 3-5"),
+    (b"a??(", "X5 1-4"),
+    (b"a??)", "X5 1-4"),
+    (b"a??!", "X5 1-4"),
+    (b"a??<", "X5 1-4"),
+    (b"a??-", "X5 1-4"),
+    (b"a ??/* c */", "X5 2-5"),
+    (b"a\\\n\\\nb", "X6 1-2"),
+    (b"+\\\n+", "X6 1-2"),
+    (b"L\\\n\"a\"", "X6 1-2"),
+    // of X3 and X4 at one place
+    (b"'\\q", "X3 0-1"),
+    (b"\"\\q\n", "X3 0-1"),
+];
+
 fn letter(kind: Kind) -> &'static str {
     match kind {
         Kind::Name => "N",
@@ -254,6 +297,14 @@ fn shown(alloc: Global, text: &[u8]) -> Result<String, Fail> {
 fn rows(rt: HostRuntime) -> Result<(), Fail> {
     for row in &ROWS {
         assert_eq!(rt; shown(rt.alloc(), row.text)?.as_str(), row.shown);
+    }
+    Ok(())
+}
+
+#[test]
+fn refused_at_the_edges(rt: HostRuntime) -> Result<(), Fail> {
+    for &(text, place) in &REFUSED {
+        assert_eq!(rt; shown(rt.alloc(), text)?.as_str(), place);
     }
     Ok(())
 }
