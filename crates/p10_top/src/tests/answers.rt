@@ -287,3 +287,21 @@ fn faults_of_writes(rt: HostRuntime) -> Result<(), Fail> {
     }
     Ok(())
 }
+
+// The output that fails after five bytes took just these of the line `accepted: ..`.
+#[test]
+fn accepted_line_is_cut(rt: HostRuntime) -> Result<(), Fail> {
+    let source = SOURCE.as_bytes();
+    let certificate = CERTIFICATE.as_bytes();
+    let mut files = files_of(rt.alloc(), &[], Some(source), Some(certificate))?;
+    let room = Room {
+        out: Some(5),
+        err: None,
+    };
+    let want = Want {
+        status: 6,
+        out: "accep",
+        err: "",
+    };
+    check(&rt, rt.alloc(), &VERIFY, &mut files, room, &want)
+}
