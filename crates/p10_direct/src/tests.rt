@@ -1,5 +1,6 @@
-//! Lines, directives and conditions at their edges. The truths were computed by `gcc -E`, those that
-//! stop by C99 6.5.
+//! Lines, directives and conditions at their edges. The truths were computed by `gcc -E`; those of
+//! conditions that stop are by C99 6.5, that of `1 ? 1 , 1 : 0` is by the grammar, which has no comma
+//! here (C99 6.6p3), and those at the greatest depth are by its definition.
 
 use crate::keyword::punctuates;
 use crate::{DirectFault, Directive, directive, lines, truth};
