@@ -13,3 +13,5 @@ pub mod Dividing
 pub mod Complements
 pub mod Operands
 pub mod Sums
+pub mod Remainders
+pub mod TruthValues

@@ -1,10 +1,12 @@
 -- What holds of the definitions for all types, operators and values.
-use Rattle.std.specs.Prelude.{◌≡◌, ℕ, ◌<◌, ◌⊎◌, ◌↔◌, true, false, ℤ, pos, neg_ℤ, ◌+ℤ◌, ◌-ℤ◌, ◌*ℤ◌, bit_and, bit_or, bit_xor, Ok}
+use Rattle.std.specs.Prelude.{◌≡◌, ℕ, ◌<◌, ◌⊎◌, ◌↔◌, Bool as Flag, true, false, ℤ, pos, neg_ℤ, ◌+ℤ◌, ◌-ℤ◌, ◌*ℤ◌, ◌≤ℤ◌, unsigned_abs, bit_and, bit_or, bit_xor, Ok}
 use Rattle.std.specs.Int.{bit_at}
 use Rattle.p10_int.specs.declared.types.IntType.{IntType}
 use Rattle.p10_int.specs.declared.operators.BinOp.{BinOp}
-use Rattle.p10_int.specs.declared.operators.BinOp.TheVariants.{Div, Rem}
+use Rattle.p10_int.specs.declared.types.IntType.TheVariants.{Int}
+use Rattle.p10_int.specs.declared.operators.BinOp.TheVariants.{Div, Rem, Lt, Gt, Le, Ge, Eq, Ne}
 use Rattle.p10_int.specs.declared.operators.UnOp.{UnOp}
+use Rattle.p10_int.specs.declared.operators.UnOp.TheVariants.{Not}
 use Rattle.p10_int.specs.Types.{InRange, is_signed_of, greatest_of, width_of, modulus_of, promoted, usual_of}
 use Rattle.p10_int.specs.Conversion.{reduced, converted, pattern_of}
 use Rattle.p10_int.specs.Operators.{IsRightOperand, bitwise, complement, operate, operate_unary}
@@ -45,6 +47,37 @@ UnaryResultsAreInRange = (op : UnOp) (t : IntType) (a r : ℤ) → InRange t a �
 abbrev pub QuotientAndRemainder : Type 0
 QuotientAndRemainder =
     (t : IntType) (a b q r : ℤ) → InRange t a → InRange t b → operate Div t a b ≡ Ok q → operate Rem t a b ≡ Ok r → q *ℤ b +ℤ r ≡ a
+
+-- a remainder of a by b is smaller than b in size, and where it isn't 0 it has the sign of a (C99 6.5.5)
+pub record IsRemainder (a b r : ℤ) : Type 0 where
+  pub smaller : unsigned_abs r < unsigned_abs b
+  pub not_negative : pos 0 ≤ℤ a → pos 0 ≤ℤ r
+  pub not_positive : a ≤ℤ pos 0 → r ≤ℤ pos 0
+
+abbrev pub RemaindersAreSmall : Type 0
+RemaindersAreSmall = (t : IntType) (a b r : ℤ) → operate Rem t a b ≡ Ok r → IsRemainder a b r
+
+-- the operators of C99 6.5.8 and 6.5.9
+abbrev pub is_comparison : BinOp → Flag
+is_comparison Lt = true
+is_comparison Gt = true
+is_comparison Le = true
+is_comparison Ge = true
+is_comparison Eq = true
+is_comparison Ne = true
+is_comparison op = false
+
+-- a truth value is 1 or 0, of type `int` (C99 6.5.8, 6.5.9, 6.5.3.3)
+pub record IsTruthValue (r : ℤ) : Type 0 where
+  pub either : (r ≡ pos 1) ⊎ (r ≡ pos 0)
+  pub of_int : InRange Int r
+
+-- comparisons give truth values at every type of their operands, and so does `!`
+abbrev pub ComparisonsGiveTruthValues : Type 0
+ComparisonsGiveTruthValues = (op : BinOp) (t : IntType) (a b r : ℤ) → is_comparison op ≡ true → operate op t a b ≡ Ok r → IsTruthValue r
+
+abbrev pub NegationGivesTruthValues : Type 0
+NegationGivesTruthValues = (t : IntType) (a r : ℤ) → operate_unary Not t a ≡ Ok r → IsTruthValue r
 
 -- bit i of a value's pattern is 1
 abbrev pub IsSet : IntType → ℤ → ℕ → Type 0

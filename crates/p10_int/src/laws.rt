@@ -10,6 +10,9 @@ ghost use Rattle.p10_int.specs.Laws.{
   ResultsAreInRange,
   UnaryResultsAreInRange,
   QuotientAndRemainder,
+  RemaindersAreSmall,
+  ComparisonsGiveTruthValues,
+  NegationGivesTruthValues,
   OperatesOnBits,
   ComplementIsDifference,
 };
@@ -44,6 +47,17 @@ pub fn results_are_in_range()
 /// A quotient and its remainder give the dividend back (C99 6.5.5).
 pub fn quotient_and_remainder()
     ensures { QuotientAndRemainder }
+{}
+
+/// A remainder is smaller than its divisor in size, and has the sign of the dividend or is 0 (C99 6.5.5).
+pub fn remainders_are_small()
+    ensures { RemaindersAreSmall }
+{}
+
+/// Comparisons and `!` give 1 or 0, as values of `int` (C99 6.5.8, 6.5.9, 6.5.3.3).
+pub fn comparisons_give_truth_values()
+    ensures binary { ComparisonsGiveTruthValues }
+    ensures unary { NegationGivesTruthValues }
 {}
 
 /// The bitwise operators meet their tables on each bit (C99 6.5.10 to 6.5.12, 6.5.3.3).

@@ -1,4 +1,4 @@
-//! The operators on numbers that are converted already (C99 6.5.3.3, 6.5.5 to 6.5.14).
+//! The operators on numbers that are converted already (C99 6.5.3.3, 6.5.5 to 6.5.12).
 
 ghost use Rattle.std.specs.Prelude.{◌≡◌};
 ghost use Rattle.p10_int.specs.Types.{InRange};
@@ -11,7 +11,7 @@ use crate::types::IntType;
 /// Why a run stops where C99 leaves the behavior undefined.
 #[derive(Clone, Copy, Debug, PartialEq, Eq)]
 pub enum Stop {
-    /// A signed result isn't representable.
+    /// A signed `+ - *`, negation or quotient isn't representable, or `%` of such a quotient.
     U1,
     /// The divisor is 0.
     U2,
@@ -21,7 +21,7 @@ pub enum Stop {
     U4,
     /// A null pointer is dereferenced, moved, subtracted or ordered.
     U5,
-    /// A pointer leaves its array, or the place past it is read or written.
+    /// A pointer leaves its array and its one-past place, or the one-past place is read or written.
     U6,
     /// A dead object is reached, or a pointer to it is moved, subtracted or ordered.
     U7,
