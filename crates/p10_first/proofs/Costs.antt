@@ -125,12 +125,14 @@ cost_is_exact p budget left z is = subst (λ (w : Went ℤ). Costs (cost_of p) b
 pub cost_is_enough : (p : Program) (budget : ℕ) → call_main p budget ≡ Ends StepsSpent → budget < cost_of p
 cost_is_enough p budget is = subst (λ (w : Went ℤ). Costs (cost_of p) budget w) is (main_costs p budget)
 
--- a run with enough steps doesn't end for want of them
-enough : (w : Went ℤ) (cost budget : ℕ) → Costs cost budget w → cost ≤ budget → outcome_of w ≢ StepsSpent
-enough (Gives z left) cost budget costs within = λ is. cc
-enough (Ends (Returned z)) cost budget costs within = λ is. cc
-enough (Ends (Undefined stop)) cost budget costs within = λ is. cc
-enough (Ends StepsSpent) cost budget costs within = λ is. omega (arith, costs, within)
+-- a run whose outcome is want of steps ended there
+spent : (w : Went ℤ) → outcome_of w ≡ StepsSpent → w ≡ Ends StepsSpent
+spent (Gives z left) is = absurd cc
+spent (Ends outcome) is = ap Ends is
+
+-- a call of `main` with the steps that it costs doesn't end for want of them
+enough : (p : Program) (budget : ℕ) → cost_of p ≤ budget → outcome_of (call_main p budget) ≢ StepsSpent
+enough p budget within = λ is. let short = cost_is_enough p budget (spent (call_main p budget) is) in omega (arith, short, within)
 
 entered : (budget depth most : ℕ) → depth ≤ most → once_entered budget depth ≤ most
 entered zero depth most within = omega arith
@@ -146,7 +148,7 @@ accepted_is_within p c accepts world turns =
     let depth = accepts K12 in
     let total = accepts K14 in
     record {
-      steps = enough (call_main p c.total.prefix) (cost_of p) c.total.prefix (main_costs p c.total.prefix) (omega (arith, steps, total.0));
+      steps = enough p c.total.prefix (omega (arith, steps, total.0));
       calls = entered c.total.prefix 1 c.total.calls (omega (arith, depth.0, total.1));
       bytes = entered c.total.prefix (depth_of (opened_frame p)) c.total.bytes (omega (arith, depth.1, total.2, frame_is p));
       allocations = refl;

@@ -32,8 +32,8 @@ no_flag : {A : Type 0} (b : Bool) (x : A) → (b ≡ true → ⊥) → (if b the
 no_flag true x never = absurd (never refl)
 no_flag false x never = refl
 
-empty_is : (lo hi : ℤ) → hi <ℤ lo → unless_empty (record { lo = lo; hi = hi }) ≡ None
-empty_is lo hi below = no_flag (int_le lo hi) _ (λ yes. let h = le_z_yes {a = lo} {b = hi} (passes _ yes) in omega (arith, ints))
+empty_is : (least greatest : ℤ) → greatest <ℤ least → unless_empty (record { least = least; greatest = greatest }) ≡ None
+empty_is least greatest below = no_flag (int_le least greatest) _ (λ yes. let h = le_z_yes {a = least} {b = greatest} (passes _ yes) in omega (arith, ints))
 
 -- the ends of two ranges that lie so near are clipped alike, or both ranges are empty
 abbrev Lower : ℤ → ℤ → Type 0
@@ -52,7 +52,7 @@ upper s z (inl e) = inl (ap (λ (x : ℤ). int_min x (greatest_of Int)) e)
 upper s z (inr (inl above)) = inl (let p = above.0 in let q = above.1 in omega (arith, ints, int_min_is s (greatest_of Int), int_min_is z (greatest_of Int)))
 upper s z (inr (inr below)) = inr below
 
-both_empty : (s t l h : ℤ) → int_min t (greatest_of Int) <ℤ int_max s (least_of Int) → int_min h (greatest_of Int) <ℤ int_max l (least_of Int) → met (record { lo = s; hi = t }) int_range ≡ met (record { lo = l; hi = h }) int_range
+both_empty : (s t l h : ℤ) → int_min t (greatest_of Int) <ℤ int_max s (least_of Int) → int_min h (greatest_of Int) <ℤ int_max l (least_of Int) → met (record { least = s; greatest = t }) int_range ≡ met (record { least = l; greatest = h }) int_range
 both_empty s t l h p q = empty_is (int_max s (least_of Int)) (int_min t (greatest_of Int)) p ∙ sym (empty_is (int_max l (least_of Int)) (int_min h (greatest_of Int)) q)
 
 too_high : (s t : ℤ) → greatest_of Int <ℤ s → int_min t (greatest_of Int) <ℤ int_max s (least_of Int)
@@ -61,18 +61,18 @@ too_high s t above = omega (arith, ints, int_max_is s (least_of Int), int_min_is
 too_low : (s t : ℤ) → t <ℤ least_of Int → int_min t (greatest_of Int) <ℤ int_max s (least_of Int)
 too_low s t below = omega (arith, ints, int_max_is s (least_of Int), int_min_is t (greatest_of Int))
 
-met_near : (s t l h : ℤ) → Lower s l → Upper t h → met (record { lo = s; hi = t }) int_range ≡ met (record { lo = l; hi = h }) int_range
-met_near s t l h (inl low) (inl high) = ap (λ (x : ℤ). unless_empty (record { lo = x; hi = int_min t (greatest_of Int) })) low ∙ ap (λ (x : ℤ). unless_empty (record { lo = int_max l (least_of Int); hi = x })) high
+met_near : (s t l h : ℤ) → Lower s l → Upper t h → met (record { least = s; greatest = t }) int_range ≡ met (record { least = l; greatest = h }) int_range
+met_near s t l h (inl low) (inl high) = ap (λ (x : ℤ). unless_empty (record { least = x; greatest = int_min t (greatest_of Int) })) low ∙ ap (λ (x : ℤ). unless_empty (record { least = int_max l (least_of Int); greatest = x })) high
 met_near s t l h (inr above) b = both_empty s t l h (too_high s t above.0) (too_high l h above.1)
 met_near s t l h (inl low) (inr below) = both_empty s t l h (too_low s t below.0) (too_low l h below.1)
 
-pub added_is : (a b int : Range) (s t lo hi : ℤ) (r : Option Range)
-    → int ≡ int_range → s ≡ saturate_signed w128 (a.lo +ℤ b.lo) → t ≡ saturate_signed w128 (a.hi +ℤ b.hi)
-    → lo ≡ int_max s int.lo → hi ≡ int_min t int.hi → r ≡ unless_empty (record { lo = lo; hi = hi }) → r ≡ added a b
+pub added_is : (a b int : Range) (s t least greatest : ℤ) (r : Option Range)
+    → int ≡ int_range → s ≡ saturate_signed w128 (a.least +ℤ b.least) → t ≡ saturate_signed w128 (a.greatest +ℤ b.greatest)
+    → least ≡ int_max s int.least → greatest ≡ int_min t int.greatest → r ≡ unless_empty (record { least = least; greatest = greatest }) → r ≡ added a b
 unfolding added
-added_is a b int s t lo hi r is low high lo_is hi_is r_is =
-    let near_one = lower (saturate_signed w128 (a.lo +ℤ b.lo)) (a.lo +ℤ b.lo) (near (a.lo +ℤ b.lo)) in
-    let near_two = upper (saturate_signed w128 (a.hi +ℤ b.hi)) (a.hi +ℤ b.hi) (near (a.hi +ℤ b.hi)) in
-    let e1 : lo ≡ int_max (saturate_signed w128 (a.lo +ℤ b.lo)) (least_of Int) = cc in
-    let e2 : hi ≡ int_min (saturate_signed w128 (a.hi +ℤ b.hi)) (greatest_of Int) = cc in
-    r_is ∙ (ap (λ (x : ℤ). unless_empty (record { lo = x; hi = hi })) e1 ∙ (ap (λ (x : ℤ). unless_empty (record { lo = int_max (saturate_signed w128 (a.lo +ℤ b.lo)) (least_of Int); hi = x })) e2 ∙ met_near _ _ _ _ near_one near_two))
+added_is a b int s t least greatest r is low high least_is greatest_is r_is =
+    let near_one = lower (saturate_signed w128 (a.least +ℤ b.least)) (a.least +ℤ b.least) (near (a.least +ℤ b.least)) in
+    let near_two = upper (saturate_signed w128 (a.greatest +ℤ b.greatest)) (a.greatest +ℤ b.greatest) (near (a.greatest +ℤ b.greatest)) in
+    let e1 : least ≡ int_max (saturate_signed w128 (a.least +ℤ b.least)) (least_of Int) = cc in
+    let e2 : greatest ≡ int_min (saturate_signed w128 (a.greatest +ℤ b.greatest)) (greatest_of Int) = cc in
+    r_is ∙ (ap (λ (x : ℤ). unless_empty (record { least = x; greatest = greatest })) e1 ∙ (ap (λ (x : ℤ). unless_empty (record { least = int_max (saturate_signed w128 (a.least +ℤ b.least)) (least_of Int); greatest = x })) e2 ∙ met_near _ _ _ _ near_one near_two))

@@ -83,9 +83,9 @@ some_flag false r P holds p = absurd (holds refl)
 met_lies : (a : Range) (z : ℤ) → Lies z a → InRange Int z → IsSomeAnd (met a int_range) (Lies z)
 met_lies a z lies in_int =
     let l = lies.least in let g = lies.greatest in let m = in_int.low in let n = in_int.high in
-    some_flag (int_le (int_max a.lo (least_of Int)) (int_min a.hi (greatest_of Int))) (record { lo = int_max a.lo (least_of Int); hi = int_min a.hi (greatest_of Int) }) (Lies z)
-    (λ empty. grind (arith, ints, empty, int_max_is a.lo (least_of Int), int_min_is a.hi (greatest_of Int)))
-    (record { least = omega (arith, ints, int_max_is a.lo (least_of Int)); greatest = omega (arith, ints, int_min_is a.hi (greatest_of Int)) })
+    some_flag (int_le (int_max a.least (least_of Int)) (int_min a.greatest (greatest_of Int))) (record { least = int_max a.least (least_of Int); greatest = int_min a.greatest (greatest_of Int) }) (Lies z)
+    (λ empty. grind (arith, ints, empty, int_max_is a.least (least_of Int), int_min_is a.greatest (greatest_of Int)))
+    (record { least = omega (arith, ints, int_max_is a.least (least_of Int)); greatest = omega (arith, ints, int_min_is a.greatest (greatest_of Int)) })
 
 sum_in : (b : Bool) (x z : ℤ) → (if b then Ok x else Err U1) ≡ Ok z → (b ≡ true) × (x ≡ z)
 sum_in true x z e = (refl, cc)
@@ -97,8 +97,8 @@ added_lies a b x y z left right is =
     let both = sum_in (holds Int (x +ℤ y)) (x +ℤ y) z is in
     let same : x +ℤ y ≡ z = both.1 in
     let p = left.least in let q = left.greatest in let r = right.least in let s = right.greatest in
-    met_lies (record { lo = a.lo +ℤ b.lo; hi = a.hi +ℤ b.hi }) z
-    (subst (λ (w : ℤ). Lies w (record { lo = a.lo +ℤ b.lo; hi = a.hi +ℤ b.hi })) same (record { least = omega (arith, ints); greatest = omega (arith, ints) }))
+    met_lies (record { least = a.least +ℤ b.least; greatest = a.greatest +ℤ b.greatest }) z
+    (subst (λ (w : ℤ). Lies w (record { least = a.least +ℤ b.least; greatest = a.greatest +ℤ b.greatest })) same (record { least = omega (arith, ints); greatest = omega (arith, ints) }))
     (subst (InRange Int) same (holds_in Int (x +ℤ y) both.0))
 
 operated_lies : (a b : Range) (x y : ℤ) (o : Result ℤ Stop) (left : ℕ) → Lies x a → Lies y b → operate Add Int x y ≡ o → Gives_only (λ z. IsSomeAnd (added a b) (Lies z)) (operated o left)

@@ -17,29 +17,29 @@ use Rattle.p10_first.specs.Meaning.{Frame}
 
 -- a range holds the numbers from its least to its greatest
 pub record Lies (z : ℤ) (r : Range) : Type 0 where
-  pub least : r.lo ≤ℤ z
-  pub greatest : z ≤ℤ r.hi
+  pub least : r.least ≤ℤ z
+  pub greatest : z ≤ℤ r.greatest
 
 -- the values of type `int`
 abbrev pub int_range : Range
-int_range = record { lo = least_of Int; hi = greatest_of Int }
+int_range = record { least = least_of Int; greatest = greatest_of Int }
 
 -- one number alone
 abbrev pub range_only : ℤ → Range
-range_only z = record { lo = z; hi = z }
+range_only z = record { least = z; greatest = z }
 
 -- a range, if it holds a number
 abbrev pub unless_empty : Range → Option Range
-unless_empty r = if int_le r.lo r.hi then Some r else None
+unless_empty r = if int_le r.least r.greatest then Some r else None
 
 -- what two ranges have in common, if they have a number in common
 abbrev pub met : Range → Range → Option Range
-met a b = unless_empty (record { lo = int_max a.lo b.lo; hi = int_min a.hi b.hi })
+met a b = unless_empty (record { least = int_max a.least b.least; greatest = int_min a.greatest b.greatest })
 
 -- the sums of a number of one range and one of another that are values of type `int`: where none is, the
 -- addition is undefined for all operands (C99 6.5), and nothing goes on after it
 unfoldable pub added : Range → Range → Option Range
-added a b = met (record { lo = a.lo +ℤ b.lo; hi = a.hi +ℤ b.hi }) int_range
+added a b = met (record { least = a.least +ℤ b.least; greatest = a.greatest +ℤ b.greatest }) int_range
 
 -- ## The ranges of variables and of values
 

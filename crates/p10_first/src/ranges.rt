@@ -8,27 +8,27 @@ use crate::{Atom, Item, Program, Sum};
 use p10_int::IntType;
 use std::alloc::{AllocError, Global};
 
-/// The numbers from `lo` to `hi`.
+/// The numbers from `least` to `greatest`.
 #[derive(Clone, Copy)]
 pub(crate) struct Range {
-    lo: i128,
-    hi: i128,
+    least: i128,
+    greatest: i128,
 }
 
 /// The values of type `int`.
 fn int_range() -> Range
     ensures { result ≡ int_range }
 {
-    let (lo, hi) = p10_int::range(IntType::Int);
-    Range { lo, hi }
+    let (least, greatest) = p10_int::range(IntType::Int);
+    Range { least, greatest }
 }
 
 /// The numbers from one to another, if there are any.
-fn range_between(lo: i128, hi: i128) -> Option<Range>
-    ensures { result ≡ unless_empty (record { lo = lo; hi = hi }) }
+fn range_between(least: i128, greatest: i128) -> Option<Range>
+    ensures { result ≡ unless_empty (record { least = least; greatest = greatest }) }
 {
-    if lo <= hi {
-        Some(Range { lo, hi })
+    if least <= greatest {
+        Some(Range { least, greatest })
     } else {
         None
     }
@@ -40,9 +40,9 @@ fn added(a: Range, b: Range) -> Option<Range>
 {
     // A sum that no `i128` holds lies above or below all values of type `int`, and so does the nearest `i128`.
     let int = int_range();
-    let lo = a.lo.saturating_add(b.lo).max(int.lo);
-    let hi = a.hi.saturating_add(b.hi).min(int.hi);
-    range_between(lo, hi)
+    let least = a.least.saturating_add(b.least).max(int.least);
+    let greatest = a.greatest.saturating_add(b.greatest).min(int.greatest);
+    range_between(least, greatest)
 }
 
 /// The range of a variable, or that of `int` where there is no such variable.
@@ -61,8 +61,8 @@ fn range_of_atom(ranges: &[Range], atom: Atom) -> Range
 {
     match atom {
         Atom::Number(n) => Range {
-            lo: i128::from(n),
-            hi: i128::from(n),
+            least: i128::from(n),
+            greatest: i128::from(n),
         },
         Atom::Variable(v) => range_at(ranges, v),
     }
