@@ -22,7 +22,7 @@ const MOST_WORDS: usize = 262_144;
 ///
 /// `file` is the number that the words' spans give. A file of over 1,048,576 bytes is `Over` M1. Else the
 /// first row of X1 to X6 is `Refused`, unless over 262,144 words end before its place; these are `Over` M2,
-/// also without a refusal. `Memory` comes only where memory is wanting.
+/// also without a refusal. `Memory` says that memory is wanting, and no clause says when it may.
 pub fn lex<'s>(alloc: Global, file: u32, text: &'s [u8]) -> Result<Vec<Word<'s>>, LexFault>
     ensures answers { MatchResult result (λ v. Answers file text.now (Ok (map seen v.items))) (λ e. Answers file text.now (Err e)) }
     // What follows for the words: each is the slice of the text at its span, behind the one before it.
