@@ -1,34 +1,27 @@
 -- The longest punctuator at the front of a text.
 use Rattle.std.proofs.Common.{◌≡◌, ◌≢◌, ℕ, suc, ◌<◌, ◌≤◌, List, [], ◌∷◌, ◌++◌, length, take, refl, sym, ◌∙◌, ap, arith, Bool, true, false, ◌⊎◌, inl, inr}
-use Rattle.std.specs.Prelude.{◌==◌, ◌&&◌, ◌||◌, not, codes}
+use Rattle.std.specs.Prelude.{◌==◌, ◌&&◌, ◌||◌, not, codes, bytes_eq}
 use Rattle.std.specs.List.{list_all, list_any}
+use Rattle.std.proofs.lemmas.Slice.Eq.{bytes_eq-Decides}
 use Rattle.p10_lex.specs.Bytes.{is_blank, is_nondigit, is_digit, is_quote}
-use Rattle.p10_lex.specs.Lexemes.{same_text, is_punctuator, single_punctuators, double_punctuators, triple_punctuators}
+use Rattle.p10_lex.specs.Lexemes.{is_punctuator, single_punctuators, double_punctuators, triple_punctuators}
 use Rattle.p10_lex.specs.Runs.{is_double, is_triple, punctuator_length}
-use Rattle.p10_lex.proofs.Classes.{decide, and_both, both_and, or_either, same_number, number_same, not_true, any_byte}
+use Rattle.p10_lex.proofs.Classes.{decide, and_both, or_either, same_number, number_same, not_true, any_byte}
 
 -- equal texts are the same
-pub same_is : (xs ys : List ℕ) → same_text xs ys ≡ true → xs ≡ ys
-unfolding same_text
-same_is [] [] e = refl
-same_is [] (y ∷ ys) e = absurd (cc)
-same_is (x ∷ xs) [] e = absurd (cc)
-same_is (x ∷ xs) (y ∷ ys) e =
-    let (a, b) = and_both (x == y) (same_text xs ys) e in
-    ap (λ (z : ℕ). z ∷ xs) (same_number x y a) ∙ ap (λ (zs : List ℕ). y ∷ zs) (same_is xs ys b)
+pub same_is : (xs ys : List ℕ) → bytes_eq xs ys ≡ true → xs ≡ ys
+same_is xs ys e = (bytes_eq-Decides xs ys).0 e
 
 -- a text is equal to itself
-pub is_same : (xs : List ℕ) → same_text xs xs ≡ true
-unfolding same_text
-is_same [] = refl
-is_same (x ∷ xs) = both_and _ _ (number_same x x refl) (is_same xs)
+pub is_same : (xs : List ℕ) → bytes_eq xs xs ≡ true
+is_same xs = (bytes_eq-Decides xs xs).1 refl
 
 -- what is true of each text of a list is true of a text that is among them
-any_text : (test : List ℕ → Bool) (texts : List (List ℕ)) (t : List ℕ) → list_all test texts ≡ true → list_any (same_text t) texts ≡ true → test t ≡ true
+any_text : (test : List ℕ → Bool) (texts : List (List ℕ)) (t : List ℕ) → list_all test texts ≡ true → list_any (bytes_eq t) texts ≡ true → test t ≡ true
 any_text test [] t all any = absurd (cc)
 any_text test (u ∷ us) t all any =
     let (here, rest) = and_both _ _ all in
-    elim (or_either (same_text t u) (list_any (same_text t) us) any) [ inl e ↦ ap test (same_is t u e) ∙ here | inr e ↦ any_text test us t rest e ]
+    elim (or_either (bytes_eq t u) (list_any (bytes_eq t) us) any) [ inl e ↦ ap test (same_is t u e) ∙ here | inr e ↦ any_text test us t rest e ]
 
 -- the test of two bytes, on texts
 unfoldable test_double : List ℕ → Bool
@@ -47,7 +40,7 @@ double_of a b e = any_text test_double double_punctuators (a ∷ b ∷ []) refl 
 
 -- what passes it is one
 double_is : (a b : ℕ) → is_double a b ≡ true → is_punctuator (a ∷ b ∷ []) ≡ true
-unfolding is_punctuator double_punctuators is_double same_text
+unfolding is_punctuator double_punctuators is_double
 double_is a b e =
     elim (or_either ((a == b) && list_any (λ c. a == c) (codes "+-<>=&|#")) (((b == 61) && list_any (λ c. a == c) (codes "<>!*/%+-&^|")) || ((a == 45) && (b == 62))) e) [
       | inl h ↦
@@ -80,7 +73,7 @@ three a b c x y z e is =
 
 -- what passes it is one
 triple_is : (a b c : ℕ) → is_triple a b c ≡ true → is_punctuator (a ∷ b ∷ c ∷ []) ≡ true
-unfolding is_punctuator triple_punctuators is_triple same_text
+unfolding is_punctuator triple_punctuators is_triple
 triple_is a b c e =
     elim (or_either ((a == 60) && ((b == 60) && (c == 61))) (((a == 62) && ((b == 62) && (c == 61))) || ((a == 46) && ((b == 46) && (c == 46)))) e) [
       | inl h ↦ three a b c 60 60 61 h refl

@@ -1,6 +1,6 @@
 -- The first row that holds at a word, and so at any piece.
 use Rattle.std.proofs.Common.{◌≡◌, ◌≢◌, ℕ, zero, suc, ◌+◌, ◌-◌, ◌<◌, ◌≤◌, List, [], ◌∷◌, ◌++◌, length, take, drop, refl, sym, ◌∙◌, ap, subst, arith, Bool, true, false, ◌⊎◌, inl, inr, length-append}
-use Rattle.std.specs.Prelude.{◌==◌, ◌&&◌, ◌||◌, not, Option, Some, None, codes}
+use Rattle.std.specs.Prelude.{◌==◌, ◌&&◌, ◌||◌, not, Option, Some, None, codes, bytes_eq}
 use Rattle.std.specs.List.{list_all}
 use Rattle.std.proofs.lemmas.List.{take_at}
 use Rattle.p10_base.specs.declared.word.Kind.{Kind}
@@ -10,7 +10,7 @@ use Rattle.p10_lex.specs.declared.pieces.Piece.TheVariants.{Blank, Splices, Comm
 use Rattle.p10_lex.specs.declared.faults.Fault.{Fault}
 use Rattle.p10_lex.specs.Bytes.{is_quote, is_name_byte, is_nondigit, is_digit}
 use Rattle.p10_lex.specs.Splices.{splice_length}
-use Rattle.p10_lex.specs.Lexemes.{same_text, is_punctuator, begins_number, IsLexeme, IsName, IsNumber, IsQuoted, IsHeaderName}
+use Rattle.p10_lex.specs.Lexemes.{is_punctuator, begins_number, IsLexeme, IsName, IsNumber, IsQuoted, IsHeaderName}
 use Rattle.p10_lex.specs.Constants.{IsConstant, IsIntegerConstant, IsLiteral, begins_with}
 use Rattle.p10_lex.specs.Pieces.{IsPiece}
 use Rattle.p10_lex.specs.Refusals.{begins_trigraph, is_tight, is_literal, is_comment, Row, bad_byte, comment_without_end, literal_without_end, bad_constant, wide_literal, trigraph, splice_between, splice_in_literal, rank_of}
@@ -360,8 +360,8 @@ word_row : (b tight : Bool) (kind : Kind) (text rest : List ℕ) (fault : Fault)
     → IsFirst tight (Lexeme kind) text rest fault
 unfolding word_fault
 word_row b tight Name text rest fault is e =
-    decide (λ (o : Option Fault). o ≡ Some fault → IsFirst tight (Lexeme Name) text rest fault) (same_text text (codes "L") && begins_with is_quote rest) _ _
-    (λ h f. let (x, y) = and_both (same_text text (codes "L")) (begins_with is_quote rest) h in
+    decide (λ (o : Option Fault). o ≡ Some fault → IsFirst tight (Lexeme Name) text rest fault) (bytes_eq text (codes "L") && begins_with is_quote rest) _ _
+    (λ h f. let (x, y) = and_both (bytes_eq text (codes "L")) (begins_with is_quote rest) h in
     let g : fault_of 4 0 1 ≡ fault = cc in
     subst (λ (z : Fault). IsFirst tight (Lexeme Name) text rest z) g (name_row tight text rest is (same_is text (codes "L") x) y))
     (λ h f. absurd (cc)) e
@@ -385,7 +385,7 @@ word_none : (b tight : Bool) (kind : Kind) (text rest : List ℕ) → IsLexeme b
 unfolding word_fault
 word_none b tight Name text rest is e n i d row =
     let (x, y, z) = name_first tight text rest (name_mark text is) n i d row in
-    let h : same_text text (codes "L") ≡ true = ap (λ (t : List ℕ). same_text t (codes "L")) x ∙ is_same (codes "L") in
+    let h : bytes_eq text (codes "L") ≡ true = ap (λ (t : List ℕ). bytes_eq t (codes "L")) x ∙ is_same (codes "L") in
     let f = both_and _ _ h y in
     let g = rw f at e in cc
 word_none b tight Number text rest is e n i d row =

@@ -1,17 +1,10 @@
 -- The lexemes: what a word may be, each a class of texts (C99 6.4).
-use Rattle.std.specs.Prelude.{◌≡◌, ℕ, ◌==◌, Bool, true, false, ◌&&◌, ◌||◌, not, ◌⊎◌, List, [], ◌∷◌, ◌++◌, codes}
+use Rattle.std.specs.Prelude.{◌≡◌, ℕ, ◌==◌, Bool, true, false, ◌&&◌, ◌||◌, not, ◌⊎◌, List, [], ◌∷◌, ◌++◌, bytes_eq, codes}
 use Rattle.std.specs.List.{list_all, list_any}
 use Rattle.p10_base.specs.declared.word.Kind.{Kind}
 use Rattle.p10_base.specs.declared.word.Kind.TheVariants.{Name, Number, Char, Str, Punct, Mark}
 use Rattle.p10_lex.specs.Bytes.{is_nondigit, is_name_byte, is_digit, is_sign, is_exponent}
 use Rattle.p10_lex.specs.Splices.{joined}
-
--- whether two texts are equal
-unfoldable pub same_text : List ℕ → List ℕ → Bool
-same_text [] [] = true
-same_text [] (d ∷ ds) = false
-same_text (c ∷ cs) [] = false
-same_text (c ∷ cs) (d ∷ ds) = (c == d) && same_text cs ds
 
 -- a letter or `_`, then letters, digits and `_` (C99 6.4.2.1)
 abbrev pub IsName : List ℕ → Type 0
@@ -83,8 +76,8 @@ triple_punctuators = codes "<<=" ∷ codes ">>=" ∷ codes "..." ∷ []
 -- whether a text is a punctuator
 unfoldable pub is_punctuator : List ℕ → Bool
 is_punctuator (a ∷ []) = list_any (λ c. a == c) single_punctuators
-is_punctuator (a ∷ b ∷ []) = list_any (same_text (a ∷ b ∷ [])) double_punctuators
-is_punctuator (a ∷ b ∷ c ∷ []) = list_any (same_text (a ∷ b ∷ c ∷ [])) triple_punctuators
+is_punctuator (a ∷ b ∷ []) = list_any (bytes_eq (a ∷ b ∷ [])) double_punctuators
+is_punctuator (a ∷ b ∷ c ∷ []) = list_any (bytes_eq (a ∷ b ∷ c ∷ [])) triple_punctuators
 is_punctuator _ = false
 
 -- The lexemes of each kind. An include name is one only where its line begins with `#` and `include`

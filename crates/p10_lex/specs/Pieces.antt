@@ -1,5 +1,5 @@
 -- The pieces that a file is cut into: words, comments, splices and white space, and what begins none of these.
-use Rattle.std.specs.Prelude.{◌≡◌, ℕ, ◌==◌, ◌+◌, Bool, true, false, ◌&&◌, ◌||◌, if◌then◌else◌, ◌⊎◌, List, [], ◌∷◌, ◌++◌, length, codes}
+use Rattle.std.specs.Prelude.{◌≡◌, ℕ, ◌==◌, ◌+◌, Bool, true, false, ◌&&◌, ◌||◌, if◌then◌else◌, ◌⊎◌, List, [], ◌∷◌, ◌++◌, length, codes, bytes_eq}
 use Rattle.p10_base.specs.declared.word.Kind.{Kind}
 use Rattle.p10_base.specs.declared.word.Word.{Word}
 use Rattle.p10_base.specs.declared.span.Span.{Span}
@@ -9,7 +9,7 @@ use Rattle.p10_lex.specs.declared.pieces.Line.{Line}
 use Rattle.p10_lex.specs.declared.pieces.Line.TheVariants.{Start, Hash, Include, Other}
 use Rattle.p10_lex.specs.Bytes.{is_blank, is_quote}
 use Rattle.p10_lex.specs.Splices.{joined, splice_length, AreSplices, ReachesLineEnd}
-use Rattle.p10_lex.specs.Lexemes.{same_text, is_quotable, IsLexeme, IsLongest}
+use Rattle.p10_lex.specs.Lexemes.{is_quotable, IsLexeme, IsLongest}
 
 -- whether `/*` or `//` stands at the front of a text
 unfoldable pub begins_comment : List ℕ → Bool
@@ -81,14 +81,14 @@ pub record Cut : Type 0 where
 
 -- what a line's words are once this one joins them
 unfoldable pub line_with : Line → List ℕ → Line
-line_with Start word = if same_text word (codes "#") then Hash else Other
-line_with Hash word = if same_text word (codes "include") then Include else Other
+line_with Start word = if bytes_eq word (codes "#") then Hash else Other
+line_with Hash word = if bytes_eq word (codes "include") then Include else Other
 line_with Include word = Other
 line_with Other word = Other
 
 -- what the line's words are after a piece: an LF that stands in no other piece ends a line
 unfoldable pub line_after : Line → Piece → List ℕ → Line
-line_after line Blank text = if same_text text (10 ∷ []) then Start else line
+line_after line Blank text = if bytes_eq text (10 ∷ []) then Start else line
 line_after line (Lexeme kind) text = line_with line text
 line_after line _ text = line
 

@@ -1,5 +1,5 @@
 -- Reading functions: the piece at the front of a text, and its first refusal.
-use Rattle.std.specs.Prelude.{ℕ, zero, suc, ◌==◌, ◌+◌, nat_lt, Bool, false, ◌&&◌, if◌then◌else◌, List, [], ◌∷◌, length, drop, codes}
+use Rattle.std.specs.Prelude.{ℕ, zero, suc, ◌==◌, ◌+◌, nat_lt, Bool, false, ◌&&◌, if◌then◌else◌, List, [], ◌∷◌, length, drop, codes, bytes_eq}
 use Rattle.std.specs.Prelude.{Option, Some, None}
 use Rattle.p10_base.specs.declared.word.Kind.{Kind}
 use Rattle.p10_base.specs.declared.word.Kind.TheVariants.{Name, Number, Char, Str, Punct, Mark}
@@ -8,7 +8,7 @@ use Rattle.p10_lex.specs.declared.pieces.Piece.TheVariants.{Blank, Splices, Comm
 use Rattle.p10_lex.specs.declared.faults.Fault.{Fault}
 use Rattle.p10_lex.specs.Bytes.{is_blank, is_nondigit, is_name_byte, is_quote}
 use Rattle.p10_lex.specs.Splices.{splice_length}
-use Rattle.p10_lex.specs.Lexemes.{same_text, begins_number}
+use Rattle.p10_lex.specs.Lexemes.{begins_number}
 use Rattle.p10_lex.specs.Constants.{begins_with}
 use Rattle.p10_lex.specs.Pieces.{begins_byte}
 use Rattle.p10_lex.specs.Refusals.{begins_trigraph, is_tight}
@@ -68,7 +68,7 @@ literal_fault text whole = if is_literal_constant text then mark_at 0 (length te
 
 -- the first row that holds at a word
 unfoldable pub word_fault : Kind → List ℕ → List ℕ → List ℕ → Option Fault
-word_fault Name text whole rest = if same_text text (codes "L") && begins_with is_quote rest then Some (fault_of 4 0 1) else None
+word_fault Name text whole rest = if bytes_eq text (codes "L") && begins_with is_quote rest then Some (fault_of 4 0 1) else None
 word_fault Number text whole rest = if is_integer_constant text then None else Some (fault_of 4 0 (length text))
 word_fault Char text whole rest = literal_fault text whole
 word_fault Str text whole rest = literal_fault text whole

@@ -1,7 +1,6 @@
-//! Classes of bytes (C99 5.2.1, 6.4), and tests of texts.
+//! Classes of bytes (C99 5.2.1, 6.4), and a test of texts.
 
 ghost use Rattle.std.specs.Prelude.{◌≡◌, ◌<◌, length, true};
-ghost use Rattle.p10_lex.specs.Lexemes.{same_text};
 ghost use Rattle.p10_lex.specs.Pieces.{begins_byte};
 ghost use Rattle.p10_lex.specs.Bytes.{is_blank, is_nondigit, is_digit, is_name_byte, is_octal, is_hexadecimal, digit_value, is_sign, is_exponent, is_quote, is_printable};
 
@@ -121,26 +120,4 @@ pub(crate) fn begins_byte(byte: u8, text: &[u8]) -> bool
         [] => false,
         [first, ..] => *first == byte,
     }
-}
-
-/// Whether two texts are equal.
-#[tactic(auto, unfolding(crate::specs::Lexemes::same_text))]
-pub(crate) fn same_text(text: &[u8], other: &[u8]) -> bool
-    ensures { result ≡ same_text text.now other.now }
-{
-    let mut left = text;
-    let mut right = other;
-    while let [first, lefts @ ..] = left {
-        match right {
-            [] => return false,
-            [second, rights @ ..] => {
-                if *first != *second {
-                    return false;
-                }
-                left = lefts;
-                right = rights;
-            }
-        }
-    }
-    right.is_empty()
 }

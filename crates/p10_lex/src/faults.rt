@@ -184,7 +184,7 @@ fn word_fault(kind: Kind, text: &[u8], whole: &[u8], rest: &[u8]) -> Option<Faul
 {
     match kind {
         Kind::Name => {
-            if bytes::same_text(text, b"L") && begins_quote(rest) {
+            if text == b"L".as_slice() && begins_quote(rest) {
                 Some(Fault {
                     number: 4,
                     offset: 0,

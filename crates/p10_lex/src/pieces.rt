@@ -144,14 +144,14 @@ impl Line {
     {
         match self {
             Line::Start => {
-                if bytes::same_text(word, b"#") {
+                if word == b"#".as_slice() {
                     Line::Hash
                 } else {
                     Line::Other
                 }
             }
             Line::Hash => {
-                if bytes::same_text(word, b"include") {
+                if word == b"include".as_slice() {
                     Line::Include
                 } else {
                     Line::Other
@@ -169,7 +169,7 @@ impl Line {
     {
         match piece {
             Piece::Blank => {
-                if bytes::same_text(text, b"\n") {
+                if text == b"\n".as_slice() {
                     Line::Start
                 } else {
                     self
