@@ -2,7 +2,8 @@
 //!
 //! Entry points: [`put_refusal`], [`put_accepted`], [`put_failing`] and [`put_limit`] write one line
 //! each to a sink, without memory. Invariant: what a sink took of a line is always the line's front,
-//! and all of it at `Ok`. Which line is told, and to which sink, is left to the crates above.
+//! and all of it at `Ok`. A line is written in several pieces, so the `wrote` of a fault counts bytes of
+//! the last piece alone. Which line is told, and to which sink, is left to the crates above.
 #![tactic(auto)]
 
 ghost use Rattle.std.specs.Prelude.{◌≤◌, OnErr, OnOk};
