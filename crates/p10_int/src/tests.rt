@@ -1,5 +1,5 @@
 //! Values that gcc gives (`gcc -fwrapv`, with its builtins for results that aren't representable). At
-//! types below `int`, where C computes nothing, the builtins judge the result at the type itself; those of
+//! types below `int`, where C computes nothing, the exact result was judged at the type itself; those of
 //! `_Bool` are by hand, modulo 2.
 
 ghost use Rattle.p10_int.specs.Types.{InRange};
