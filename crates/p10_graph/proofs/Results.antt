@@ -1,0 +1,6 @@
+-- What follows from how a call ended.
+use Rattle.std.proofs.Common.{OnErr, Result, Ok, Err}
+
+pub on_err : {T E P : Type 0} (r : Result T E) → P → OnErr r P
+on_err (Ok x) p = tt
+on_err (Err e) p = p
