@@ -86,6 +86,11 @@ abbrev pub Defines : Definition → List Word → Type 0
 Defines definition [] = ⊥
 Defines definition (name ∷ words) = (name ≡ definition.name) × (is_name_kind name.kind ≡ true) × DefinesBehind name definition.parameters definition.body words
 
+-- the words behind `define` are this definition, or none
+abbrev pub IsDefinition : List Word → Option Definition → Type 0
+IsDefinition words (Some definition) = Defines definition words
+IsDefinition words None = (definition : Definition) → Defines definition words → ⊥
+
 -- the texts of words
 abbrev pub texts_of : List Word → List Text
 texts_of words = map (λ (word : Word). word.text.now) words

@@ -6,13 +6,17 @@ use Rattle.p10_base.specs.declared.report.Family.TheVariants.{D}
 use Rattle.p10_direct.specs.declared.form.Directive.{Directive}
 use Rattle.p10_direct.specs.declared.form.Directive.TheVariants as form
 use Rattle.p10_direct.specs.declared.form.Macro.{Macro}
+use Rattle.p10_direct.specs.declared.form.Definition.{Definition as Borrowed}
 use Rattle.p10_direct.specs.declared.form.DirectFault.{DirectFault}
 use Rattle.p10_direct.specs.declared.form.DirectFault.TheVariants.{Refused, Memory}
 use Rattle.p10_direct.specs.Spelling.{is_punctuator}
-use Rattle.p10_direct.specs.Directives.{PlainMacro, PlainDirective, Null, Include, Define, Undef, If, Elif, Ifdef, Ifndef, Else, Endif, Once, InitDone, TaskLoop, OtherPragma, Outcome, Read, refusal_of, IsRefused}
+use Rattle.p10_direct.specs.Directives.{Definition, PlainMacro, PlainDirective, Null, Include, Define, Undef, If, Elif, Ifdef, Ifndef, Else, Endif, Once, InitDone, TaskLoop, OtherPragma, Outcome, Read, refusal_of, IsRefused}
 
 abbrev pub plain_macro : Macro → PlainMacro
 plain_macro m = record { name = m.name.now; parameters = option_map (map (λ text. text.now)) m.params; body = m.body.now }
+
+abbrev pub plain_definition : Borrowed → Definition
+plain_definition d = record { name = d.name; parameters = d.parameters; body = d.body.now }
 
 -- a directive as a plain value
 abbrev pub plain : Directive → PlainDirective

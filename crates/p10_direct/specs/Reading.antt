@@ -1,5 +1,5 @@
 -- Reading a directive from its words, from the first on.
-use Rattle.std.specs.Prelude.{ℕ, ◌-◌, ◌==◌, List, [], ◌∷◌, ◌++◌, length, take, drop, Bool, true, false, ◌&&◌, nat_le, Option, Some, None, if◌then◌else◌, codes, bytes_eq, slice_index}
+use Rattle.std.specs.Prelude.{ℕ, ◌-◌, ◌==◌, List, [], ◌∷◌, ◌++◌, length, take, drop, Bool, true, false, ◌&&◌, ◌||◌, nat_le, Option, Some, None, if◌then◌else◌, codes, bytes_eq, slice_index}
 use Rattle.std.specs.List.{list_any}
 use Rattle.p10_base.specs.declared.span.Span.{Span}
 use Rattle.p10_base.specs.declared.word.Word.{Word}
@@ -7,76 +7,73 @@ use Rattle.p10_direct.specs.declared.keyword.Keyword.{Keyword}
 use Rattle.p10_direct.specs.declared.keyword.Keyword.TheVariants as keyword
 use Rattle.p10_direct.specs.Spelling.{Text, is_name, is_name_kind, is_punctuator}
 use Rattle.p10_direct.specs.Keywords.{keyword_of}
-use Rattle.p10_direct.specs.Directives.{PlainDirective, Null, Include, Define, Undef, If, Elif, Ifdef, Ifndef, Else, Endif, Once, InitDone, TaskLoop, OtherPragma, is_string_kind, opens_list, is_ellipsis, is_bad_macro, Outcome, Read, BadForm, BadDefinition}
+use Rattle.p10_direct.specs.Directives.{PlainDirective, Null, Include, Define, Undef, If, Elif, Ifdef, Ifndef, Else, Endif, Once, InitDone, TaskLoop, OtherPragma, is_string_kind, Definition, opens_list, is_ellipsis, is_bad, macro_of, Outcome, Read, BadForm, BadDefinition}
 
 -- ## Definitions
 
 -- what a parameter list is
 pub data Parameters : Type 0 where
   Wrong : Parameters
-  -- one that has `...`
-  Variadic : Parameters
-  -- the names, and the words behind the list
-  Names : List Text → List Word → Parameters
+  -- the parameters, and the words behind the list
+  Listed : List Word → List Word → Parameters
 
--- a parameter and the word behind it: none, `...` and `)`, a name and `)`, or a name and a comma
+-- a parameter and the word behind it: none, a name or `...` and `)`, or a name and a comma
 pub data Parameter : Type 0 where
   No : Parameter
-  Rest : Parameter
-  Last : List ℕ → Parameter
-  Further : List ℕ → Parameter
+  Last : Word → Parameter
+  Further : Word → Parameter
 
 abbrev pub parameter_of : List Word → Parameter
 parameter_of (word ∷ separator ∷ words) =
-    if is_ellipsis word then (if is_punctuator (codes ")") separator then Rest else No)
-    else if is_name_kind word.kind then
-    (if is_punctuator (codes ")") separator then Last word.text.now
-    else if is_punctuator (codes ",") separator then Further word.text.now
-    else No)
+    if is_punctuator (codes ")") separator then (if is_name_kind word.kind || is_ellipsis word then Last word else No)
+    else if is_punctuator (codes ",") separator && is_name_kind word.kind then Further word
     else No
 parameter_of _ = No
 
--- the list that goes on with these words, where these names were read
-abbrev pub names_behind : List Text → List Word → Parameters
-names_behind names (word ∷ separator ∷ words) =
-    if is_ellipsis word then (if is_punctuator (codes ")") separator then Variadic else Wrong)
-    else if is_name_kind word.kind then
-    (if is_punctuator (codes ")") separator then Names (names ++ word.text.now ∷ []) words
-    else if is_punctuator (codes ",") separator then names_behind (names ++ word.text.now ∷ []) words
-    else Wrong)
+-- the list that goes on with these words, where these parameters were read
+abbrev pub behind_parameters : List Word → List Word → Parameters
+behind_parameters before (word ∷ separator ∷ words) =
+    if is_punctuator (codes ")") separator then (if is_name_kind word.kind || is_ellipsis word then Listed (before ++ word ∷ []) words else Wrong)
+    else if is_punctuator (codes ",") separator && is_name_kind word.kind then behind_parameters (before ++ word ∷ []) words
     else Wrong
-names_behind names _ = Wrong
+behind_parameters before _ = Wrong
 
 abbrev pub parameters_of : List Word → Parameters
 parameters_of [] = Wrong
-parameters_of (word ∷ words) = if is_punctuator (codes ")") word then Names [] words else names_behind [] (word ∷ words)
+parameters_of (word ∷ words) = if is_punctuator (codes ")") word then Listed [] words else behind_parameters [] (word ∷ words)
 
 -- the first text stands again
 abbrev pub first_repeats : List Text → Bool
 first_repeats [] = false
 first_repeats (text ∷ texts) = list_any (λ other. bytes_eq other text) texts
 
-abbrev pub judged : Word → Option (List Text) → List Word → Outcome
-judged name parameters body =
-    if is_bad_macro (record { name = name.text.now; parameters = parameters; body = body })
-    then BadDefinition name.at
-    else Read (Define (record { name = name.text.now; parameters = parameters; body = body }))
-
-abbrev pub judged_list : Word → Parameters → Outcome
-judged_list name Wrong = BadForm
-judged_list name Variadic = BadDefinition name.at
-judged_list name (Names names body) = judged name (Some names) body
-
 abbrev pub has_list : Word → List Word → Bool
 has_list name [] = false
 has_list name (word ∷ words) = opens_list name word
 
-abbrev pub defined_of : Word → List Word → Outcome
-defined_of name words = if has_list name words then judged_list name (parameters_of (drop 1 words)) else judged name None words
+abbrev pub listed : Word → Parameters → Option Definition
+listed name Wrong = None
+listed name (Listed parameters body) = Some (record { name = name; parameters = Some parameters; body = body })
+
+-- the definition of this name that goes on with these words
+abbrev pub defined_of : Word → List Word → Option Definition
+defined_of name words = if has_list name words then listed name (parameters_of (drop 1 words)) else Some (record { name = name; parameters = None; body = words })
+
+-- the definition that the words behind `define` are
+abbrev pub definition_read : List Word → Option Definition
+definition_read [] = None
+definition_read (name ∷ words) = if is_name_kind name.kind then defined_of name words else None
+
+abbrev pub judged : Definition → Outcome
+judged definition = if is_bad definition then BadDefinition definition.name.at else Read (Define (macro_of definition))
+
+abbrev pub judged_or_wrong : Option Definition → Outcome
+judged_or_wrong None = BadForm
+judged_or_wrong (Some definition) = judged definition
 
 abbrev pub definition_of : Span → List Word → Outcome
 definition_of whole [] = BadDefinition whole
-definition_of whole (name ∷ words) = if is_name_kind name.kind then defined_of name words else BadDefinition whole
+definition_of whole (name ∷ words) = if is_name_kind name.kind then judged_or_wrong (defined_of name words) else BadDefinition whole
 
 -- ## Other directives
 

@@ -2,12 +2,12 @@
 
 ghost use Rattle.std.specs.Prelude.{◌≡◌, ◌≤◌, [], map, length, option_map, bytes_eq, IfOk};
 ghost use Rattle.std.specs.List.{list_any};
-ghost use Rattle.p10_direct.specs.Directives.{is_refused, has_repeat, has_repeated, is_bad_macro};
-ghost use Rattle.p10_direct.specs.Form.{Tells, fault_of, plain_macro};
-ghost use Rattle.p10_direct.specs.Reading.{definition_of, defined_of, judged, parameters_of, names_behind, parameter_of, first_repeats, has_list};
+ghost use Rattle.p10_direct.specs.Directives.{IsDefinition, is_refused, has_repeat, has_repeated, has_ellipsis, is_ellipsis, is_bad, is_bad_macro, macro_of, texts_of};
+ghost use Rattle.p10_direct.specs.Form.{Tells, fault_of, plain_definition};
+ghost use Rattle.p10_direct.specs.Reading.{definition_of, definition_read, defined_of, judged, parameters_of, behind_parameters, parameter_of, first_repeats, has_list};
 ghost use Rattle.p10_direct.specs.Listed.{parameters_read, parameter_read};
 
-use crate::form::{DirectFault, Directive, Macro};
+use crate::form::{Definition, DirectFault, Directive, Macro};
 use crate::keyword::punctuates;
 use crate::read::bad_form;
 use p10_base::{Family, Kind, ListBuf, Refusal, Span, Word};
@@ -16,28 +16,24 @@ use std::alloc::{AllocError, Global};
 /// What a parameter list is.
 #[derive(Drop)]
 enum Parameters<'w, 's> {
-    /// None of the accepted forms.
+    /// None of the forms.
     Wrong,
-    /// A list that has `...`.
-    Variadic,
-    /// The names, and the words behind the list.
-    Names(ListBuf<&'s [u8]>, &'w [Word<'s>]),
+    /// The parameters, a last `...` among them, and the words behind the list.
+    Listed(ListBuf<Word<'s>>, &'w [Word<'s>]),
 }
 
 /// A parameter, and what the word behind it says.
 #[derive(Clone, Copy)]
 enum Parameter<'s> {
-    /// None of the accepted forms.
+    /// None of the forms.
     Wrong,
-    /// `...` as the last parameter.
-    Variadic,
-    /// A name as the last parameter.
-    Last(&'s [u8]),
+    /// A name or `...` as the last parameter.
+    Last(Word<'s>),
     /// A name with a comma behind it.
-    Further(&'s [u8]),
+    Further(Word<'s>),
 }
 
-/// Reads the words behind `#define`.
+/// Reads the words behind `#define` as a directive.
 pub fn define<'w, 's>(
     alloc: Global,
     whole: Span,
@@ -46,10 +42,40 @@ pub fn define<'w, 's>(
     ensures { Tells whole (definition_of whole words.now) result }
 {
     match words {
-        [name, others @ ..] if matches!(name.kind, Kind::Name) => define_name(
-            alloc, whole, name, others,
-        ),
+        [name, others @ ..] if matches!(name.kind, Kind::Name) => {
+            match read_behind_name(alloc, name, others) {
+                Ok(Some(found)) => judge(alloc, whole, found),
+                Ok(None) => Err(bad_form(whole)),
+                Err(_) => Err(DirectFault::Memory),
+            }
+        }
         _ => Err(bad_definition(whole)),
+    }
+}
+
+/// The definition that these words behind `#define` are, also one that is refused: a name, or a name
+/// with a parameter list directly behind it, and a replacement list (C99 6.10p1).
+pub fn read_definition<'w, 's>(
+    alloc: Global,
+    words: &'w [Word<'s>],
+) -> Result<Option<Definition<'w, 's>>, AllocError>
+    ensures { IfOk result (λ found. IsDefinition words.now (option_map plain_definition found)) }
+{
+    read_words(alloc, words)
+}
+
+/// Reads the words behind `#define`.
+fn read_words<'w, 's>(
+    alloc: Global,
+    words: &'w [Word<'s>],
+) -> Result<Option<Definition<'w, 's>>, AllocError>
+    ensures { IfOk result (λ found. option_map plain_definition found ≡ definition_read words.now) }
+{
+    match words {
+        [name, others @ ..] if matches!(name.kind, Kind::Name) => read_behind_name(
+            alloc, name, others,
+        ),
+        _ => Ok(None),
     }
 }
 
@@ -65,22 +91,28 @@ fn bad_definition(at: Span) -> DirectFault
 }
 
 /// Reads the words behind the defined name.
-fn define_name<'w, 's>(
+fn read_behind_name<'w, 's>(
     alloc: Global,
-    whole: Span,
     name: &Word<'s>,
     words: &'w [Word<'s>],
-) -> Result<Directive<'w, 's>, DirectFault>
-    ensures { Tells whole (defined_of name.now words.now) result }
+) -> Result<Option<Definition<'w, 's>>, AllocError>
+    ensures { IfOk result (λ found. option_map plain_definition found ≡ defined_of name.now words.now) }
 {
     if !begins_list(name, words) {
-        return judge(whole, name, None, words);
+        return Ok(Some(Definition {
+            name: *name,
+            parameters: None,
+            body: words,
+        }));
     }
     match read_parameters(alloc, &words[1..]) {
-        Ok(Parameters::Wrong) => Err(bad_form(whole)),
-        Ok(Parameters::Variadic) => Err(bad_definition(name.at)),
-        Ok(Parameters::Names(names, body)) => judge(whole, name, Some(names), body),
-        Err(_) => Err(DirectFault::Memory),
+        Ok(Parameters::Wrong) => Ok(None),
+        Ok(Parameters::Listed(parameters, body)) => Ok(Some(Definition {
+            name: *name,
+            parameters: Some(parameters),
+            body,
+        })),
+        Err(error) => Err(error),
     }
 }
 
@@ -94,50 +126,74 @@ fn begins_list(name: &Word<'_>, words: &[Word<'_>]) -> bool
     }
 }
 
-/// The macro, unless it is a bad one.
+/// The macro, unless the definition is a bad one.
 fn judge<'w, 's>(
+    alloc: Global,
     whole: Span,
-    name: &Word<'s>,
-    params: Option<ListBuf<&'s [u8]>>,
-    body: &'w [Word<'s>],
+    found: Definition<'w, 's>,
 ) -> Result<Directive<'w, 's>, DirectFault>
-    ensures { Tells whole (judged name.now (option_map (map (λ text. text.now)) params.entry) body.now) result }
+    ensures { Tells whole (judged (plain_definition found.entry)) result }
 {
-    let found = Macro {
-        name: name.text,
-        params,
-        body,
-    };
-    if is_bad(&found) {
-        Err(bad_definition(name.at))
-    } else {
-        Ok(Directive::Define(found))
+    if is_bad_definition(&found) {
+        return Err(bad_definition(found.name.at));
+    }
+    match parameter_names(alloc, &found.parameters) {
+        Ok(params) => Ok(Directive::Define(Macro {
+            name: found.name.text,
+            params,
+            body: found.body,
+        })),
+        Err(_) => Err(DirectFault::Memory),
     }
 }
 
-/// Whether the macro is refused.
-fn is_bad(found: &Macro<'_, '_>) -> bool
-    ensures { result ≡ is_bad_macro (plain_macro found.now) }
+/// Whether the definition is refused.
+fn is_bad_definition(found: &Definition<'_, '_>) -> bool
+    ensures { result ≡ is_bad (plain_definition found.now) }
 {
-    found.name == b"defined".as_slice() || repeats_parameter(found) || refuses(found.body)
+    takes_more(found) || is_bad_macro_of(found)
+}
+
+/// Whether `...` is among the parameters.
+fn takes_more(found: &Definition<'_, '_>) -> bool
+    ensures { result ≡ has_ellipsis (plain_definition found.now).parameters }
+{
+    match &found.parameters {
+        None => false,
+        Some(parameters) => has_more(parameters.as_slice()),
+    }
+}
+
+/// Whether `...` is among the words.
+fn has_more(words: &[Word<'_>]) -> bool
+    ensures { result ≡ list_any is_ellipsis words.now }
+{
+    words.iter().any(|word| punctuates(word, b"..."))
+}
+
+/// Whether the macro of the definition is refused.
+fn is_bad_macro_of(found: &Definition<'_, '_>) -> bool
+    ensures { result ≡ is_bad_macro (macro_of (plain_definition found.now)) }
+{
+    found.name.text == b"defined".as_slice() || repeats_parameter(found) || refuses(found.body)
 }
 
 /// Whether a parameter stands twice.
-fn repeats_parameter(found: &Macro<'_, '_>) -> bool
-    ensures { result ≡ has_repeated (plain_macro found.now).parameters }
+fn repeats_parameter(found: &Definition<'_, '_>) -> bool
+    ensures { result ≡ has_repeated (macro_of (plain_definition found.now)).parameters }
 {
-    match &found.params {
+    match &found.parameters {
         None => false,
-        Some(names) => repeats(names.as_slice()),
+        Some(parameters) => repeats(parameters.as_slice()),
     }
 }
 
 /// Whether a text stands twice.
 #[tactic(auto, using(crate::proofs::Repeats::has_repeat_split))]
-fn repeats(texts: &[&[u8]]) -> bool
-    ensures { result ≡ has_repeat (map (λ text. text.now) texts.now) }
+fn repeats(words: &[Word<'_>]) -> bool
+    ensures { result ≡ has_repeat (texts_of words.now) }
 {
-    let mut rest = texts;
+    let mut rest = words;
     while !rest.is_empty() {
         if repeats_first(rest) {
             return true;
@@ -147,21 +203,21 @@ fn repeats(texts: &[&[u8]]) -> bool
     false
 }
 
-/// Whether the first text stands again.
-fn repeats_first(texts: &[&[u8]]) -> bool
-    ensures { result ≡ first_repeats (map (λ text. text.now) texts.now) }
+/// Whether the text of the first word stands again.
+fn repeats_first(words: &[Word<'_>]) -> bool
+    ensures { result ≡ first_repeats (texts_of words.now) }
 {
-    match texts {
+    match words {
         [] => false,
-        [first, others @ ..] => is_among(first, others),
+        [first, others @ ..] => is_among(first.text, others),
     }
 }
 
-/// Whether the text is one of these.
-fn is_among(text: &[u8], texts: &[&[u8]]) -> bool
-    ensures { result ≡ list_any (λ other. bytes_eq other.now text.now) texts.now }
+/// Whether a word has the text.
+fn is_among(text: &[u8], words: &[Word<'_>]) -> bool
+    ensures { result ≡ list_any (λ word. bytes_eq word.text.now text.now) words.now }
 {
-    texts.iter().any(|other| *other == text)
+    words.iter().any(|word| word.text == text)
 }
 
 /// Whether a replacement list has a word that none may have.
@@ -173,6 +229,33 @@ fn refuses(body: &[Word<'_>]) -> bool
         || punctuates(word, b"..."))
 }
 
+/// The names of the parameters.
+fn parameter_names<'s>(
+    alloc: Global,
+    parameters: &Option<ListBuf<Word<'s>>>,
+) -> Result<Option<ListBuf<&'s [u8]>>, AllocError>
+    ensures { IfOk result (λ names. option_map (map (λ name. name.now)) names ≡ option_map texts_of parameters.now) }
+{
+    match parameters {
+        None => Ok(None),
+        Some(words) => match texts(alloc, words.as_slice()) {
+            Ok(names) => Ok(Some(names)),
+            Err(error) => Err(error),
+        },
+    }
+}
+
+/// The texts of the words.
+fn texts<'s>(alloc: Global, words: &[Word<'s>]) -> Result<ListBuf<&'s [u8]>, AllocError>
+    ensures { IfOk result (λ texts. map (λ text. text.now) texts ≡ texts_of words.now) }
+{
+    let mut texts = ListBuf::of(Vec::new(alloc));
+    for word in words {
+        texts.push(word.text)?;
+    }
+    Ok(texts)
+}
+
 /// Reads a parameter list behind its `(`.
 fn read_parameters<'w, 's>(
     alloc: Global,
@@ -181,32 +264,31 @@ fn read_parameters<'w, 's>(
     ensures { IfOk result (λ found. parameters_read found ≡ parameters_of words.now) }
 {
     match words {
-        [close, body @ ..] if punctuates(close, b")") => Ok(Parameters::Names(
+        [close, body @ ..] if punctuates(close, b")") => Ok(Parameters::Listed(
             ListBuf::of(Vec::new(alloc)),
             body,
         )),
-        _ => parameter_names(alloc, words),
+        _ => read_further(alloc, words),
     }
 }
 
 /// Reads a parameter list that isn't empty.
-fn parameter_names<'w, 's>(
+fn read_further<'w, 's>(
     alloc: Global,
     words: &'w [Word<'s>],
 ) -> Result<Parameters<'w, 's>, AllocError>
-    ensures { IfOk result (λ found. parameters_read found ≡ names_behind [] words.now) }
+    ensures { IfOk result (λ found. parameters_read found ≡ behind_parameters [] words.now) }
 {
-    let mut names = ListBuf::of(Vec::new(alloc));
+    let mut parameters = ListBuf::of(Vec::new(alloc));
     let mut place = 0;
     while place + 2 <= words.len() {
         match read_parameter(&words[place..]) {
             Parameter::Wrong => return Ok(Parameters::Wrong),
-            Parameter::Variadic => return Ok(Parameters::Variadic),
-            Parameter::Last(name) => {
-                names.push(name)?;
-                return Ok(Parameters::Names(names, &words[place + 2..]));
+            Parameter::Last(word) => {
+                parameters.push(word)?;
+                return Ok(Parameters::Listed(parameters, &words[place + 2..]));
             }
-            Parameter::Further(name) => names.push(name)?,
+            Parameter::Further(word) => parameters.push(word)?,
         }
         place += 2;
     }
@@ -219,19 +301,15 @@ fn read_parameter<'s>(words: &[Word<'s>]) -> Parameter<'s>
     ensures { parameter_read result ≡ parameter_of words.now }
 {
     let (word, separator) = (&words[0], &words[1]);
-    if punctuates(word, b"...") {
-        return if punctuates(separator, b")") {
-            Parameter::Variadic
+    let named = matches!(word.kind, Kind::Name);
+    if punctuates(separator, b")") {
+        if named || punctuates(word, b"...") {
+            Parameter::Last(*word)
         } else {
             Parameter::Wrong
-        };
-    }
-    if !matches!(word.kind, Kind::Name) {
-        Parameter::Wrong
-    } else if punctuates(separator, b")") {
-        Parameter::Last(word.text)
-    } else if punctuates(separator, b",") {
-        Parameter::Further(word.text)
+        }
+    } else if punctuates(separator, b",") && named {
+        Parameter::Further(*word)
     } else {
         Parameter::Wrong
     }

@@ -13,6 +13,17 @@ pub struct Macro<'w, 's> {
     pub body: &'w [Word<'s>],
 }
 
+/// The words of a macro's definition (C99 6.10.3), also of one that is refused.
+#[derive(Drop)]
+pub struct Definition<'w, 's> {
+    /// The name that it defines.
+    pub name: Word<'s>,
+    /// The parameters in their order, a last `...` among them; None for an object-like macro.
+    pub parameters: Option<ListBuf<Word<'s>>>,
+    /// The replacement list.
+    pub body: &'w [Word<'s>],
+}
+
 /// A directive (C99 6.10).
 #[derive(Drop)]
 pub enum Directive<'w, 's> {

@@ -2,7 +2,8 @@
 //! refused, and the truth of an `#if` condition.
 //!
 //! Entry points: [`lines`], which cuts a file's words into directive lines and runs of text;
-//! [`directive`], which reads one directive line; and [`truth`], which tells what a condition is.
+//! [`directive`], which reads one directive line; [`read_definition`], which reads the words of a
+//! definition, also of one that is refused; and [`truth`], which tells what a condition is.
 //! Invariant: the words of the lines, joined, are the words of the file.
 //! Which lines are obeyed, the replacement of macros, the files that an include names, and a name
 //! that is defined twice are left to the crates above.
@@ -26,7 +27,9 @@ mod value;
 
 pub use condition::{one_condition, truth};
 pub use cut::{lines, one_cut};
-pub use form::{DirectFault, Directive, Macro};
+pub use definition::read_definition;
+pub use form::{Definition, DirectFault, Directive, Macro};
+pub use keyword::{Keyword, directive_named, names, punctuates};
 pub use line::{Line, Lines};
 pub use read::{directive, one_outcome};
 

@@ -1,0 +1,13 @@
+use Rattle.std.proofs.Common.{◌≡◌, ◌-◌, ◌≤◌, [], length, drop}
+use Rattle.p10_direct.specs.Reading.{behind_parameters}
+use Rattle.p10_direct.proofs.definition.read_further.Given as goal
+
+-- what is left goes on with the parameters so far
+abbrev pub invariant-loop-place : goal.invariant-loop-place
+invariant-loop-place l = record {
+  within : l.place ≤ length l.words;
+  so_far : behind_parameters [] l.words ≡ behind_parameters l.parameters (drop l.place l.words);
+}
+
+abbrev pub decreases-loop-place : goal.decreases-loop-place
+decreases-loop-place l = length l.words - l.place
