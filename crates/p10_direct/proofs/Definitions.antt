@@ -176,10 +176,12 @@ read_takes (name ∷ words) =
     elim (is_name_kind name.kind) as (λ b. is_name_kind name.kind ≡ b → Took (name ∷ words) (cond b (defined_of name words) None))
     [ true ↦ λ is. defined_takes name words is | false ↦ λ no. tt ] refl
 
--- what is read is the definition, or there is none
+-- what is read is the one definition
 pub read_is : (words : List Word) (found : Option Definition) → found ≡ definition_read words → IsDefinition words found
-read_is words (Some d) e = subst (Took words) (sym e) (read_takes words)
-read_is words None e = λ d defines. let again = read_again d words defines in absurd cc
+read_is words found e = λ d. (
+  (λ defines. e ∙ read_again d words defines),
+  (λ same. subst (Took words) (sym e ∙ same) (read_takes words)),
+)
 
 -- ## What comes of the words behind `define`
 

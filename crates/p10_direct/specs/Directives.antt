@@ -1,5 +1,5 @@
 -- The directives, and the words that spell them (C99 6.10).
-use Rattle.std.specs.Prelude.{◌≡◌, ℕ, ◌==◌, List, [], ◌∷◌, ◌++◌, length, map, Bool, true, false, ◌&&◌, ◌||◌, Option, Some, None, option_map, bytes_eq, codes, slice_index_or, ◌-◌, ◌⊎◌}
+use Rattle.std.specs.Prelude.{◌≡◌, ◌↔◌, ℕ, ◌==◌, List, [], ◌∷◌, ◌++◌, length, map, Bool, true, false, ◌&&◌, ◌||◌, Option, Some, None, option_map, bytes_eq, codes, slice_index_or, ◌-◌, ◌⊎◌}
 use Rattle.std.specs.List.{list_any}
 use Rattle.p10_base.specs.declared.span.Span.{Span}
 use Rattle.p10_base.specs.declared.word.Kind.{Kind}
@@ -86,10 +86,9 @@ abbrev pub Defines : Definition → List Word → Type 0
 Defines definition [] = ⊥
 Defines definition (name ∷ words) = (name ≡ definition.name) × (is_name_kind name.kind ≡ true) × DefinesBehind name definition.parameters definition.body words
 
--- the words behind `define` are this definition, or none
+-- the one definition that the words behind `define` are, or none
 abbrev pub IsDefinition : List Word → Option Definition → Type 0
-IsDefinition words (Some definition) = Defines definition words
-IsDefinition words None = (definition : Definition) → Defines definition words → ⊥
+IsDefinition words found = (definition : Definition) → Defines definition words ↔ (found ≡ Some definition)
 
 -- the texts of words
 abbrev pub texts_of : List Word → List Text
