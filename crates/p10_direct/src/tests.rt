@@ -3,7 +3,7 @@
 //! here (C99 6.6p3), and those at the greatest depth are by its definition.
 
 use crate::keyword::punctuates;
-use crate::{DirectFault, Directive, directive, lines, truth};
+use crate::{Definition, DirectFault, Directive, directive, lines, read_definition, truth};
 use p10_base::{Kind, Span, Word};
 use std::alloc::{AllocError, Global};
 use std::test::Fail;
@@ -237,6 +237,39 @@ fn files_are_cut_into_lines(rt: HostRuntime) -> Result<(), Fail> {
         let found = lines(rt.alloc(), all.as_slice())?;
         assert_eq!(rt; found.lines.as_slice().len(), count, "{text}");
         assert_eq!(rt; found.unbalanced, unbalanced, "{text}");
+    }
+    Ok(())
+}
+
+/// How many words a definition has in its parameters, if it is function-like, and in its list.
+fn lengths(found: &Definition<'_, '_>) -> (Option<usize>, usize) {
+    match &found.parameters {
+        None => (None, found.body.len()),
+        Some(parameters) => (Some(parameters.as_slice().len()), found.body.len()),
+    }
+}
+
+#[test]
+fn definitions_are_read_whole(rt: HostRuntime) -> Result<(), Fail> {
+    let rows = [
+        ("", None),
+        ("5 x", None),
+        ("A", Some((None, 0))),
+        ("A ( a )", Some((None, 3))),
+        ("defined # x", Some((None, 2))),
+        ("F $ ( ) a", Some((Some(0), 1))),
+        ("F $ ( a , a ) a ## b", Some((Some(2), 3))),
+        ("F $ ( a , ... ) # a", Some((Some(2), 2))),
+        ("F $ ( ... )", Some((Some(1), 0))),
+        ("F $ ( a ... ) x", None),
+        ("F $ ( a , ) x", None),
+        ("F $ ( a", None),
+    ];
+    for row in &rows {
+        let (text, want) = *row;
+        let all = words(rt.alloc(), text)?;
+        let found = read_definition(rt.alloc(), all.as_slice())?;
+        assert_eq!(rt; found.as_ref().map(lengths), want, "{text}");
     }
     Ok(())
 }
