@@ -1,5 +1,5 @@
 -- The words of a definition are read as that definition, and as no other.
-use Rattle.std.proofs.Common.{◌≡◌, ℕ, List, [], ◌∷◌, ◌++◌, Bool, true, false, cond, ◌&&◌, ◌||◌, bytes_eq, codes, drop, refl, sym, ◌∙◌, ap, subst, append_assoc, Option, Some, None, ◌⊎◌, inl, inr}
+use Rattle.std.proofs.Common.{◌≡◌, ℕ, List, [], ◌∷◌, ◌++◌, Bool, true, false, cond, ◌&&◌, ◌||◌, bytes_eq, codes, drop, refl, sym, ◌∙◌, ap, subst, append_assoc, Option, Some, None, inl, inr}
 use Rattle.std.proofs.lemmas.Slice.Eq.{bytes_eq-Decides}
 use Rattle.std.proofs.lemmas.Bool.{and_parts}
 use Rattle.p10_base.specs.declared.span.Span.{Span}

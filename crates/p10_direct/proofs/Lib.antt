@@ -11,3 +11,4 @@ pub mod Climbs
 pub mod Trees
 pub mod Truths
 pub mod Heads
+pub mod Plainly

@@ -257,7 +257,7 @@ behind_takes whole (word ∷ words) = from_named whole word words (named_outcome
 
 -- ## The outcome of a line
 
-hash_outcome : (hash : Word) (words : List Word) (outcome : Outcome) → is_punctuator (codes "#") hash ≡ true → outcome_behind (place_of (hash ∷ words)) words ≡ outcome → IsOutcome (hash ∷ words) outcome
+pub hash_outcome : (hash : Word) (words : List Word) (outcome : Outcome) → is_punctuator (codes "#") hash ≡ true → outcome_behind (place_of (hash ∷ words)) words ≡ outcome → IsOutcome (hash ∷ words) outcome
 hash_outcome hash words (Read directive) is e = (is, subst (λ o. TookBehind (place_of (hash ∷ words)) words o) e (behind_takes (place_of (hash ∷ words)) words))
 hash_outcome hash words (BadDefinition at) is e = (is, subst (λ o. TookBehind (place_of (hash ∷ words)) words o) e (behind_takes (place_of (hash ∷ words)) words))
 hash_outcome hash words BadForm is e = (
@@ -265,7 +265,7 @@ hash_outcome hash words BadForm is e = (
   (λ at bad. let r = bad_behind_read (place_of (hash ∷ words)) at words bad.1 in absurd cc),
 )
 
-hash_only : (hash : Word) (words : List Word) (other : Outcome) → is_punctuator (codes "#") hash ≡ true → IsOutcome (hash ∷ words) other → other ≡ outcome_behind (place_of (hash ∷ words)) words
+pub hash_only : (hash : Word) (words : List Word) (other : Outcome) → is_punctuator (codes "#") hash ≡ true → IsOutcome (hash ∷ words) other → other ≡ outcome_behind (place_of (hash ∷ words)) words
 hash_only hash words (Read directive) is outcome = sym (behind_read (place_of (hash ∷ words)) directive words outcome.1)
 hash_only hash words (BadDefinition at) is outcome = sym (bad_behind_read (place_of (hash ∷ words)) at words outcome.1)
 hash_only hash words BadForm is (unspelled, good) =
@@ -276,12 +276,12 @@ hash_only hash words BadForm is (unspelled, good) =
     ] refl
 
 -- a line that doesn't begin with `#` spells nothing
-text_only : (word : Word) (words : List Word) (other : Outcome) → is_punctuator (codes "#") word ≡ false → IsOutcome (word ∷ words) other → other ≡ BadForm
+pub text_only : (word : Word) (words : List Word) (other : Outcome) → is_punctuator (codes "#") word ≡ false → IsOutcome (word ∷ words) other → other ≡ BadForm
 text_only word words (Read directive) no_hash outcome = absurd (both_ways _ no_hash outcome.0)
 text_only word words (BadDefinition at) no_hash outcome = absurd (both_ways _ no_hash outcome.0)
 text_only word words BadForm no_hash outcome = refl
 
-empty_only : (other : Outcome) → IsOutcome [] other → other ≡ BadForm
+pub empty_only : (other : Outcome) → IsOutcome [] other → other ≡ BadForm
 empty_only (Read directive) outcome = absurd outcome
 empty_only (BadDefinition at) outcome = absurd outcome
 empty_only BadForm outcome = refl

@@ -30,6 +30,13 @@ fn earlier(a: Option<usize>, b: Option<usize>) -> Option<usize>
     }
 }
 
+/// The part that a line has in a conditional, by its second word alone.
+pub fn part_of(line: &Line<'_, '_>) -> Mark
+    ensures { result ≡ mark_of (piece_of line.now) }
+{
+    mark(line)
+}
+
 /// What the line is to the conditional in which it stands.
 fn mark(line: &Line<'_, '_>) -> Mark
     ensures { result ≡ mark_of (piece_of line.now) }

@@ -49,7 +49,7 @@ fn first_line<'w, 's>(words: &'w [Word<'s>]) -> (Line<'w, 's>, &'w [Word<'s>])
 }
 
 /// The words before the second line, and those from there on.
-fn split_line<'w, 's>(words: &'w [Word<'s>]) -> (&'w [Word<'s>], &'w [Word<'s>])
+pub fn split_line<'w, 's>(words: &'w [Word<'s>]) -> (&'w [Word<'s>], &'w [Word<'s>])
     requires { 0 < length words.now }
     ensures value { (result.0.now, result.1.now) ≡ split (λ word. word.first) words.now }
     ensures shorter { length result.1.now < length words.now }

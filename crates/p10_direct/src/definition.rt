@@ -151,11 +151,11 @@ fn judge<'w, 's>(
 fn is_bad_definition(found: &Definition<'_, '_>) -> bool
     ensures { result ≡ is_bad (plain_definition found.now) }
 {
-    takes_more(found) || is_bad_macro_of(found)
+    is_variadic(found) || is_bad_macro_of(found)
 }
 
 /// Whether `...` is among the parameters.
-fn takes_more(found: &Definition<'_, '_>) -> bool
+pub fn is_variadic(found: &Definition<'_, '_>) -> bool
     ensures { result ≡ has_ellipsis (plain_definition found.now).parameters }
 {
     match &found.parameters {
@@ -175,7 +175,7 @@ fn has_more(words: &[Word<'_>]) -> bool
 fn is_bad_macro_of(found: &Definition<'_, '_>) -> bool
     ensures { result ≡ is_bad_macro (macro_of (plain_definition found.now)) }
 {
-    found.name.text == b"defined".as_slice() || repeats_parameter(found) || refuses(found.body)
+    found.name.text == b"defined".as_slice() || repeats_parameter(found) || has_pasting(found.body)
 }
 
 /// Whether a parameter stands twice.
@@ -220,8 +220,8 @@ fn is_among(text: &[u8], words: &[Word<'_>]) -> bool
     words.iter().any(|word| word.text == text)
 }
 
-/// Whether a replacement list has a word that none may have.
-fn refuses(body: &[Word<'_>]) -> bool
+/// Whether a replacement list has `#`, `##` or `...`.
+pub fn has_pasting(body: &[Word<'_>]) -> bool
     ensures { result ≡ list_any is_refused body.now }
 {
     body.iter().any(|word| punctuates(word, b"#")

@@ -25,13 +25,15 @@ mod part;
 mod read;
 mod value;
 
+pub use balance::part_of;
 pub use condition::{one_condition, truth};
-pub use cut::{lines, one_cut};
-pub use definition::read_definition;
+pub use cut::{lines, one_cut, split_line};
+pub use definition::{has_pasting, is_variadic, read_definition};
 pub use form::{Definition, DirectFault, Directive, Macro};
 pub use keyword::{Keyword, directive_named, names, punctuates};
 pub use line::{Line, Lines};
-pub use read::{directive, one_outcome};
+pub use mark::Mark;
+pub use read::{between, directive, one_outcome, whole};
 
 #[cfg(test)]
 mod tests;

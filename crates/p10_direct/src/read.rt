@@ -32,7 +32,7 @@ pub fn one_outcome()
 {}
 
 /// The place of a directive.
-fn whole(line: &[Word<'_>]) -> Span
+pub fn whole(line: &[Word<'_>]) -> Span
     requires { 0 < length line.now }
     ensures { result ≡ place_of line.now }
 {
