@@ -1,0 +1,420 @@
+-- The words of a replacement are put on top from the last one to the first.
+use Rattle.std.proofs.Common.{◌≡◌, ℕ, zero, suc, ◌+◌, ◌-◌, ◌<◌, ◌≤◌, List, [], ◌∷◌, ◌++◌, length, map, drop, slice_index_or, Bool, true, false, ◌||◌, cond, bytes_eq, Option, Some, None, Result, Ok, Err, IfOk, IfErr, OnOk, Vec, Global, Bor, ◌⊎◌, inl, inr, refl, sym, subst, ap, ◌∙◌, arith, append_assoc, length-append, drop-cons}
+use Rattle.std.specs.Prelude.{reverse}
+use Rattle.std.specs.List.{flat_map}
+use Rattle.std.proofs.lemmas.List.{reverse-append, map-append, length-map, drop_all, get_or-map}
+use Rattle.p10_base.specs.declared.span.Span.{Span}
+use Rattle.p10_base.specs.declared.word.Word.{Word}
+use Rattle.p10_direct.specs.Spelling.{Text, is_name}
+use Rattle.p10_direct.specs.Directives.{PlainMacro}
+use Rattle.p10_macros.specs.declared.origin.Origin.{Origin}
+use Rattle.p10_macros.specs.declared.pending.Traced.{Traced}
+use Rattle.p10_macros.specs.declared.pending.Pending.{Pending}
+use Rattle.p10_macros.specs.declared.pending.End.TheVariants.{Nothing}
+use Rattle.p10_macros.specs.declared.replaced.ReplaceFault.{ReplaceFault}
+use Rattle.p10_macros.specs.declared.replaced.ReplaceFault.TheVariants as fault
+use Rattle.p10_macros.specs.Uses.{Sourced, given, value_of, value_or, texts_of, written, replacement}
+use Rattle.p10_macros.specs.Origins.{listed, Extends, HasBoth, HasFirst}
+use Rattle.p10_macros.specs.Traces.{IsTraced, AreTraced, AreValues}
+use Rattle.p10_macros.specs.Putting.{fresh, ArePut, Puts, IsBase, IsJoined, PutsValue, PutsPart, PutsList, PutsReplacement, part_of, IsValue, Short}
+use Rattle.p10_macros.proofs.Listing.{listed_extends, listed_none, longer, or_no_more}
+
+-- ## More origins
+
+pub traced_more : (old new : List Origin) → Extends old new → (traced : Traced) (sourced : Sourced) → IsTraced old traced sourced → IsTraced new traced sourced
+traced_more old new grown traced sourced is = record {
+  word = is.word;
+  known = longer old new grown traced.from is.known;
+  from = λ name. listed_extends old new grown traced.from name is.known ∙ is.from name;
+}
+
+pub all_traced_more : (old new : List Origin) → Extends old new → (those : List Traced) (these : List Sourced) → AreTraced old those these → AreTraced new those these
+all_traced_more old new grown [] [] are = tt
+all_traced_more old new grown (traced ∷ those) (sourced ∷ these) (is, are) = (traced_more old new grown traced sourced is, all_traced_more old new grown those these are)
+all_traced_more old new grown [] (sourced ∷ these) are = absurd are
+all_traced_more old new grown (traced ∷ those) [] are = absurd are
+
+pub values_more : (old new : List Origin) → Extends old new → (those : List (List Traced)) (these : List (List Sourced)) → AreValues old those these → AreValues new those these
+values_more old new grown [] [] are = tt
+values_more old new grown (traced ∷ those) (sourced ∷ these) (is, are) = (all_traced_more old new grown traced sourced is, values_more old new grown those these are)
+values_more old new grown [] (sourced ∷ these) are = absurd are
+values_more old new grown (traced ∷ those) [] are = absurd are
+
+pub put_more : (old new : List Origin) → Extends old new → (items : List Pending) (words : List Sourced) → ArePut old items words → ArePut new items words
+put_more old new grown [] [] are = tt
+put_more old new grown (pending ∷ items) (word ∷ words) (plain, is, are) = (plain, traced_more old new grown pending.traced word is, put_more old new grown items words are)
+put_more old new grown [] (word ∷ words) are = absurd are
+put_more old new grown (pending ∷ items) [] are = absurd are
+
+pub base_more : (old new : List Origin) → Extends old new → (from : ℕ) (macro' : Text) (name : Sourced) → IsBase old from macro' name → IsBase new from macro' name
+base_more old new grown from macro' name is = record {
+  known = longer old new grown from is.known;
+  base = λ other. listed_extends old new grown from other is.known ∙ is.base other;
+}
+
+-- ## Lists of two kinds
+
+or_absorbs : (e s : Bool) → (e || s) ≡ ((e || s) || s)
+or_absorbs true s = refl
+or_absorbs false true = refl
+or_absorbs false false = refl
+
+pub joined_none : (old : List Origin) (name from own : ℕ) (macro' : Text) (name' : Sourced) → own ≤ 0 → IsBase old from macro' name' → IsJoined old own macro' name' old from
+joined_none old name from own macro' name' none is = record {
+  known = is.known;
+  both = λ other. is.base other ∙ or_no_more (bytes_eq other macro' || name'.from other) ∙ ap (λ (b : Bool). (bytes_eq other macro' || name'.from other) || b) (sym (listed_none old own other none));
+}
+
+pub joined_same : (old : List Origin) (name from own : ℕ) (macro' : Text) (name' : Sourced) → own ≡ name → ((other : Text) → listed old name other ≡ name'.from other) → IsBase old from macro' name' → IsJoined old own macro' name' old from
+joined_same old name from own macro' name' same known is = record {
+  known = is.known;
+  both = λ other. is.base other ∙ or_absorbs (bytes_eq other macro') (name'.from other)
+      ∙ ap (λ (b : Bool). (bytes_eq other macro' || name'.from other) || b) (sym (known other) ∙ ap (λ (n : ℕ). listed old n other) (sym same));
+}
+
+pub joined_both : (old new : List Origin) (from own all : ℕ) (macro' : Text) (name' : Sourced) → IsBase old from macro' name' → HasBoth old from own new all → IsJoined old own macro' name' new all
+joined_both old new from own all macro' name' is has = record {
+  known = has.known;
+  both = λ other. has.both other ∙ ap (λ (b : Bool). b || listed old own other) (is.base other);
+}
+
+pub base_of : (old new : List Origin) (macro' : Text) (name : Traced) (name' : Sourced) (from : ℕ) → HasFirst old macro' name.from new from → IsTraced old name name' → IsBase new from macro' name'
+base_of old new macro' name name' from has is = record {
+  known = has.known;
+  base = λ other. has.first other ∙ ap (λ (b : Bool). bytes_eq other macro' || b) (is.from other);
+}
+
+-- ## Words that are put
+
+-- a word that is put at the place of a use stands for one that the use gives
+fresh_traced : (origins : List Origin) (word : Word) (at : Span) (from : ℕ) (plain : PlainMacro) (name part : Sourced) → word ≡ part.word → at ≡ name.word.at → from ≤ length origins →
+    ((other : Text) → listed origins from other ≡ ((bytes_eq other plain.name || name.from other) || part.from other)) → IsTraced origins (fresh word at from).traced (given plain name part)
+fresh_traced origins word at from plain name part same place known both = record {
+  word = ap (λ (w : Word). (fresh w at from).traced.word) same ∙ ap (λ (a : Span). (fresh part.word a from).traced.word) place;
+  known = known;
+  from = both;
+}
+
+puts_one : (origins : List Origin) (before behind : List Pending) (pending : Pending) (word : Sourced) (left remaining : ℕ) → behind ≡ before ++ pending ∷ [] → left ≡ remaining + 1 →
+    pending.«end» ≡ Nothing → IsTraced origins pending.traced word → Puts origins before behind (word ∷ []) left remaining
+puts_one origins before behind pending word left remaining is costs plain traced = record {
+  items = pending ∷ [];
+  pending = ap (λ (l : List Pending). reverse l) is ∙ reverse-append before (pending ∷ []);
+  put = (plain, traced, tt);
+  costs = omega (arith, costs);
+}
+
+pub puts_traced : (old new : List Origin) (before behind : List Pending) (name part : Traced) (from all left remaining : ℕ) → Extends old new →
+    ((macro' : Text) (name' : Sourced) → ((other : Text) → listed old name.from other ≡ name'.from other) → part.from ≤ length old → IsBase old from macro' name' → IsJoined old part.from macro' name' new all) →
+    left ≡ remaining + 1 → behind ≡ before ++ fresh part.word name.word.at all ∷ [] → PutsValue old new before behind name from (part ∷ []) left remaining
+puts_traced old new before behind name part from all left remaining grown joined costs is plain name' [] named base are = absurd are
+puts_traced old new before behind name part from all left remaining grown joined costs is plain name' (word ∷ []) named base (traced, are) =
+    let joins : IsJoined old part.from plain.name name' new all = joined plain.name name' named.from traced.known base in
+    puts_one new before behind (fresh part.word name.word.at all) (given plain name' word) left remaining is costs refl
+    (fresh_traced new part.word name.word.at all plain name' word traced.word (ap (λ (w : Word). w.at) named.word) joins.known
+    (λ other. joins.both other ∙ ap (λ (b : Bool). (bytes_eq other plain.name || name'.from other) || b) (traced.from other)))
+puts_traced old new before behind name part from all left remaining grown joined costs is plain name' (word ∷ (more ∷ words)) named base (traced, are) = absurd are
+
+put_both : (origins : List Origin) (first second : List Pending) (these those : List Sourced) → ArePut origins first these → ArePut origins second those → ArePut origins (first ++ second) (these ++ those)
+put_both origins [] second [] those put put' = put'
+put_both origins (pending ∷ first) second (word ∷ these) those (plain, traced, put) put' = (plain, traced, put_both origins first second these those put put')
+put_both origins [] second (word ∷ these) those put put' = absurd put
+put_both origins (pending ∷ first) second [] those put put' = absurd put
+
+-- words that are put in front of others
+pub puts_more : (old new : List Origin) → Extends old new → (first second third : List Pending) (front words : List Sourced) (all left remaining : ℕ) →
+    Puts old first second words all left → Puts new second third front left remaining → Puts new first third (front ++ words) all remaining
+puts_more old new grown first second third front words all left remaining these those = record {
+  items = those.items ++ these.items;
+  pending = those.pending ∙ ap (λ (l : List Pending). those.items ++ l) these.pending ∙ sym (append_assoc those.items these.items (reverse first));
+  put = put_both new those.items these.items front words those.put (put_more old new grown these.items words these.put);
+  costs = omega (arith, these.costs, those.costs, length-append front words);
+}
+
+pub puts_none : (origins : List Origin) (before : List Pending) (left : ℕ) → Puts origins before before [] left left
+puts_none origins before left = record { items = []; pending = refl; put = tt; costs = omega arith }
+
+-- ## Arguments
+
+-- the word at a place of an argument
+traced_at : (origins : List Origin) (place : ℕ) (none : Traced) (those : List Traced) (these : List Sourced) → place < length those → AreTraced origins those these →
+    (word : Sourced) × IsTraced origins (slice_index_or those place none) word × (drop place these ≡ word ∷ drop (suc place) these)
+traced_at origins place none [] these less are = absurd (omega arith)
+traced_at origins place none (traced ∷ those) [] less are = absurd are
+traced_at origins zero none (traced ∷ those) (word ∷ these) less (is, are) = (word, is, refl)
+traced_at origins (suc place) none (traced ∷ those) (word ∷ these) less (is, are) = traced_at origins place none those these (omega arith) are
+
+traced_length : (origins : List Origin) (those : List Traced) (these : List Sourced) → AreTraced origins those these → length those ≡ length these
+traced_length origins [] [] are = refl
+traced_length origins (traced ∷ those) (word ∷ these) (is, are) = ap suc (traced_length origins those these are)
+traced_length origins [] (word ∷ these) are = absurd are
+traced_length origins (traced ∷ those) [] are = absurd are
+
+-- the words of an argument behind a place were put
+abbrev pub PutsBehind : List Origin → List Origin → List Pending → List Pending → Traced → ℕ → List Traced → ℕ → ℕ → ℕ → Type 0
+PutsBehind old new before behind name from value place left remaining =
+    (plain : PlainMacro) (name' : Sourced) (words : List Sourced) → IsTraced old name name' → IsBase old from plain.name name' → AreTraced old value words →
+    Puts new before behind (map (given plain name') (drop place words)) left remaining
+
+pub puts_behind_none : (origins : List Origin) (before : List Pending) (name : Traced) (from : ℕ) (value : List Traced) (place left : ℕ) → place ≡ length value → PutsBehind origins origins before before name from value place left left
+puts_behind_none origins before name from value place left whole plain name' words named base are =
+    let none : drop place words ≡ [] = drop_all place words (omega (arith, traced_length origins value words are, whole)) in
+    subst (λ (l : List Sourced). Puts origins before before (map (given plain name') l) left left) (sym none) (puts_none origins before left)
+
+pub puts_behind_more : (old middle new : List Origin) (first second third : List Pending) (name : Traced) (from : ℕ) (value : List Traced) (place : ℕ) (none : Traced) (all left remaining : ℕ) →
+    Extends old middle → Extends middle new → 0 < place → place ≤ length value → PutsBehind old middle first second name from value place all left →
+    PutsValue middle new second third name from (slice_index_or value (place - 1) none ∷ []) left remaining → PutsBehind old new first third name from value (place - 1) all remaining
+puts_behind_more old middle new first second third name from value place none all left remaining grown grown' more less these one plain name' words named base are =
+    let (word, traced, next) = traced_at old (place - 1) none value words (omega arith) are in
+    let up : suc (place - 1) ≡ place = omega arith in
+    let next' : drop (place - 1) words ≡ word ∷ drop place words = next ∙ ap (λ (n : ℕ). word ∷ drop n words) up in
+    subst (λ (l : List Sourced). Puts new first third (map (given plain name') l) all remaining) (sym next')
+    (puts_more middle new grown' first second third (given plain name' word ∷ []) (map (given plain name') (drop place words)) all left remaining
+    (these plain name' words named base are)
+    (one plain name' (word ∷ []) (traced_more old middle grown name name' named) (base_more old middle grown from plain.name name' base) (traced_more old middle grown _ word traced, tt)))
+
+-- a fact of an answer from two others
+pub if_ok_both : {A E : Type 0} {P Q R : A → Type 0} (r : Result A E) → IfOk r P → IfOk r Q → ((x : A) → P x → Q x → R x) → IfOk r R
+if_ok_both (Ok x) p q both = both x p q
+if_ok_both (Err e) p q both = tt
+
+pub puts_behind_all : (old new : List Origin) (before behind : List Pending) (name : Traced) (from : ℕ) (value : List Traced) (place left remaining : ℕ) → place ≤ 0 →
+    PutsBehind old new before behind name from value place left remaining → PutsValue old new before behind name from value left remaining
+puts_behind_all old new before behind name from value place left remaining none puts plain name' words named base are =
+    let all : drop place words ≡ words = ap (λ (n : ℕ). drop n words) (let e : place ≡ 0 = omega arith in e) in
+    subst (λ (l : List Sourced). Puts new before behind (map (given plain name') l) left remaining) all (puts plain name' words named base are)
+
+-- ## Parameters
+
+-- the values at a place
+values_at : (origins : List Origin) (place : ℕ) (none : List Traced) (those : List (List Traced)) (these : List (List Sourced)) → place < length those → AreValues origins those these →
+    (value : List Sourced) × AreTraced origins (slice_index_or those place none) value × (drop place these ≡ value ∷ drop (suc place) these)
+values_at origins place none [] these less are = absurd (omega arith)
+values_at origins place none (traced ∷ those) [] less are = absurd are
+values_at origins zero none (traced ∷ those) (value ∷ these) less (is, are) = (value, is, refl)
+values_at origins (suc place) none (traced ∷ those) (value ∷ these) less (is, are) = values_at origins place none those these (omega arith) are
+
+values_length : (origins : List Origin) (those : List (List Traced)) (these : List (List Sourced)) → AreValues origins those these → length those ≡ length these
+values_length origins [] [] are = refl
+values_length origins (traced ∷ those) (value ∷ these) (is, are) = ap suc (values_length origins those these are)
+values_length origins [] (value ∷ these) are = absurd are
+values_length origins (traced ∷ those) [] are = absurd are
+
+-- the parameter that the word names stands at a place or behind it
+abbrev pub NamedFrom : List Text → Word → List (List Traced) → ℕ → Type 0
+NamedFrom parameters word values place =
+    (origins : List Origin) (values' : List (List Sourced)) → AreValues origins values values' → value_of parameters values' word ≡ value_of (drop place parameters) (drop place values') word
+
+pub named_later : (parameters : List Text) (word : Word) (values : List (List Traced)) (place : ℕ) (none : Text) → place < length parameters → place < length values →
+    is_name (slice_index_or parameters place none) word ≡ false → NamedFrom parameters word values place → NamedFrom parameters word values (place + 1)
+named_later parameters word values place none less less' other named origins values' are =
+    let (value, traced, next) = values_at origins place [] values values' less' are in
+    named origins values' are
+    ∙ ap (λ (l : List Text). value_of l (drop place values') word) (drop-cons parameters place none less)
+    ∙ ap (λ (l : List (List Sourced)). value_of (slice_index_or parameters place none ∷ drop (suc place) parameters) l word) next
+    ∙ ap (λ (b : Bool). cond b (Some value) (value_of (drop (suc place) parameters) (drop (suc place) values') word)) other
+    ∙ ap (λ (n : ℕ). value_of (drop n parameters) (drop n values') word) (let e : suc place ≡ place + 1 = omega arith in e)
+
+pub named_here : (parameters : List Text) (word : Word) (values : List (List Traced)) (place : ℕ) (none : Text) (none' : List Traced) → place < length parameters → place < length values →
+    is_name (slice_index_or parameters place none) word ≡ true → NamedFrom parameters word values place →
+    (origins : List Origin) (values' : List (List Sourced)) → AreValues origins values values' → IsValue origins (Some (slice_index_or values place none')) (value_of parameters values' word)
+named_here parameters word values place none none' less less' this named origins values' are =
+    let (value, traced, next) = values_at origins place none' values values' less' are in
+    let found : value_of parameters values' word ≡ Some value =
+    named origins values' are
+    ∙ ap (λ (l : List Text). value_of l (drop place values') word) (drop-cons parameters place none less)
+    ∙ ap (λ (l : List (List Sourced)). value_of (slice_index_or parameters place none ∷ drop (suc place) parameters) l word) next
+    ∙ ap (λ (b : Bool). cond b (Some value) (value_of (drop (suc place) parameters) (drop (suc place) values') word)) this in
+    subst (λ (o : Option (List Sourced)). IsValue origins (Some (slice_index_or values place none')) o) (sym found) traced
+
+no_value : (parameters : List Text) (word : Word) → value_of parameters [] word ≡ None
+no_value [] word = refl
+no_value (parameter ∷ parameters) word = refl
+
+pub named_nowhere : (parameters : List Text) (word : Word) (values : List (List Traced)) (place : ℕ) → (length parameters ≤ place) ⊎ (length values ≤ place) → NamedFrom parameters word values place →
+    (origins : List Origin) (values' : List (List Sourced)) → AreValues origins values values' → IsValue origins None (value_of parameters values' word)
+named_nowhere parameters word values place (inl less) named origins values' are =
+    let none : value_of parameters values' word ≡ None = named origins values' are ∙ ap (λ (l : List Text). value_of l (drop place values') word) (drop_all place parameters less) in
+    subst (λ (o : Option (List Sourced)). IsValue origins None o) (sym none) tt
+named_nowhere parameters word values place (inr less) named origins values' are =
+    let none : value_of parameters values' word ≡ None =
+    named origins values' are ∙ ap (λ (l : List (List Sourced)). value_of (drop place parameters) l word) (drop_all place values' (omega (arith, less, values_length origins values values' are))) ∙ no_value (drop place parameters) word in
+    subst (λ (o : Option (List Sourced)). IsValue origins None o) (sym none) tt
+
+abbrev pub texts_at : List (Bor Text) → List Text
+texts_at params = map (λ (text : Bor Text). text.now) params
+
+abbrev pub items_at : List (Vec Traced Global) → List (List Traced)
+items_at values = map (λ (value : Vec Traced Global). value.items) values
+
+module _ (params : List (Bor Text)) (word : Word) (values : List (Vec Traced Global)) (place : ℕ) (none : Bor Text) (less : place < length params) (less' : place < length values) where
+  text_there : slice_index_or (texts_at params) place [] ≡ (slice_index_or params place none).now
+  text_there = get_or-map (λ (text : Bor Text). text.now) params place none [] less
+
+  pub text_later : is_name (slice_index_or params place none).now word ≡ false → NamedFrom (texts_at params) word (items_at values) place → NamedFrom (texts_at params) word (items_at values) (place + 1)
+  text_later other named =
+      named_later (texts_at params) word (items_at values) place [] (omega (arith, length-map params (λ (text : Bor Text). text.now))) (omega (arith, length-map values (λ (v : Vec Traced Global). v.items)))
+      (ap (λ (text : Text). is_name text word) text_there ∙ other) named
+
+  pub text_here : (value : Vec Traced Global) → value ≡ slice_index_or values place value → is_name (slice_index_or params place none).now word ≡ true → NamedFrom (texts_at params) word (items_at values) place →
+      (origins : List Origin) (values' : List (List Sourced)) → AreValues origins (items_at values) values' → IsValue origins (Some value.items) (value_of (texts_at params) values' word)
+  text_here value there this named origins values' are =
+      let same : slice_index_or (items_at values) place [] ≡ value.items = get_or-map (λ (v : Vec Traced Global). v.items) values place value [] less' ∙ ap (λ (v : Vec Traced Global). v.items) (sym there) in
+      subst (λ (l : List Traced). IsValue origins (Some l) (value_of (texts_at params) values' word)) same
+      (named_here (texts_at params) word (items_at values) place [] [] (omega (arith, length-map params (λ (text : Bor Text). text.now))) (omega (arith, length-map values (λ (v : Vec Traced Global). v.items)))
+      (ap (λ (text : Text). is_name text word) text_there ∙ this) named origins values' are)
+
+pub text_nowhere : (params : List (Bor Text)) (word : Word) (values : List (Vec Traced Global)) (place : ℕ) → (length params ≤ place) ⊎ (length values ≤ place) → NamedFrom (texts_at params) word (items_at values) place →
+    (origins : List Origin) (values' : List (List Sourced)) → AreValues origins (items_at values) values' → IsValue origins None (value_of (texts_at params) values' word)
+text_nowhere params word values place (inl less) = named_nowhere (texts_at params) word (items_at values) place (inl (omega (arith, less, length-map params (λ (text : Bor Text). text.now))))
+text_nowhere params word values place (inr less) = named_nowhere (texts_at params) word (items_at values) place (inr (omega (arith, less, length-map values (λ (v : Vec Traced Global). v.items))))
+
+-- ## Words of a replacement list
+
+written_traced : (origins : List Origin) (word : Word) (at : Span) (from : ℕ) (plain : PlainMacro) (name : Sourced) → at ≡ name.word.at → IsBase origins from plain.name name →
+    IsTraced origins (fresh word at from).traced (given plain name (written word))
+written_traced origins word at from plain name place base =
+    fresh_traced origins word at from plain name (written word) refl place base.known (λ other. base.base other ∙ or_no_more (bytes_eq other plain.name || name.from other))
+
+-- a word that names no parameter stands for itself
+pub part_itself : (origins : List Origin) (before behind : List Pending) (plain : PlainMacro) (name : Traced) (values : List (List Traced)) (from : ℕ) (word : Word) (left remaining : ℕ) →
+    ((any : List Origin) (values' : List (List Sourced)) → AreValues any values values' → IsValue any None (value_of (texts_of plain.parameters) values' word)) →
+    left ≡ remaining + 1 → behind ≡ before ++ fresh word name.word.at from ∷ [] → PutsPart origins origins before behind plain name values from word left remaining
+part_itself origins before behind plain name values from word left remaining none costs is name' values' named base are =
+    let nothing : value_of (texts_of plain.parameters) values' word ≡ None = is_none (value_of (texts_of plain.parameters) values' word) (none origins values' are) in
+    subst (λ (o : Option (List Sourced)). Puts origins before behind (map (given plain name') (value_or o word)) left remaining) (sym nothing)
+    (puts_one origins before behind (fresh word name.word.at from) (given plain name' (written word)) left remaining is costs refl
+    (written_traced origins word name.word.at from plain name' (ap (λ (w : Word). w.at) named.word) base))
+  where
+    is_none : (o : Option (List Sourced)) → IsValue origins None o → o ≡ None
+    is_none None are' = refl
+    is_none (Some words) are' = absurd are'
+
+-- a word that names a parameter stands for its value
+pub part_value : (old new : List Origin) (before behind : List Pending) (plain : PlainMacro) (name : Traced) (values : List (List Traced)) (from : ℕ) (word : Word) (value : List Traced) (left remaining : ℕ) →
+    ((any : List Origin) (values' : List (List Sourced)) → AreValues any values values' → IsValue any (Some value) (value_of (texts_of plain.parameters) values' word)) →
+    PutsValue old new before behind name from value left remaining → PutsPart old new before behind plain name values from word left remaining
+part_value old new before behind plain name values from word value left remaining some puts name' values' named base are =
+    go (value_of (texts_of plain.parameters) values' word) refl (some old values' are)
+  where
+    go : (o : Option (List Sourced)) → value_of (texts_of plain.parameters) values' word ≡ o → IsValue old (Some value) o → Puts new before behind (map (given plain name') (part_of plain.parameters values' word)) left remaining
+    go None e traced = absurd traced
+    go (Some words) e traced =
+        subst (λ (o : Option (List Sourced)). Puts new before behind (map (given plain name') (value_or o word)) left remaining) (sym e) (puts plain name' words named base traced)
+
+-- how many words stand for a part
+abbrev pub option_length : Option (List Traced) → ℕ
+option_length None = 1
+option_length (Some value) = length value
+
+-- where words were wanting for a part
+pub part_short : (origins : List Origin) (parameters : Option (List Text)) (values : List (List Traced)) (word : Word) (value : Option (List Traced)) (left : ℕ) →
+    ((any : List Origin) (values' : List (List Sourced)) → AreValues any values values' → IsValue any value (value_of (texts_of parameters) values' word)) →
+    left < option_length value → (values' : List (List Sourced)) → AreValues origins values values' → left < length (part_of parameters values' word)
+part_short origins parameters values word value left is less values' are = go value (value_of (texts_of parameters) values' word) (is origins values' are) less
+  where
+    go : (v : Option (List Traced)) (o : Option (List Sourced)) → IsValue origins v o → left < option_length v → left < length (value_or o word)
+    go None None traced less' = less'
+    go (Some those) (Some these) traced less' = omega (arith, less', traced_length origins those these traced)
+    go None (Some these) traced less' = absurd traced
+    go (Some those) None traced less' = absurd traced
+
+short_by : (f : ReplaceFault) (P Q : Type 0) → Short f P → (P → Q) → Short f Q
+short_by (fault.Refused refusal) P Q short so = short
+short_by fault.TooMany P Q short so = so short
+short_by fault.Memory P Q short so = short
+
+-- the words of the replacement list behind a place were put
+abbrev pub PutsListBehind : List Origin → List Origin → List Pending → List Pending → PlainMacro → Traced → List (List Traced) → ℕ → List Word → ℕ → ℕ → ℕ → Type 0
+PutsListBehind old new before behind plain name values from words place left remaining =
+    (name' : Sourced) (values' : List (List Sourced)) → IsTraced old name name' → IsBase old from plain.name name' → AreValues old values values' →
+    Puts new before behind (map (given plain name') (flat_map (part_of plain.parameters values') (drop place words))) left remaining
+
+pub list_begun : (origins : List Origin) (before : List Pending) (plain : PlainMacro) (name : Traced) (values : List (List Traced)) (from : ℕ) (words : List Word) (place left : ℕ) → length words ≤ place →
+    PutsListBehind origins origins before before plain name values from words place left left
+list_begun origins before plain name values from words place left whole name' values' named base are =
+    subst (λ (l : List Word). Puts origins before before (map (given plain name') (flat_map (part_of plain.parameters values') l)) left left) (sym (drop_all place words whole)) (puts_none origins before left)
+
+-- the words from a place on are the word there and those behind it
+flat_map_from : (part : Word → List Sourced) (words : List Word) (place : ℕ) (none : Word) → 0 < place → place ≤ length words →
+    flat_map part (drop (place - 1) words) ≡ part (slice_index_or words (place - 1) none) ++ flat_map part (drop place words)
+flat_map_from part words place none more less =
+    let up : suc (place - 1) ≡ place = omega arith in
+    ap (λ (l : List Word). flat_map part l) (drop-cons words (place - 1) none (omega arith)) ∙ ap (λ (n : ℕ). part (slice_index_or words (place - 1) none) ++ flat_map part (drop n words)) up
+
+pub list_more : (old middle new : List Origin) (first second third : List Pending) (plain : PlainMacro) (name : Traced) (values : List (List Traced)) (from : ℕ) (words : List Word) (place : ℕ) (none : Word) (all left remaining : ℕ) →
+    Extends old middle → Extends middle new → 0 < place → place ≤ length words → PutsListBehind old middle first second plain name values from words place all left →
+    PutsPart middle new second third plain name values from (slice_index_or words (place - 1) none) left remaining → PutsListBehind old new first third plain name values from words (place - 1) all remaining
+list_more old middle new first second third plain name values from words place none all left remaining grown grown' more less these one name' values' named base are =
+    let part = part_of plain.parameters values' in
+    let here = slice_index_or words (place - 1) none in
+    let both : map (given plain name') (flat_map part (drop (place - 1) words)) ≡ map (given plain name') (part here) ++ map (given plain name') (flat_map part (drop place words)) =
+    ap (λ (l : List Sourced). map (given plain name') l) (flat_map_from part words place none more less) ∙ map-append (given plain name') (part here) (flat_map part (drop place words)) in
+    subst (λ (l : List Sourced). Puts new first third l all remaining) (sym both)
+    (puts_more middle new grown' first second third (map (given plain name') (part here)) (map (given plain name') (flat_map part (drop place words))) all left remaining
+    (these name' values' named base are)
+    (one name' values' (traced_more old middle grown name name' named) (base_more old middle grown from plain.name name' base) (values_more old middle grown values values' are)))
+
+pub list_all : (old new : List Origin) (before behind : List Pending) (plain : PlainMacro) (name : Traced) (values : List (List Traced)) (from : ℕ) (words : List Word) (place left remaining : ℕ) → place ≤ 0 →
+    PutsListBehind old new before behind plain name values from words place left remaining → PutsList old new before behind plain name values from words left remaining
+list_all old new before behind plain name values from words place left remaining none puts name' values' named base are =
+    let all : drop place words ≡ words = ap (λ (n : ℕ). drop n words) (let e : place ≡ 0 = omega arith in e) in
+    subst (λ (l : List Word). Puts new before behind (map (given plain name') (flat_map (part_of plain.parameters values') l)) left remaining) all (puts name' values' named base are)
+
+-- what words behind a place take is no more than all take
+flat_map_behind : (part : Word → List Sourced) (words : List Word) (place : ℕ) → length (flat_map part (drop place words)) ≤ length (flat_map part words)
+flat_map_behind part words zero = omega arith
+flat_map_behind part [] (suc place) = omega arith
+flat_map_behind part (word ∷ words) (suc place) = omega (arith, flat_map_behind part words place, length-append (part word) (flat_map part words))
+
+-- where words were wanting for one of the parts, they are for the list
+pub list_short : (old middle : List Origin) (first second : List Pending) (plain : PlainMacro) (name : Traced) (values : List (List Traced)) (from : ℕ) (words : List Word) (place : ℕ) (none : Word) (all left : ℕ) (f : ReplaceFault) →
+    Extends old middle → 0 < place → place ≤ length words → PutsListBehind old middle first second plain name values from words place all left →
+    ((values' : List (List Sourced)) → AreValues middle values values' → Short f (left < length (part_of plain.parameters values' (slice_index_or words (place - 1) none)))) →
+    (name' : Sourced) (values' : List (List Sourced)) → IsTraced old name name' → IsBase old from plain.name name' → AreValues old values values' → Short f (all < length (flat_map (part_of plain.parameters values') words))
+list_short old middle first second plain name values from words place none all left f grown more less these short name' values' named base are =
+    let part = part_of plain.parameters values' in
+    let here = slice_index_or words (place - 1) none in
+    let puts = these name' values' named base are in
+    short_by f (left < length (part here)) (all < length (flat_map part words)) (short values' (values_more old middle grown values values' are))
+    (λ wanting. omega (
+      arith,
+      wanting,
+      puts.costs,
+      length-map (flat_map part (drop place words)) (given plain name'),
+      ap length (flat_map_from part words place none more less),
+      length-append (part here) (flat_map part (drop place words)),
+      flat_map_behind part words (place - 1),
+    ))
+
+pub if_err_so : {A E : Type 0} {P Q : E → Type 0} (r : Result A E) → IfErr r P → ((e : E) → P e → Q e) → IfErr r Q
+if_err_so (Ok x) p so = tt
+if_err_so (Err e) p so = so e p
+
+pub if_ok_so : {A E : Type 0} {P Q : A → Type 0} (r : Result A E) → IfOk r P → ((x : A) → P x → Q x) → IfOk r Q
+if_ok_so (Ok x) p so = so x p
+if_ok_so (Err e) p so = tt
+
+pub part_value_short : (origins : List Origin) (plain : PlainMacro) (values : List (List Traced)) (word : Word) (value : List Traced) (left : ℕ) (f : ReplaceFault) →
+    ((any : List Origin) (values' : List (List Sourced)) → AreValues any values values' → IsValue any (Some value) (value_of (texts_of plain.parameters) values' word)) →
+    Short f (left < length value) → (values' : List (List Sourced)) → AreValues origins values values' → Short f (left < length (part_of plain.parameters values' word))
+part_value_short origins plain values word value left f is short values' are =
+    short_by f (left < length value) (left < length (part_of plain.parameters values' word)) short (λ less. part_short origins plain.parameters values word (Some value) left is less values' are)
+
+-- the replacement list with the list of macros that begins with the macro
+pub list_is_replacement : (old middle new : List Origin) (before behind : List Pending) (plain : PlainMacro) (name : Traced) (values : List (List Traced)) (from left remaining : ℕ) → Extends old middle →
+    HasFirst old plain.name name.from middle from → PutsList middle new before behind plain name values from plain.body left remaining → PutsReplacement old new before behind plain name values left remaining
+list_is_replacement old middle new before behind plain name values from left remaining grown first puts name' values' named are =
+    puts name' values' (traced_more old middle grown name name' named) (base_of old middle plain.name name name' from first named) (values_more old middle grown values values' are)
+
+pub replacement_short : (old middle : List Origin) (plain : PlainMacro) (name : Traced) (values : List (List Traced)) (from left : ℕ) (f : ReplaceFault) → Extends old middle → HasFirst old plain.name name.from middle from →
+    ((name' : Sourced) (values' : List (List Sourced)) → IsTraced middle name name' → IsBase middle from plain.name name' → AreValues middle values values' → Short f (left < length (flat_map (part_of plain.parameters values') plain.body))) →
+    (name' : Sourced) (values' : List (List Sourced)) → IsTraced old name name' → AreValues old values values' → Short f (left < length (replacement plain name' values'))
+replacement_short old middle plain name values from left f grown first short name' values' named are =
+    short_by f (left < length (flat_map (part_of plain.parameters values') plain.body)) (left < length (replacement plain name' values'))
+    (short name' values' (traced_more old middle grown name name' named) (base_of old middle plain.name name name' from first named) (values_more old middle grown values values' are))
+    (λ less. omega (arith, less, length-map (flat_map (part_of plain.parameters values') plain.body) (given plain name')))
+
+pub on_ok_so : {A E : Type 0} {P Q : Type 0} (r : Result A E) → OnOk r P → (P → Q) → OnOk r Q
+on_ok_so (Ok x) p so = so p
+on_ok_so (Err e) p so = tt

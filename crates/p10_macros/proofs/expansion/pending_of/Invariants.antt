@@ -1,0 +1,14 @@
+use Rattle.std.proofs.Common.{◌≡◌, ◌≤◌, length, map, drop}
+use Rattle.std.specs.Prelude.{reverse}
+use Rattle.p10_macros.specs.Beginning.{unread}
+use Rattle.p10_macros.proofs.expansion.pending_of.Given as goal
+
+-- the words behind a place are pending
+abbrev pub invariant-loop-place : goal.invariant-loop-place
+invariant-loop-place l = record {
+  inside : l.place ≤ length l.words;
+  behind : reverse l.pending.items ≡ map unread (drop l.place l.words);
+}
+
+abbrev pub decreases-loop-place : goal.decreases-loop-place
+decreases-loop-place l = l.place

@@ -1,0 +1,18 @@
+use Rattle.std.proofs.Common.{◌≡◌, ◌≤◌, ◌+◌, length, map}
+use Rattle.p10_direct.specs.Form.{plain_macro}
+use Rattle.p10_macros.specs.Origins.{Extends}
+use Rattle.p10_macros.proofs.Putting.{PutsListBehind}
+use Rattle.p10_macros.proofs.replacement.put_list.Given as goal
+
+-- the words of the list behind a place were put
+abbrev pub invariant-loop-place : goal.invariant-loop-place
+invariant-loop-place l = record {
+  inside : l.place ≤ length l.made.body.now;
+  less : l.left ≤ l.fn.left;
+  lighter : l.left + length l.pending.items ≡ l.fn.left + length l.fn.pending.items;
+  grown : Extends l.fn.origins.items l.origins.items;
+  puts : PutsListBehind l.fn.origins.items l.origins.items l.fn.pending.items l.pending.items (plain_macro l.made) l.name (map (λ value. value.items) l.values) l.from l.made.body.now l.place l.fn.left l.left;
+}
+
+abbrev pub decreases-loop-place : goal.decreases-loop-place
+decreases-loop-place l = l.place

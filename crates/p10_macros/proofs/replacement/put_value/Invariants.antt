@@ -1,0 +1,18 @@
+use Rattle.std.proofs.Common.{◌≡◌, ◌≤◌, ◌+◌, length}
+use Rattle.p10_macros.specs.Origins.{Extends}
+use Rattle.p10_macros.proofs.Putting.{PutsBehind}
+use Rattle.p10_macros.proofs.replacement.put_value.Given as goal
+
+-- the words behind a place were put
+abbrev pub invariant-loop-place : goal.invariant-loop-place
+invariant-loop-place l = record {
+  inside : l.place ≤ length l.value;
+  less : l.left ≤ l.fn.left;
+  lighter : l.left + length l.pending.items ≡ l.fn.left + length l.fn.pending.items;
+  grown : Extends l.fn.origins.items l.origins.items;
+  counted : l.fn.left + l.place ≡ length l.value + l.left;
+  puts : PutsBehind l.fn.origins.items l.origins.items l.fn.pending.items l.pending.items l.name l.from l.value l.place l.fn.left l.left;
+}
+
+abbrev pub decreases-loop-place : goal.decreases-loop-place
+decreases-loop-place l = l.place

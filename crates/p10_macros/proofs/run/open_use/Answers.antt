@@ -1,0 +1,21 @@
+use Rattle.std.proofs.Common.{List, refl, ap, ◌∙◌, Vec, Global}
+use Rattle.std.specs.Prelude.{reverse}
+use Rattle.p10_macros.specs.declared.pending.Open.{Open}
+use Rattle.p10_macros.specs.declared.pending.Traced.{Traced}
+use Rattle.p10_macros.specs.Standing.{place_among}
+use Rattle.p10_macros.proofs.run.open_use.Goals as goal
+
+pub returns-in-Ok-clause-ok : goal.returns-in-Ok-clause-ok
+returns-in-Ok-clause-ok c = record {
+  opened = _;
+  opens = c.in-Ok.ensures;
+  the_macro = refl;
+  the_name = refl;
+  the_place = c.place_of-place.ensures ∙ ap (λ (l : List Open). place_among (reverse l) c.args.name) c.as_slice.ensures.value;
+  before = ap (λ (v : Vec Traced Global). v.items) c.replace-before.ensures.value;
+  values = c.new-2.ensures.items;
+  done = ap (λ (v : Vec Traced Global). v.items) c.replace-before.ensures.after ∙ c.new.ensures.items;
+  pending = refl;
+  origins = refl;
+  left = refl;
+}

@@ -1,0 +1,19 @@
+-- The definitions that the contracts of this crate cite.
+
+-- what the public functions promise
+pub mod Table
+pub mod Uses
+pub mod Endings
+pub mod Ends
+pub mod Left
+pub mod Answers
+-- what holds of the private parts
+pub mod Known
+pub mod Running
+pub mod Origins
+pub mod Traces
+pub mod Standing
+pub mod Marking
+pub mod Putting
+pub mod Looking
+pub mod Beginning

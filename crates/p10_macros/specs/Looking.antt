@@ -1,0 +1,34 @@
+-- What the next word and those behind it are.
+use Rattle.std.specs.Prelude.{ℕ, List, [], ◌∷◌, Bool, false, ◌&&◌, ◌||◌, is_none, if◌then◌else◌, Option, Some, None}
+use Rattle.p10_base.specs.declared.span.Span.{Span}
+use Rattle.p10_base.specs.declared.word.Word.{Word}
+use Rattle.p10_base.specs.declared.report.Family.TheVariants.{D}
+use Rattle.p10_direct.specs.Spelling.{is_name_kind}
+use Rattle.p10_direct.specs.Directives.{PlainMacro}
+use Rattle.p10_macros.specs.declared.pending.Pending.{Pending}
+use Rattle.p10_macros.specs.declared.replaced.ReplaceFault.{ReplaceFault}
+use Rattle.p10_macros.specs.declared.replaced.ReplaceFault.TheVariants as fault
+use Rattle.p10_macros.specs.Table.{Table, macro_named}
+use Rattle.p10_macros.specs.Uses.{opens, closes}
+use Rattle.p10_macros.specs.Marking.{ends_nothing}
+
+-- whether the next pending word is a `(` in the innermost argument
+abbrev pub opens_on_top : List Pending → Bool
+opens_on_top [] = false
+opens_on_top (pending ∷ items) = ends_nothing pending.«end» && opens pending.traced.word
+
+-- whether it is a `)` there
+abbrev pub closes_on_top : List Pending → Bool
+closes_on_top [] = false
+closes_on_top (pending ∷ items) = ends_nothing pending.«end» && closes pending.traced.word
+
+abbrev pub used_where : Bool → Option PlainMacro → Option PlainMacro
+used_where open' None = None
+used_where open' (Some plain) = if is_none plain.parameters || open' then Some plain else None
+
+-- the macro that a word uses, where these words are pending behind it
+abbrev pub macro_used : Table → List Pending → Word → Option PlainMacro
+macro_used table items word = if is_name_kind word.kind then used_where (opens_on_top items) (macro_named word.text.now table) else None
+
+abbrev pub refusal_at : ℕ → Span → ReplaceFault
+refusal_at number at = fault.Refused (record { family = D; number = number; span = at })

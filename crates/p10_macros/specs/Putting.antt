@@ -1,0 +1,83 @@
+-- How the words of a replacement are put on top of the pending words.
+use Rattle.std.specs.Prelude.{◌≡◌, ℕ, ◌+◌, ◌≤◌, List, [], ◌∷◌, ◌++◌, length, map, reverse, ◌||◌, bytes_eq, Option, Some, None}
+use Rattle.std.specs.List.{flat_map}
+use Rattle.p10_base.specs.declared.span.Span.{Span}
+use Rattle.p10_base.specs.declared.word.Word.{Word}
+use Rattle.p10_direct.specs.Spelling.{Text}
+use Rattle.p10_direct.specs.Directives.{PlainMacro}
+use Rattle.p10_macros.specs.declared.origin.Origin.{Origin}
+use Rattle.p10_macros.specs.declared.pending.Traced.{Traced}
+use Rattle.p10_macros.specs.declared.pending.Pending.{Pending}
+use Rattle.p10_macros.specs.declared.pending.End.TheVariants.{Nothing}
+use Rattle.p10_macros.specs.declared.replaced.ReplaceFault.{ReplaceFault}
+use Rattle.p10_macros.specs.declared.replaced.ReplaceFault.TheVariants as fault
+use Rattle.p10_macros.specs.Uses.{Sourced, given, replacement, value_or, value_of, texts_of}
+use Rattle.p10_macros.specs.Origins.{listed}
+use Rattle.p10_macros.specs.Traces.{IsTraced, AreTraced, AreValues}
+
+-- a pending word of a replacement, at the place of the use, with its list of macros
+abbrev pub fresh : Word → Span → ℕ → Pending
+fresh word at from = record { traced = record { word = record { kind = word.kind; text = word.text; at = at; first = word.first }; from = from }; «end» = Nothing }
+
+-- pending words that end no argument stand for these
+abbrev pub ArePut : List Origin → List Pending → List Sourced → Type 0
+ArePut origins [] [] = Unit {0}
+ArePut origins (pending ∷ items) (word ∷ words) = (pending.«end» ≡ Nothing) × IsTraced origins pending.traced word × ArePut origins items words
+ArePut origins _ _ = ⊥
+
+-- words were put on top of the pending ones, and taken from those that may be made
+pub record Puts (origins : List Origin) (before behind : List Pending) (words : List Sourced) (left remaining : ℕ) : Type 0 where
+  pub items : List Pending
+  pub pending : reverse behind ≡ items ++ reverse before
+  pub put : ArePut origins items words
+  pub costs : left ≡ length words + remaining
+
+-- the list with this number has a macro, and those that the name of its use comes from
+pub record IsBase (origins : List Origin) (from : ℕ) (macro' : Text) (name : Sourced) : Type 0 where
+  pub known : from ≤ length origins
+  pub base : (other : Text) → listed origins from other ≡ (bytes_eq other macro' || name.from other)
+
+-- the list with this number has the macros of such a list, and those of another
+pub record IsJoined (old : List Origin) (own : ℕ) (macro' : Text) (name : Sourced) (new : List Origin) (all : ℕ) : Type 0 where
+  pub known : all ≤ length new
+  pub both : (other : Text) → listed new all other ≡ ((bytes_eq other macro' || name.from other) || listed old own other)
+
+-- a fault that is no refusal: where words were wanting, this holds
+abbrev pub Short : ReplaceFault → Type 0 → Type 0
+Short (fault.Refused refusal) P = ⊥
+Short fault.TooMany P = P
+Short fault.Memory P = Unit {0}
+
+-- what is put for an argument
+abbrev pub PutsValue : List Origin → List Origin → List Pending → List Pending → Traced → ℕ → List Traced → ℕ → ℕ → Type 0
+PutsValue old new before behind name from value left remaining =
+    (plain : PlainMacro) (name' : Sourced) (words : List Sourced) → IsTraced old name name' → IsBase old from plain.name name' → AreTraced old value words →
+    Puts new before behind (map (given plain name') words) left remaining
+
+-- what stands for a word of the replacement list of a macro with these parameters
+abbrev pub part_of : Option (List Text) → List (List Sourced) → Word → List Sourced
+part_of parameters values word = value_or (value_of (texts_of parameters) values word) word
+
+-- what is put for a word of the replacement list
+abbrev pub PutsPart : List Origin → List Origin → List Pending → List Pending → PlainMacro → Traced → List (List Traced) → ℕ → Word → ℕ → ℕ → Type 0
+PutsPart old new before behind plain name values from word left remaining =
+    (name' : Sourced) (values' : List (List Sourced)) → IsTraced old name name' → IsBase old from plain.name name' → AreValues old values values' →
+    Puts new before behind (map (given plain name') (part_of plain.parameters values' word)) left remaining
+
+-- what is put for words of the replacement list
+abbrev pub PutsList : List Origin → List Origin → List Pending → List Pending → PlainMacro → Traced → List (List Traced) → ℕ → List Word → ℕ → ℕ → Type 0
+PutsList old new before behind plain name values from words left remaining =
+    (name' : Sourced) (values' : List (List Sourced)) → IsTraced old name name' → IsBase old from plain.name name' → AreValues old values values' →
+    Puts new before behind (map (given plain name') (flat_map (part_of plain.parameters values') words)) left remaining
+
+-- what is put for a use
+abbrev pub PutsReplacement : List Origin → List Origin → List Pending → List Pending → PlainMacro → Traced → List (List Traced) → ℕ → ℕ → Type 0
+PutsReplacement old new before behind plain name values left remaining =
+    (name' : Sourced) (values' : List (List Sourced)) → IsTraced old name name' → AreValues old values values' →
+    Puts new before behind (replacement plain name' values') left remaining
+
+-- the value of a parameter: its words, or there is none
+abbrev pub IsValue : List Origin → Option (List Traced) → Option (List Sourced) → Type 0
+IsValue origins None None = Unit {0}
+IsValue origins (Some value) (Some words) = AreTraced origins value words
+IsValue origins _ _ = ⊥

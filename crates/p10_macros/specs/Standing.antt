@@ -1,0 +1,146 @@
+-- What the parts of a replacement that is under way stand for.
+use Rattle.std.specs.Prelude.{◌≡◌, ℕ, ◌+◌, ◌*◌, ◌<◌, List, [], ◌∷◌, ◌++◌, length, map, reverse, None, true, ◌⊎◌}
+use Rattle.p10_base.specs.declared.span.Span.{Span}
+use Rattle.p10_base.specs.declared.report.Family.TheVariants.{D}
+use Rattle.p10_direct.specs.Directives.{PlainMacro}
+use Rattle.p10_direct.specs.Form.{plain_macro}
+use Rattle.p10_direct.specs.declared.form.Macro.{Macro}
+use Rattle.std.specs.Borrow.{Bor}
+use Rattle.p10_macros.specs.declared.origin.Origin.{Origin}
+use Rattle.p10_macros.specs.declared.pending.Traced.{Traced}
+use Rattle.p10_macros.specs.declared.pending.Pending.{Pending}
+use Rattle.p10_macros.specs.declared.pending.Open.{Open}
+use Rattle.p10_macros.specs.declared.pending.End.{End}
+use Rattle.p10_macros.specs.declared.pending.End.TheVariants.{Nothing, Argument, Call}
+use Rattle.p10_macros.specs.declared.replaced.ReplaceFault.{ReplaceFault}
+use Rattle.p10_macros.specs.declared.replaced.ReplaceFault.TheVariants as fault
+use Rattle.p10_macros.specs.declared.pending.Run.{Run}
+use Rattle.p10_macros.specs.Table.{Table}
+use Rattle.p10_macros.specs.Uses.{Sourced, use_of, use_as, called, arguments_in, replacement, next_opens}
+use Rattle.p10_macros.specs.Endings.{Ending, Refused, TooMany}
+use Rattle.p10_macros.specs.Running.{OpenUse, Comes}
+use Rattle.p10_macros.specs.Origins.{Extends}
+use Rattle.p10_macros.specs.Traces.{IsTraced, AreTraced, AreValues}
+use Rattle.p10_macros.specs.Putting.{PutsReplacement, Short}
+
+-- ## Open uses
+
+-- the place of refusals, where these uses are open, the innermost one first, and a use has this name
+abbrev pub place_among : List Open → Traced → Span
+place_among [] name = name.word.at
+place_among (open' ∷ those) name = open'.place
+
+pub record IsOpen (origins : List Origin) (open' : Open) (use' : OpenUse) : Type 0 where
+  pub plain : plain_macro open'.made.now ≡ use'.plain
+  pub name : IsTraced origins open'.name use'.name
+  pub place : open'.place ≡ use'.place
+  pub before : AreTraced origins open'.before.items use'.before
+  pub values : AreValues origins (map (λ value. value.items) open'.values.items) use'.values
+
+-- a pending word: it is the next one of the innermost argument, or ends an argument of the innermost open use
+abbrev pub StandsBy : List Origin → (List Open → List Sourced → List OpenUse → Type 0) → Traced → End → List Open → List Sourced → List OpenUse → Type 0
+StandsBy origins Stands traced Nothing those (word ∷ todo) uses = IsTraced origins traced word × Stands those todo uses
+StandsBy origins Stands traced Argument those [] (use' ∷ uses) = (next : List Sourced) × (others : List (List Sourced)) × (use'.waiting ≡ next ∷ others) × Stands those next (record use' { waiting = others } ∷ uses)
+StandsBy origins Stands traced Call (open' ∷ those) [] (use' ∷ uses) = (use'.waiting ≡ []) × IsOpen origins open' use' × Stands those use'.rest uses
+StandsBy origins Stands traced _ _ _ _ = ⊥
+
+-- the pending words and the open uses, with the next word and the innermost use first, stand for words and uses
+abbrev pub Stands : List Origin → List Pending → List Open → List Sourced → List OpenUse → Type 0
+Stands origins [] [] [] [] = Unit {0}
+Stands origins (pending ∷ items) those todo uses = StandsBy origins (Stands origins items) pending.traced pending.«end» those todo uses
+Stands origins _ _ _ _ = ⊥
+
+-- ## The whole
+
+-- what is to be looked through, what is done, the open uses, and how many words may still be made
+pub record State : Type 0 where
+  pub todo : List Sourced
+  pub done : List Sourced
+  pub uses : List OpenUse
+  pub left : ℕ
+
+abbrev pub ComesOf : Table → State → Ending (List Sourced) → Type 0
+ComesOf table state ending = Comes table state.uses state.todo state.done state.left ending
+
+-- a replacement that is under way, where these words are pending, stands for a state
+pub record Represents (run : Run) (items : List Pending) (state : State) : Type 0 where
+  pub stands : Stands run.origins.items items (reverse run.open.items) state.todo state.uses
+  pub done : AreTraced run.origins.items run.done.items state.done
+  pub left : run.left ≡ state.left
+
+-- what comes of the state that one replacement stands for, comes of that which the other stood for
+pub record LeadsTo (table : Table) (state : State) (run : Run) : Type 0 where
+  pub behind : State
+  pub represents : Represents run (reverse run.pending.items) behind
+  pub comes : (ending : Ending (List Sourced)) → ComesOf table behind ending → ComesOf table state ending
+
+-- a pending word that ends this
+abbrev pub ending_word : Traced → End → Pending
+ending_word traced end' = record { traced = traced; «end» = end' }
+
+-- a step leads from one replacement, with a next word, to another
+abbrev pub Advances : Table → Run → Pending → Run → Type 0
+Advances table old next new = (state : State) → Represents old (next ∷ reverse old.pending.items) state → LeadsTo table state new
+
+-- a fault comes of a state
+abbrev pub FaultComes : Table → State → ReplaceFault → Type 0
+FaultComes table state (fault.Refused refusal) = (refusal.family ≡ D) × ComesOf table state (Refused refusal.number refusal.span)
+FaultComes table state fault.TooMany = ComesOf table state TooMany
+FaultComes table state fault.Memory = Unit {0}
+
+abbrev pub Fails : Table → Run → Pending → ReplaceFault → Type 0
+Fails table old next fault' = (state : State) → Represents old (next ∷ reverse old.pending.items) state → FaultComes table state fault'
+
+-- the next word is a name that may use a macro
+pub record AtUse (table : Table) (run : Run) (plain : PlainMacro) (name : Traced) (state : State) : Type 0 where
+  pub word : Sourced
+  pub words : List Sourced
+  pub todo : state.todo ≡ word ∷ words
+  pub traced : IsTraced run.origins.items name word
+  pub stands : Stands run.origins.items (reverse run.pending.items) (reverse run.open.items) words state.uses
+  pub done : AreTraced run.origins.items run.done.items state.done
+  pub left : run.left ≡ state.left
+  pub is : use_of table word words ≡ use_as plain plain.parameters word words
+  pub calls : plain.parameters ≡ None ⊎ next_opens words ≡ true
+
+-- the next words are a name that may use a function-like macro, and a `(`, which is no more pending
+pub record AtCall (table : Table) (run : Run) (plain : PlainMacro) (parameters : ℕ) (name : Traced) (state : State) : Type 0 where
+  pub word : Sourced
+  pub paren : Sourced
+  pub words : List Sourced
+  pub todo : state.todo ≡ word ∷ paren ∷ words
+  pub traced : IsTraced run.origins.items name word
+  pub stands : Stands run.origins.items (reverse run.pending.items) (reverse run.open.items) words state.uses
+  pub done : AreTraced run.origins.items run.done.items state.done
+  pub left : run.left ≡ state.left
+  pub is : use_of table word (paren ∷ words) ≡ called plain parameters (arguments_in 0 words)
+
+-- a use was replaced, and nothing else was changed
+pub record IsReplacedIn (old new : Run) (plain : PlainMacro) (name : Traced) (values : List (List Traced)) : Type 0 where
+  pub grown : Extends old.origins.items new.origins.items
+  pub puts : PutsReplacement old.origins.items new.origins.items old.pending.items new.pending.items plain name values old.left new.left
+  pub done : new.done.items ≡ old.done.items
+  pub opens : new.open.items ≡ old.open.items
+
+-- why a use is not replaced
+abbrev pub IsTooLong : Run → PlainMacro → Traced → List (List Traced) → ReplaceFault → Type 0
+IsTooLong old plain name values fault' =
+    (name' : Sourced) (values' : List (List Sourced)) → IsTraced old.origins.items name name' → AreValues old.origins.items values values' → Short fault' (old.left < length (replacement plain name' values'))
+
+-- a use was opened
+pub record IsOpenedIn (old new : Run) (made : Bor Macro) (name : Traced) : Type 0 where
+  pub opened : Open
+  pub opens : new.open.items ≡ old.open.items ++ opened ∷ []
+  pub the_macro : opened.made.now ≡ made.now
+  pub the_name : opened.name ≡ name
+  pub the_place : opened.place ≡ place_among (reverse old.open.items) name
+  pub before : opened.before.items ≡ old.done.items
+  pub values : opened.values.items ≡ []
+  pub done : new.done.items ≡ []
+  pub pending : new.pending.items ≡ old.pending.items
+  pub origins : new.origins.items ≡ old.origins.items
+  pub left : new.left ≡ old.left
+
+-- how much there is to do
+abbrev pub weight : Run → ℕ
+weight run = 2 * run.left + length run.pending.items

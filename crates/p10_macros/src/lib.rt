@@ -1,0 +1,26 @@
+//! Macros of the preprocessor (C99 6.10.3): the table of those that are defined, and the replacement of all their uses
+//! in a run of words.
+//!
+//! Entry points: [`Macros`], the table; and [`replace`], which gives the words of a run after the replacement, or tells
+//! how it is refused. Invariant: no name stands in a table twice. Directives, files and conditions are left to the
+//! crates above.
+#![tactic(auto)]
+
+mod arguments;
+mod expansion;
+mod known;
+mod origin;
+mod own;
+mod pending;
+mod replaced;
+mod replacement;
+mod run;
+mod same;
+mod table;
+
+pub use expansion::{no_object_left, one_ending, replace};
+pub use replaced::{ReplaceFault, Replaced};
+pub use table::{Definition, Macros};
+
+#[cfg(test)]
+mod tests;

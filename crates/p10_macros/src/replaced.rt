@@ -1,0 +1,23 @@
+//! What comes of the replacement of macros.
+
+use p10_base::{ListBuf, Refusal, Word};
+
+/// The words of a run after every use of a macro was replaced.
+#[derive(Drop)]
+pub struct Replaced<'s> {
+    /// The words. One that a macro gave has the place of the name in the use of the outermost macro.
+    pub words: ListBuf<Word<'s>>,
+    /// How many words of replacements may still be made.
+    pub left: u64,
+}
+
+/// Why the uses of macros aren't replaced.
+#[derive(Clone, Copy)]
+pub enum ReplaceFault {
+    /// D6, D7 or D8 at the name in the use of the outermost macro.
+    Refused(Refusal),
+    /// More words of replacements than may be made.
+    TooMany,
+    /// Memory is wanting.
+    Memory,
+}

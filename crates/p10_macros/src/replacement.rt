@@ -1,0 +1,234 @@
+//! Puts the replacement of a use in its place.
+
+ghost use Rattle.std.specs.Prelude.{◌≡◌, ℕ, ◌+◌, ◌<◌, ◌≤◌, List, [], ◌∷◌, ◌++◌, length, map, option_copied, option_map, IfOk, IfErr};
+ghost use Rattle.std.specs.List.{flat_map};
+ghost use Rattle.p10_direct.specs.Spelling.{Text, is_name};
+ghost use Rattle.p10_direct.specs.Form.{plain_macro};
+ghost use Rattle.p10_macros.specs.declared.origin.Origin.{Origin as Node};
+ghost use Rattle.p10_macros.specs.Uses.{Sourced, texts_of, replacement};
+ghost use Rattle.p10_macros.specs.Uses as uses;
+ghost use Rattle.p10_macros.specs.Origins.{listed, Extends};
+ghost use Rattle.p10_macros.specs.Traces.{IsTraced, AreValues};
+ghost use Rattle.p10_macros.specs.Putting.{fresh, IsBase, IsJoined, Short, PutsValue, PutsPart, PutsList, PutsReplacement, IsValue, part_of};
+
+use crate::origin::{Origin, add_origin, unite};
+use crate::pending::{End, Pending, Traced};
+use crate::replaced::ReplaceFault;
+use p10_base::{Kind, Span, Word};
+use p10_direct::Macro;
+use std::alloc::AllocError;
+
+/// Puts the replacement of a use on top of the pending words, where `left` words may still be made, and tells how many
+/// are left.
+pub fn put_replacement<'s>(
+    pending: &mut Vec<Pending<'s>>,
+    origins: &mut Vec<Origin<'s>>,
+    made: &Macro<'_, 's>,
+    name: Traced<'s>,
+    values: &[Vec<Traced<'s>>],
+    left: u64,
+) -> Result<u64, ReplaceFault>
+    ensures lighter { IfOk result (λ remaining. (remaining ≤ left) × (remaining + length pending.new.items ≡ left + length pending.old.items)) }
+    ensures grown { Extends origins.old.items origins.new.items }
+    ensures ok { IfOk result (PutsReplacement origins.old.items origins.new.items pending.old.items pending.new.items (plain_macro made.now) name.entry (map (λ value. value.items) values.now) left) }
+    ensures err { IfErr result (λ fault. (name' : Sourced) (values' : List (List Sourced)) → IsTraced origins.old.items name.entry name' → AreValues origins.old.items (map (λ value. value.items) values.now) values' → Short fault (left < length (replacement (plain_macro made.now) name' values'))) }
+{
+    let from = match add_origin(origins, name.from, made.name) {
+        Ok(from) => from,
+        Err(_) => return Err(ReplaceFault::Memory),
+    };
+    put_list(pending, origins, made, name, values, from, left)
+}
+
+/// Puts the replacement list of a use on top, where `from` is the number of the list of the macro and of those that the
+/// name comes from.
+fn put_list<'s>(
+    pending: &mut Vec<Pending<'s>>,
+    origins: &mut Vec<Origin<'s>>,
+    made: &Macro<'_, 's>,
+    name: Traced<'s>,
+    values: &[Vec<Traced<'s>>],
+    from: usize,
+    left: u64,
+) -> Result<u64, ReplaceFault>
+    ensures lighter { IfOk result (λ remaining. (remaining ≤ left) × (remaining + length pending.new.items ≡ left + length pending.old.items)) }
+    ensures grown { Extends origins.old.items origins.new.items }
+    ensures ok { IfOk result (PutsList origins.old.items origins.new.items pending.old.items pending.new.items (plain_macro made.now) name.entry (map (λ value. value.items) values.now) from made.now.body.now left) }
+    ensures err { IfErr result (λ fault. (name' : Sourced) (values' : List (List Sourced)) → IsTraced origins.old.items name.entry name' → IsBase origins.old.items from made.now.name.now name' → AreValues origins.old.items (map (λ value. value.items) values.now) values' → Short fault (left < length (flat_map (part_of (plain_macro made.now).parameters values') made.now.body.now))) }
+{
+    let mut left = left;
+    let mut place = made.body.len();
+    while place > 0 {
+        place -= 1;
+        match put_part(
+            pending,
+            origins,
+            made,
+            name,
+            values,
+            from,
+            &made.body[place],
+            left,
+        ) {
+            Ok(remaining) => left = remaining,
+            Err(fault) => return Err(fault),
+        }
+    }
+    Ok(left)
+}
+
+/// Puts what stands for a word of the replacement list on top.
+fn put_part<'s>(
+    pending: &mut Vec<Pending<'s>>,
+    origins: &mut Vec<Origin<'s>>,
+    made: &Macro<'_, 's>,
+    name: Traced<'s>,
+    values: &[Vec<Traced<'s>>],
+    from: usize,
+    word: &Word<'s>,
+    left: u64,
+) -> Result<u64, ReplaceFault>
+    ensures lighter { IfOk result (λ remaining. (remaining ≤ left) × (remaining + length pending.new.items ≡ left + length pending.old.items)) }
+    ensures grown { Extends origins.old.items origins.new.items }
+    ensures ok { IfOk result (PutsPart origins.old.items origins.new.items pending.old.items pending.new.items (plain_macro made.now) name.entry (map (λ value. value.items) values.now) from word.now left) }
+    ensures err { IfErr result (λ fault. (values' : List (List Sourced)) → AreValues origins.old.items (map (λ value. value.items) values.now) values' → Short fault (left < length (part_of (plain_macro made.now).parameters values' word.now))) }
+{
+    match value_of(made, values, word) {
+        None => put_word(pending, *word, name.word.at, from, left),
+        Some(value) => put_value(pending, origins, value, name, from, left),
+    }
+}
+
+/// The value of the parameter that the word names.
+fn value_of<'v, 's>(
+    made: &Macro<'_, 's>,
+    values: &'v [Vec<Traced<'s>>],
+    word: &Word<'s>,
+) -> Option<&'v [Traced<'s>]>
+    ensures { (origins : List Node) (values' : List (List Sourced)) → AreValues origins (map (λ value. value.items) values.now) values' → IsValue origins (option_copied result) (uses.value_of (texts_of (plain_macro made.now).parameters) values' word.now) }
+{
+    match &made.params {
+        None => None,
+        Some(params) => value_named(params.as_slice(), values, word),
+    }
+}
+
+/// The value of the parameter that the word names, where these are the parameters and their values.
+fn value_named<'v, 's>(
+    params: &[&'s [u8]],
+    values: &'v [Vec<Traced<'s>>],
+    word: &Word<'s>,
+) -> Option<&'v [Traced<'s>]>
+    ensures { (origins : List Node) (values' : List (List Sourced)) → AreValues origins (map (λ value. value.items) values.now) values' → IsValue origins (option_copied result) (uses.value_of (map (λ text. text.now) params.now) values' word.now) }
+{
+    let mut place = 0;
+    while place < params.len() && place < values.len() {
+        if names(word, params[place]) {
+            return Some(values[place].as_slice());
+        }
+        place += 1;
+    }
+    None
+}
+
+/// Whether the word is this name.
+fn names(word: &Word<'_>, text: &[u8]) -> bool
+    ensures { result ≡ is_name text.now word.now }
+{
+    matches!(word.kind, Kind::Name) && word.text == text
+}
+
+/// Puts a word of a replacement on top, at the place of the use.
+fn put_word<'s>(
+    pending: &mut Vec<Pending<'s>>,
+    word: Word<'s>,
+    at: Span,
+    from: usize,
+    left: u64,
+) -> Result<u64, ReplaceFault>
+    ensures lighter { IfOk result (λ remaining. (remaining ≤ left) × (remaining + length pending.new.items ≡ left + length pending.old.items)) }
+    ensures ok { IfOk result (λ remaining. left ≡ remaining + 1) }
+    ensures put { IfOk result (λ remaining. pending.new.items ≡ pending.old.items ++ fresh word.entry at from ∷ []) }
+    ensures err { IfErr result (λ fault. Short fault (left ≡ 0)) }
+{
+    if left == 0 {
+        return Err(ReplaceFault::TooMany);
+    }
+    let word = Word {
+        kind: word.kind,
+        text: word.text,
+        at,
+        first: word.first,
+    };
+    let next = Pending {
+        traced: Traced { word, from },
+        end: End::Nothing,
+    };
+    match pending.push(next) {
+        Ok(()) => Ok(left - 1),
+        Err(_) => Err(ReplaceFault::Memory),
+    }
+}
+
+/// Puts the words of an argument on top.
+fn put_value<'s>(
+    pending: &mut Vec<Pending<'s>>,
+    origins: &mut Vec<Origin<'s>>,
+    value: &[Traced<'s>],
+    name: Traced<'s>,
+    from: usize,
+    left: u64,
+) -> Result<u64, ReplaceFault>
+    ensures lighter { IfOk result (λ remaining. (remaining ≤ left) × (remaining + length pending.new.items ≡ left + length pending.old.items)) }
+    ensures grown { Extends origins.old.items origins.new.items }
+    ensures ok { IfOk result (PutsValue origins.old.items origins.new.items pending.old.items pending.new.items name.entry from value.now left) }
+    ensures err { IfErr result (λ fault. Short fault (left < length value.now)) }
+{
+    let mut left = left;
+    let mut place = value.len();
+    while place > 0 {
+        place -= 1;
+        left = put_traced(pending, origins, &value[place], name, from, left)?;
+    }
+    Ok(left)
+}
+
+/// Puts a word of an argument on top.
+fn put_traced<'s>(
+    pending: &mut Vec<Pending<'s>>,
+    origins: &mut Vec<Origin<'s>>,
+    part: &Traced<'s>,
+    name: Traced<'s>,
+    from: usize,
+    left: u64,
+) -> Result<u64, ReplaceFault>
+    ensures lighter { IfOk result (λ remaining. (remaining ≤ left) × (remaining + length pending.new.items ≡ left + length pending.old.items)) }
+    ensures grown { Extends origins.old.items origins.new.items }
+    ensures ok { IfOk result (PutsValue origins.old.items origins.new.items pending.old.items pending.new.items name.entry from (part.now ∷ []) left) }
+    ensures costs { IfOk result (λ remaining. left ≡ remaining + 1) }
+    ensures err { IfErr result (λ fault. Short fault (left ≡ 0)) }
+{
+    match both(origins, name.from, from, part.from) {
+        Ok(all) => put_word(pending, part.word, name.word.at, all, left),
+        Err(_) => Err(ReplaceFault::Memory),
+    }
+}
+
+/// The number of the list of macros that a word of an argument comes from: those of the use, and its own.
+fn both<'s>(
+    origins: &mut Vec<Origin<'s>>,
+    name: usize,
+    from: usize,
+    own: usize,
+) -> Result<usize, AllocError>
+    ensures grown { Extends origins.old.items origins.new.items }
+    ensures joined { IfOk result (λ all. (macro' : Text) (name' : Sourced) → ((other : Text) → listed origins.old.items name other ≡ name'.from other) → own ≤ length origins.old.items → IsBase origins.old.items from macro' name' → IsJoined origins.old.items own macro' name' origins.new.items all) }
+{
+    if own == 0 {
+        return Ok(from);
+    }
+    if own == name {
+        return Ok(from);
+    }
+    unite(origins, from, own)
+}

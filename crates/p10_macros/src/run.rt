@@ -1,0 +1,316 @@
+//! The steps of a replacement.
+
+ghost use Rattle.std.specs.Prelude.{◌≡◌, ℕ, ◌+◌, ◌*◌, ◌<◌, ◌≤◌, List, [], ◌∷◌, length, map, reverse, option_map, option_copied, OnOk, IfErr, IfNone, IfSome, None, Some, is_none, ◌||◌, ◌++◌};
+ghost use Rattle.p10_direct.specs.Form.{plain_macro};
+ghost use Rattle.p10_macros.specs.Table.{Table};
+ghost use Rattle.p10_macros.specs.Uses.{Sourced};
+ghost use Rattle.p10_macros.specs.Answers.{table_of};
+ghost use Rattle.p10_macros.specs.Standing.{State, Represents, Advances, Fails, FaultComes, LeadsTo, AtUse, AtCall, IsReplacedIn, IsTooLong, IsOpenedIn, ending_word, place_among, weight};
+ghost use Rattle.p10_macros.specs.Marking.{marked};
+ghost use Rattle.p10_macros.specs.Looking.{macro_used, opens_on_top, closes_on_top, refusal_at};
+ghost use Rattle.p10_macros.specs.declared.pending.End.TheVariants as ends;
+ghost use Rattle.p10_macros.specs.declared.replaced.ReplaceFault.TheVariants as faults;
+ghost use Rattle.p10_macros.specs.declared.pending.Traced.{Traced as Kept};
+
+use crate::arguments::{ends_nothing, mark_arguments, punctuates};
+use crate::origin::comes_from;
+use crate::pending::{End, Open, Pending, Run, Traced};
+use crate::replaced::ReplaceFault;
+use crate::replacement::put_replacement;
+use crate::table::Macros;
+use p10_base::{Family, Kind, Refusal, Span};
+use p10_direct::Macro;
+use std::alloc::AllocError;
+use std::mem;
+
+/// Looks at the next word.
+pub fn step<'m, 'w, 's>(
+    run: &mut Run<'m, 'w, 's>,
+    macros: &'m Macros<'w, 's>,
+    next: Pending<'s>,
+) -> Result<(), ReplaceFault>
+    ensures ok { OnOk result (Advances (table_of macros.now) run.old next.entry run.new) }
+    ensures err { IfErr result (Fails (table_of macros.now) run.old next.entry) }
+    ensures lighter { OnOk result (weight run.new ≤ weight run.old) }
+{
+    match next.end {
+        End::Nothing => look(run, macros, next.traced),
+        End::Argument => end_argument(run),
+        End::Call => end_call(run),
+    }
+}
+
+/// Looks at a word that ends no argument: it stays, or begins a use.
+fn look<'m, 'w, 's>(
+    run: &mut Run<'m, 'w, 's>,
+    macros: &'m Macros<'w, 's>,
+    word: Traced<'s>,
+) -> Result<(), ReplaceFault>
+    ensures ok { OnOk result (Advances (table_of macros.now) run.old (ending_word word.entry ends.Nothing) run.new) }
+    ensures err { IfErr result (Fails (table_of macros.now) run.old (ending_word word.entry ends.Nothing)) }
+    ensures lighter { OnOk result (weight run.new ≤ weight run.old) }
+{
+    match used(macros, run.pending.as_slice(), &word) {
+        None => put_done(run, word),
+        Some(made) => begin_use(run, made, word),
+    }
+}
+
+/// Puts a word that stays to those that are done.
+fn put_done<'s>(run: &mut Run<'_, '_, 's>, word: Traced<'s>) -> Result<(), ReplaceFault>
+    ensures done { OnOk result (run.new.done.items ≡ run.old.done.items ++ word.entry ∷ []) }
+    ensures pending { run.new.pending ≡ run.old.pending }
+    ensures open { run.new.open ≡ run.old.open }
+    ensures origins { run.new.origins ≡ run.old.origins }
+    ensures left { run.new.left ≡ run.old.left }
+    ensures err { IfErr result (λ fault. fault ≡ faults.Memory) }
+{
+    match run.done.push(word) {
+        Ok(()) => Ok(()),
+        Err(_) => Err(ReplaceFault::Memory),
+    }
+}
+
+/// The macro that the word uses, where these words are pending behind it.
+fn used<'m, 'w, 's>(
+    macros: &'m Macros<'w, 's>,
+    pending: &[Pending<'s>],
+    name: &Traced<'s>,
+) -> Option<&'m Macro<'w, 's>>
+    ensures { option_map plain_macro (option_copied result) ≡ macro_used (table_of macros.now) (reverse pending.now) name.now.word }
+{
+    if !matches!(name.word.kind, Kind::Name) {
+        return None;
+    }
+    match macros.get(name.word.text) {
+        None => None,
+        Some(made) => if is_used(made, pending) {
+            Some(made)
+        } else {
+            None
+        },
+    }
+}
+
+/// Whether the name of this macro is a use, where these words are pending behind it.
+fn is_used(made: &Macro<'_, '_>, pending: &[Pending<'_>]) -> bool
+    ensures { result ≡ (is_none (plain_macro made.now).parameters || opens_on_top (reverse pending.now)) }
+{
+    made.params.is_none() || opens_next(pending)
+}
+
+/// Whether the next pending word is a `(`.
+fn opens_next(pending: &[Pending<'_>]) -> bool
+    ensures { result ≡ opens_on_top (reverse pending.now) }
+{
+    match pending {
+        [.., next] => ends_nothing(next.end) && punctuates(&next.traced.word, b"("),
+        [] => false,
+    }
+}
+
+/// Whether the next pending word is a `)`.
+fn closes_next(pending: &[Pending<'_>]) -> bool
+    ensures { result ≡ closes_on_top (reverse pending.now) }
+{
+    match pending {
+        [.., next] => ends_nothing(next.end) && punctuates(&next.traced.word, b")"),
+        [] => false,
+    }
+}
+
+/// Begins a use: an object-like macro is replaced at once, and the arguments of a function-like one are replaced first.
+fn begin_use<'m, 'w, 's>(
+    run: &mut Run<'m, 'w, 's>,
+    made: &'m Macro<'w, 's>,
+    name: Traced<'s>,
+) -> Result<(), ReplaceFault>
+    ensures ok { OnOk result ((table : Table) (state : State) → AtUse table run.old (plain_macro made.entry.now) name.entry state → LeadsTo table state run.new) }
+    ensures err { IfErr result (λ fault. (table : Table) (state : State) → AtUse table run.old (plain_macro made.entry.now) name.entry state → FaultComes table state fault) }
+    ensures lighter { OnOk result (weight run.new ≤ weight run.old) }
+{
+    if comes_from(run.origins.as_slice(), name.from, made.name) {
+        return Err(refused(run, &name, 6));
+    }
+    match &made.params {
+        None => replace_use(run, made, name, Vec::new(run.alloc)),
+        Some(params) => {
+            let count = params.as_slice().len();
+            let _ = run.pending.pop();
+            begin_call(run, made, count, name)
+        }
+    }
+}
+
+/// Begins the use of a function-like macro, whose `(` was the next word.
+fn begin_call<'m, 'w, 's>(
+    run: &mut Run<'m, 'w, 's>,
+    made: &'m Macro<'w, 's>,
+    params: usize,
+    name: Traced<'s>,
+) -> Result<(), ReplaceFault>
+    ensures ok { OnOk result ((table : Table) (state : State) → AtCall table run.old (plain_macro made.entry.now) params name.entry state → LeadsTo table state run.new) }
+    ensures err { IfErr result (λ fault. (table : Table) (state : State) → AtCall table run.old (plain_macro made.entry.now) params name.entry state → FaultComes table state fault) }
+    ensures lighter { OnOk result (weight run.new ≤ weight run.old) }
+{
+    if params == 0 && closes_next(run.pending.as_slice()) {
+        let _ = run.pending.pop();
+        return replace_use(run, made, name, Vec::new(run.alloc));
+    }
+    match mark_call(&mut run.pending) {
+        None => Err(refused(run, &name, 8)),
+        Some(count) => if params == count {
+            open_use(run, made, name)
+        } else {
+            Err(refused(run, &name, 7))
+        },
+    }
+}
+
+/// Marks the ends of the arguments that stand on top of the pending words, and tells their number.
+fn mark_call(pending: &mut Vec<Pending<'_>>) -> Option<usize>
+    ensures none { IfNone result (marked 0 (reverse pending.old.items) ≡ None) }
+    ensures some { IfSome result (λ count. marked 0 (reverse pending.old.items) ≡ Some (count, reverse pending.new.items)) }
+    ensures many { length pending.new.items ≡ length pending.old.items }
+{
+    mark_arguments(pending.as_mut_slice())
+}
+
+/// Opens a use, whose first argument is next.
+fn open_use<'m, 'w, 's>(
+    run: &mut Run<'m, 'w, 's>,
+    made: &'m Macro<'w, 's>,
+    name: Traced<'s>,
+) -> Result<(), ReplaceFault>
+    ensures ok { OnOk result (IsOpenedIn run.old run.new made.entry name.entry) }
+    ensures err { IfErr result (λ fault. fault ≡ faults.Memory) }
+{
+    let place = place_of(run.open.as_slice(), &name);
+    let before = mem::replace(&mut run.done, Vec::new(run.alloc));
+    let open = Open {
+        made,
+        name,
+        place,
+        before,
+        values: Vec::new(run.alloc),
+    };
+    match put_open(&mut run.open, open) {
+        Ok(()) => Ok(()),
+        Err(_) => Err(ReplaceFault::Memory),
+    }
+}
+
+/// Puts a use on top of the open ones.
+fn put_open<'m, 'w, 's>(
+    all: &mut Vec<Open<'m, 'w, 's>>,
+    innermost: Open<'m, 'w, 's>,
+) -> Result<(), AllocError>
+    ensures { OnOk result (all.new.items ≡ all.old.items ++ innermost.entry ∷ []) }
+{
+    all.push(innermost)?;
+    Ok(())
+}
+
+/// Puts the value of an argument behind those of the arguments before it.
+fn put_argument<'s>(
+    values: &mut Vec<Vec<Traced<'s>>>,
+    value: Vec<Traced<'s>>,
+) -> Result<(), AllocError>
+    ensures { OnOk result (values.new.items ≡ values.old.items ++ value.entry ∷ []) }
+{
+    values.push(value)?;
+    Ok(())
+}
+
+/// Ends an argument before the last one of the innermost open use.
+fn end_argument<'m, 'w, 's>(run: &mut Run<'m, 'w, 's>) -> Result<(), ReplaceFault>
+    ensures ok { OnOk result ((table : Table) (traced : Kept) → Advances table run.old (ending_word traced ends.Argument) run.new) }
+    ensures err { IfErr result (λ fault. fault ≡ faults.Memory) }
+    ensures lighter { OnOk result (weight run.new ≤ weight run.old) }
+{
+    let value = mem::replace(&mut run.done, Vec::new(run.alloc));
+    match run.open.pop() {
+        None => Ok(()),
+        Some(mut open) => match put_argument(&mut open.values, value) {
+            Ok(()) => match put_open(&mut run.open, open) {
+                Ok(()) => Ok(()),
+                Err(_) => Err(ReplaceFault::Memory),
+            },
+            Err(_) => Err(ReplaceFault::Memory),
+        },
+    }
+}
+
+/// Ends the last argument of the innermost open use, and replaces the use.
+fn end_call<'m, 'w, 's>(run: &mut Run<'m, 'w, 's>) -> Result<(), ReplaceFault>
+    ensures ok { OnOk result ((table : Table) (traced : Kept) → Advances table run.old (ending_word traced ends.Call) run.new) }
+    ensures err { IfErr result (λ fault. (table : Table) (traced : Kept) → Fails table run.old (ending_word traced ends.Call) fault) }
+    ensures lighter { OnOk result (weight run.new ≤ weight run.old) }
+{
+    match run.open.pop() {
+        None => Ok(()),
+        Some(open) => {
+            let Open {
+                made,
+                name,
+                place: _,
+                before,
+                values,
+            } = open;
+            let mut values = values;
+            let value = mem::replace(&mut run.done, before);
+            match put_argument(&mut values, value) {
+                Ok(()) => replace_use(run, made, name, values),
+                Err(_) => Err(ReplaceFault::Memory),
+            }
+        }
+    }
+}
+
+/// Replaces a use.
+fn replace_use<'m, 'w, 's>(
+    run: &mut Run<'m, 'w, 's>,
+    made: &'m Macro<'w, 's>,
+    name: Traced<'s>,
+    values: Vec<Vec<Traced<'s>>>,
+) -> Result<(), ReplaceFault>
+    ensures ok { OnOk result (IsReplacedIn run.old run.new (plain_macro made.entry.now) name.entry (map (λ value. value.items) values.entry.items)) }
+    ensures err { IfErr result (IsTooLong run.old (plain_macro made.entry.now) name.entry (map (λ value. value.items) values.entry.items)) }
+    ensures lighter { OnOk result (weight run.new ≤ weight run.old) }
+{
+    match put_replacement(
+        &mut run.pending,
+        &mut run.origins,
+        made,
+        name,
+        values.as_slice(),
+        run.left,
+    ) {
+        Ok(remaining) => {
+            run.left = remaining;
+            Ok(())
+        }
+        Err(fault) => Err(fault),
+    }
+}
+
+/// A refusal of the use with this name.
+fn refused(run: &Run<'_, '_, '_>, name: &Traced<'_>, number: u8) -> ReplaceFault
+    ensures { result ≡ refusal_at number (place_among (reverse run.now.open.items) name.now) }
+{
+    ReplaceFault::Refused(Refusal {
+        family: Family::D,
+        number,
+        span: place_of(run.open.as_slice(), name),
+    })
+}
+
+/// The name in the use of the outermost macro, where a use with this name stands in these.
+fn place_of(open: &[Open<'_, '_, '_>], name: &Traced<'_>) -> Span
+    ensures { result ≡ place_among (reverse open.now) name.now }
+{
+    match open {
+        [.., innermost] => innermost.place,
+        [] => name.word.at,
+    }
+}

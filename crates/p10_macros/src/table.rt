@@ -1,0 +1,105 @@
+//! The macros that are defined.
+
+ghost use Rattle.std.specs.Prelude.{◌≡◌};
+ghost use Rattle.p10_macros.specs.Known.{AreNamed, own_among};
+
+use crate::known::Known;
+use crate::own::{own_if, own_in};
+use crate::same::same_macro;
+use indexmap::IndexMap;
+use p10_direct::Macro;
+use std::alloc::{AllocError, Global};
+
+/// What a definition does to the table.
+#[derive(Clone, Copy, Debug, PartialEq, Eq)]
+pub enum Definition {
+    /// The name was not defined, and is now.
+    New,
+    /// The name was defined in the same way: nothing is changed.
+    Same,
+    /// The name was defined in another way: nothing is changed.
+    Other,
+}
+
+/// The macros that are defined, in the order of their definitions.
+#[derive(Drop)]
+pub struct Macros<'w, 's> {
+    known: IndexMap<&'s [u8], Known<'w, 's>>,
+    own: usize,
+    ghost named: { AreNamed known.entries },
+    ghost counted: { own ≡ own_among known.entries },
+}
+
+impl<'w, 's> Macros<'w, 's> {
+    ghost use Rattle.std.specs.Prelude.{◌≡◌, [], option_map, option_copied, IfOk, OnOk, OnErr};
+    ghost use Rattle.p10_direct.specs.Form.{plain_macro};
+    ghost use Rattle.p10_macros.specs.Table.{macro_named, with_macro, without_macro, own_of};
+    ghost use Rattle.p10_macros.specs.Answers.{table_of, Defines};
+
+    /// A table without macros.
+    pub fn new(alloc: Global) -> Macros<'w, 's>
+        ensures { table_of result ≡ [] }
+    {
+        Macros {
+            known: IndexMap::new(alloc),
+            own: 0,
+        }
+    }
+
+    /// The macro with this name.
+    pub fn get(&self, name: &'s [u8]) -> Option<&Macro<'w, 's>>
+        ensures { option_map plain_macro (option_copied result) ≡ macro_named name.now (table_of self.now) }
+    {
+        match self.known.get(&name) {
+            None => None,
+            Some(known) => Some(&known.made),
+        }
+    }
+
+    /// How many of the macros no built-in header defined.
+    pub fn own(&self) -> usize
+        ensures { result ≡ own_of (table_of self.now) }
+    {
+        self.own
+    }
+
+    /// Defines a macro behind the others, unless its name is defined. `builtin` says that a built-in header
+    /// defines it.
+    pub fn define(&mut self, made: Macro<'w, 's>, builtin: bool) -> Result<Definition, AllocError>
+        ensures ok { IfOk result (λ answer. Defines (table_of self.old) (plain_macro made.entry) builtin answer (table_of self.new)) }
+        ensures err { OnErr result (table_of self.new ≡ table_of self.old) }
+    {
+        match self.get(made.name) {
+            None => {
+                self.add(made, builtin)?;
+                Ok(Definition::New)
+            }
+            Some(known) => Ok(if same_macro(known, &made) {
+                Definition::Same
+            } else {
+                Definition::Other
+            }),
+        }
+    }
+
+    /// Takes the macro with this name out of the table, if there is one.
+    pub fn undefine(&mut self, name: &'s [u8])
+        ensures { table_of self.new ≡ without_macro (table_of self.old) name.now }
+    {
+        let removed = self.known.shift_remove(&name);
+        self.own -= own_in(&removed);
+    }
+
+    /// Puts a macro whose name isn't defined behind the others.
+    fn add(&mut self, made: Macro<'w, 's>, builtin: bool) -> Result<(), AllocError>
+        requires { macro_named (plain_macro made).name (table_of self.old) ≡ None }
+        ensures ok { OnOk result (table_of self.new ≡ with_macro (table_of self.old) (plain_macro made.entry) builtin) }
+        ensures err { OnErr result (table_of self.new ≡ table_of self.old) }
+    {
+        let count = self.known.len();
+        let own = own_if(builtin);
+        self.known.insert(made.name, Known { made, builtin })?;
+        self.own += own;
+        Ok(())
+    }
+}
