@@ -1,0 +1,237 @@
+-- What holds of all words holds of those that replacement gives.
+use Rattle.std.proofs.Common.{ℕ, zero, suc, ◌==◌, List, [], ◌∷◌, ◌++◌, map, length, Bool, true, false, ◌&&◌, if◌then◌else◌, Option, Some, None, bytes_eq, sym, subst}
+use Rattle.std.specs.List.{AllByRecursion, flat_map}
+use Rattle.p10_base.specs.declared.span.Span.{Span}
+use Rattle.p10_base.specs.declared.word.Word.{Word}
+use Rattle.p10_direct.specs.Spelling.{Text, is_name, is_name_kind}
+use Rattle.p10_direct.specs.Directives.{PlainMacro}
+use Rattle.p10_macros.specs.Table.{Entry, Table, macro_named, without_macro}
+use Rattle.p10_macros.specs.Uses.{Sourced, written, plain_words, Arguments, opens, closes, separates, depth_behind, word_before, argument_before, arguments_in, fitting, Use, Stays, Wrong, Calls, fitted, called, unless_recursive, use_as, use_by, use_of, given, value_of, value_or, texts_of, replacement}
+use Rattle.p10_macros.specs.Endings.{Ending, Gives, Refused, TooMany, behind_word, behind_argument}
+use Rattle.p10_macros.specs.Ends.{Ends, EndsAll, Follows, place_in, no_words, word_stays, use_refused, use_replaced, no_arguments, argument_given, argument_refused, argument_too_long, replacement_made, replacement_too_long, values_refused, values_too_long}
+
+-- ## Lists
+
+module _ {A : Type 0} (P : A → Type 0) where
+  pub each_joined : (xs ys : List A) → AllByRecursion P xs → AllByRecursion P ys → AllByRecursion P (xs ++ ys)
+  each_joined [] ys p q = q
+  each_joined (x ∷ xs) ys p q = (p.0, each_joined xs ys p.1 q)
+
+  pub each_front : (xs ys : List A) → AllByRecursion P (xs ++ ys) → AllByRecursion P xs
+  each_front [] ys p = tt
+  each_front (x ∷ xs) ys p = (p.0, each_front xs ys p.1)
+
+  pub each_back : (xs ys : List A) → AllByRecursion P (xs ++ ys) → AllByRecursion P ys
+  each_back [] ys p = p
+  each_back (x ∷ xs) ys p = each_back xs ys p.1
+
+  pub each_if : (b : Bool) (xs ys : List A) → AllByRecursion P xs → AllByRecursion P ys → AllByRecursion P (if b then xs else ys)
+  each_if true xs ys p q = p
+  each_if false xs ys p q = q
+
+pub each_mapped : {A B : Type 0} (P : A → Type 0) (Q : B → Type 0) (f : A → B) → ((x : A) → P x → Q (f x)) → (xs : List A) → AllByRecursion P xs → AllByRecursion Q (map f xs)
+each_mapped P Q f h [] p = tt
+each_mapped P Q f h (x ∷ xs) p = (h x p.0, each_mapped P Q f h xs p.1)
+
+pub each_weaker : {A : Type 0} (P Q : A → Type 0) → ((x : A) → P x → Q x) → (xs : List A) → AllByRecursion P xs → AllByRecursion Q xs
+each_weaker P Q h [] p = tt
+each_weaker P Q h (x ∷ xs) p = (h x p.0, each_weaker P Q h xs p.1)
+
+each_flat : {A B : Type 0} (P : A → Type 0) (Q : B → Type 0) (f : A → List B) → ((x : A) → P x → AllByRecursion Q (f x)) → (xs : List A) → AllByRecursion P xs → AllByRecursion Q (flat_map f xs)
+each_flat P Q f h [] p = tt
+each_flat P Q f h (x ∷ xs) p = each_joined Q (f x) (flat_map f xs) (h x p.0) (each_flat P Q f h xs p.1)
+
+-- ## Replacement
+
+module _ (T : Text → Type 0) (L : Span → Type 0) where
+  abbrev pub Holds : Word → Type 0
+  Holds word = T word.text.now × L word.at
+
+  abbrev pub HoldsSourced : Sourced → Type 0
+  HoldsSourced sourced = Holds sourced.word
+
+  abbrev pub HasText : Word → Type 0
+  HasText word = T word.text.now
+
+  abbrev pub BodyHolds : PlainMacro → Type 0
+  BodyHolds plain = AllByRecursion HasText plain.body
+
+  abbrev pub TableHolds : Table → Type 0
+  TableHolds table = AllByRecursion (λ (entry : Entry). BodyHolds entry.made) table
+
+  abbrev pub OptionHolds : Option PlainMacro → Type 0
+  OptionHolds None = Unit {0}
+  OptionHolds (Some plain) = BodyHolds plain
+
+  abbrev UseHolds : Use → Type 0
+  UseHolds (Calls plain arguments rest) = BodyHolds plain × AllByRecursion (AllByRecursion HoldsSourced) arguments × AllByRecursion HoldsSourced rest
+  UseHolds _ = Unit {0}
+
+  abbrev ArgumentsHold : Option Arguments → Type 0
+  ArgumentsHold None = Unit {0}
+  ArgumentsHold (Some found) = AllByRecursion HoldsSourced found.first × AllByRecursion (AllByRecursion HoldsSourced) found.others × AllByRecursion HoldsSourced found.rest
+
+  abbrev ListsHold : Option (List (List Sourced)) → Type 0
+  ListsHold None = Unit {0}
+  ListsHold (Some lists) = AllByRecursion (AllByRecursion HoldsSourced) lists
+
+  use_if : (b : Bool) (x y : Use) → UseHolds x → UseHolds y → UseHolds (if b then x else y)
+  use_if true x y p q = p
+  use_if false x y p q = q
+
+  option_if : (b : Bool) (x y : Option PlainMacro) → OptionHolds x → OptionHolds y → OptionHolds (if b then x else y)
+  option_if true x y p q = p
+  option_if false x y p q = q
+
+  arguments_if : (b : Bool) (x y : Option Arguments) → ArgumentsHold x → ArgumentsHold y → ArgumentsHold (if b then x else y)
+  arguments_if true x y p q = p
+  arguments_if false x y p q = q
+
+  lists_if : (b : Bool) (lists : List (List Sourced)) → AllByRecursion (AllByRecursion HoldsSourced) lists → ListsHold (if b then Some lists else None)
+  lists_if true lists p = p
+  lists_if false lists p = tt
+
+  pub named_holds : (name : Text) (table : Table) → TableHolds table → OptionHolds (macro_named name table)
+  named_holds name [] p = tt
+  named_holds name (entry ∷ table) p = option_if (bytes_eq name entry.made.name) (Some entry.made) (macro_named name table) p.0 (named_holds name table p.1)
+
+  word_more : (word : Sourced) (found : Option Arguments) → HoldsSourced word → ArgumentsHold found → ArgumentsHold (word_before word found)
+  word_more word None p q = tt
+  word_more word (Some found) p q = ((p, q.0), q.1, q.2)
+
+  argument_more : (found : Option Arguments) → ArgumentsHold found → ArgumentsHold (argument_before found)
+  argument_more None q = tt
+  argument_more (Some found) q = (tt, (q.0, q.1), q.2)
+
+  arguments_hold : (depth : ℕ) (words : List Sourced) → AllByRecursion HoldsSourced words → ArgumentsHold (arguments_in depth words)
+  arguments_hold depth [] p = tt
+  arguments_hold depth (word ∷ words) p =
+      arguments_if (closes word.word && (depth == 0)) (Some (record { first = []; others = []; rest = words })) _ (tt, tt, p.1)
+      (arguments_if (separates word.word && (depth == 0)) (argument_before (arguments_in 0 words)) (word_before word (arguments_in (depth_behind depth word.word) words))
+      (argument_more (arguments_in 0 words) (arguments_hold 0 words p.1))
+      (word_more word (arguments_in (depth_behind depth word.word) words) p.0 (arguments_hold (depth_behind depth word.word) words p.1)))
+
+  fitting_holds : (parameters : ℕ) (lists : List (List Sourced)) → AllByRecursion (AllByRecursion HoldsSourced) lists → ListsHold (fitting parameters lists)
+  fitting_holds zero [] p = tt
+  fitting_holds zero ([] ∷ []) p = tt
+  fitting_holds zero ([] ∷ other ∷ lists) p = lists_if (0 == length ([] ∷ other ∷ lists)) ([] ∷ other ∷ lists) p
+  fitting_holds zero ((word ∷ words) ∷ lists) p = lists_if (0 == length ((word ∷ words) ∷ lists)) ((word ∷ words) ∷ lists) p
+  fitting_holds (suc n) lists p = lists_if (suc n == length lists) lists p
+
+  fitted_holds : (plain : PlainMacro) (rest : List Sourced) (lists : Option (List (List Sourced))) → BodyHolds plain → AllByRecursion HoldsSourced rest → ListsHold lists → UseHolds (fitted plain rest lists)
+  fitted_holds plain rest None p q r = tt
+  fitted_holds plain rest (Some lists) p q r = (p, r, q)
+
+  called_holds : (plain : PlainMacro) (parameters : ℕ) (found : Option Arguments) → BodyHolds plain → ArgumentsHold found → UseHolds (called plain parameters found)
+  called_holds plain parameters None p q = tt
+  called_holds plain parameters (Some found) p q = fitted_holds plain found.rest (fitting parameters (found.first ∷ found.others)) p q.2 (fitting_holds parameters (found.first ∷ found.others) (q.0, q.1))
+
+  recursive_holds : (plain : PlainMacro) (name : Sourced) (use' : Use) → UseHolds use' → UseHolds (unless_recursive plain name use')
+  recursive_holds plain name use' p = use_if (name.from plain.name) (Wrong 6) use' tt p
+
+  use_as_holds : (plain : PlainMacro) (parameters : Option (List Text)) (name : Sourced) (words : List Sourced) → BodyHolds plain → AllByRecursion HoldsSourced words → UseHolds (use_as plain parameters name words)
+  use_as_holds plain None name words p q = recursive_holds plain name (Calls plain [] words) (p, tt, q)
+  use_as_holds plain (Some parameters) name [] p q = tt
+  use_as_holds plain (Some parameters) name (word ∷ words) p q =
+      use_if (opens word.word) (unless_recursive plain name (called plain (length parameters) (arguments_in 0 words))) Stays
+      (recursive_holds plain name _ (called_holds plain (length parameters) (arguments_in 0 words) p (arguments_hold 0 words q.1))) tt
+
+  use_by_holds : (found : Option PlainMacro) (name : Sourced) (words : List Sourced) → OptionHolds found → AllByRecursion HoldsSourced words → UseHolds (use_by found name words)
+  use_by_holds None name words p q = tt
+  use_by_holds (Some plain) name words p q = use_as_holds plain plain.parameters name words p q
+
+  use_holds : (table : Table) (name : Sourced) (words : List Sourced) → TableHolds table → AllByRecursion HoldsSourced words → UseHolds (use_of table name words)
+  use_holds table name words p q =
+      use_if (is_name_kind name.word.kind) (use_by (macro_named name.word.text.now table) name words) Stays
+      (use_by_holds (macro_named name.word.text.now table) name words (named_holds name.word.text.now table p) q) tt
+
+  abbrev SourcedText : Sourced → Type 0
+  SourcedText sourced = T sourced.word.text.now
+
+  abbrev ValueHolds : Option (List Sourced) → Type 0
+  ValueHolds None = Unit {0}
+  ValueHolds (Some value) = AllByRecursion SourcedText value
+
+  value_if : (b : Bool) (x y : Option (List Sourced)) → ValueHolds x → ValueHolds y → ValueHolds (if b then x else y)
+  value_if true x y p q = p
+  value_if false x y p q = q
+
+  value_holds : (parameters : List Text) (values : List (List Sourced)) (word : Word) → AllByRecursion (AllByRecursion SourcedText) values → ValueHolds (value_of parameters values word)
+  value_holds [] values word p = tt
+  value_holds (parameter ∷ parameters) [] word p = tt
+  value_holds (parameter ∷ parameters) (value ∷ values) word p = value_if (is_name parameter word) (Some value) _ p.0 (value_holds parameters values word p.1)
+
+  value_or_holds : (value : Option (List Sourced)) (word : Word) → ValueHolds value → HasText word → AllByRecursion SourcedText (value_or value word)
+  value_or_holds None word p q = (q, tt)
+  value_or_holds (Some value) word p q = p
+
+  replacement_holds : (plain : PlainMacro) (name : Sourced) (values : List (List Sourced)) → BodyHolds plain → HoldsSourced name → AllByRecursion (AllByRecursion HoldsSourced) values → AllByRecursion HoldsSourced (replacement plain name values)
+  replacement_holds plain name values p q r =
+      let texts = each_weaker (AllByRecursion HoldsSourced) (AllByRecursion SourcedText) (λ list. each_weaker HoldsSourced SourcedText (λ sourced held. held.0) list) values r in
+      each_mapped SourcedText HoldsSourced (given plain name) (λ part text. (text, q.1)) _
+      (each_flat HasText SourcedText _ (λ word text. value_or_holds (value_of (texts_of plain.parameters) values word) word (value_holds (texts_of plain.parameters) values word texts) text) plain.body p)
+
+  abbrev pub EndingHolds : Ending (List Sourced) → Type 0
+  EndingHolds (Gives made left) = AllByRecursion HoldsSourced made
+  EndingHolds (Refused number at) = L at
+  EndingHolds TooMany = Unit {0}
+
+  abbrev ValuesHold : Ending (List (List Sourced)) → Type 0
+  ValuesHold (Gives made left) = AllByRecursion (AllByRecursion HoldsSourced) made
+  ValuesHold (Refused number at) = L at
+  ValuesHold TooMany = Unit {0}
+
+  abbrev OuterHolds : Option Span → Type 0
+  OuterHolds None = Unit {0}
+  OuterHolds (Some at) = L at
+
+  place_holds : (outer : Option Span) (name : Sourced) → OuterHolds outer → HoldsSourced name → L (place_in outer name)
+  place_holds None name p q = q.1
+  place_holds (Some at) name p q = p
+
+  behind_holds : (word : Sourced) (behind : Ending (List Sourced)) → HoldsSourced word → EndingHolds behind → EndingHolds (behind_word word behind)
+  behind_holds word (Gives made left) p q = (p, q)
+  behind_holds word (Refused number at) p q = q
+  behind_holds word TooMany p q = tt
+
+  argument_holds : (value : List Sourced) (behind : Ending (List (List Sourced))) → AllByRecursion HoldsSourced value → ValuesHold behind → ValuesHold (behind_argument value behind)
+  argument_holds value (Gives made left) p q = (p, q)
+  argument_holds value (Refused number at) p q = q
+  argument_holds value TooMany p q = tt
+
+  mutual
+    ends_hold : {table : Table} {outer : Option Span} {words : List Sourced} {left : ℕ} {ending : Ending (List Sourced)} → Ends table outer words left ending →
+        TableHolds table → OuterHolds outer → AllByRecursion HoldsSourced words → EndingHolds ending
+    ends_hold no_words t o p = tt
+    ends_hold (word_stays {word = word} {behind = behind} is ends gives) t o p = subst EndingHolds (sym gives) (behind_holds word behind p.0 (ends_hold ends t o p.1))
+    ends_hold (use_refused {outer = outer} {word = word} is refused) t o p = subst EndingHolds (sym refused) (place_holds outer word o p.0)
+    ends_hold {table} (use_replaced {outer = outer} {word = word} {words = words} {plain = plain} {arguments = arguments} {rest = rest} is ends follows) t o p =
+        let used : UseHolds (Calls plain arguments rest) = subst UseHolds is (use_holds table word words t p.1) in
+        follows_hold follows t o used.0 p.0 used.2 (arguments_end ends t (place_holds outer word o p.0) used.1)
+
+    arguments_end : {table : Table} {outer : Option Span} {arguments : List (List Sourced)} {left : ℕ} {ending : Ending (List (List Sourced))} → EndsAll table outer arguments left ending →
+        TableHolds table → OuterHolds outer → AllByRecursion (AllByRecursion HoldsSourced) arguments → ValuesHold ending
+    arguments_end no_arguments t o p = tt
+    arguments_end (argument_given {value = value} {behind = behind} first others gives) t o p =
+        subst ValuesHold (sym gives) (argument_holds value behind (ends_hold first t o p.0) (arguments_end others t o p.1))
+    arguments_end (argument_refused first) t o p = ends_hold first t o p.0
+    arguments_end (argument_too_long first) t o p = tt
+
+    follows_hold : {table : Table} {outer : Option Span} {plain : PlainMacro} {name : Sourced} {rest : List Sourced} {values : Ending (List (List Sourced))} {ending : Ending (List Sourced)} →
+        Follows table outer plain name rest values ending → TableHolds table → OuterHolds outer → BodyHolds plain → HoldsSourced name → AllByRecursion HoldsSourced rest → ValuesHold values → EndingHolds ending
+    follows_hold (replacement_made {plain = plain} {name = name} {rest = rest} {values = values} costs ends) t o b n r v =
+        ends_hold ends t o (each_joined HoldsSourced (replacement plain name values) rest (replacement_holds plain name values b n v) r)
+    follows_hold (replacement_too_long less) t o b n r v = tt
+    follows_hold values_refused t o b n r v = v
+    follows_hold values_too_long t o b n r v = tt
+
+  -- what a run of words gives
+  pub run_holds : (table : Table) (words : List Word) (left : ℕ) (ending : Ending (List Sourced)) → Ends table None (map written words) left ending → TableHolds table → AllByRecursion Holds words → EndingHolds ending
+  run_holds table words left ending ends t p = ends_hold ends t tt (each_mapped Holds HoldsSourced written (λ word held. held) words p)
+
+  pub made_holds : (made : List Sourced) → AllByRecursion HoldsSourced made → AllByRecursion Holds (plain_words made)
+  made_holds made p = each_mapped HoldsSourced Holds (λ sourced. sourced.word) (λ sourced held. held) made p
+
+  pub without_holds : (table : Table) (name : Text) → TableHolds table → TableHolds (without_macro table name)
+  without_holds [] name p = tt
+  without_holds (entry ∷ table) name p = each_if (λ (entry : Entry). BodyHolds entry.made) (bytes_eq name entry.made.name) table (entry ∷ without_macro table name) p.1 (p.0, without_holds table name p.1)

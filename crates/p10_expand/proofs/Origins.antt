@@ -1,0 +1,487 @@
+-- The words of an expansion come from the files, and its refusal has its place in one.
+use Rattle.std.proofs.Common.{◌≡◌, inl, inr, ℕ, zero, suc, ◌-◌, ◌<◌, ◌≤◌, nat_le, List, [], ◌∷◌, ◌++◌, map, length, get_or, Bool, true, false, MatchBool, if◌then◌else◌, Option, Some, None, IfOk, Result, Ok, Err, sym, subst, arith}
+use Rattle.std.specs.List.{AllByRecursion}
+use Rattle.p10_base.specs.declared.span.Span.{Span}
+use Rattle.p10_base.specs.declared.word.Word.{Word}
+use Rattle.p10_base.specs.declared.report.Limit.{Limit}
+use Rattle.p10_base.specs.Gathered.{Gathered, LiesIn, count_of, text_of, name_of, candidate_of}
+use Rattle.p10_lex.specs.Pieces.{seen}
+use Rattle.p10_lex.specs.Slices.{AreSlices}
+use Rattle.p10_lex.proofs.SliceLaws.{answer_slices}
+use Rattle.p10_direct.specs.Spelling.{Text}
+use Rattle.p10_direct.specs.Keywords.{keyword_of}
+use Rattle.p10_direct.specs.declared.keyword.Keyword.{Keyword}
+use Rattle.p10_direct.specs.declared.keyword.Keyword.TheVariants as keyword
+use Rattle.p10_direct.specs.Balance.{mark_of}
+use Rattle.p10_direct.specs.Lines.{Piece, DirectiveLine, TextRun, IsPiece, AreCut, words_of}
+use Rattle.p10_direct.specs.Directives.{PlainMacro, PlainDirective, Null, Include, Define, Undef, If, Elif, Ifdef, Ifndef, Else, Endif, Once, InitDone, TaskLoop, OtherPragma, Outcome, Read, BadForm, BadDefinition, IsOutcome, place_of, Definition as Defined, Continues, IsList, DefinesBehind, Defines as DefinesWords, SpellsNamed, SpellsBehind, Spells, IsBadNamed, IsBadBehind, IsBadDefinition}
+use Rattle.p10_macros.specs.declared.table.Definition.{Definition}
+use Rattle.p10_macros.specs.declared.table.Definition.TheVariants.{New, Same, Other}
+use Rattle.p10_macros.specs.Table.{Entry, Table}
+use Rattle.p10_macros.specs.Uses.{Sourced, plain_words}
+use Rattle.p10_macros.specs.Endings.{Ending, Gives, Refused, TooMany}
+use Rattle.p10_macros.specs.Answers.{Defines}
+use Rattle.p10_expand.specs.declared.expanded.Obeyed.{Obeyed as ObeyedLine}
+use Rattle.p10_expand.specs.declared.expansion.digits.Digits.{Digits}
+use Rattle.p10_expand.specs.declared.expansion.stand.Stand.{Stand}
+use Rattle.p10_expand.specs.declared.expansion.stand.Stand.TheVariants.{Obeyed, Skipped}
+use Rattle.p10_expand.specs.Skips.{is_obeyed}
+use Rattle.p10_expand.specs.Conditionals.{Judged, Holds as Truth, Fails, Exceeds, Judges, answered, answered_at, asked_at}
+use Rattle.p10_expand.specs.Items.{lines_of, onto_line, ends_line, item_name, is_among, new_words}
+use Rattle.p10_expand.specs.Obeying.{State, Ended, Goes, Refuses, Passes, Next, On, Enter, End, File, limit, refuse, words_before, begins_at, given_by, with_words, TextEnds, TextGives, RunGives, operand_place, included, is_header, defined_as, DefinitionGives, DefineGives, judged_next, ConditionGives, mark_word, Does, Acts, breaks_at, listed, passed, ObeyedGives, LineGives}
+use Rattle.p10_expand.specs.Expands.{Layout, Includes, GoesOn, Follows, LinesGive, counted, CountedGives, IncludeGives, Expansion, RootEnds, RootsGive, Expands, IsLaidOut, fresh, no_words, words_at}
+use Rattle.p10_expand.specs.declared.expanded.Expanded.{Expanded}
+use Rattle.p10_expand.specs.declared.expansion.fault.ExpandFault.{ExpandFault}
+use Rattle.p10_expand.specs.Steps.{IsExpansion, expansion_of}
+use Rattle.p10_expand.specs.Coming.{IsOfFile, Comes, IsListed, ExpansionComes}
+use Rattle.p10_expand.proofs.Keeping.{Holds, TableHolds, BodyHolds, EndingHolds, each_joined, each_front, each_back, each_weaker, run_holds, made_holds, without_holds}
+
+-- ## Lists
+
+each_at : {A : Type 0} (P : A → Type 0) (xs : List A) (other : A) → AllByRecursion P xs → P other → (place : ℕ) → P (get_or xs place other)
+each_at P [] other p q place = q
+each_at P (x ∷ xs) other p q zero = p.0
+each_at P (x ∷ xs) other p q (suc place) = each_at P xs other p.1 q place
+
+each_place : {A : Type 0} (P : A → Type 0) (xs : List A) (other : A) → ((place : ℕ) → place < length xs → P (get_or xs place other)) → AllByRecursion P xs
+each_place P [] other h = tt
+each_place P (x ∷ xs) other h = (h 0 (omega arith), each_place P xs other (λ place there. h (suc place) (omega arith)))
+
+module _ (g : Gathered) where
+  abbrev W : Word → Type 0
+  W = Holds (IsOfFile g) (LiesIn g)
+
+  abbrev LineHolds : List Word → Type 0
+  LineHolds [] = ⊥
+  LineHolds (hash ∷ words) = W hash × AllByRecursion W words
+
+  line_all : (line : List Word) → LineHolds line → AllByRecursion W line
+  line_all [] h = absurd h
+  line_all (hash ∷ words) h = h
+
+  place_lies : (line : List Word) → LineHolds line → LiesIn g (place_of line)
+  place_lies [] h = absurd h
+  place_lies (hash ∷ words) h = record { held = h.0.1.held; within = h.0.1.within }
+
+  operand_lies : (line : List Word) → LineHolds line → LiesIn g (operand_place line)
+  operand_lies [] h = absurd h
+  operand_lies (hash ∷ []) h = place_lies (hash ∷ []) h
+  operand_lies (hash ∷ name ∷ []) h = place_lies (hash ∷ name ∷ []) h
+  operand_lies (hash ∷ name ∷ operand ∷ words) h = h.1.1.0.1
+
+  mark_holds : (line : List Word) → LineHolds line → AllByRecursion W (mark_word line)
+  mark_holds [] h = absurd h
+  mark_holds (hash ∷ words) h = (each_at W (hash ∷ words) hash h h.0 (length (hash ∷ words) - 1), tt)
+
+  abbrev ListedHolds : ObeyedLine → Type 0
+  ListedHolds line = AllByRecursion W line.words × LiesIn g line.span
+
+  record StateHolds (s : State) : Type 0 where
+    macros : TableHolds (IsOfFile g) (LiesIn g) s.macros
+    words : AllByRecursion W s.words
+    obeyed : AllByRecursion ListedHolds s.obeyed
+
+  abbrev EndedHolds : Ended → Type 0
+  EndedHolds (Goes s) = StateHolds s
+  EndedHolds (Refuses s refusal) = StateHolds s × LiesIn g refusal.span
+  EndedHolds (Passes limit) = Unit {0}
+
+  abbrev NextHolds : Next → Type 0
+  NextHolds (On stand s) = StateHolds s
+  NextHolds (Enter number built_in s) = StateHolds s
+  NextHolds (End ended) = EndedHolds ended
+
+  next_if : (b : Bool) (x y : Next) → NextHolds x → NextHolds y → NextHolds (if b then x else y)
+  next_if true x y p q = p
+  next_if false x y p q = q
+
+  -- ## Text
+
+  before_if : (b : Bool) (words : List Word) → AllByRecursion W words → AllByRecursion W (if b then [] else words)
+  before_if true words p = tt
+  before_if false words p = p
+
+  before_hold : (at : Span) (words : List Word) → AllByRecursion W words → AllByRecursion W (words_before at words)
+  before_hold at [] p = tt
+  before_hold at (word ∷ words) p = before_if (begins_at at word) (word ∷ words_before at words) (p.0, before_hold at words p.1)
+
+  given_holds : (ending : Ending (List Sourced)) → EndingHolds (IsOfFile g) (LiesIn g) ending → AllByRecursion W (given_by ending)
+  given_holds (Gives made left) p = made_holds (IsOfFile g) (LiesIn g) made p
+  given_holds (Refused number at) p = tt
+  given_holds TooMany p = tt
+
+  more_words : (s : State) (words : List Word) (left : ℕ) → StateHolds s → AllByRecursion W words → StateHolds (record s { words = s.words ++ words; left = left })
+  more_words s words left h p = record { macros = h.macros; words = each_joined W s.words words h.words p; obeyed = h.obeyed }
+
+  with_holds : (s : State) (words : List Word) → StateHolds s → AllByRecursion W words → StateHolds (with_words s words)
+  with_holds s words h p = record { macros = h.macros; words = each_joined W s.words words h.words p; obeyed = h.obeyed }
+
+  text_ends_hold : (s : State) (words : List Word) (ending : Ending (List Sourced)) (next : Next) → StateHolds s → AllByRecursion W words → EndingHolds (IsOfFile g) (LiesIn g) ending → TextEnds s words ending next → NextHolds next
+  text_ends_hold s words (Gives made left) next h p e is = subst NextHolds (sym is) (more_words s (plain_words made) left h (made_holds (IsOfFile g) (LiesIn g) made e))
+  text_ends_hold s words (Refused number at) next h p e (before, ends, is) =
+      let out = given_holds before (run_holds (IsOfFile g) (LiesIn g) s.macros (words_before at words) s.left before ends h.macros (before_hold at words p)) in
+      subst NextHolds (sym is) (with_holds s (given_by before) h out, e)
+  text_ends_hold s words TooMany next h p e is = subst NextHolds (sym is) tt
+
+  text_holds : (s : State) (words : List Word) (next : Next) → StateHolds s → AllByRecursion W words → TextGives s words next → NextHolds next
+  text_holds s words next h p (ending, ends, gives) =
+      text_ends_hold s words ending next h p (run_holds (IsOfFile g) (LiesIn g) s.macros words s.left ending ends h.macros p) gives
+
+  -- ## Items
+
+  abbrev Rows : List (List Word) → Type 0
+  Rows lines = AllByRecursion (AllByRecursion W) lines
+
+  onto_holds : (word : Word) (lines : List (List Word)) → W word → Rows lines → Rows (onto_line word lines)
+  onto_holds word [] p q = ((p, tt), tt)
+  onto_holds word (line ∷ lines) p q = ((p, q.0), q.1)
+
+  rows_if : (b : Bool) (x y : List (List Word)) → Rows x → Rows y → Rows (if b then x else y)
+  rows_if true x y p q = p
+  rows_if false x y p q = q
+
+  lines_hold : (words : List Word) → AllByRecursion W words → Rows (lines_of words)
+  lines_hold [] p = tt
+  lines_hold (word ∷ words) p =
+      rows_if (ends_line words) ((word ∷ []) ∷ lines_of words) (onto_line word (lines_of words)) ((p.0, tt), lines_hold words p.1) (onto_holds word (lines_of words) p.0 (lines_hold words p.1))
+
+  words_if : (b : Bool) (x y : List Word) → AllByRecursion W x → AllByRecursion W y → AllByRecursion W (if b then x else y)
+  words_if true x y p q = p
+  words_if false x y p q = q
+
+  new_hold : (given : List Text) (lines : List (List Word)) → Rows lines → AllByRecursion W (new_words given lines)
+  new_hold given [] p = tt
+  new_hold given (line ∷ lines) p =
+      words_if (is_among given (item_name line)) (new_words given lines) (line ++ new_words (given ++ item_name line ∷ []) lines)
+      (new_hold given lines p.1) (each_joined W line (new_words (given ++ item_name line ∷ []) lines) p.0 (new_hold (given ++ item_name line ∷ []) lines p.1))
+
+  run_of_text_holds : (built_in : Bool) (s : State) (words : List Word) (next : Next) → StateHolds s → AllByRecursion W words → RunGives built_in s words next → NextHolds next
+  run_of_text_holds true s words next h p gives =
+      text_holds _ (new_words s.given (lines_of words)) next (record { macros = h.macros; words = h.words; obeyed = h.obeyed }) (new_hold s.given (lines_of words) (lines_hold words p)) gives
+  run_of_text_holds false s words next h p gives = text_holds s words next h p gives
+
+  -- ## Conditions
+
+  abbrev Placed : Word → Type 0
+  Placed = Holds (λ text. Unit {0}) (LiesIn g)
+
+  answered_at_holds : (digits : Digits) (macros : Table) (word : Word) (others : ℕ → List Word) (found : Option (Text × ℕ)) → Placed word → ((behind : ℕ) → AllByRecursion Placed (others behind)) → AllByRecursion Placed (answered_at digits macros word others found)
+  answered_at_holds digits macros word others None p q = (p, q 0)
+  answered_at_holds digits macros word others (Some (name, behind)) p q = ((tt, p.1), q behind)
+
+  answered_holds : (digits : Digits) (macros : Table) (behind : ℕ) (words : List Word) → AllByRecursion Placed words → AllByRecursion Placed (answered digits macros behind words)
+  answered_holds digits macros behind [] p = tt
+  answered_holds digits macros (suc behind) (word ∷ words) p = answered_holds digits macros behind words p.1
+  answered_holds digits macros zero (word ∷ words) p =
+      answered_at_holds digits macros word (λ behind. answered digits macros behind words) (asked_at word words) p.0 (λ behind. answered_holds digits macros behind words p.1)
+
+  words_trivial : (words : List Word) → AllByRecursion (λ (word : Word). Unit {0}) words
+  words_trivial [] = tt
+  words_trivial (word ∷ words) = (tt, words_trivial words)
+
+  table_trivial : (table : Table) → TableHolds (λ text. Unit {0}) (LiesIn g) table
+  table_trivial [] = tt
+  table_trivial (entry ∷ table) = (words_trivial entry.made.body, table_trivial table)
+
+  abbrev JudgedHolds : Judged → Type 0
+  JudgedHolds (Truth truth left) = Unit {0}
+  JudgedHolds (Fails refusal) = LiesIn g refusal.span
+  JudgedHolds Exceeds = Unit {0}
+
+  judges_hold : (whole : Span) (ending : Ending (List Sourced)) (judged : Judged) → LiesIn g whole → EndingHolds (λ text. Unit {0}) (LiesIn g) ending → Judges whole ending judged → JudgedHolds judged
+  judges_hold whole (Gives made left) judged w e (inl (truth, has, is)) = subst JudgedHolds (sym is) tt
+  judges_hold whole (Gives made left) judged w e (inr (none, is)) = subst JudgedHolds (sym is) w
+  judges_hold whole (Refused number at) judged w e is = subst JudgedHolds (sym is) e
+  judges_hold whole TooMany judged w e is = subst JudgedHolds (sym is) tt
+
+  judged_holds : (s : State) (judged : Judged) → StateHolds s → JudgedHolds judged → NextHolds (judged_next s judged)
+  judged_holds s (Truth truth left) h j = record { macros = h.macros; words = h.words; obeyed = h.obeyed }
+  judged_holds s (Fails refusal) h j = (h, j)
+  judged_holds s Exceeds h j = tt
+
+  condition_holds : (digits : Digits) (line condition : List Word) (s : State) (next : Next) → StateHolds s → LineHolds line → AllByRecursion W condition → ConditionGives digits line condition s next → NextHolds next
+  condition_holds digits line condition s next h l p (judged, (ending, ends, judges), is) =
+      let placed = answered_holds digits s.macros 0 condition (each_weaker W Placed (λ word held. (tt, held.1)) condition p) in
+      let ending_holds = run_holds (λ text. Unit {0}) (LiesIn g) s.macros (answered digits s.macros 0 condition) s.left ending ends (table_trivial s.macros) placed in
+      subst NextHolds (sym is) (judged_holds s judged h (judges_hold (place_of line) ending judged (place_lies line l) ending_holds judges))
+
+  -- ## Directives
+
+  abbrev DirectiveHolds : PlainDirective → Type 0
+  DirectiveHolds (Define made) = BodyHolds (IsOfFile g) (LiesIn g) made
+  DirectiveHolds (If condition) = AllByRecursion W condition
+  DirectiveHolds (Elif condition) = AllByRecursion W condition
+  DirectiveHolds _ = Unit {0}
+
+  continues_hold : (parameters words rest : List Word) → Continues parameters words rest → AllByRecursion W words → AllByRecursion W rest
+  continues_hold [] [] rest c p = absurd c
+  continues_hold [] (close ∷ words) rest c p = subst (AllByRecursion W) c.1 p.1
+  continues_hold (parameter ∷ parameters) [] rest c p = absurd c
+  continues_hold (parameter ∷ parameters) (comma ∷ []) rest c p = absurd c
+  continues_hold (parameter ∷ parameters) (comma ∷ word ∷ words) rest c p = continues_hold parameters words rest c.2 p.1.1
+
+  list_holds : (parameters words rest : List Word) → IsList parameters words rest → AllByRecursion W words → AllByRecursion W rest
+  list_holds [] words rest c p = continues_hold [] words rest c p
+  list_holds (parameter ∷ parameters) [] rest c p = absurd c
+  list_holds (parameter ∷ parameters) (word ∷ words) rest c p = continues_hold parameters words rest c.1 p.1
+
+  body_holds : (name : Word) (parameters : Option (List Word)) (body words : List Word) → DefinesBehind name parameters body words → AllByRecursion W words → AllByRecursion W body
+  body_holds name None body words d p = subst (AllByRecursion W) d.1 p
+  body_holds name (Some parameters) body [] d p = absurd d
+  body_holds name (Some parameters) body (paren ∷ words) d p = list_holds parameters words body d.2 p.1
+
+  definition_holds : (definition : Defined) (words : List Word) → DefinesWords definition words → AllByRecursion W words → AllByRecursion W definition.body
+  definition_holds definition [] d p = absurd d
+  definition_holds definition (name ∷ words) d p = body_holds name definition.parameters definition.body words d.2 p.1
+
+  named_holds : (directive : PlainDirective) (name : Option Keyword) (words : List Word) → SpellsNamed directive name words → AllByRecursion W words → DirectiveHolds directive
+  named_holds (Define made) (Some keyword.Define) words (definition, defines, bad, is) p =
+      subst (BodyHolds (IsOfFile g) (LiesIn g)) is (each_weaker W (λ word. IsOfFile g word.text.now) (λ word held. held.0) definition.body (definition_holds definition words defines p))
+  named_holds (Define made) _ words s p = absurd s
+  named_holds (If condition) (Some keyword.If) words s p = subst (AllByRecursion W) s p
+  named_holds (If condition) _ words s p = absurd s
+  named_holds (Elif condition) (Some keyword.Elif) words s p = subst (AllByRecursion W) s p
+  named_holds (Elif condition) _ words s p = absurd s
+  named_holds _ name words s p = tt
+
+  behind_hash_holds : (directive : PlainDirective) (words : List Word) → SpellsBehind directive words → AllByRecursion W words → DirectiveHolds directive
+  behind_hash_holds (Define made) [] s p = absurd s
+  behind_hash_holds (Define made) (word ∷ words) s p = named_holds (Define made) (keyword_of word) words s p.1
+  behind_hash_holds (If condition) [] s p = absurd s
+  behind_hash_holds (If condition) (word ∷ words) s p = named_holds (If condition) (keyword_of word) words s p.1
+  behind_hash_holds (Elif condition) [] s p = absurd s
+  behind_hash_holds (Elif condition) (word ∷ words) s p = named_holds (Elif condition) (keyword_of word) words s p.1
+  behind_hash_holds _ words s p = tt
+
+  directive_holds : (directive : PlainDirective) (line : List Word) → LineHolds line → Spells directive line → DirectiveHolds directive
+  directive_holds directive [] l s = absurd l
+  directive_holds directive (hash ∷ words) l s = behind_hash_holds directive words s.1 l.1
+
+  bad_named_lies : (whole at : Span) (name : Option Keyword) (words : List Word) → LiesIn g whole → AllByRecursion W words → IsBadNamed whole at name words → LiesIn g at
+  bad_named_lies whole at (Some keyword.Define) [] w p is = subst (LiesIn g) (sym is) w
+  bad_named_lies whole at (Some keyword.Define) (name ∷ words) w p (inl (nameless, is)) = subst (LiesIn g) (sym is) w
+  bad_named_lies whole at (Some keyword.Define) (name ∷ words) w p (inr (definition, defines, bad, is)) =
+      subst (LiesIn g) (sym is) (subst (λ (n : Word). LiesIn g n.at) defines.0 p.0.1)
+  bad_named_lies whole at _ words w p is = absurd is
+
+  bad_behind_lies : (whole at : Span) (words : List Word) → LiesIn g whole → AllByRecursion W words → IsBadBehind whole at words → LiesIn g at
+  bad_behind_lies whole at [] w p is = absurd is
+  bad_behind_lies whole at (word ∷ words) w p is = bad_named_lies whole at (keyword_of word) words w p.1 is
+
+  bad_lies : (at : Span) (line : List Word) → LineHolds line → IsBadDefinition at line → LiesIn g at
+  bad_lies at [] l is = absurd l
+  bad_lies at (hash ∷ words) l is = bad_behind_lies (place_of (hash ∷ words)) at words (place_lies (hash ∷ words) l) l.1 is.1
+
+  table_holds : (old new : Table) (made : PlainMacro) (built_in : Bool) (answer : Definition) → TableHolds (IsOfFile g) (LiesIn g) old → BodyHolds (IsOfFile g) (LiesIn g) made → Defines old made built_in answer new → TableHolds (IsOfFile g) (LiesIn g) new
+  table_holds old new made built_in New t b d =
+      subst (TableHolds (IsOfFile g) (LiesIn g)) (sym d.1) (each_joined (λ (entry : Entry). BodyHolds (IsOfFile g) (LiesIn g) entry.made) old (record { made = made; builtin = built_in } ∷ []) t (b, tt))
+  table_holds old new made built_in Same t b d = subst (TableHolds (IsOfFile g) (LiesIn g)) (sym d.1) t
+  table_holds old new made built_in Other t b d = subst (TableHolds (IsOfFile g) (LiesIn g)) (sym d.1) t
+
+  with_macros : (s : State) (macros : Table) → StateHolds s → TableHolds (IsOfFile g) (LiesIn g) macros → StateHolds (record s { macros = macros })
+  with_macros s macros h t = record { macros = t; words = h.words; obeyed = h.obeyed }
+
+  defined_holds : (line : List Word) (s : State) (answer : Definition) (macros : Table) → StateHolds s → LineHolds line → TableHolds (IsOfFile g) (LiesIn g) macros → NextHolds (defined_as line s answer macros)
+  defined_holds line s New macros h l t = next_if _ (End (Passes (limit 6))) (On Obeyed (record s { macros = macros })) tt (with_macros s macros h t)
+  defined_holds line s Same macros h l t = with_macros s macros h t
+  defined_holds line s Other macros h l t = (h, operand_lies line l)
+
+  definition_next_holds : (built_in : Bool) (line : List Word) (made : PlainMacro) (s : State) (next : Next) → StateHolds s → LineHolds line → BodyHolds (IsOfFile g) (LiesIn g) made → DefinitionGives built_in line made s next → NextHolds next
+  definition_next_holds built_in line made s next h l b (answer, macros, defines, is) =
+      subst NextHolds (sym is) (defined_holds line s answer macros h l (table_holds s.macros macros made built_in answer h.macros b defines))
+
+  item_holds : (given : Bool) (line : List Word) (made : PlainMacro) (s new : State) (next : Next) → StateHolds s → StateHolds new → LineHolds line → BodyHolds (IsOfFile g) (LiesIn g) made →
+      MatchBool given (next ≡ On Obeyed s) (DefinitionGives true line made new next) → NextHolds next
+  item_holds true line made s new next h n l b is = subst NextHolds (sym is) h
+  item_holds false line made s new next h n l b gives = definition_next_holds true line made new next n l b gives
+
+  define_holds : (built_in : Bool) (line : List Word) (made : PlainMacro) (s : State) (next : Next) → StateHolds s → LineHolds line → BodyHolds (IsOfFile g) (LiesIn g) made → DefineGives built_in line made s next → NextHolds next
+  define_holds true line made s next h l b gives = item_holds (is_among s.given made.name) line made s _ next h (record { macros = h.macros; words = h.words; obeyed = h.obeyed }) l b gives
+  define_holds false line made s next h l b gives = definition_next_holds false line made s next h l b gives
+
+  included_holds : (line : List Word) (name : Text) (s : State) (found : Option ℕ) → StateHolds s → LineHolds line → NextHolds (included g line name s found)
+  included_holds line name s None h l = (h, operand_lies line l)
+  included_holds line name s (Some number) h l = next_if (is_among s.once (name_of g number)) (On Obeyed s) (Enter number (is_header (name_of g number) name) s) h h
+
+  does_holds : (digits : Digits) (file : File) (stand : Stand) (line : List Word) (directive : PlainDirective) (s : State) (next : Next) → StateHolds s → LineHolds line → DirectiveHolds directive →
+      Does g digits file stand line directive s next → NextHolds next
+  does_holds digits file stand line Null s next h l d is = subst NextHolds (sym is) h
+  does_holds digits file stand line (Include name angle) s next h l d is = subst NextHolds (sym is) (included_holds line name s (candidate_of g file.number name angle) h l)
+  does_holds digits file stand line (Define made) s next h l d gives = define_holds file.built_in line made s next h l d gives
+  does_holds digits file stand line (Undef name) s next h l d is = subst NextHolds (sym is) (with_macros s _ h (without_holds (IsOfFile g) (LiesIn g) s.macros name h.macros))
+  does_holds digits file stand line (If condition) s next h l d gives = condition_holds digits line condition s next h l d gives
+  does_holds digits file stand line (Elif condition) s next h l d gives = condition_holds digits line condition s next h l d gives
+  does_holds digits file stand line (Ifdef name) s next h l d is = subst NextHolds (sym is) h
+  does_holds digits file stand line (Ifndef name) s next h l d is = subst NextHolds (sym is) h
+  does_holds digits file stand line Else s next h l d is = subst NextHolds (sym is) h
+  does_holds digits file stand line Endif s next h l d is = subst NextHolds (sym is) h
+  does_holds digits file stand line Once s next h l d is = subst NextHolds (sym is) (record { macros = h.macros; words = h.words; obeyed = h.obeyed })
+  does_holds digits file stand line InitDone s next h l d is = subst NextHolds (sym is) (with_holds s (mark_word line) h (mark_holds line l))
+  does_holds digits file stand line TaskLoop s next h l d is = subst NextHolds (sym is) (with_holds s (mark_word line) h (mark_holds line l))
+  does_holds digits file stand line OtherPragma s next h l d is = subst NextHolds (sym is) h
+
+  broken_holds : (breaks : Bool) (digits : Digits) (file : File) (stand : Stand) (line : List Word) (directive : PlainDirective) (s : State) (next : Next) → StateHolds s → LineHolds line → DirectiveHolds directive →
+      MatchBool breaks (next ≡ refuse s 2 (place_of line)) (Does g digits file stand line directive s next) → NextHolds next
+  broken_holds true digits file stand line directive s next h l d is = subst NextHolds (sym is) (h, place_lies line l)
+  broken_holds false digits file stand line directive s next h l d does = does_holds digits file stand line directive s next h l d does
+
+  acts_hold : (digits : Digits) (file : File) (stand : Stand) (breaks : Bool) (line : List Word) (outcome : Outcome) (s : State) (next : Next) → StateHolds s → LineHolds line → IsOutcome line outcome →
+      Acts g digits file stand breaks line outcome s next → NextHolds next
+  acts_hold digits file stand breaks line (Read directive) s next h l o acts = broken_holds breaks digits file stand line directive s next h l (directive_holds directive line l o) acts
+  acts_hold digits file stand breaks line BadForm s next h l o is = subst NextHolds (sym is) (h, place_lies line l)
+  acts_hold digits file stand breaks line (BadDefinition at) s next h l o is = subst NextHolds (sym is) (h, bad_lies at line l o)
+
+  -- ## Lines
+
+  listed_if : (built_in : Bool) (x y : State) → StateHolds x → StateHolds y → StateHolds (if built_in then x else y)
+  listed_if true x y p q = p
+  listed_if false x y p q = q
+
+  listed_holds : (file : File) (place : ℕ) (line : List Word) (s : State) → StateHolds s → LineHolds line → StateHolds (listed file place line s)
+  listed_holds file place line s h l =
+      listed_if file.built_in s _ h (record { macros = h.macros; words = h.words; obeyed = each_joined ListedHolds s.obeyed (_ ∷ []) h.obeyed ((line_all line l, place_lies line l), tt) })
+
+  passed_holds : (file : File) (stand : Stand) (place : ℕ) (line : List Word) (s : State) → StateHolds s → LineHolds line → NextHolds (passed file stand place line s)
+  passed_holds file stand place line s h l = next_if (breaks_at file place) (refuse (listed file place line s) 2 (place_of line)) _ (listed_holds file place line s h l, place_lies line l) h
+
+  obeyed_if : (obeyed : Bool) (digits : Digits) (file : File) (stand : Stand) (place : ℕ) (line : List Word) (s : State) (next : Next) → StateHolds s → LineHolds line →
+      MatchBool obeyed (ObeyedGives g digits file stand place line (listed file place line s) next) (next ≡ passed file stand place line s) → NextHolds next
+  obeyed_if true digits file stand place line s next h l (outcome, is, acts) = acts_hold digits file stand (breaks_at file place) line outcome (listed file place line s) next (listed_holds file place line s h l) l is acts
+  obeyed_if false digits file stand place line s next h l is = subst NextHolds (sym is) (passed_holds file stand place line s h l)
+
+  abbrev PieceHolds : Piece → Type 0
+  PieceHolds (DirectiveLine line) = LineHolds line
+  PieceHolds (TextRun words) = AllByRecursion W words
+
+  line_holds : (digits : Digits) (file : File) (stand : Stand) (place : ℕ) (piece : Piece) (s : State) (next : Next) → StateHolds s → PieceHolds piece → LineGives g digits file stand place piece s next → NextHolds next
+  line_holds digits file stand place (DirectiveLine line) s next h p gives = obeyed_if (is_obeyed stand (mark_of (DirectiveLine line))) digits file stand place line s next h p gives
+  line_holds digits file Obeyed place (TextRun words) s next h p gives = run_of_text_holds file.built_in s words next h p gives
+  line_holds digits file (Skipped chosen inner) place (TextRun words) s next h p is = subst NextHolds (sym is) h
+
+  piece_holds : (piece : Piece) (rest : List Word) → IsPiece piece rest → AllByRecursion W (words_of piece) → PieceHolds piece
+  piece_holds (DirectiveLine []) rest is p = absurd is
+  piece_holds (DirectiveLine (word ∷ words)) rest is p = p
+  piece_holds (TextRun words) rest is p = p
+
+  pieces_hold : (words : List Word) (pieces : List Piece) → AreCut words pieces → AllByRecursion W words → AllByRecursion PieceHolds pieces
+  pieces_hold words [] cut p = tt
+  pieces_hold words (piece ∷ pieces) (rest, same, is, cut) p =
+      let all : AllByRecursion W (words_of piece ++ rest) = subst (AllByRecursion W) same p in
+      (piece_holds piece rest is (each_front W (words_of piece) rest all), pieces_hold rest pieces cut (each_back W (words_of piece) rest all))
+
+  -- ## Files
+
+  goes_hold : (behind : State → Ended → Type 0) → ((s : State) (ended : Ended) → StateHolds s → behind s ended → EndedHolds ended) → (within ended : Ended) → EndedHolds within → GoesOn behind within ended → EndedHolds ended
+  goes_hold behind each (Goes s) ended h gives = each s ended h gives
+  goes_hold behind each (Refuses s refusal) ended h is = subst EndedHolds (sym is) h
+  goes_hold behind each (Passes limit) ended h is = subst EndedHolds (sym is) tt
+
+  follows_hold : (includes : Includes) → ((number : ℕ) (built_in : Bool) (s : State) (ended : Ended) → StateHolds s → includes number built_in s ended → EndedHolds ended) →
+      (behind : Stand → State → Ended → Type 0) → ((stand : Stand) (s : State) (ended : Ended) → StateHolds s → behind stand s ended → EndedHolds ended) →
+      (next : Next) (ended : Ended) → NextHolds next → Follows includes behind next ended → EndedHolds ended
+  follows_hold includes one behind each (On stand s) ended h gives = each stand s ended h gives
+  follows_hold includes one behind each (Enter number built_in s) ended h (within, entered, gives) = goes_hold (behind Obeyed) (each Obeyed) within ended (one number built_in s within h entered) gives
+  follows_hold includes one behind each (End other) ended h is = subst EndedHolds (sym is) h
+
+  module _ (layout : Layout) where
+    lines_end : (includes : Includes) → ((number : ℕ) (built_in : Bool) (s : State) (ended : Ended) → StateHolds s → includes number built_in s ended → EndedHolds ended) →
+        (file : File) (pieces : List Piece) (stand : Stand) (place : ℕ) (s : State) (ended : Ended) → StateHolds s → AllByRecursion PieceHolds pieces → LinesGive g layout includes file stand place pieces s ended → EndedHolds ended
+    lines_end includes one file [] stand place s ended h p is = subst EndedHolds (sym is) h
+    lines_end includes one file (piece ∷ pieces) stand place s ended h p (next, gives, follows) =
+        follows_hold includes one _ (λ stand s ended h behind. lines_end includes one file pieces stand (suc place) s ended h p.1 behind) next ended
+        (line_holds layout.digits file stand place piece s next h p.0 gives) follows
+
+    abbrev OptionHolds : Option State → Type 0
+    OptionHolds None = Unit {0}
+    OptionHolds (Some s) = StateHolds s
+
+    option_if : (b : Bool) (s : State) → StateHolds s → OptionHolds (if b then Some s else None)
+    option_if true s h = h
+    option_if false s h = tt
+
+    counted_holds : (built_in : Bool) (count : ℕ) (s : State) → StateHolds s → OptionHolds (counted built_in count s)
+    counted_holds true count s h = h
+    counted_holds false count s h = option_if (nat_le count s.left) _ (record { macros = h.macros; words = h.words; obeyed = h.obeyed })
+
+    module _ (texts : (number : ℕ) → AllByRecursion W (words_at layout number)) where
+      counted_end : (includes : Includes) → ((number : ℕ) (built_in : Bool) (s : State) (ended : Ended) → StateHolds s → includes number built_in s ended → EndedHolds ended) →
+          (number : ℕ) (built_in : Bool) (found : Option State) (ended : Ended) → OptionHolds found → CountedGives g layout includes number built_in found ended → EndedHolds ended
+      counted_end includes one number built_in None ended h is = subst EndedHolds (sym is) tt
+      counted_end includes one number built_in (Some s) ended h (pieces, cut, gives) =
+          lines_end includes one (record { number = number; built_in = built_in; pieces = pieces }) pieces Obeyed 0 s ended h (pieces_hold (words_at layout number) pieces cut (texts number)) gives
+
+      include_end : (nested number : ℕ) (built_in : Bool) (s : State) (ended : Ended) → StateHolds s → IncludeGives g layout nested number built_in s ended → EndedHolds ended
+      unfolding IncludeGives
+      include_end zero number built_in s ended h is = subst EndedHolds (sym is) tt
+      include_end (suc more) number built_in s ended h gives = counted_end (IncludeGives g layout more) (include_end more) number built_in _ ended (counted_holds built_in (length (words_at layout number)) s h) gives
+
+      -- ## Roots
+
+      empty_hold : (numbers : List ℕ) → Rows (no_words numbers)
+      empty_hold [] = tt
+      empty_hold (number ∷ numbers) = (tt, empty_hold numbers)
+
+      comes : (word : Word) → W word → Comes g word
+      comes word held = record { text = held.0; place = held.1 }
+
+      is_listed : (line : ObeyedLine) → ListedHolds line → IsListed g line
+      is_listed line held = record { words = each_weaker W (Comes g) comes line.words held.0; place = held.1 }
+
+      rows_come : (rows : List (List Word)) → Rows rows → AllByRecursion (AllByRecursion (Comes g)) rows
+      rows_come rows held = each_weaker (AllByRecursion W) (AllByRecursion (Comes g)) (λ row. each_weaker W (Comes g) comes row) rows held
+
+      abbrev AnswerHolds : Result Expansion Limit → Type 0
+      AnswerHolds (Ok expansion) = ExpansionComes g expansion
+      AnswerHolds (Err limit) = Unit {0}
+
+      ended_answers : (behind : List (List Word) → List ObeyedLine → ℕ → Result Expansion Limit → Type 0) →
+          ((roots : List (List Word)) (obeyed : List ObeyedLine) (left : ℕ) (answer : Result Expansion Limit) → Rows roots → AllByRecursion ListedHolds obeyed → behind roots obeyed left answer → AnswerHolds answer) →
+          (others : List ℕ) (roots : List (List Word)) (ended : Ended) (answer : Result Expansion Limit) → Rows roots → EndedHolds ended → RootEnds behind others roots ended answer → AnswerHolds answer
+      ended_answers behind each others roots (Goes s) answer r h gives =
+          each (roots ++ s.words ∷ []) s.obeyed s.left answer (each_joined (AllByRecursion W) roots (s.words ∷ []) r (h.words, tt)) h.obeyed gives
+      ended_answers behind each others roots (Refuses s refusal) answer r h is =
+          let rows : Rows (roots ++ s.words ∷ [] ++ no_words others) =
+          each_joined (AllByRecursion W) (roots ++ s.words ∷ []) (no_words others) (each_joined (AllByRecursion W) roots (s.words ∷ []) r (h.0.words, tt)) (empty_hold others) in
+          subst AnswerHolds (sym is) (record {
+            roots = rows_come _ rows;
+            obeyed = each_weaker ListedHolds (IsListed g) is_listed s.obeyed h.0.obeyed;
+            refusal = h.1;
+          })
+      ended_answers behind each others roots (Passes limit) answer r h is = subst AnswerHolds (sym is) tt
+
+      roots_end : (numbers : List ℕ) (roots : List (List Word)) (obeyed : List ObeyedLine) (left : ℕ) (answer : Result Expansion Limit) → Rows roots → AllByRecursion ListedHolds obeyed →
+          RootsGive g layout numbers roots obeyed left answer → AnswerHolds answer
+      roots_end [] roots obeyed left answer r o is =
+          subst AnswerHolds (sym is) (record { roots = rows_come roots r; obeyed = each_weaker ListedHolds (IsListed g) is_listed obeyed o; refusal = tt })
+      roots_end (number ∷ numbers) roots obeyed left answer r o (ended, gives, behind) =
+          let begun : StateHolds (fresh obeyed left) = record { macros = tt; words = tt; obeyed = o } in
+          ended_answers _ (λ roots obeyed left answer r o gives. roots_end numbers roots obeyed left answer r o gives) numbers roots ended answer r
+          (counted_end (IncludeGives g layout 64) (include_end 64) number false _ ended (counted_holds false (length (words_at layout number)) (fresh obeyed left) begun) gives) behind
+
+-- ## The words of the files
+
+word_comes : (g : Gathered) (number : ℕ) (place : ℕ) (words : List Word) → number < count_of g → AreSlices number (text_of g number) place (map seen words) → AllByRecursion (W g) words
+word_comes g number place [] held slices = tt
+word_comes g number place (word ∷ words) held slices =
+    let of_file : word.at.file ≡ number = slices.1.of_file in
+    let start : word.at.start < word.at.end = slices.1.some in
+    let within : word.at.end ≤ length (text_of g number) = slices.1.within in
+    let lies : LiesIn g word.at = record {
+      held = rw of_file held;
+      within = rw of_file (omega arith);
+    } in
+    ((record { file = number; start = word.at.start; end = word.at.end; held = held; slice = slices.1.slice }, lies), word_comes g number word.at.end words held slices.2)
+
+files_come : (g : Gathered) (layout : Layout) → IsLaidOut g layout → (number : ℕ) → AllByRecursion (W g) (words_at layout number)
+files_come g layout laid number =
+    each_at (AllByRecursion (W g)) layout.words [] (each_place (AllByRecursion (W g)) layout.words []
+    (λ place there. let held : place < count_of g = omega (arith, laid.words.all) in
+    word_comes g place 0 (get_or layout.words place []) held (answer_slices place (text_of g place) (map seen (get_or layout.words place [])) (laid.words.lexed place held)))) tt number
+
+-- all words of what a program expands to come from its files, and its refusal has its place in one
+pub expansion_comes : (g : Gathered) (layout : Layout) (expansion : Expansion) → IsLaidOut g layout → Expands g layout (Ok expansion) → ExpansionComes g expansion
+expansion_comes g layout expansion laid gives = roots_end g layout (files_come g layout laid) g.roots [] [] 1048576 (Ok expansion) tt tt gives
+
+pub all_come : (g : Gathered) (answer : Result Expanded ExpandFault) → IfOk answer (IsExpansion g) → IfOk answer (λ expanded. ExpansionComes g (expansion_of expanded))
+all_come g (Ok expanded) (layout, laid, gives) = expansion_comes g layout (expansion_of expanded) laid gives
+all_come g (Err fault) is = tt

@@ -1,0 +1,237 @@
+-- What the directives do (C99 6.10), and what the lines of a file stand for, one by one.
+use Rattle.std.specs.Prelude.{◌≡◌, ℕ, ◌-◌, ◌==◌, nat_lt, List, [], ◌∷◌, ◌++◌, length, slice_index_or, Bool, true, false, ◌&&◌, not, MatchBool, Option, Some, None, if◌then◌else◌, bytes_eq}
+use Rattle.p10_base.specs.declared.span.Span.{Span}
+use Rattle.p10_base.specs.declared.word.Word.{Word}
+use Rattle.p10_base.specs.declared.word.Kind.TheVariants.{Mark}
+use Rattle.p10_base.specs.declared.report.Refusal.{Refusal}
+use Rattle.p10_base.specs.declared.report.Limit.{Limit}
+use Rattle.p10_base.specs.Gathered.{Gathered, name_of, candidate_of}
+use Rattle.p10_direct.specs.Spelling.{Text}
+use Rattle.p10_direct.specs.Lines.{Piece, DirectiveLine, TextRun}
+use Rattle.p10_direct.specs.Balance.{mark_of, first_unbalanced}
+use Rattle.p10_direct.specs.Directives.{PlainMacro, PlainDirective, Null, Include, Define, Undef, If, Elif, Ifdef, Ifndef, Else, Endif, Once, InitDone, TaskLoop, OtherPragma, Outcome, Read, BadForm, BadDefinition, IsOutcome, place_of}
+use Rattle.p10_direct.specs.Reading.{inside}
+use Rattle.p10_macros.specs.declared.table.Definition.{Definition}
+use Rattle.p10_macros.specs.declared.table.Definition.TheVariants.{New, Same, Other}
+use Rattle.p10_macros.specs.Table.{Table, without_macro, own_of}
+use Rattle.p10_macros.specs.Uses.{Sourced, plain_words}
+use Rattle.p10_macros.specs.Endings.{Ending, Gives, Refused, TooMany}
+use Rattle.p10_macros.specs.Answers.{Defines}
+use Rattle.p10_expand.specs.declared.expanded.Obeyed.{Obeyed as ObeyedLine}
+use Rattle.p10_expand.specs.declared.expansion.digits.Digits.{Digits}
+use Rattle.p10_expand.specs.declared.expansion.stand.Stand.{Stand}
+use Rattle.p10_expand.specs.declared.expansion.stand.Stand.TheVariants.{Obeyed, Skipped}
+use Rattle.p10_expand.specs.Guards.{is_guarded}
+use Rattle.p10_expand.specs.Skips.{is_obeyed, stand_behind, stand_of_group, stand_of_else}
+use Rattle.p10_expand.specs.Conditionals.{refusal_of, is_defined, RunEnds, Judged, Holds, Fails, Exceeds, JudgesCondition}
+use Rattle.p10_expand.specs.Items.{lines_of, is_among, given_after, new_words}
+
+-- ## What is known between two lines
+
+pub record State : Type 0 where
+  -- the macros that are defined
+  pub macros : Table
+  -- the names of files that are included once only
+  pub once : List Text
+  -- the names of the items of built-in headers that were given
+  pub given : List Text
+  -- the words of the root so far
+  pub words : List Word
+  -- the directives obeyed so far, in all roots
+  pub obeyed : List ObeyedLine
+  -- how many words of files and of replacements may still be counted
+  pub left : ℕ
+
+-- what comes of lines
+pub data Ended : Type 0 where
+  -- their end is reached
+  Goes : State → Ended
+  -- the first line or use that is refused
+  Refuses : State → Refusal → Ended
+  -- a limit is passed before
+  Passes : Limit → Ended
+
+-- what comes of one line
+pub data Next : Type 0 where
+  -- the line behind it, which stands there
+  On : Stand → State → Next
+  -- the lines of a file, and then the line behind it; whether the file is a built-in header
+  Enter : ℕ → Bool → State → Next
+  -- nothing more
+  End : Ended → Next
+
+-- a file whose lines are expanded: its number, whether it is a built-in header, and its lines
+pub record File : Type 0 where
+  pub number : ℕ
+  pub built_in : Bool
+  pub pieces : List Piece
+
+abbrev pub limit : ℕ → Limit
+limit number = record { number = number }
+
+abbrev pub refuse : State → ℕ → Span → Next
+refuse s number at = End (Refuses s (refusal_of number at))
+
+-- ## Text
+
+abbrev pub begins_at : Span → Word → Bool
+begins_at at word = word.at.file == at.file && word.at.start == at.start
+
+-- the words before the use of a macro at this place
+abbrev pub words_before : Span → List Word → List Word
+words_before at [] = []
+words_before at (word ∷ words) = if begins_at at word then [] else word ∷ words_before at words
+
+abbrev pub given_by : Ending (List Sourced) → List Word
+given_by (Gives made left) = plain_words made
+given_by _ = []
+
+abbrev pub with_words : State → List Word → State
+with_words s words = record s { words = s.words ++ words }
+
+-- what comes of a run of text with this expansion; a refused one stands for the expansion of the words before the refused use
+abbrev pub TextEnds : State → List Word → Ending (List Sourced) → Next → Type 0
+TextEnds s words (Gives made left) next = next ≡ On Obeyed (record s { words = s.words ++ plain_words made; left = left })
+TextEnds s words (Refused number at) next =
+    (before : Ending (List Sourced)) × RunEnds s.macros (words_before at words) s.left before × (next ≡ refuse (with_words s (given_by before)) number at)
+TextEnds s words TooMany next = next ≡ End (Passes (limit 4))
+
+-- a run of text stands for its expansion (C99 6.10.3)
+abbrev pub TextGives : State → List Word → Next → Type 0
+TextGives s words next = (ending : Ending (List Sourced)) × RunEnds s.macros words s.left ending × TextEnds s words ending next
+
+-- a run of text of a built-in header gives the items that weren't given before
+abbrev pub ItemsGive : State → List (List Word) → Next → Type 0
+ItemsGive s items next = TextGives (record s { given = given_after s.given items }) (new_words s.given items) next
+
+abbrev pub RunGives : Bool → State → List Word → Next → Type 0
+RunGives true s words next = ItemsGive s (lines_of words) next
+RunGives false s words next = TextGives s words next
+
+-- ## Includes
+
+-- the place of the word behind the name of a directive, or of the directive where it has none
+abbrev pub operand_place : List Word → Span
+operand_place (hash ∷ name ∷ operand ∷ words) = operand.at
+operand_place line = place_of line
+
+abbrev pub is_some_text : Text → Option Text → Bool
+is_some_text name None = false
+is_some_text name (Some text) = bytes_eq text name
+
+-- the file that is found for a name is a built-in header: its name is that name between angle brackets
+abbrev pub is_header : Text → Text → Bool
+is_header text name = is_some_text name (inside 60 62 text)
+
+-- an include stands for the lines of its candidate, if that isn't included once only, and was before (C99 6.10.2)
+abbrev pub included : Gathered → List Word → Text → State → Option ℕ → Next
+included g line name s None = refuse s 5 (operand_place line)
+included g line name s (Some number) =
+    if is_among s.once (name_of g number) then On Obeyed s
+    else Enter number (is_header (name_of g number) name) s
+
+-- ## Definitions
+
+-- what comes of a definition with this effect on the macros (C99 6.10.3p2): none where the name has the same definition; it is
+-- refused where the name has another one
+abbrev pub defined_as : List Word → State → Definition → Table → Next
+defined_as line s New macros = if nat_lt 8192 (own_of macros) then End (Passes (limit 6)) else On Obeyed (record s { macros = macros })
+defined_as line s Same macros = On Obeyed (record s { macros = macros })
+defined_as line s Other macros = refuse s 4 (operand_place line)
+
+abbrev pub DefinitionGives : Bool → List Word → PlainMacro → State → Next → Type 0
+DefinitionGives built_in line made s next =
+    (answer : Definition) × (macros : Table) × Defines s.macros made built_in answer macros × (next ≡ defined_as line s answer macros)
+
+-- a definition of a built-in header is an item, which is given once
+abbrev pub ItemGives : List Word → PlainMacro → State → Next → Type 0
+ItemGives line made s next =
+    MatchBool (is_among s.given made.name) (next ≡ On Obeyed s) (DefinitionGives true line made (record s { given = s.given ++ made.name ∷ [] }) next)
+
+abbrev pub DefineGives : Bool → List Word → PlainMacro → State → Next → Type 0
+DefineGives true line made s next = ItemGives line made s next
+DefineGives false line made s next = DefinitionGives false line made s next
+
+-- ## Directives
+
+abbrev pub judged_next : State → Judged → Next
+judged_next s (Holds truth left) = On (stand_of_group truth) (record s { left = left })
+judged_next s (Fails refusal) = End (Refuses s refusal)
+judged_next s Exceeds = End (Passes (limit 4))
+
+-- a group is chosen where its condition holds
+abbrev pub ConditionGives : Digits → List Word → List Word → State → Next → Type 0
+ConditionGives digits line condition s next =
+    (judged : Judged) × JudgesCondition digits s.macros (place_of line) condition s.left judged × (next ≡ judged_next s judged)
+
+-- a pragma of this program leaves a mark: its last word
+abbrev pub mark_word : List Word → List Word
+mark_word [] = []
+mark_word (hash ∷ words) = record (slice_index_or (hash ∷ words) (length (hash ∷ words) - 1) hash) { kind = Mark } ∷ []
+
+-- what an obeyed directive does, at a line that stands there
+abbrev pub Does : Gathered → Digits → File → Stand → List Word → PlainDirective → State → Next → Type 0
+Does g digits file stand line Null s next = next ≡ On Obeyed s
+Does g digits file stand line (Include name angle) s next = next ≡ included g line name s (candidate_of g file.number name angle)
+Does g digits file stand line (Define made) s next = DefineGives file.built_in line made s next
+Does g digits file stand line (Undef name) s next = next ≡ On Obeyed (record s { macros = without_macro s.macros name })
+Does g digits file stand line (If condition) s next = ConditionGives digits line condition s next
+Does g digits file stand line (Elif condition) s next = ConditionGives digits line condition s next
+Does g digits file stand line (Ifdef name) s next = next ≡ On (stand_of_group (is_defined s.macros name)) s
+Does g digits file stand line (Ifndef name) s next = next ≡ On (stand_of_group (not (is_defined s.macros name))) s
+Does g digits file stand line Else s next = next ≡ On (stand_of_else stand) s
+Does g digits file stand line Endif s next = next ≡ On Obeyed s
+Does g digits file stand line Once s next = next ≡ On Obeyed (record s { once = s.once ++ name_of g file.number ∷ [] })
+Does g digits file stand line InitDone s next = next ≡ On Obeyed (with_words s (mark_word line))
+Does g digits file stand line TaskLoop s next = next ≡ On Obeyed (with_words s (mark_word line))
+Does g digits file stand line OtherPragma s next = next ≡ On Obeyed s
+
+-- what comes of an obeyed line with this outcome: one of another form is refused, then one that breaks the structure of the
+-- file's conditionals
+abbrev pub Acts : Gathered → Digits → File → Stand → Bool → List Word → Outcome → State → Next → Type 0
+Acts g digits file stand breaks line BadForm s next = next ≡ refuse s 1 (place_of line)
+Acts g digits file stand breaks line (BadDefinition at) s next = next ≡ refuse s 4 at
+Acts g digits file stand breaks line (Read directive) s next =
+    MatchBool breaks (next ≡ refuse s 2 (place_of line)) (Does g digits file stand line directive s next)
+
+-- ## Lines
+
+-- the line at this place is the first that breaks the structure of the file's conditionals
+abbrev pub is_place : ℕ → Option ℕ → Bool
+is_place place None = false
+is_place place (Some other) = place == other
+
+abbrev pub breaks_at : File → ℕ → Bool
+breaks_at file place = is_place place (first_unbalanced file.pieces)
+
+abbrev pub begins_guard : File → ℕ → Bool
+begins_guard file place = (place == 0) && is_guarded file.pieces
+
+-- the directive is listed among those that were obeyed; those of built-in headers aren't
+abbrev pub listed : File → ℕ → List Word → State → State
+listed file place line s =
+    if file.built_in then s
+    else record s { obeyed = s.obeyed ++ (record { words = line; span = place_of line; guard = begins_guard file place }) ∷ [] }
+
+-- a line that isn't obeyed does nothing, unless it breaks the structure of the file's conditionals
+abbrev pub passed : File → Stand → ℕ → List Word → State → Next
+passed file stand place line s =
+    if breaks_at file place then refuse (listed file place line s) 2 (place_of line)
+    else On (stand_behind stand (mark_of (DirectiveLine line))) s
+
+-- what comes of an obeyed line that is listed
+abbrev pub ObeyedGives : Gathered → Digits → File → Stand → ℕ → List Word → State → Next → Type 0
+ObeyedGives g digits file stand place line s next =
+    (outcome : Outcome) × IsOutcome line outcome × Acts g digits file stand (breaks_at file place) line outcome s next
+
+abbrev pub DirectiveGives : Gathered → Digits → File → Stand → ℕ → List Word → State → Next → Type 0
+DirectiveGives g digits file stand place line s next =
+    MatchBool (is_obeyed stand (mark_of (DirectiveLine line)))
+    (ObeyedGives g digits file stand place line (listed file place line s) next)
+    (next ≡ passed file stand place line s)
+
+-- what comes of a line or a run of text that stands there, at this place among the lines of its file
+abbrev pub LineGives : Gathered → Digits → File → Stand → ℕ → Piece → State → Next → Type 0
+LineGives g digits file stand place (DirectiveLine line) s next = DirectiveGives g digits file stand place line s next
+LineGives g digits file Obeyed place (TextRun words) s next = RunGives file.built_in s words next
+LineGives g digits file (Skipped chosen inner) place (TextRun words) s next = next ≡ On (Skipped chosen inner) s

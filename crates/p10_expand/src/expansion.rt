@@ -1,0 +1,162 @@
+//! Expansion: obeying the directives of a program's files, and replacing macros in their text.
+
+mod condition;
+mod digits;
+mod directives;
+mod fault;
+mod files;
+mod guard;
+mod items;
+mod laws;
+mod line;
+mod run;
+mod stand;
+mod state;
+mod step;
+#[cfg(test)]
+mod tests;
+mod texts;
+
+ghost use Rattle.std.specs.Prelude.{◌≡◌, [], ◌++◌, Some, length, replicate, IfOk, IfErr};
+ghost use Rattle.p10_base.specs.Gathered.{count_of};
+ghost use Rattle.p10_expand.specs.Gathering.{HaveWords};
+ghost use Rattle.p10_expand.specs.Expands.{AreWords, ExpansionsAreUnique};
+ghost use Rattle.p10_expand.specs.Coming.{ExpansionComes};
+ghost use Rattle.p10_expand.specs.Steps.{AreCuts, AreTexts, IsExpansion, IsFault, expansion_of, lists_in, lists_of};
+
+use crate::expanded::{Expanded, Obeyed};
+use crate::expansion::digits::Digits;
+use crate::expansion::files::expand_file;
+use crate::expansion::state::State;
+use crate::expansion::texts::Texts;
+pub use fault::ExpandFault;
+pub use laws::expands_to_once;
+use p10_base::{ListBuf, Refusal, Sources, Word};
+use p10_direct::{Lines, lines, one_condition, one_cut, one_outcome};
+use p10_lex::lex;
+use p10_macros::one_ending;
+use std::alloc::{AllocError, Global};
+
+/// The most words of files and of replacements (M4).
+const MOST_WORDS: u64 = 1_048_576;
+
+/// The most nested includes (M3).
+const MOST_NESTED: u32 = 64;
+
+/// Expands a program: obeys its directives and replaces its macros (C99 6.10).
+///
+/// Each file lexes within its limits, as in what `gather` gives. The first of D1 to D8 is the refusal; a limit is answered
+/// where it is passed before one: M3 by the 65th nested include, M4 by 1,048,577 words of files and of replacements, and M6
+/// by 8,193 macros that are defined at once, without those of built-in headers.
+pub fn expand<'s>(alloc: Global, sources: &'s Sources) -> Result<Expanded<'s>, ExpandFault>
+    requires { HaveWords sources.now }
+    ensures expanded { IfOk result (IsExpansion sources.now) }
+    ensures fault { IfErr result (IsFault sources.now) }
+    // What follows: each word's text is one of a file, and all places lie in the files.
+    ensures comes { IfOk result (λ expanded. ExpansionComes sources.now (expansion_of expanded)) }
+{
+    let words = words_of_files(alloc, sources)?;
+    let texts = Texts {
+        sources,
+        words: &words,
+        cuts: lines_of_files(alloc, &words)?,
+        digits: Digits {
+            zero: b"0",
+            one: b"1",
+        },
+    };
+    expand_roots(alloc, &texts)
+}
+
+/// A program expands to one thing at most: its words and refusal, or a passed limit.
+pub fn one_expansion()
+    ensures { ExpansionsAreUnique }
+{
+    one_ending();
+    one_cut();
+    one_outcome();
+    one_condition();
+}
+
+/// The words of each file.
+fn words_of_files<'s>(alloc: Global, sources: &'s Sources) -> Result<Vec<Vec<Word<'s>>>, AllocError>
+    requires { HaveWords sources.now }
+    ensures { IfOk result (λ all. AreWords sources.now (count_of sources.now) (lists_in all)) }
+{
+    let mut all = Vec::new(alloc);
+    for number in 0..sources.count() {
+        match lex(alloc, number, sources.text(number)) {
+            Ok(words) => all.push(words)?,
+            // Each file lexes, so memory is wanting.
+            Err(_) => return Err(AllocError),
+        }
+    }
+    Ok(all)
+}
+
+/// The lines of each file.
+fn lines_of_files<'w, 's>(
+    alloc: Global,
+    files: &'w [Vec<Word<'s>>],
+) -> Result<Vec<Lines<'w, 's>>, AllocError>
+    ensures { IfOk result (λ all. AreCuts (lists_of files.now) (length files.now) all.items) }
+{
+    let mut all = Vec::new(alloc);
+    for words in files {
+        all.push(lines(alloc, words)?)?;
+    }
+    Ok(all)
+}
+
+/// Expands the roots, one after the other, up to the first that is refused.
+fn expand_roots<'w, 's>(alloc: Global, texts: &Texts<'w, 's>) -> Result<Expanded<'s>, ExpandFault>
+    requires { AreTexts texts.now }
+    ensures expanded { IfOk result (IsExpansion texts.now.sources.now) }
+    ensures fault { IfErr result (IsFault texts.now.sources.now) }
+{
+    let mut roots = Vec::new(alloc);
+    let mut obeyed = ListBuf::of(Vec::new(alloc));
+    let mut left = MOST_WORDS;
+    let count = texts.sources.roots();
+    for place in 0..count {
+        let mut state = State::fresh(alloc, obeyed, left);
+        let root = texts.sources.root(place);
+        let refusal = expand_file(alloc, texts, &mut state, root, false, MOST_NESTED)?;
+        roots.push(state.words)?;
+        obeyed = state.obeyed;
+        left = state.left;
+        match refusal {
+            None => {}
+            Some(refusal) => {
+                let others = count - place - 1;
+                return Ok(refused(alloc, roots, others, obeyed, refusal)?);
+            }
+        }
+    }
+    Ok(Expanded {
+        roots: ListBuf::of(roots),
+        obeyed,
+        refusal: None,
+    })
+}
+
+/// What is expanded where the last of these roots is refused, and so many others follow it.
+fn refused<'s>(
+    alloc: Global,
+    roots: Vec<Vec<Word<'s>>>,
+    others: u32,
+    obeyed: ListBuf<Obeyed<'s>>,
+    refusal: Refusal,
+) -> Result<Expanded<'s>, AllocError>
+    ensures { IfOk result (λ expanded. expansion_of expanded ≡ record { roots = lists_in roots.entry ++ replicate others []; obeyed = obeyed.entry; refusal = Some refusal }) }
+{
+    let mut all = roots;
+    for _ in 0..others {
+        all.push(Vec::new(alloc))?;
+    }
+    Ok(Expanded {
+        roots: ListBuf::of(all),
+        obeyed,
+        refusal: Some(refusal),
+    })
+}

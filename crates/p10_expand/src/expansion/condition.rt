@@ -1,0 +1,184 @@
+//! The conditions of `#if` and `#elif`.
+
+ghost use Rattle.std.specs.Prelude.{List, ◌≡◌, ◌+◌, ◌≤◌, length, option_map, IfOk, IfSome};
+ghost use Rattle.p10_macros.specs.Answers.{table_of};
+ghost use Rattle.p10_expand.specs.Conditionals.{is_defined, asked, asked_inside, asked_at, answered, digit_at, refusal_of, Judges, JudgesCondition};
+ghost use Rattle.p10_macros.specs.Uses.{Sourced, plain_words};
+ghost use Rattle.p10_macros.specs.Endings.{Gives};
+ghost use Rattle.p10_expand.specs.Judging.{as_asked, judged_by, Decides};
+ghost use Rattle.p10_expand.specs.Running.{PutsAnswer};
+
+use crate::expansion::digits::Digits;
+use crate::expansion::fault::ExpandFault;
+use p10_base::{Family, Kind, Limit, Refusal, Span, Word};
+use p10_direct::{names, punctuates, truth};
+use p10_macros::{Macros, ReplaceFault, Replaced, replace};
+use std::alloc::{AllocError, Global};
+
+/// What comes of a condition.
+#[derive(Clone, Copy)]
+pub enum Verdict {
+    /// Whether it holds, and how many words of replacements may still be made.
+    Holds { truth: bool, left: u64 },
+    /// It is refused: D3, or D6 to D8 of a use of a macro in it.
+    Fails(Refusal),
+}
+
+/// What comes of a condition of the directive at the place `whole`: `defined` is answered, macros are replaced, and what is
+/// left is evaluated. `left` words of replacements may still be made.
+pub fn judge<'s>(
+    alloc: Global,
+    digits: Digits<'s>,
+    macros: &Macros<'_, 's>,
+    whole: Span,
+    condition: &[Word<'s>],
+    left: u64,
+) -> Result<Verdict, ExpandFault>
+    ensures { Decides (JudgesCondition digits.entry (table_of macros.now) whole condition.now left) result }
+{
+    let asked = answer(alloc, digits, macros, condition)?;
+    match replace(alloc, macros, &asked, left) {
+        Ok(replaced) => Ok(judge_replaced(whole, &replaced)),
+        Err(ReplaceFault::Refused(refusal)) => Ok(Verdict::Fails(refusal)),
+        Err(ReplaceFault::TooMany) => Err(ExpandFault::Over(Limit { number: 4 })),
+        Err(ReplaceFault::Memory) => Err(ExpandFault::Memory),
+    }
+}
+
+/// The refusal with this number among those of directives and macros.
+pub fn refusal(number: u8, at: Span) -> Refusal
+    ensures { result ≡ refusal_of number at }
+{
+    Refusal {
+        family: Family::D,
+        number,
+        span: at,
+    }
+}
+
+/// What comes of a condition after replacement.
+fn judge_replaced(whole: Span, replaced: &Replaced<'_>) -> Verdict
+    ensures { (made : List Sourced) → plain_words made ≡ replaced.now.words → Judges whole (Gives made replaced.now.left) (judged_by result) }
+{
+    match truth(replaced.words.as_slice()) {
+        Some(truth) => Verdict::Holds {
+            truth,
+            left: replaced.left,
+        },
+        None => Verdict::Fails(refusal(3, whole)),
+    }
+}
+
+/// A condition where `defined X` and `defined(X)` are answered.
+fn answer<'s>(
+    alloc: Global,
+    digits: Digits<'s>,
+    macros: &Macros<'_, 's>,
+    condition: &[Word<'s>],
+) -> Result<Vec<Word<'s>>, AllocError>
+    ensures { IfOk result (λ out. out.items ≡ answered digits.entry (table_of macros.now) 0 condition.now) }
+{
+    let mut out = Vec::new(alloc);
+    let mut place = 0;
+    while place < condition.len() {
+        let behind = answer_word(
+            digits,
+            macros,
+            &mut out,
+            &condition[place],
+            &condition[place + 1..],
+        )?;
+        place += 1 + behind;
+    }
+    Ok(out)
+}
+
+/// Puts a word, or the answer to the question that it begins, behind the others; tells how many of the words behind it are of
+/// the question.
+fn answer_word<'s>(
+    digits: Digits<'s>,
+    macros: &Macros<'_, 's>,
+    out: &mut Vec<Word<'s>>,
+    word: &Word<'s>,
+    words: &[Word<'s>],
+) -> Result<usize, AllocError>
+    ensures { IfOk result (PutsAnswer digits.entry (table_of macros.now) out.old.items word.now words.now out.new.items) }
+{
+    match asked_name(word, words) {
+        None => {
+            out.push(*word)?;
+            Ok(0)
+        }
+        Some((name, behind)) => {
+            out.push(digit(digits, *word, defines(macros, name)))?;
+            Ok(behind)
+        }
+    }
+}
+
+/// Whether the name is that of a macro.
+pub fn defines<'s>(macros: &Macros<'_, 's>, name: &'s [u8]) -> bool
+    ensures { result ≡ is_defined (table_of macros.now) name.now }
+{
+    macros.get(name).is_some()
+}
+
+/// The number that stands for a question whose first word this is.
+fn digit<'s>(digits: Digits<'s>, word: Word<'s>, truth: bool) -> Word<'s>
+    ensures { result ≡ digit_at digits.entry word.entry truth }
+{
+    Word {
+        kind: Kind::Number,
+        text: if truth { digits.one } else { digits.zero },
+        at: word.at,
+        first: word.first,
+    }
+}
+
+/// The name that a word and those behind it ask for, and how many of these that takes.
+fn asked_name<'s>(word: &Word<'s>, words: &[Word<'s>]) -> Option<(&'s [u8], usize)>
+    ensures value { as_asked result ≡ asked_at word.now words.now }
+    ensures few { IfSome result (λ found. found.1 ≤ length words.now) }
+{
+    if names(word, b"defined") {
+        asked_behind(words)
+    } else {
+        None
+    }
+}
+
+/// The name that the words behind `defined` ask for, and how many words that takes.
+fn asked_behind<'s>(words: &[Word<'s>]) -> Option<(&'s [u8], usize)>
+    ensures value { as_asked result ≡ asked words.now }
+    ensures few { IfSome result (λ found. found.1 ≤ length words.now) }
+{
+    match words {
+        [] => None,
+        [word, others @ ..] => {
+            if matches!(word.kind, Kind::Name) {
+                Some((word.text, 1))
+            } else if punctuates(word, b"(") {
+                inside(others)
+            } else {
+                None
+            }
+        }
+    }
+}
+
+/// The name before `)`, and that three words of the question stand behind `defined`.
+fn inside<'s>(words: &[Word<'s>]) -> Option<(&'s [u8], usize)>
+    ensures value { as_asked result ≡ asked_inside words.now }
+    ensures few { IfSome result (λ found. found.1 ≤ 1 + length words.now) }
+{
+    match words {
+        [name, closing, ..] => {
+            if matches!(name.kind, Kind::Name) && punctuates(closing, b")") {
+                Some((name.text, 3))
+            } else {
+                None
+            }
+        }
+        _ => None,
+    }
+}

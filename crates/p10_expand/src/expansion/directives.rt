@@ -1,0 +1,238 @@
+//! What the directives do.
+
+ghost use Rattle.std.specs.Prelude.{◌≡◌, ◌<◌, not, length, OnOk, IfOk};
+ghost use Rattle.p10_base.specs.Gathered.{candidate_of, count_of};
+ghost use Rattle.p10_direct.specs.Directives.{place_of};
+ghost use Rattle.p10_direct.specs.Form.{plain, plain_macro, BeginsWithHash};
+ghost use Rattle.p10_expand.specs.Skips.{stand_of_group, stand_of_else};
+ghost use Rattle.p10_expand.specs.Obeying.{Does, ConditionGives, DefineGives, DefinitionGives, included, is_header, operand_place, mark_word, with_words};
+ghost use Rattle.p10_expand.specs.Steps.{Steps, EntersBelow, Lies, inner_of, inner_behind, state_of, file_of, next_of};
+
+use crate::expansion::condition::{Verdict, defines, judge, refusal};
+use crate::expansion::digits::Digits;
+use crate::expansion::fault::ExpandFault;
+use crate::expansion::items::among;
+use crate::expansion::stand::Stand;
+use crate::expansion::state::State;
+use crate::expansion::step::Step;
+use crate::expansion::texts::File;
+use p10_base::{Kind, Limit, Sources, Span, Word};
+use p10_direct::{Directive, Macro, between, whole};
+use p10_macros::Definition;
+use std::alloc::{AllocError, Global};
+
+/// The most macros that are defined at once, without those of built-in headers (M6).
+const MOST_MACROS: usize = 8192;
+
+/// Obeys the directive of a line that stands there.
+pub fn obey<'w, 's>(
+    alloc: Global,
+    sources: &'s Sources,
+    digits: Digits<'s>,
+    file: &File<'_, 'w, 's>,
+    state: &mut State<'w, 's>,
+    stand: Stand,
+    line: &'w [Word<'s>],
+    directive: Directive<'w, 's>,
+) -> Result<Step, ExpandFault>
+    requires held { file.now.number < count_of sources.now }
+    requires begins { BeginsWithHash line.now }
+    ensures entered { IfOk result (EntersBelow (count_of sources.now)) }
+    ensures few { IfOk result (λ step. inner_behind step ≡ 0) }
+    ensures gives { Steps (Does sources.now digits.entry (file_of file.now) stand line.now (plain directive.entry) (state_of state.old)) result state.new }
+{
+    match directive {
+        Directive::Null | Directive::Endif | Directive::OtherPragma => {
+            Ok(Step::On(Stand::Obeyed))
+        }
+        Directive::Include { name, angle } => {
+            Ok(include(sources, file.number, state, line, name, angle))
+        }
+        Directive::Define(made) => define(file.built_in, state, line, made),
+        Directive::Undef(name) => {
+            state.macros.undefine(name);
+            Ok(Step::On(Stand::Obeyed))
+        }
+        Directive::If(condition) | Directive::Elif(condition) => {
+            choose(alloc, digits, state, line, condition)
+        }
+        Directive::Ifdef(name) => Ok(Step::On(group(defines(&state.macros, name)))),
+        Directive::Ifndef(name) => Ok(Step::On(group(!defines(&state.macros, name)))),
+        Directive::Else => Ok(Step::On(otherwise(stand))),
+        Directive::Once => {
+            state.once.push(sources.name(file.number).as_bytes())?;
+            Ok(Step::On(Stand::Obeyed))
+        }
+        Directive::InitDone | Directive::TaskLoop => {
+            mark(state, line)?;
+            Ok(Step::On(Stand::Obeyed))
+        }
+    }
+}
+
+/// Where a group stands whose condition has this truth.
+fn group(truth: bool) -> Stand
+    ensures value { result ≡ stand_of_group truth }
+    ensures few { inner_of result ≡ 0 }
+{
+    if truth {
+        Stand::Obeyed
+    } else {
+        Stand::Skipped {
+            chosen: false,
+            inner: 0,
+        }
+    }
+}
+
+/// Where the group of an `#else` stands.
+fn otherwise(stand: Stand) -> Stand
+    ensures value { result ≡ stand_of_else stand }
+    ensures few { inner_of result ≡ 0 }
+{
+    match stand {
+        Stand::Skipped { chosen: false, .. } => Stand::Obeyed,
+        _ => Stand::Skipped {
+            chosen: true,
+            inner: 0,
+        },
+    }
+}
+
+/// Obeys an `#if` or `#elif`: its group is chosen where the condition holds.
+fn choose<'w, 's>(
+    alloc: Global,
+    digits: Digits<'s>,
+    state: &mut State<'w, 's>,
+    line: &[Word<'s>],
+    condition: &[Word<'s>],
+) -> Result<Step, ExpandFault>
+    requires { BeginsWithHash line.now }
+    ensures entered { IfOk result Lies }
+    ensures gives { Steps (ConditionGives digits.entry line.now condition.now (state_of state.old)) result state.new }
+{
+    match judge(
+        alloc,
+        digits,
+        &state.macros,
+        whole(line),
+        condition,
+        state.left,
+    )? {
+        Verdict::Holds { truth, left } => {
+            state.left = left;
+            Ok(Step::On(group(truth)))
+        }
+        Verdict::Fails(refusal) => Ok(Step::Refused(refusal)),
+    }
+}
+
+/// What comes of an include of `name`, whose line is this.
+fn include<'w, 's>(
+    sources: &'s Sources,
+    from: u32,
+    state: &State<'w, 's>,
+    line: &[Word<'s>],
+    name: &[u8],
+    angle: bool,
+) -> Step
+    requires { BeginsWithHash line.now }
+    ensures entered { EntersBelow (count_of sources.now) result }
+    ensures few { inner_behind result ≡ 0 }
+    ensures gives { next_of result state.now ≡ included sources.now line.now name.now (state_of state.now) (candidate_of sources.now from name.now angle) }
+{
+    match sources.candidate(from, name, angle) {
+        None => Step::Refused(refusal(5, operand(line))),
+        Some(number) => {
+            let text = sources.name(number).as_bytes();
+            if among(&state.once, text) {
+                Step::On(Stand::Obeyed)
+            } else {
+                Step::Enter {
+                    number,
+                    built_in: is_bracketed(text, name),
+                }
+            }
+        }
+    }
+}
+
+/// Whether a file's name is this name between angle brackets.
+fn is_bracketed(text: &[u8], name: &[u8]) -> bool
+    ensures { result ≡ is_header text.now name.now }
+{
+    match between(text, b'<', b'>') {
+        Some(inner) => inner == name,
+        None => false,
+    }
+}
+
+/// The place of the word behind the name of a directive.
+fn operand(line: &[Word<'_>]) -> Span
+    requires { BeginsWithHash line.now }
+    ensures { result ≡ operand_place line.now }
+{
+    match line {
+        [_, _, word, ..] => word.at,
+        _ => whole(line),
+    }
+}
+
+/// Obeys a definition; one of a built-in header is an item, which is given once.
+fn define<'w, 's>(
+    built_in: bool,
+    state: &mut State<'w, 's>,
+    line: &[Word<'s>],
+    made: Macro<'w, 's>,
+) -> Result<Step, ExpandFault>
+    requires { BeginsWithHash line.now }
+    ensures entered { IfOk result Lies }
+    ensures gives { Steps (DefineGives built_in line.now (plain_macro made.entry) (state_of state.old)) result state.new }
+{
+    if built_in {
+        if among(&state.given, made.name) {
+            return Ok(Step::On(Stand::Obeyed));
+        }
+        state.given.push(made.name)?;
+    }
+    define_macro(built_in, state, line, made)
+}
+
+/// Defines a macro.
+fn define_macro<'w, 's>(
+    built_in: bool,
+    state: &mut State<'w, 's>,
+    line: &[Word<'s>],
+    made: Macro<'w, 's>,
+) -> Result<Step, ExpandFault>
+    requires { BeginsWithHash line.now }
+    ensures entered { IfOk result Lies }
+    ensures gives { Steps (DefinitionGives built_in line.now (plain_macro made.entry) (state_of state.old)) result state.new }
+{
+    match state.macros.define(made, built_in)? {
+        Definition::New => {
+            if MOST_MACROS < state.macros.own() {
+                Err(ExpandFault::Over(Limit { number: 6 }))
+            } else {
+                Ok(Step::On(Stand::Obeyed))
+            }
+        }
+        Definition::Same => Ok(Step::On(Stand::Obeyed)),
+        Definition::Other => Ok(Step::Refused(refusal(4, operand(line)))),
+    }
+}
+
+/// Leaves the mark of a pragma of this program.
+fn mark<'w, 's>(state: &mut State<'w, 's>, line: &[Word<'s>]) -> Result<(), AllocError>
+    requires { BeginsWithHash line.now }
+    ensures { OnOk result (state_of state.new ≡ with_words (state_of state.old) (mark_word line.now)) }
+{
+    let last = line[line.len() - 1];
+    state.words.push(Word {
+        kind: Kind::Mark,
+        text: last.text,
+        at: last.at,
+        first: last.first,
+    })?;
+    Ok(())
+}

@@ -1,0 +1,78 @@
+//! The lines of a file, and of those that it includes.
+
+ghost use Rattle.std.specs.Prelude.{◌<◌};
+ghost use Rattle.p10_base.specs.Gathered.{count_of};
+ghost use Rattle.p10_expand.specs.Expands.{FileGives, IncludeGives, counted};
+ghost use Rattle.p10_expand.specs.Steps.{CountsTo, Reaches, AreTexts, layout_of, state_of};
+
+use crate::expansion::fault::ExpandFault;
+use crate::expansion::line::expand_line;
+use crate::expansion::stand::Stand;
+use crate::expansion::state::State;
+use crate::expansion::step::Step;
+use crate::expansion::texts::{File, Texts};
+use p10_base::{Limit, Refusal};
+use std::alloc::Global;
+
+/// Expands a file, in which so many includes may be nested. The answer is the first refusal, or none where the end of the
+/// file is reached.
+pub fn expand_file<'w, 's>(
+    alloc: Global,
+    texts: &Texts<'w, 's>,
+    state: &mut State<'w, 's>,
+    number: u32,
+    built_in: bool,
+    nested: u32,
+) -> Result<Option<Refusal>, ExpandFault>
+    requires stands { AreTexts texts.now }
+    requires held { number < count_of texts.now.sources.now }
+    ensures { Reaches (FileGives texts.now.sources.now (layout_of texts.now) (IncludeGives texts.now.sources.now (layout_of texts.now) nested) number built_in (state_of state.old)) result state.new }
+{
+    count(state, built_in, texts.words[number as usize].len())?;
+    let file = File {
+        number,
+        built_in,
+        cut: &texts.cuts[number as usize],
+    };
+    let mut stand = Stand::Obeyed;
+    for (place, line) in file.cut.lines.as_slice().iter().enumerate() {
+        match expand_line(
+            alloc,
+            texts.sources,
+            texts.digits,
+            &file,
+            state,
+            stand,
+            place,
+            line,
+        )? {
+            Step::On(next) => stand = next,
+            Step::Refused(refusal) => return Ok(Some(refusal)),
+            Step::Enter { number, built_in } => {
+                if nested == 0 {
+                    return Err(ExpandFault::Over(Limit { number: 3 }));
+                }
+                let within = expand_file(alloc, texts, state, number, built_in, nested - 1)?;
+                match within {
+                    Some(refusal) => return Ok(Some(refusal)),
+                    None => stand = Stand::Obeyed,
+                }
+            }
+        }
+    }
+    Ok(None)
+}
+
+/// Counts the words of a file that begins; those of a built-in header aren't counted.
+fn count<'w, 's>(state: &mut State<'w, 's>, built_in: bool, words: usize) -> Result<(), ExpandFault>
+    ensures { CountsTo (counted built_in words (state_of state.old)) result state.new }
+{
+    if !built_in {
+        let words = words as u64;
+        if state.left < words {
+            return Err(ExpandFault::Over(Limit { number: 4 }));
+        }
+        state.left -= words;
+    }
+    Ok(())
+}

@@ -1,0 +1,93 @@
+//! Runs of text.
+
+ghost use Rattle.std.specs.Prelude.{◌≡◌, ◌++◌, ◌≤◌, length, take, OnOk, IfOk};
+ghost use Rattle.p10_expand.specs.Obeying.{words_before, RunGives, TextGives};
+ghost use Rattle.p10_expand.specs.Steps.{Steps, Stays, state_of};
+ghost use Rattle.p10_expand.specs.Running.{GivesBefore};
+
+use crate::expansion::fault::ExpandFault;
+use crate::expansion::items::new_items;
+use crate::expansion::stand::Stand;
+use crate::expansion::state::State;
+use crate::expansion::step::Step;
+use p10_base::{Limit, Span, Word};
+use p10_macros::{ReplaceFault, replace};
+use std::alloc::{AllocError, Global};
+
+/// Expands a run of text of a file, or of a built-in header.
+pub fn expand_run<'w, 's>(
+    alloc: Global,
+    built_in: bool,
+    state: &mut State<'w, 's>,
+    words: &[Word<'s>],
+) -> Result<Step, ExpandFault>
+    ensures gives { Steps (RunGives built_in (state_of state.old) words.now) result state.new }
+    ensures stays { IfOk result Stays }
+{
+    if built_in {
+        let items = new_items(alloc, &mut state.given, words)?;
+        expand_text(alloc, state, &items)
+    } else {
+        expand_text(alloc, state, words)
+    }
+}
+
+/// Expands words.
+fn expand_text<'w, 's>(
+    alloc: Global,
+    state: &mut State<'w, 's>,
+    words: &[Word<'s>],
+) -> Result<Step, ExpandFault>
+    ensures gives { Steps (TextGives (state_of state.old) words.now) result state.new }
+    ensures stays { IfOk result Stays }
+{
+    match replace(alloc, &state.macros, words, state.left) {
+        Ok(replaced) => {
+            state.words.extend_from_slice(replaced.words.as_slice())?;
+            state.left = replaced.left;
+            Ok(Step::On(Stand::Obeyed))
+        }
+        Err(ReplaceFault::Refused(refusal)) => {
+            expand_before(alloc, state, words, refusal.span)?;
+            Ok(Step::Refused(refusal))
+        }
+        Err(ReplaceFault::TooMany) => Err(ExpandFault::Over(Limit { number: 4 })),
+        Err(ReplaceFault::Memory) => Err(ExpandFault::Memory),
+    }
+}
+
+/// Expands the words before a refused use at this place.
+fn expand_before<'w, 's>(
+    alloc: Global,
+    state: &mut State<'w, 's>,
+    words: &[Word<'s>],
+    at: Span,
+) -> Result<(), AllocError>
+    ensures { OnOk result (GivesBefore (state_of state.old) (words_before at words.now) (state_of state.new)) }
+{
+    let before = &words[..count_before(words, at)];
+    match replace(alloc, &state.macros, before, state.left) {
+        Ok(replaced) => {
+            state.words.extend_from_slice(replaced.words.as_slice())?;
+            Ok(())
+        }
+        Err(ReplaceFault::Memory) => Err(AllocError),
+        Err(ReplaceFault::Refused(_)) => Ok(()),
+        Err(ReplaceFault::TooMany) => Ok(()),
+    }
+}
+
+/// How many words stand before the first at this place.
+fn count_before(words: &[Word<'_>], at: Span) -> usize
+    ensures words { take result words.now ≡ words_before at words.now }
+    ensures few { result ≤ length words.now }
+{
+    let mut count = 0;
+    for word in words {
+        if word.at.file == at.file && word.at.start == at.start {
+            return count;
+        }
+        count += 1;
+    }
+    count
+}

@@ -1,0 +1,95 @@
+//! Finding the file at a place.
+
+ghost use Rattle.std.specs.Prelude.{◌≡◌, ◌≤◌, ◌<◌, ◌^◌, OnOk, IfOk, IfErr, IsErrOf, length};
+ghost use Rattle.p10_expand.specs.Gathering.{IsNew};
+ghost use Rattle.p10_expand.specs.Standing.{Stands, IsFound, Fails};
+ghost use Rattle.p10_world.specs.Faults.{Rose};
+
+use crate::fault::Trouble;
+use crate::gathering::Gathering;
+use crate::headers::built_in;
+use crate::place::Place;
+use p10_base::{Limit, ListBuf, TextBuf};
+use p10_world::{FileFault, Files};
+use std::alloc::Global;
+
+/// The most bytes of a source file (M1), and one more, by which a longer one is known.
+const ENOUGH: u64 = 1_048_577;
+
+/// The most gathered files that are no built-in headers (M7).
+const MOST_FILES: usize = 256;
+
+/// The number of the file at a place, which is gathered now if it wasn't before; `depth` is then the
+/// length of the chain of includes that leads to it. `None` where there is no such file.
+pub fn locate<F: Files>(
+    alloc: Global,
+    files: &mut F,
+    state: &mut Gathering,
+    place: &Place,
+    depth: u32,
+) -> Result<Option<u32>, Trouble>
+    requires { Stands (F.held files.old) state.old }
+    ensures stands { OnOk result (Stands (F.held files.old) state.new) }
+    ensures found { IfOk result (IsFound (F.held files.old) state.old state.new place.now depth) }
+    ensures cause { IfErr result (Fails (F.held files.old) state.old state.new place.now) }
+    ensures failed { IsErrOf result Trouble.Read → Rose (F.faults files.old) (F.faults files.new) }
+    ensures count { F.faults files.old ≤ F.faults files.new }
+    ensures held { F.held files.new ≡ F.held files.old }
+{
+    if let Some(number) = state.number_of(place) {
+        return Ok(Some(number));
+    }
+    match place {
+        Place::File(name) => load(alloc, files, state, name.as_str(), depth),
+        Place::Header(name) => match built_in(name.as_slice()) {
+            None => Ok(None),
+            Some(header) => {
+                let place = Place::Header(ListBuf::of(Vec::from_slice(alloc, name.as_slice())?));
+                let whole = String::from_str(alloc, header.name)?;
+                let text = Vec::from_slice(alloc, header.text)?;
+                Ok(Some(state.add(place, whole, text, depth)?))
+            }
+        },
+    }
+}
+
+/// The number of the file with this name, which wasn't gathered before.
+fn load<F: Files>(
+    alloc: Global,
+    files: &mut F,
+    state: &mut Gathering,
+    name: &str,
+    depth: u32,
+) -> Result<Option<u32>, Trouble>
+    requires stands { Stands (F.held files.old) state.old }
+    requires new { IsNew state.old.known.items (Place.File name.now) }
+    ensures stands { OnOk result (Stands (F.held files.old) state.new) }
+    ensures found { IfOk result (IsFound (F.held files.old) state.old state.new (Place.File name.now) depth) }
+    ensures cause { IfErr result (Fails (F.held files.old) state.old state.new (Place.File name.now)) }
+    ensures failed { IsErrOf result Trouble.Read → Rose (F.faults files.old) (F.faults files.new) }
+    ensures count { F.faults files.old ≤ F.faults files.new }
+    ensures held { F.held files.new ≡ F.held files.old }
+{
+    if state.lacks(name) {
+        return Ok(None);
+    }
+    let mut text = Vec::new(alloc);
+    match files.read(alloc, name, ENOUGH, &mut text) {
+        Ok(()) => {
+            if state.present() >= MOST_FILES {
+                return Err(Trouble::Over(Limit { number: 7 }));
+            }
+            let place = Place::File(TextBuf::of(String::from_str(alloc, name)?));
+            let whole = String::from_str(alloc, name)?;
+            Ok(Some(state.add(place, whole, text, depth)?))
+        }
+        Err(FileFault::Absent) => {
+            state
+                .absent
+                .push(TextBuf::of(String::from_str(alloc, name)?))?;
+            Ok(None)
+        }
+        Err(FileFault::Failed) => Err(Trouble::Read),
+        Err(FileFault::Memory) => Err(Trouble::Memory),
+    }
+}
