@@ -1,0 +1,7 @@
+use Rattle.std.proofs.Common.{◌≡◌, false, drop}
+use Rattle.p10_pprules.specs.Scanning.{dereferences_behind}
+use Rattle.p10_pprules.proofs.dereference.dereferences.Given as goal
+
+-- the words have a dereference where those that are left have one
+abbrev pub invariant-loop-word : goal.invariant-loop-word
+invariant-loop-word l = dereferences_behind false l.words ≡ dereferences_behind l.operand (drop l.word-index l.words)

@@ -1,0 +1,23 @@
+-- Dereferences in the list of a macro (Holzmann, "The Power of Ten", rule 9).
+use Rattle.std.specs.Prelude.{◌≡◌, List, ◌∷◌, ◌++◌, Bool, true, false, ◌||◌, codes}
+use Rattle.std.specs.List.{Contains}
+use Rattle.p10_base.specs.declared.word.Word.{Word}
+use Rattle.p10_direct.specs.Spelling.{is_name_kind, is_punctuator}
+use Rattle.p10_pprules.specs.Units.{is_number_kind}
+
+-- whether a `*` behind the word may multiply: a name, a number, `)` or `]`
+abbrev pub ends_operand : Word → Bool
+ends_operand word = is_name_kind word.kind || is_number_kind word.kind || is_punctuator (codes ")") word || is_punctuator (codes "]") word
+
+abbrev pub is_star : Word → Bool
+is_star word = is_punctuator (codes "*") word
+
+abbrev pub is_arrow : Word → Bool
+is_arrow word = is_punctuator (codes "->") word
+
+-- The list has `->`, or a `*` that begins it or stands behind a word that ends no operand.
+pub data Dereferences (words : List Word) : Type 0 where
+  arrow : (word : Word) → Contains words word → is_arrow word ≡ true → Dereferences words
+  first_star : (star : Word) (after : List Word) → words ≡ star ∷ after → is_star star ≡ true → Dereferences words
+  later_star : (before : List Word) (word star : Word) (after : List Word) → words ≡ before ++ word ∷ star ∷ after
+      → ends_operand word ≡ false → is_star star ≡ true → Dereferences words

@@ -1,0 +1,43 @@
+-- Words in brackets that nest properly.
+use Rattle.std.specs.Prelude.{◌≡◌, List, [], ◌∷◌, ◌++◌, Bool, true, false, ◌||◌, codes}
+use Rattle.p10_base.specs.declared.word.Word.{Word}
+use Rattle.p10_direct.specs.Spelling.{Text, is_punctuator}
+use Rattle.p10_pprules.specs.declared.bracket.Bracket.{Bracket}
+use Rattle.p10_pprules.specs.declared.bracket.Bracket.TheVariants.{Round, Square, Curly}
+
+abbrev pub opening_text : Bracket → Text
+opening_text Round = codes "("
+opening_text Square = codes "["
+opening_text Curly = codes "{"
+
+abbrev pub closing_text : Bracket → Text
+closing_text Round = codes ")"
+closing_text Square = codes "]"
+closing_text Curly = codes "}"
+
+abbrev pub opens : Bracket → Word → Bool
+opens bracket word = is_punctuator (opening_text bracket) word
+
+abbrev pub closes : Bracket → Word → Bool
+closes bracket word = is_punctuator (closing_text bracket) word
+
+abbrev pub is_bracket : Word → Bool
+is_bracket word = opens Round word || opens Square word || opens Curly word || closes Round word || closes Square word || closes Curly word
+
+-- The brackets among the words are pairs of one kind that nest properly.
+pub data IsBalanced : List Word → Type 0 where
+  empty : IsBalanced []
+  single : (word : Word) (words : List Word) → is_bracket word ≡ false → IsBalanced words → IsBalanced (word ∷ words)
+  pair : (bracket : Bracket) (opening : Word) (inside : List Word) (closing : Word) (after words : List Word)
+      → opens bracket opening ≡ true → closes bracket closing ≡ true → IsBalanced inside → IsBalanced after
+      → words ≡ inside ++ closing ∷ after → IsBalanced (opening ∷ words)
+
+-- the words are one group in these brackets
+pub record IsGroup (bracket : Bracket) (words : List Word) : Type 0 where
+  pub opening : Word
+  pub inside : List Word
+  pub closing : Word
+  pub parts : words ≡ opening ∷ (inside ++ closing ∷ [])
+  pub opened : opens bracket opening ≡ true
+  pub balanced : IsBalanced inside
+  pub closed : closes bracket closing ≡ true

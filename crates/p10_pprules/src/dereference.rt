@@ -1,0 +1,31 @@
+//! Dereferences in the list of a macro.
+
+ghost use Rattle.std.specs.Prelude.{◌≡◌, false};
+ghost use Rattle.p10_pprules.specs.Dereferences.{ends_operand};
+ghost use Rattle.p10_pprules.specs.Scanning.{dereferences_behind};
+
+use p10_base::{Kind, Word};
+use p10_direct::punctuates;
+
+/// Whether the words have `->`, or a `*` that stands behind no operand.
+pub fn dereferences(words: &[Word<'_>]) -> bool
+    ensures { result ≡ dereferences_behind false words.now }
+{
+    let mut operand = false;
+    for word in words {
+        if punctuates(word, b"->") || (punctuates(word, b"*") && !operand) {
+            return true;
+        }
+        operand = may_be_multiplied(word);
+    }
+    false
+}
+
+/// Whether a `*` behind the word may multiply.
+fn may_be_multiplied(word: &Word<'_>) -> bool
+    ensures { result ≡ ends_operand word.now }
+{
+    matches!(word.kind, Kind::Name | Kind::Number)
+        || punctuates(word, b")")
+        || punctuates(word, b"]")
+}

@@ -1,0 +1,63 @@
+//! Names in the order in which they came, each once.
+
+use indexmap::IndexSet;
+use std::alloc::{AllocError, Global};
+use std::marker::Model;
+
+/// Names in the order in which they came, each once. Contracts see the list of them.
+#[derive(Drop)]
+pub struct Names<'s> {
+    set: IndexSet<&'s [u8]>,
+}
+
+impl<'s> Model for Names<'s> {
+    ghost use Rattle.std.specs.Prelude.{List, ℕ, map};
+
+    ghost Value = { List (List ℕ) };
+
+    ghost view = { λ n. map (λ name. name.now) n.set.keys };
+}
+
+impl<'s> Names<'s> {
+    ghost use Rattle.std.specs.Prelude.{◌≡◌, [], bytes_eq, length, OnOk};
+    ghost use Rattle.std.specs.List.{list_any};
+    ghost use Rattle.p10_pprules.specs.Listing.{place_in, with_name};
+
+    /// No names.
+    pub fn new(alloc: Global) -> Names<'s>
+        ensures { result ≡ [] }
+    {
+        Names {
+            set: IndexSet::new(alloc),
+        }
+    }
+
+    /// Puts a name behind the others, unless it is there.
+    pub fn add(&mut self, name: &'s [u8]) -> Result<(), AllocError>
+        ensures { OnOk result (self.new ≡ with_name self.old name.now) }
+    {
+        self.set.insert(name)?;
+        Ok(())
+    }
+
+    /// How many names there are.
+    pub fn count(&self) -> usize
+        ensures { result ≡ length self.now }
+    {
+        self.set.len()
+    }
+
+    /// Whether the name is there.
+    pub fn contains(&self, name: &[u8]) -> bool
+        ensures { result ≡ list_any (bytes_eq name.now) self.now }
+    {
+        self.set.contains(name)
+    }
+
+    /// The place of the name, counted from 0.
+    pub fn place(&self, name: &[u8]) -> Option<usize>
+        ensures { result ≡ place_in self.now name.now }
+    {
+        self.set.get_index_of(name)
+    }
+}
