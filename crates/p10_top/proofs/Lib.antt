@@ -1,4 +1,5 @@
 -- The lemmas of this crate, by subject.
+pub mod Directories
 pub mod CommandWords
 pub mod Sources
 pub mod Lexing

@@ -1,73 +1,63 @@
 -- Only one answer is right where files are told: each answer passes the stages before its own, and is
 -- refuted by what a later answer passes.
-use Rattle.std.proofs.Common.{◌≡◌, ◌≢◌, ℕ, ◌<◌, ◌≤◌, List, [], length, get_or, refl, sym, ◌∙◌, ap, subst, arith, inl, inr, Option, Some, None, IsSome, IsSomeAnd, is_some, Result, Ok, Err}
+use Rattle.std.proofs.Common.{◌≡◌, ◌≢◌, ℕ, ◌<◌, ◌≤◌, List, [], ◌∷◌, length, refl, sym, ◌∙◌, ap, subst, arith, inl, inr, Option, Some, None, IsSome, IsSomeAnd, is_some, Result, Ok, Err}
 use Rattle.std.proofs.lemmas.Bool.{cases_order, both_ways}
 use Rattle.std.proofs.lemmas.Option.{same_Some}
 use Rattle.p10_base.specs.declared.report.Bounds.{Bounds}
+use Rattle.p10_base.specs.declared.report.Limit.{Limit}
 use Rattle.p10_base.specs.declared.span.Span.{Span}
 use Rattle.p10_base.specs.declared.report.Refusal.{Refusal}
-use Rattle.p10_lex.specs.declared.fault.LexFault.{LexFault}
-use Rattle.p10_lex.specs.declared.fault.LexFault.TheVariants.{Refused as LexRefused, Over, Memory as LexMemory}
+use Rattle.p10_base.specs.Gathered.{Gathered}
 use Rattle.p10_lex.specs.Pieces.{LexedWord}
-use Rattle.p10_lex.specs.Lexes.{Answers as LexAnswers}
 use Rattle.p10_world.specs.Files.{Named, file_of}
+use Rattle.p10_expand.specs.declared.fault.GatherFault.{GatherFault}
+use Rattle.p10_expand.specs.declared.fault.GatherFault.TheVariants as gathering
+use Rattle.p10_expand.specs.Gathering.{Gathers, FailsBy, IsEnding}
+use Rattle.p10_expand.specs.Plain.{PlainObeyed, PlainExpansion, ExpandsTo, ExpandsToOnce}
+use Rattle.p10_expand.proofs.Once.{ends_once}
 use Rattle.p10_first.specs.declared.program.Program.{Program}
 use Rattle.p10_first.specs.declared.conditions.Condition.{Condition}
 use Rattle.p10_first.specs.Form.{Spells}
 use Rattle.p10_first.specs.Certificate.{Claims, certificate_text, IsCertificate, IsFirstWrongLine}
 use Rattle.p10_first.specs.Conditions.{Accepts, IsFirstFailure}
-use Rattle.p10_lex.proofs.Uniqueness.{same_words, same_answer}
 use Rattle.p10_first.proofs.Spells.{Spells-unique}
 use Rattle.p10_first.proofs.Costs.{one_fails_first}
 use Rattle.p10_first.proofs.CertificateLaws.{certificate_text-injective}
 use Rattle.p10_first.proofs.CertificateWrongLines.{one_wrong_line, no_wrong_line}
 use Rattle.p10_top.specs.declared.answer.Answer.{Answer}
-use Rattle.p10_top.specs.declared.answer.Answer.TheVariants.{AbsentSource, SourceTooLong, Refused, TooManyWords, AbsentCertificate, NotBuilt, CertificateTooLong, BadCertificate, Failing, Accepted, ReadFault, NoMemory}
+use Rattle.p10_top.specs.declared.answer.Answer.TheVariants.{AbsentSource, Refused, SourcesOver, AbsentCertificate, Unexpanded, ExpansionOver, NotBuilt, CertificateTooLong, BadCertificate, Failing, Accepted, ReadFault, NoMemory}
 use Rattle.p10_top.specs.Command.{Names, IsVerify}
-use Rattle.p10_top.specs.Answers.{Seen, IsRight, texts_of, place_of, source_limit, certificate_limit}
+use Rattle.p10_top.specs.Answers.{Seen, IsRight, RootWords, IsNoProgram, IsUnexpanded, SpellNone, HasProgram, setting_of, texts_of, place_of, certificate_limit}
 use Rattle.p10_top.specs.Told.{MaySay, Saying, SaysRight, saying_of, status_of}
+use Rattle.p10_top.proofs.CommandWords.{verify_again}
 
 -- ## Stages
 
--- the place of an answer in the order of answers
+-- the place of an answer in the order of answers; gathering and expansion give just one each
 abbrev number_of : Answer → ℕ
-number_of AbsentSource = 1
-number_of SourceTooLong = 2
-number_of (Refused refusal) = 3
-number_of TooManyWords = 4
-number_of AbsentCertificate = 5
-number_of NotBuilt = 6
-number_of CertificateTooLong = 7
-number_of (BadCertificate line) = 8
-number_of (Failing k at) = 9
-number_of (Accepted bounds) = 10
-number_of ReadFault = 11
-number_of NoMemory = 12
-
--- lexing gives something else than a refusal
-abbrev IsNoRefusal : Result (List LexedWord) LexFault → Type 0
-IsNoRefusal (Ok words) = Unit {0}
-IsNoRefusal (Err (LexRefused refusal)) = ⊥
-IsNoRefusal (Err (Over limit)) = Unit {0}
-IsNoRefusal (Err LexMemory) = ⊥
-
--- the words of the source's file spell a program
-record FileSpells (names : Names) (files : List Named) (text : List ℕ) (words : List LexedWord) (p : Program) : Type 0 where
-  given : file_of names.source files ≡ Some text
-  lexed : LexAnswers 0 text (Ok words)
-  spell : Spells (texts_of words) p
+number_of (AbsentSource place) = 1
+number_of (Refused refusal) = 1
+number_of (SourcesOver limit) = 1
+number_of AbsentCertificate = 2
+number_of (Unexpanded refusal) = 3
+number_of (ExpansionOver limit) = 3
+number_of NotBuilt = 4
+number_of CertificateTooLong = 5
+number_of (BadCertificate line) = 6
+number_of (Failing k at) = 7
+number_of (Accepted bounds) = 8
+number_of ReadFault = 9
+number_of NoMemory = 10
 
 -- what is known where an answer comes after those of a stage
 record Passed (names : Names) (files : List Named) (number : ℕ) : Type 0 where
-  source : 1 ≤ number → IsSome (file_of names.source files)
-  short : 2 ≤ number → (text : List ℕ) × (file_of names.source files ≡ Some text) × (length text ≤ source_limit)
-  lexed : 3 ≤ number → (text : List ℕ) × (r : Result (List LexedWord) LexFault) × (file_of names.source files ≡ Some text) × LexAnswers 0 text r × IsNoRefusal r
-  words : 4 ≤ number → (text : List ℕ) × (words : List LexedWord) × (file_of names.source files ≡ Some text) × LexAnswers 0 text (Ok words)
-  certificate : 5 ≤ number → IsSome (file_of names.certificate files)
-  program : 6 ≤ number → (text : List ℕ) × (words : List LexedWord) × (p : Program) × FileSpells names files text words p
-  certificate_short : 7 ≤ number → (bytes : List ℕ) × (file_of names.certificate files ≡ Some bytes) × (length bytes ≤ certificate_limit)
-  claims : 8 ≤ number → (c : Claims) × (file_of names.certificate files ≡ Some (certificate_text c)) × IsCertificate c
-  accepted : 9 ≤ number → (text : List ℕ) × (words : List LexedWord) × (p : Program) × (c : Claims) × FileSpells names files text words p × (file_of names.certificate files ≡ Some (certificate_text c)) × IsCertificate c × Accepts p c
+  gathered : 1 ≤ number → (g : Gathered) × Gathers (setting_of (Some files) names) g
+  certificate : 2 ≤ number → IsSome (file_of names.certificate files)
+  expanded : 3 ≤ number → (g : Gathered) × (roots : List (List LexedWord)) × (obeyed : List PlainObeyed) × Gathers (setting_of (Some files) names) g × ExpandsTo g (Ok (record { roots = roots; obeyed = obeyed; refusal = None }))
+  program : 4 ≤ number → (g : Gathered) × (words : List LexedWord) × (p : Program) × HasProgram (Some files) names g words p
+  certificate_short : 5 ≤ number → (bytes : List ℕ) × (file_of names.certificate files ≡ Some bytes) × (length bytes ≤ certificate_limit)
+  claims : 6 ≤ number → (c : Claims) × (file_of names.certificate files ≡ Some (certificate_text c)) × IsCertificate c
+  accepted : 7 ≤ number → (g : Gathered) × (words : List LexedWord) × (p : Program) × (c : Claims) × HasProgram (Some files) names g words p × (file_of names.certificate files ≡ Some (certificate_text c)) × IsCertificate c × Accepts p c
 
 -- a number that isn't reached
 never : {A : Type 0} (least number : ℕ) → number < least → least ≤ number → A
@@ -86,29 +76,20 @@ longer_is_there (Some bytes) P is = refl
 abbrev told : List Named → ℕ → ℕ → Seen
 told files before after = record { held = Some files; faults_before = before; faults_after = after }
 
-passes : (files : List Named) (before after : ℕ) (names : Names) (text : List ℕ) (answer : Answer) (number : ℕ) → IsRight (told files before after) names text answer → number < number_of answer → number_of answer ≤ 10 → Passed names files number
-passes files before after names text AbsentSource number right earlier plain = record { source = never 1 number (omega (arith, earlier)); short = never 2 number (omega (arith, earlier)); lexed = never 3 number (omega (arith, earlier)); words = never 4 number (omega (arith, earlier)); certificate = never 5 number (omega (arith, earlier)); program = never 6 number (omega (arith, earlier)); certificate_short = never 7 number (omega (arith, earlier)); claims = never 8 number (omega (arith, earlier)); accepted = never 9 number (omega (arith, earlier)) }
-passes files before after names text SourceTooLong number right earlier plain = record { source = λ at. longer_is_there (file_of names.source files) _ right; short = never 2 number (omega (arith, earlier)); lexed = never 3 number (omega (arith, earlier)); words = never 4 number (omega (arith, earlier)); certificate = never 5 number (omega (arith, earlier)); program = never 6 number (omega (arith, earlier)); certificate_short = never 7 number (omega (arith, earlier)); claims = never 8 number (omega (arith, earlier)); accepted = never 9 number (omega (arith, earlier)) }
-passes files before after names text (Refused refusal) number (source, lexed) earlier plain = record { source = λ at. there _ text source.given; short = λ at. (text, source.given, source.short); lexed = never 3 number (omega (arith, earlier)); words = never 4 number (omega (arith, earlier)); certificate = never 5 number (omega (arith, earlier)); program = never 6 number (omega (arith, earlier)); certificate_short = never 7 number (omega (arith, earlier)); claims = never 8 number (omega (arith, earlier)); accepted = never 9 number (omega (arith, earlier)) }
-passes files before after names text TooManyWords number (source, lexed) earlier plain = record { source = λ at. there _ text source.given; short = λ at. (text, source.given, source.short); lexed = λ at. (text, Err (Over (record { number = 2 })), source.given, lexed, tt); words = never 4 number (omega (arith, earlier)); certificate = never 5 number (omega (arith, earlier)); program = never 6 number (omega (arith, earlier)); certificate_short = never 7 number (omega (arith, earlier)); claims = never 8 number (omega (arith, earlier)); accepted = never 9 number (omega (arith, earlier)) }
-passes files before after names text AbsentCertificate number (words, cut, lacks) earlier plain = record { source = λ at. there _ text cut.source.given; short = λ at. (text, cut.source.given, cut.source.short); lexed = λ at. (text, Ok words, cut.source.given, cut.lexed, tt); words = λ at. (text, words, cut.source.given, cut.lexed); certificate = never 5 number (omega (arith, earlier)); program = never 6 number (omega (arith, earlier)); certificate_short = never 7 number (omega (arith, earlier)); claims = never 8 number (omega (arith, earlier)); accepted = never 9 number (omega (arith, earlier)) }
-passes files before after names text NotBuilt number (words, cut, held, none) earlier plain = record { source = λ at. there _ text cut.source.given; short = λ at. (text, cut.source.given, cut.source.short); lexed = λ at. (text, Ok words, cut.source.given, cut.lexed, tt); words = λ at. (text, words, cut.source.given, cut.lexed); certificate = λ at. held; program = never 6 number (omega (arith, earlier)); certificate_short = never 7 number (omega (arith, earlier)); claims = never 8 number (omega (arith, earlier)); accepted = never 9 number (omega (arith, earlier)) }
-passes files before after names text CertificateTooLong number (words, p, program, long) earlier plain = record { source = λ at. there _ text program.cut.source.given; short = λ at. (text, program.cut.source.given, program.cut.source.short); lexed = λ at. (text, Ok words, program.cut.source.given, program.cut.lexed, tt); words = λ at. (text, words, program.cut.source.given, program.cut.lexed); certificate = λ at. longer_is_there (file_of names.certificate files) _ long; program = λ at. (text, words, p, record { given = program.cut.source.given; lexed = program.cut.lexed; spell = program.spell }); certificate_short = never 7 number (omega (arith, earlier)); claims = never 8 number (omega (arith, earlier)); accepted = never 9 number (omega (arith, earlier)) }
-passes files before after names text (BadCertificate line) number (words, p, bytes, program, certificate, wrong) earlier plain = record { source = λ at. there _ text program.cut.source.given; short = λ at. (text, program.cut.source.given, program.cut.source.short); lexed = λ at. (text, Ok words, program.cut.source.given, program.cut.lexed, tt); words = λ at. (text, words, program.cut.source.given, program.cut.lexed); certificate = λ at. there _ bytes certificate.given; program = λ at. (text, words, p, record { given = program.cut.source.given; lexed = program.cut.lexed; spell = program.spell }); certificate_short = λ at. (bytes, certificate.given, certificate.short); claims = never 8 number (omega (arith, earlier)); accepted = never 9 number (omega (arith, earlier)) }
-passes files before after names text (Failing k place) number (words, p, c, judges, fails, place_is) earlier plain = record { source = λ at. there _ text judges.program.cut.source.given; short = λ at. (text, judges.program.cut.source.given, judges.program.cut.source.short); lexed = λ at. (text, Ok words, judges.program.cut.source.given, judges.program.cut.lexed, tt); words = λ at. (text, words, judges.program.cut.source.given, judges.program.cut.lexed); certificate = λ at. there _ (certificate_text c) judges.certificate.given; program = λ at. (text, words, p, record { given = judges.program.cut.source.given; lexed = judges.program.cut.lexed; spell = judges.program.spell }); certificate_short = λ at. (certificate_text c, judges.certificate.given, judges.certificate.short); claims = λ at. (c, judges.certificate.given, judges.is_certificate); accepted = never 9 number (omega (arith, earlier)) }
-passes files before after names text (Accepted bounds) number (words, p, c, judges, accepts, total) earlier plain = record {
-  source = λ at. there _ text judges.program.cut.source.given;
-  short = λ at. (text, judges.program.cut.source.given, judges.program.cut.source.short);
-  lexed = λ at. (text, Ok words, judges.program.cut.source.given, judges.program.cut.lexed, tt);
-  words = λ at. (text, words, judges.program.cut.source.given, judges.program.cut.lexed);
-  certificate = λ at. there _ (certificate_text c) judges.certificate.given;
-  program = λ at. (text, words, p, record { given = judges.program.cut.source.given; lexed = judges.program.cut.lexed; spell = judges.program.spell });
-  certificate_short = λ at. (certificate_text c, judges.certificate.given, judges.certificate.short);
-  claims = λ at. (c, judges.certificate.given, judges.is_certificate);
-  accepted = λ at. (text, words, p, c, record { given = judges.program.cut.source.given; lexed = judges.program.cut.lexed; spell = judges.program.spell }, judges.certificate.given, judges.is_certificate, accepts);
-}
-passes files before after names text ReadFault number right earlier plain = absurd (omega (arith, plain))
-passes files before after names text NoMemory number right earlier plain = absurd (omega (arith, plain))
+passes : (files : List Named) (before after : ℕ) (names : Names) (g : Gathered) (answer : Answer) (number : ℕ) → IsRight (told files before after) names g answer → number < number_of answer → number_of answer ≤ 8 → Passed names files number
+passes files before after names g (AbsentSource place) number right earlier plain = record { gathered = never 1 number (omega (arith, earlier)); certificate = never 2 number (omega (arith, earlier)); expanded = never 3 number (omega (arith, earlier)); program = never 4 number (omega (arith, earlier)); certificate_short = never 5 number (omega (arith, earlier)); claims = never 6 number (omega (arith, earlier)); accepted = never 7 number (omega (arith, earlier)) }
+passes files before after names g (Refused refusal) number right earlier plain = record { gathered = never 1 number (omega (arith, earlier)); certificate = never 2 number (omega (arith, earlier)); expanded = never 3 number (omega (arith, earlier)); program = never 4 number (omega (arith, earlier)); certificate_short = never 5 number (omega (arith, earlier)); claims = never 6 number (omega (arith, earlier)); accepted = never 7 number (omega (arith, earlier)) }
+passes files before after names g (SourcesOver limit) number right earlier plain = record { gathered = never 1 number (omega (arith, earlier)); certificate = never 2 number (omega (arith, earlier)); expanded = never 3 number (omega (arith, earlier)); program = never 4 number (omega (arith, earlier)); certificate_short = never 5 number (omega (arith, earlier)); claims = never 6 number (omega (arith, earlier)); accepted = never 7 number (omega (arith, earlier)) }
+passes files before after names g AbsentCertificate number (gathers, lacks) earlier plain = record { gathered = λ at. (g, gathers); certificate = never 2 number (omega (arith, earlier)); expanded = never 3 number (omega (arith, earlier)); program = never 4 number (omega (arith, earlier)); certificate_short = never 5 number (omega (arith, earlier)); claims = never 6 number (omega (arith, earlier)); accepted = never 7 number (omega (arith, earlier)) }
+passes files before after names g (Unexpanded refusal) number (gathers, held, refused) earlier plain = record { gathered = λ at. (g, gathers); certificate = λ at. held; expanded = never 3 number (omega (arith, earlier)); program = never 4 number (omega (arith, earlier)); certificate_short = never 5 number (omega (arith, earlier)); claims = never 6 number (omega (arith, earlier)); accepted = never 7 number (omega (arith, earlier)) }
+passes files before after names g (ExpansionOver limit) number (gathers, held, over) earlier plain = record { gathered = λ at. (g, gathers); certificate = λ at. held; expanded = never 3 number (omega (arith, earlier)); program = never 4 number (omega (arith, earlier)); certificate_short = never 5 number (omega (arith, earlier)); claims = never 6 number (omega (arith, earlier)); accepted = never 7 number (omega (arith, earlier)) }
+passes files before after names g NotBuilt number (gathers, held, none) earlier plain = record { gathered = λ at. (g, gathers); certificate = λ at. held; expanded = λ at. (g, none.roots, none.obeyed, gathers, none.expands); program = never 4 number (omega (arith, earlier)); certificate_short = never 5 number (omega (arith, earlier)); claims = never 6 number (omega (arith, earlier)); accepted = never 7 number (omega (arith, earlier)) }
+passes files before after names g CertificateTooLong number (words, p, program, long) earlier plain = record { gathered = λ at. (g, program.gathers); certificate = λ at. longer_is_there (file_of names.certificate files) _ long; expanded = λ at. (g, words ∷ [], program.cut.obeyed, program.gathers, program.cut.expands); program = λ at. (g, words, p, program); certificate_short = never 5 number (omega (arith, earlier)); claims = never 6 number (omega (arith, earlier)); accepted = never 7 number (omega (arith, earlier)) }
+passes files before after names g (BadCertificate line) number (words, p, bytes, program, certificate, wrong) earlier plain = record { gathered = λ at. (g, program.gathers); certificate = λ at. there _ bytes certificate.given; expanded = λ at. (g, words ∷ [], program.cut.obeyed, program.gathers, program.cut.expands); program = λ at. (g, words, p, program); certificate_short = λ at. (bytes, certificate.given, certificate.short); claims = never 6 number (omega (arith, earlier)); accepted = never 7 number (omega (arith, earlier)) }
+passes files before after names g (Failing k place) number (words, p, c, judges, fails, place_is) earlier plain = record { gathered = λ at. (g, judges.program.gathers); certificate = λ at. there _ (certificate_text c) judges.certificate.given; expanded = λ at. (g, words ∷ [], judges.program.cut.obeyed, judges.program.gathers, judges.program.cut.expands); program = λ at. (g, words, p, judges.program); certificate_short = λ at. (certificate_text c, judges.certificate.given, judges.certificate.short); claims = λ at. (c, judges.certificate.given, judges.is_certificate); accepted = never 7 number (omega (arith, earlier)) }
+passes files before after names g (Accepted bounds) number (words, p, c, judges, accepts, total) earlier plain = record { gathered = λ at. (g, judges.program.gathers); certificate = λ at. there _ (certificate_text c) judges.certificate.given; expanded = λ at. (g, words ∷ [], judges.program.cut.obeyed, judges.program.gathers, judges.program.cut.expands); program = λ at. (g, words, p, judges.program); certificate_short = λ at. (certificate_text c, judges.certificate.given, judges.certificate.short); claims = λ at. (c, judges.certificate.given, judges.is_certificate); accepted = λ at. (g, words, p, c, judges.program, judges.certificate.given, judges.is_certificate, accepts) }
+passes files before after names g ReadFault number right earlier plain = absurd (omega (arith, plain))
+passes files before after names g NoMemory number right earlier plain = absurd (omega (arith, plain))
 
 -- ## What refutes each answer
 
@@ -123,124 +104,195 @@ long_and_short o limit bytes long is short =
     let longer : limit < length bytes = subst (λ (o : Option (List ℕ)). IsSomeAnd o (λ whole. limit < length whole)) is long in
     omega (arith, longer, short)
 
--- one text spells one program, by one list of words
-record Same (words others : List LexedWord) (p q : Program) : Type 0 where
+-- gathering ends in one way
+same_end : (files : List Named) (names : Names) (a b : Result Gathered GatherFault) → IsEnding (setting_of (Some files) names) a → IsEnding (setting_of (Some files) names) b → a ≡ b
+same_end files names a b = ends_once (setting_of (Some files) names) refl a b
+
+same_sources : (files : List Named) (names : Names) (g h : Gathered) → Gathers (setting_of (Some files) names) g → Gathers (setting_of (Some files) names) h → g ≡ h
+same_sources files names g h this that =
+    let same : ◌≡◌ {A = Result Gathered GatherFault} (Ok g) (Ok h) = same_end files names (Ok g) (Ok h) this that in
+    cc
+
+gathered_or_not : (files : List Named) (names : Names) (g : Gathered) (fault : GatherFault) → Gathers (setting_of (Some files) names) g → FailsBy (setting_of (Some files) names) fault → ⊥
+gathered_or_not files names g fault gathers fails =
+    let same : ◌≡◌ {A = Result Gathered GatherFault} (Ok g) (Err fault) = same_end files names (Ok g) (Err fault) gathers fails in
+    cc
+
+same_fault : (files : List Named) (names : Names) (f h : GatherFault) → FailsBy (setting_of (Some files) names) f → FailsBy (setting_of (Some files) names) h → f ≡ h
+same_fault files names f h this that =
+    let same : ◌≡◌ {A = Result Gathered GatherFault} (Err f) (Err h) = same_end files names (Err f) (Err h) this that in
+    cc
+
+-- what is common to expansions, where they have the same words or the same refusal
+abbrev first_root : List (List LexedWord) → List LexedWord
+first_root [] = []
+first_root (words ∷ roots) = words
+
+abbrev refusal_of : Result PlainExpansion Limit → Option Refusal
+refusal_of (Ok expansion) = expansion.refusal
+refusal_of (Err limit) = None
+
+abbrev roots_of : Result PlainExpansion Limit → List (List LexedWord)
+roots_of (Ok expansion) = expansion.roots
+roots_of (Err limit) = []
+
+root_words_once : ExpandsToOnce → (g : Gathered) (words others : List LexedWord) → RootWords g words → RootWords g others → words ≡ others
+root_words_once once g words others this that = ap (λ a. first_root (roots_of a)) (once g _ _ this.expands that.expands)
+
+refused_and_whole : ExpandsToOnce → (g : Gathered) (refusal : Refusal) (roots : List (List LexedWord)) (obeyed : List PlainObeyed) → IsUnexpanded g refusal → ExpandsTo g (Ok (record { roots = roots; obeyed = obeyed; refusal = None })) → ⊥
+refused_and_whole once g refusal roots obeyed refused whole =
+    let same : ◌≡◌ {A = Option Refusal} (Some refusal) None = ap refusal_of (once g _ _ refused.expands whole) in
+    cc
+
+over_and_whole : ExpandsToOnce → (g : Gathered) (limit : Limit) (roots : List (List LexedWord)) (obeyed : List PlainObeyed) → ExpandsTo g (Err limit) → ExpandsTo g (Ok (record { roots = roots; obeyed = obeyed; refusal = None })) → ⊥
+over_and_whole once g limit roots obeyed over whole =
+    let same : ◌≡◌ {A = Result PlainExpansion Limit} (Err limit) (Ok (record { roots = roots; obeyed = obeyed; refusal = None })) = once g _ _ over whole in
+    cc
+
+one_refusal : ExpandsToOnce → (g : Gathered) (refusal other : Refusal) → IsUnexpanded g refusal → IsUnexpanded g other → refusal ≡ other
+one_refusal once g refusal other this that = same_Some refusal other (ap refusal_of (once g _ _ this.expands that.expands))
+
+refused_and_over : ExpandsToOnce → (g : Gathered) (refusal : Refusal) (limit : Limit) → IsUnexpanded g refusal → ExpandsTo g (Err limit) → ⊥
+refused_and_over once g refusal limit refused over =
+    let same : ◌≡◌ {A = Option Refusal} (Some refusal) None = ap refusal_of (once g _ _ refused.expands over) in
+    cc
+
+one_limit : ExpandsToOnce → (g : Gathered) (limit other : Limit) → ExpandsTo g (Err limit) → ExpandsTo g (Err other) → limit ≡ other
+one_limit once g limit other this that =
+    let same : ◌≡◌ {A = Result PlainExpansion Limit} (Err limit) (Err other) = once g _ _ this that in
+    cc
+
+-- sources have one program, by one list of words
+record Same (g h : Gathered) (words others : List LexedWord) (p q : Program) : Type 0 where
+  sources_are : g ≡ h
   words_are : words ≡ others
   program_is : p ≡ q
 
-reads_once : (text : List ℕ) (words others : List LexedWord) (p q : Program) → LexAnswers 0 text (Ok words) → LexAnswers 0 text (Ok others) → Spells (texts_of words) p → Spells (texts_of others) q → Same words others p q
-reads_once text words others p q lexed lexed' spell spell' =
-    let same : words ≡ others = same_words 0 text words others lexed.2 lexed'.2 in
-    record { words_are = same; program_is = Spells-unique (texts_of others) p q (subst (λ (ws : List LexedWord). Spells (texts_of ws) p) same spell) spell' }
+reads_once : ExpandsToOnce → (files : List Named) (names : Names) (g h : Gathered) (words others : List LexedWord) (p q : Program) → HasProgram (Some files) names g words p → HasProgram (Some files) names h others q → Same g h words others p q
+reads_once once files names g h words others p q this that =
+    let sources : g ≡ h = same_sources files names g h this.gathers that.gathers in
+    let same : words ≡ others = root_words_once once h words others (subst (λ x. RootWords x words) sources this.cut) that.cut in
+    record { sources_are = sources; words_are = same; program_is = Spells-unique (texts_of others) p q (subst (λ (ws : List LexedWord). Spells (texts_of ws) p) same this.spell) that.spell }
 
--- what lexing gives is no refusal, and yet one
-no_refusal : (text : List ℕ) (r : Result (List LexedWord) LexFault) (refusal : Refusal) → LexAnswers 0 text r → IsNoRefusal r → LexAnswers 0 text (Err (LexRefused refusal)) → ⊥
-no_refusal text r refusal lexed none refused =
-    subst (λ (a : Result (List LexedWord) LexFault). IsNoRefusal a) (same_answer 0 text r (Err (LexRefused refusal)) (known r none) (λ is. cc) lexed refused) none
-  where
-    known : (r : Result (List LexedWord) LexFault) → IsNoRefusal r → r ≢ Err LexMemory
-    known r none = λ is. subst (λ (a : Result (List LexedWord) LexFault). IsNoRefusal a) is none
+no_and_some : ExpandsToOnce → (g : Gathered) (words : List LexedWord) (p : Program) → IsNoProgram g → RootWords g words → Spells (texts_of words) p → ⊥
+no_and_some once g words p none root spell =
+    let same : none.roots ≡ words ∷ [] = ap roots_of (once g _ _ none.expands root.expands) in
+    subst (λ roots. SpellNone roots) same none.none p spell
 
-few_and_many : (text : List ℕ) (words : List LexedWord) → LexAnswers 0 text (Ok words) → LexAnswers 0 text (Err (Over (record { number = 2 }))) → ⊥
-few_and_many text words few many =
-    let same : ◌≡◌ {A = Result (List LexedWord) LexFault} (Ok words) (Err (Over (record { number = 2 }))) = same_answer 0 text (Ok words) (Err (Over (record { number = 2 }))) (λ is. cc) (λ is. cc) few many in
-    cc
-
-stops : (files : List Named) (before after : ℕ) (names : Names) (text : List ℕ) (answer : Answer) → IsRight (told files before after) names text answer → number_of answer ≤ 10 → Passed names files (number_of answer) → number_of answer < 10 → ⊥
-stops files before after names text AbsentSource right plain passed earlier = none_and_some _ right (passed.source (omega arith))
-stops files before after names text SourceTooLong right plain passed earlier =
-    let short = passed.short (omega arith) in long_and_short _ source_limit short.0 right short.1 short.2
-stops files before after names text (Refused refusal) (source, lexed) plain passed earlier =
-    let other = passed.lexed (omega arith) in
-    no_refusal text other.1 refusal (subst (λ (t : List ℕ). LexAnswers 0 t other.1) (same_bytes _ other.0 text other.2 source.given) other.3) other.4 lexed
-stops files before after names text TooManyWords (source, lexed) plain passed earlier =
-    let other = passed.words (omega arith) in
-    few_and_many text other.1 (subst (λ (t : List ℕ). LexAnswers 0 t (Ok other.1)) (same_bytes _ other.0 text other.2 source.given) other.3) lexed
-stops files before after names text AbsentCertificate (words, cut, lacks) plain passed earlier = none_and_some _ lacks (passed.certificate (omega arith))
-stops files before after names text NotBuilt (words, cut, held, none) plain passed earlier =
-    let program = passed.program (omega arith) in
-    let same : program.1 ≡ words = same_words 0 text program.1 words (subst (λ (t : List ℕ). LexAnswers 0 t (Ok program.1)) (same_bytes _ program.0 text program.3.given cut.source.given) program.3.lexed).2 cut.lexed.2 in
-    none program.2 (subst (λ (ws : List LexedWord). Spells (texts_of ws) program.2) same program.3.spell)
-stops files before after names text CertificateTooLong (words, p, program, long) plain passed earlier =
+stops : ExpandsToOnce → (files : List Named) (before after : ℕ) (names : Names) (g : Gathered) (answer : Answer) → IsRight (told files before after) names g answer → number_of answer ≤ 8 → Passed names files (number_of answer) → number_of answer < 8 → ⊥
+stops once files before after names g (AbsentSource place) right plain passed earlier =
+    let other = passed.gathered (omega arith) in gathered_or_not files names other.0 _ other.1 right
+stops once files before after names g (Refused refusal) right plain passed earlier =
+    let other = passed.gathered (omega arith) in gathered_or_not files names other.0 _ other.1 right
+stops once files before after names g (SourcesOver limit) right plain passed earlier =
+    let other = passed.gathered (omega arith) in gathered_or_not files names other.0 _ other.1 right
+stops once files before after names g AbsentCertificate (gathers, lacks) plain passed earlier = none_and_some _ lacks (passed.certificate (omega arith))
+stops once files before after names g (Unexpanded refusal) (gathers, held, refused) plain passed earlier =
+    let (h, roots, obeyed, others, whole) = passed.expanded (omega arith) in
+    refused_and_whole once g refusal roots obeyed refused (subst (λ x. ExpandsTo x (Ok (record { roots = roots; obeyed = obeyed; refusal = None }))) (same_sources files names h g others gathers) whole)
+stops once files before after names g (ExpansionOver limit) (gathers, held, over) plain passed earlier =
+    let (h, roots, obeyed, others, whole) = passed.expanded (omega arith) in
+    over_and_whole once g limit roots obeyed over (subst (λ x. ExpandsTo x (Ok (record { roots = roots; obeyed = obeyed; refusal = None }))) (same_sources files names h g others gathers) whole)
+stops once files before after names g NotBuilt (gathers, held, none) plain passed earlier =
+    let (h, words, p, program) = passed.program (omega arith) in
+    let same : h ≡ g = same_sources files names h g program.gathers gathers in
+    no_and_some once g words p none (subst (λ x. RootWords x words) same program.cut) program.spell
+stops once files before after names g CertificateTooLong (words, p, program, long) plain passed earlier =
     let short = passed.certificate_short (omega arith) in long_and_short _ certificate_limit short.0 long short.1 short.2
-stops files before after names text (BadCertificate line) (words, p, bytes, program, certificate, wrong) plain passed earlier =
+stops once files before after names g (BadCertificate line) (words, p, bytes, program, certificate, wrong) plain passed earlier =
     let claims = passed.claims (omega arith) in
     no_wrong_line claims.0 line claims.2 (subst (λ (b : List ℕ). IsFirstWrongLine b line) (same_bytes _ bytes (certificate_text claims.0) certificate.given claims.1) wrong)
-stops files before after names text (Failing k place) (words, p, c, judges, fails, place_is) plain passed earlier =
+stops once files before after names g (Failing k place) (words, p, c, judges, fails, place_is) plain passed earlier =
     refuted (passed.accepted (omega arith))
   where
-    refuted : (text : List ℕ) × (words : List LexedWord) × (p : Program) × (c : Claims) × FileSpells names files text words p × (file_of names.certificate files ≡ Some (certificate_text c)) × IsCertificate c × Accepts p c → ⊥
-    refuted (other_text, others, q, d, spells, certificate, is, accepts) =
-        let same_text : other_text ≡ text = same_bytes _ other_text text spells.given judges.program.cut.source.given in
-        let same = reads_once text others words q p (subst (λ (t : List ℕ). LexAnswers 0 t (Ok others)) same_text spells.lexed) judges.program.cut.lexed spells.spell judges.program.spell in
+    refuted : (h : Gathered) × (words : List LexedWord) × (p : Program) × (c : Claims) × HasProgram (Some files) names h words p × (file_of names.certificate files ≡ Some (certificate_text c)) × IsCertificate c × Accepts p c → ⊥
+    refuted (h, others, q, d, program, certificate, is, accepts) =
+        let same = reads_once once files names h g others words q p program judges.program in
         let same_claims : d ≡ c = certificate_text-injective d c is judges.is_certificate (same_bytes _ (certificate_text d) (certificate_text c) certificate judges.certificate.given) in
         fails.fails (subst (λ (e : Claims). Accepts p e) same_claims (subst (λ (r : Program). Accepts r d) same.program_is accepts) k)
-stops files before after names text (Accepted bounds) right plain passed earlier = absurd (omega (arith, earlier))
-stops files before after names text ReadFault right plain passed earlier = absurd (omega (arith, plain))
-stops files before after names text NoMemory right plain passed earlier = absurd (omega (arith, plain))
+stops once files before after names g (Accepted bounds) right plain passed earlier = absurd (omega (arith, earlier))
+stops once files before after names g ReadFault right plain passed earlier = absurd (omega (arith, plain))
+stops once files before after names g NoMemory right plain passed earlier = absurd (omega (arith, plain))
 
 -- ## One answer
 
-same_refusal : (r r' : Refusal) → ◌≡◌ {A = Result (List LexedWord) LexFault} (Err (LexRefused r)) (Err (LexRefused r')) → r ≡ r'
-same_refusal r r' same = cc
+-- what is said for a fault of gathering
+abbrev fault_saying : Names → GatherFault → Saying
+fault_saying names (gathering.RootAbsent place) = saying_of names (record { files = []; roots = [] }) (AbsentSource place)
+fault_saying names (gathering.Refused refusal g) = saying_of names g (Refused refusal)
+fault_saying names (gathering.Over limit) = saying_of names (record { files = []; roots = [] }) (SourcesOver limit)
+fault_saying names gathering.Read = saying_of names (record { files = []; roots = [] }) ReadFault
+fault_saying names gathering.Memory = saying_of names (record { files = []; roots = [] }) NoMemory
 
 -- two answers at one place say the same
-same_place : (files : List Named) (before after : ℕ) (names : Names) (text other : List ℕ) (a b : Answer) → IsRight (told files before after) names text a → IsRight (told files before after) names other b → number_of a ≡ number_of b → number_of a ≤ 10 → saying_of names text a ≡ saying_of names other b
-same_place files before after names text other AbsentSource AbsentSource right right' same plain = refl
-same_place files before after names text other SourceTooLong SourceTooLong right right' same plain = refl
-same_place files before after names text other (Refused r) (Refused r') (source, lexed) (source', lexed') same plain =
-    let texts : other ≡ text = same_bytes _ other text source'.given source.given in
-    let refusals : ◌≡◌ {A = Result (List LexedWord) LexFault} (Err (LexRefused r)) (Err (LexRefused r')) = same_answer 0 text (Err (LexRefused r)) (Err (LexRefused r')) (λ is. cc) (λ is. cc) lexed (subst (λ (t : List ℕ). LexAnswers 0 t (Err (LexRefused r'))) texts lexed') in
-    ap (λ (q : Refusal). saying_of names text (Refused q)) (same_refusal r r' refusals) ∙ ap (λ (t : List ℕ). saying_of names t (Refused r')) (sym texts)
-same_place files before after names text other TooManyWords TooManyWords right right' same plain = refl
-same_place files before after names text other AbsentCertificate AbsentCertificate right right' same plain = refl
-same_place files before after names text other NotBuilt NotBuilt right right' same plain = ap (λ (t : List ℕ). saying_of names t NotBuilt) (same_bytes _ text other right.1.source.given right'.1.source.given)
-same_place files before after names text other CertificateTooLong CertificateTooLong right right' same plain = refl
-same_place files before after names text other (BadCertificate m) (BadCertificate n) (words, p, bytes, program, certificate, wrong) (words', p', bytes', program', certificate', wrong') same plain =
-    ap (λ line. saying_of names text (BadCertificate line)) (one_wrong_line bytes m n wrong (subst (λ (b : List ℕ). IsFirstWrongLine b n) (same_bytes _ bytes' bytes certificate'.given certificate.given) wrong'))
-same_place files before after names text other (Failing k at) (Failing l at') (words, p, c, judges, fails, at_is) (words', p', c', judges', fails', at_is') same plain =
-    let texts : other ≡ text = same_bytes _ other text judges'.program.cut.source.given judges.program.cut.source.given in
-    let reads = reads_once text words' words p' p (subst (λ (t : List ℕ). LexAnswers 0 t (Ok words')) texts judges'.program.cut.lexed) judges.program.cut.lexed judges'.program.spell judges.program.spell in
+same_place : ExpandsToOnce → (files : List Named) (before after : ℕ) (names : Names) (g h : Gathered) (a b : Answer) → IsRight (told files before after) names g a → IsRight (told files before after) names h b → number_of a ≡ number_of b → number_of a ≤ 8 → saying_of names g a ≡ saying_of names h b
+same_place once files before after names g h (AbsentSource m) (AbsentSource n) right right' same plain = ap (λ (f : GatherFault). fault_saying names f) (same_fault files names (gathering.RootAbsent m) (gathering.RootAbsent n) right right')
+same_place once files before after names g h (AbsentSource m) (Refused q) right right' same plain = ap (λ (f : GatherFault). fault_saying names f) (same_fault files names (gathering.RootAbsent m) (gathering.Refused q h) right right')
+same_place once files before after names g h (AbsentSource m) (SourcesOver k) right right' same plain = ap (λ (f : GatherFault). fault_saying names f) (same_fault files names (gathering.RootAbsent m) (gathering.Over k) right right')
+same_place once files before after names g h (Refused r) (AbsentSource n) right right' same plain = ap (λ (f : GatherFault). fault_saying names f) (same_fault files names (gathering.Refused r g) (gathering.RootAbsent n) right right')
+same_place once files before after names g h (Refused r) (Refused q) right right' same plain = ap (λ (f : GatherFault). fault_saying names f) (same_fault files names (gathering.Refused r g) (gathering.Refused q h) right right')
+same_place once files before after names g h (Refused r) (SourcesOver k) right right' same plain = ap (λ (f : GatherFault). fault_saying names f) (same_fault files names (gathering.Refused r g) (gathering.Over k) right right')
+same_place once files before after names g h (SourcesOver l) (AbsentSource n) right right' same plain = ap (λ (f : GatherFault). fault_saying names f) (same_fault files names (gathering.Over l) (gathering.RootAbsent n) right right')
+same_place once files before after names g h (SourcesOver l) (Refused q) right right' same plain = ap (λ (f : GatherFault). fault_saying names f) (same_fault files names (gathering.Over l) (gathering.Refused q h) right right')
+same_place once files before after names g h (SourcesOver l) (SourcesOver k) right right' same plain = ap (λ (f : GatherFault). fault_saying names f) (same_fault files names (gathering.Over l) (gathering.Over k) right right')
+same_place once files before after names g h AbsentCertificate AbsentCertificate right right' same plain = refl
+same_place once files before after names g h (Unexpanded r) (Unexpanded q) (gathers, held, refused) (gathers', held', refused') same plain =
+    let sources : g ≡ h = same_sources files names g h gathers gathers' in
+    ap (λ (x : Gathered). saying_of names x (Unexpanded r)) sources ∙ ap (λ (x : Refusal). saying_of names h (Unexpanded x)) (one_refusal once h r q (subst (λ x. IsUnexpanded x r) sources refused) refused')
+same_place once files before after names g h (Unexpanded r) (ExpansionOver l) (gathers, held, refused) (gathers', held', over) same plain =
+    absurd (refused_and_over once h r l (subst (λ x. IsUnexpanded x r) (same_sources files names g h gathers gathers') refused) over)
+same_place once files before after names g h (ExpansionOver l) (Unexpanded r) (gathers, held, over) (gathers', held', refused) same plain =
+    absurd (refused_and_over once g r l (subst (λ x. IsUnexpanded x r) (same_sources files names h g gathers' gathers) refused) over)
+same_place once files before after names g h (ExpansionOver l) (ExpansionOver k) (gathers, held, over) (gathers', held', over') same plain =
+    ap (λ (x : Limit). saying_of names g (ExpansionOver x)) (one_limit once h l k (subst (λ x. ExpandsTo x (Err l)) (same_sources files names g h gathers gathers') over) over')
+same_place once files before after names g h NotBuilt NotBuilt right right' same plain = ap (λ (x : Gathered). saying_of names x NotBuilt) (same_sources files names g h right.0 right'.0)
+same_place once files before after names g h CertificateTooLong CertificateTooLong right right' same plain = refl
+same_place once files before after names g h (BadCertificate m) (BadCertificate n) (words, p, bytes, program, certificate, wrong) (words', p', bytes', program', certificate', wrong') same plain =
+    ap (λ line. saying_of names g (BadCertificate line)) (one_wrong_line bytes m n wrong (subst (λ (b : List ℕ). IsFirstWrongLine b n) (same_bytes _ bytes' bytes certificate'.given certificate.given) wrong'))
+same_place once files before after names g h (Failing k at) (Failing l at') (words, p, c, judges, fails, at_is) (words', p', c', judges', fails', at_is') same plain =
+    let reads = reads_once once files names h g words' words p' p judges'.program judges.program in
     let claims : c' ≡ c = certificate_text-injective c' c judges'.is_certificate judges.is_certificate (same_bytes _ (certificate_text c') (certificate_text c) judges'.certificate.given judges.certificate.given) in
     let condition : k ≡ l = one_fails_first p c k l fails (subst (λ (d : Claims). IsFirstFailure p d l) claims (subst (λ (q : Program). IsFirstFailure q c' l) reads.program_is fails')) in
-    ap (λ (s : Span). saying_of names text (Failing k s)) at_is
-    ∙ ap (λ (j : Condition). saying_of names text (Failing j (place_of words j))) condition
-    ∙ ap (λ (ws : List LexedWord). saying_of names text (Failing l (place_of ws l))) (sym reads.words_are)
-    ∙ ap (λ (s : Span). saying_of names text (Failing l s)) (sym at_is')
-    ∙ ap (λ (t : List ℕ). saying_of names t (Failing l at')) (sym texts)
-same_place files before after names text other (Accepted bounds) (Accepted bounds') (words, p, c, judges, accepts, total) (words', p', c', judges', accepts', total') same plain =
+    ap (λ (s : Span). saying_of names g (Failing k s)) at_is
+    ∙ ap (λ (j : Condition). saying_of names g (Failing j (place_of words j))) condition
+    ∙ ap (λ (ws : List LexedWord). saying_of names g (Failing l (place_of ws l))) (sym reads.words_are)
+    ∙ ap (λ (s : Span). saying_of names g (Failing l s)) (sym at_is')
+    ∙ ap (λ (x : Gathered). saying_of names x (Failing l at')) (sym reads.sources_are)
+same_place once files before after names g h (Accepted bounds) (Accepted bounds') (words, p, c, judges, accepts, total) (words', p', c', judges', accepts', total') same plain =
     let claims : c ≡ c' = certificate_text-injective c c' judges.is_certificate judges'.is_certificate (same_bytes _ (certificate_text c) (certificate_text c') judges.certificate.given judges'.certificate.given) in
-    ap (λ (b : Bounds). saying_of names text (Accepted b)) (total ∙ ap (λ (d : Claims). d.total) claims ∙ sym total')
-same_place files before after names text other AbsentSource _ right right' same plain = absurd (omega (arith, same))
-same_place files before after names text other SourceTooLong _ right right' same plain = absurd (omega (arith, same))
-same_place files before after names text other (Refused r) _ right right' same plain = absurd (omega (arith, same))
-same_place files before after names text other TooManyWords _ right right' same plain = absurd (omega (arith, same))
-same_place files before after names text other AbsentCertificate _ right right' same plain = absurd (omega (arith, same))
-same_place files before after names text other NotBuilt _ right right' same plain = absurd (omega (arith, same))
-same_place files before after names text other CertificateTooLong _ right right' same plain = absurd (omega (arith, same))
-same_place files before after names text other (BadCertificate m) _ right right' same plain = absurd (omega (arith, same))
-same_place files before after names text other (Failing k at) _ right right' same plain = absurd (omega (arith, same))
-same_place files before after names text other (Accepted bounds) _ right right' same plain = absurd (omega (arith, same))
-same_place files before after names text other ReadFault _ right right' same plain = absurd (omega (arith, plain))
-same_place files before after names text other NoMemory _ right right' same plain = absurd (omega (arith, plain))
+    ap (λ (b : Bounds). saying_of names g (Accepted b)) (total ∙ ap (λ (d : Claims). d.total) claims ∙ sym total')
+same_place once files before after names g h (AbsentSource m) _ right right' same plain = absurd (omega (arith, same))
+same_place once files before after names g h (Refused r) _ right right' same plain = absurd (omega (arith, same))
+same_place once files before after names g h (SourcesOver l) _ right right' same plain = absurd (omega (arith, same))
+same_place once files before after names g h AbsentCertificate _ right right' same plain = absurd (omega (arith, same))
+same_place once files before after names g h (Unexpanded r) _ right right' same plain = absurd (omega (arith, same))
+same_place once files before after names g h (ExpansionOver l) _ right right' same plain = absurd (omega (arith, same))
+same_place once files before after names g h NotBuilt _ right right' same plain = absurd (omega (arith, same))
+same_place once files before after names g h CertificateTooLong _ right right' same plain = absurd (omega (arith, same))
+same_place once files before after names g h (BadCertificate m) _ right right' same plain = absurd (omega (arith, same))
+same_place once files before after names g h (Failing k at) _ right right' same plain = absurd (omega (arith, same))
+same_place once files before after names g h (Accepted bounds) _ right right' same plain = absurd (omega (arith, same))
+same_place once files before after names g h ReadFault _ right right' same plain = absurd (omega (arith, plain))
+same_place once files before after names g h NoMemory _ right right' same plain = absurd (omega (arith, plain))
 
-one_answer : (files : List Named) (before after : ℕ) (names : Names) (text other : List ℕ) (a b : Answer) → IsRight (told files before after) names text a → IsRight (told files before after) names other b → number_of a ≤ 10 → number_of b ≤ 10 → saying_of names text a ≡ saying_of names other b
-one_answer files before after names text other a b right right' plain plain' =
+one_answer : ExpandsToOnce → (files : List Named) (before after : ℕ) (names : Names) (g h : Gathered) (a b : Answer) → IsRight (told files before after) names g a → IsRight (told files before after) names h b → number_of a ≤ 8 → number_of b ≤ 8 → saying_of names g a ≡ saying_of names h b
+one_answer once files before after names g h a b right right' plain plain' =
     elim (cases_order (number_of a) (number_of b)) [
-      | inl same ↦ same_place files before after names text other a b right right' same plain
+      | inl same ↦ same_place once files before after names g h a b right right' same plain
       | inr apart ↦ elim apart [
-        | inl lower ↦ absurd (stops files before after names text a right plain (passes files before after names other b (number_of a) right' lower plain') (omega (arith, lower, plain')))
-        | inr upper ↦ absurd (stops files before after names other b right' plain' (passes files before after names text a (number_of b) right upper plain) (omega (arith, upper, plain)))
+        | inl lower ↦ absurd (stops once files before after names g a right plain (passes files before after names h b (number_of a) right' lower plain') (omega (arith, lower, plain')))
+        | inr upper ↦ absurd (stops once files before after names h b right' plain' (passes files before after names g a (number_of b) right upper plain) (omega (arith, upper, plain)))
       ]
     ]
 
 -- an answer that is neither a read fault nor want of memory
-plain_answer : (answer : Answer) → status_of answer ≢ 5 → status_of answer ≢ 7 → number_of answer ≤ 10
-plain_answer AbsentSource five seven = omega arith
-plain_answer SourceTooLong five seven = omega arith
+plain_answer : (answer : Answer) → status_of answer ≢ 5 → status_of answer ≢ 7 → number_of answer ≤ 8
+plain_answer (AbsentSource place) five seven = omega arith
 plain_answer (Refused refusal) five seven = omega arith
-plain_answer TooManyWords five seven = omega arith
+plain_answer (SourcesOver limit) five seven = omega arith
 plain_answer AbsentCertificate five seven = omega arith
+plain_answer (Unexpanded refusal) five seven = omega arith
+plain_answer (ExpansionOver limit) five seven = omega arith
 plain_answer NotBuilt five seven = omega arith
 plain_answer CertificateTooLong five seven = omega arith
 plain_answer (BadCertificate line) five seven = omega arith
@@ -249,23 +301,22 @@ plain_answer (Accepted bounds) five seven = omega arith
 plain_answer ReadFault five seven = absurd (five refl)
 plain_answer NoMemory five seven = absurd (seven refl)
 
--- four words tell the names
+-- the words tell the names
 same_names : (words : List (List ℕ)) (some other : Names) → IsVerify words some → IsVerify words other → some ≡ other
 same_names words some other is is' =
-    let certificates : some.certificate ≡ other.certificate = ap (λ ws. get_or ws 2 []) (sym is.words_are ∙ is'.words_are) in
-    let sources : some.source ≡ other.source = ap (λ ws. get_or ws 3 []) (sym is.words_are ∙ is'.words_are) in
-    ap (λ (n : List ℕ). record { certificate = n; source = some.source }) certificates ∙ ap (λ (n : List ℕ). record { certificate = other.certificate; source = n }) sources
+    let same : ◌≡◌ {A = Option Names} (Some some) (Some other) = sym (verify_again words some is) ∙ verify_again words other is' in
+    same_Some some other same
 
-says_right : (files : List Named) (before after : ℕ) (names : Names) (some other : Saying) → SaysRight names (told files before after) some → SaysRight names (told files before after) other → some.status ≢ 5 → some.status ≢ 7 → other.status ≢ 5 → other.status ≢ 7 → some ≡ other
-says_right files before after names some other s o five seven five' seven' =
+says_right : ExpandsToOnce → (files : List Named) (before after : ℕ) (names : Names) (some other : Saying) → SaysRight names (told files before after) some → SaysRight names (told files before after) other → some.status ≢ 5 → some.status ≢ 7 → other.status ≢ 5 → other.status ≢ 7 → some ≡ other
+says_right once files before after names some other s o five seven five' seven' =
     let plain = plain_answer s.answer (λ is. five (ap (λ (y : Saying). y.status) s.said ∙ is)) (λ is. seven (ap (λ (y : Saying). y.status) s.said ∙ is)) in
     let plain' = plain_answer o.answer (λ is. five' (ap (λ (y : Saying). y.status) o.said ∙ is)) (λ is. seven' (ap (λ (y : Saying). y.status) o.said ∙ is)) in
-    s.said ∙ one_answer files before after names s.text o.text s.answer o.answer s.is_right o.is_right plain plain' ∙ sym o.said
+    s.said ∙ one_answer once files before after names s.sources o.sources s.answer o.answer s.is_right o.is_right plain plain' ∙ sym o.said
 
-pub says_one_thing : (words : List (List ℕ)) (files : List Named) (before after : ℕ) (some other : Saying) → MaySay words (told files before after) some → MaySay words (told files before after) other → some.status ≢ 5 → some.status ≢ 7 → other.status ≢ 5 → other.status ≢ 7 → some ≡ other
-says_one_thing words files before after some other (inl (none, said)) (inl (none', said')) five seven five' seven' = said ∙ sym said'
-says_one_thing words files before after some other (inl (none, said)) (inr (names, is, says)) five seven five' seven' = absurd (none names is)
-says_one_thing words files before after some other (inr (names, is, says)) (inl (none, said)) five seven five' seven' = absurd (none names is)
-says_one_thing words files before after some other (inr (names, is, says)) (inr (names', is', says')) five seven five' seven' =
-    says_right files before after names some other says
+pub says_one_thing : ExpandsToOnce → (words : List (List ℕ)) (files : List Named) (before after : ℕ) (some other : Saying) → MaySay words (told files before after) some → MaySay words (told files before after) other → some.status ≢ 5 → some.status ≢ 7 → other.status ≢ 5 → other.status ≢ 7 → some ≡ other
+says_one_thing once words files before after some other (inl (none, said)) (inl (none', said')) five seven five' seven' = said ∙ sym said'
+says_one_thing once words files before after some other (inl (none, said)) (inr (names, is, says)) five seven five' seven' = absurd (none names is)
+says_one_thing once words files before after some other (inr (names, is, says)) (inl (none, said)) five seven five' seven' = absurd (none names is)
+says_one_thing once words files before after some other (inr (names, is, says)) (inr (names', is', says')) five seven five' seven' =
+    says_right once files before after names some other says
     (subst (λ (n : Names). SaysRight n (told files before after) other) (same_names words names' names is' is) says') five seven five' seven'

@@ -1,5 +1,5 @@
 -- What is said for an answer: the status of the program, and the texts on its two outputs.
-use Rattle.std.specs.Prelude.{◌≡◌, ℕ, ◌⊎◌, List, [], Option}
+use Rattle.std.specs.Prelude.{◌≡◌, ℕ, ◌⊎◌, List, [], slice_index_or, Option}
 use Rattle.std.specs.Io.KnownBytes.{Appends}
 use Rattle.p10_base.specs.declared.span.Span.{Span}
 use Rattle.p10_base.specs.declared.report.Family.TheVariants.{S}
@@ -10,17 +10,18 @@ use Rattle.p10_report.specs.Lines.{accepted_line, failing_line, limit_line, refu
 use Rattle.p10_report.specs.Messages.{absent_line, bad_certificate_line, out_of_memory_line, read_fault_line, usage_line}
 use Rattle.p10_first.specs.Conditions.{number_of_condition}
 use Rattle.p10_top.specs.declared.answer.Answer.{Answer}
-use Rattle.p10_top.specs.declared.answer.Answer.TheVariants.{AbsentSource, SourceTooLong, Refused, TooManyWords, AbsentCertificate, NotBuilt, CertificateTooLong, BadCertificate, Failing, Accepted, ReadFault, NoMemory}
+use Rattle.p10_top.specs.declared.answer.Answer.TheVariants.{AbsentSource, Refused, SourcesOver, AbsentCertificate, Unexpanded, ExpansionOver, NotBuilt, CertificateTooLong, BadCertificate, Failing, Accepted, ReadFault, NoMemory}
 use Rattle.p10_top.specs.Command.{Names, IsVerify}
-use Rattle.p10_top.specs.Answers.{Seen, IsRight, one_root}
+use Rattle.p10_top.specs.Answers.{Seen, IsRight}
 
 -- the status of an answer
 abbrev pub status_of : Answer → ℕ
-status_of AbsentSource = 9
-status_of SourceTooLong = 8
+status_of (AbsentSource place) = 9
 status_of (Refused refusal) = 3
-status_of TooManyWords = 8
+status_of (SourcesOver limit) = 8
 status_of AbsentCertificate = 9
+status_of (Unexpanded refusal) = 3
+status_of (ExpansionOver limit) = 8
 status_of NotBuilt = 3
 status_of CertificateTooLong = 8
 status_of (BadCertificate line) = 4
@@ -29,7 +30,7 @@ status_of (Accepted bounds) = 0
 status_of ReadFault = 5
 status_of NoMemory = 7
 
--- the place of a source that is no program that can be verified yet: its beginning
+-- the place of sources that are no program that can be verified yet: the beginning of the first root
 abbrev pub beginning : Span
 beginning = record { file = 0; start = 0; end = 0 }
 
@@ -44,11 +45,12 @@ out_text sources answer = []
 
 -- the text on the error output, where the words name these files
 abbrev pub err_text : Names → Gathered → Answer → List ℕ
-err_text names sources AbsentSource = absent_line names.source
-err_text names sources SourceTooLong = limit_line (record { number = 1 })
+err_text names sources (AbsentSource place) = absent_line (slice_index_or names.sources place [])
 err_text names sources (Refused refusal) = refusal_line sources refusal
-err_text names sources TooManyWords = limit_line (record { number = 2 })
+err_text names sources (SourcesOver limit) = limit_line limit
 err_text names sources AbsentCertificate = absent_line names.certificate
+err_text names sources (Unexpanded refusal) = refusal_line sources refusal
+err_text names sources (ExpansionOver limit) = limit_line limit
 err_text names sources NotBuilt = refusal_line sources not_built
 err_text names sources CertificateTooLong = limit_line (record { number = 10 })
 err_text names sources (BadCertificate line) = bad_certificate_line line
@@ -66,13 +68,9 @@ pub record Saying : Type 0 where
 abbrev pub usage_saying : Saying
 usage_saying = record { status = 2; out = []; err = usage_line }
 
--- what is said for an answer, where the words name these files and the source has this text
-abbrev pub saying_of : Names → List ℕ → Answer → Saying
-saying_of names text answer = record {
-  status = status_of answer;
-  out = out_text (one_root names.source text) answer;
-  err = err_text names (one_root names.source text) answer;
-}
+-- what is said for an answer, where the words name these files and these sources were gathered
+abbrev pub saying_of : Names → Gathered → Answer → Saying
+saying_of names sources answer = record { status = status_of answer; out = out_text sources answer; err = err_text names sources answer }
 
 -- no command has these words
 abbrev pub IsNoCommand : List (List ℕ) → Type 0
@@ -80,10 +78,10 @@ IsNoCommand words = (names : Names) → IsVerify words names → ⊥
 
 -- something is said for a right answer to `verify` with these names
 pub record SaysRight (names : Names) (seen : Seen) (saying : Saying) : Type 0 where
-  pub text : List ℕ
+  pub sources : Gathered
   pub answer : Answer
-  pub is_right : IsRight seen names text answer
-  pub said : saying ≡ saying_of names text answer
+  pub is_right : IsRight seen names sources answer
+  pub said : saying ≡ saying_of names sources answer
 
 -- what may be said to a command line
 abbrev pub MaySay : List (List ℕ) → Seen → Saying → Type 0

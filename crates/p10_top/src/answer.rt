@@ -2,23 +2,25 @@
 
 ghost use Rattle.std.specs.Prelude.{◌≡◌};
 
-use p10_base::{Bounds, Refusal, Span};
+use p10_base::{Bounds, Limit, Refusal, Span};
 use p10_first::Condition;
 
 /// An answer to `verify`, in the order in which they are tried; the last two may come before any.
 #[derive(Clone, Copy, Debug)]
 pub enum Answer {
-    /// There is no such source.
-    AbsentSource,
-    /// The source is over its limit.
-    SourceTooLong,
-    /// The source is refused, before its certificate is read.
+    /// There is no source with this place in the command.
+    AbsentSource(u32),
+    /// A source is refused, before the certificate is read.
     Refused(Refusal),
-    /// The source has more words than its limit.
-    TooManyWords,
+    /// The sources pass a limit, before the certificate is read: M1 and M2 of one file, M7 of all.
+    SourcesOver(Limit),
     /// There is no such certificate.
     AbsentCertificate,
-    /// The source is no program that can be verified yet.
+    /// A directive or a use of a macro is refused.
+    Unexpanded(Refusal),
+    /// The expansion of the sources passes a limit: M3, M4 or M6.
+    ExpansionOver(Limit),
+    /// The sources are no program that can be verified yet.
     NotBuilt,
     /// The certificate is over its limit.
     CertificateTooLong,
@@ -44,12 +46,12 @@ impl Answer {
         match self {
             Answer::Accepted(_) => 0,
             Answer::Failing(..) => 1,
-            Answer::Refused(_) | Answer::NotBuilt => 3,
+            Answer::Refused(_) | Answer::Unexpanded(_) | Answer::NotBuilt => 3,
             Answer::BadCertificate(_) => 4,
             Answer::ReadFault => 5,
             Answer::NoMemory => 7,
-            Answer::SourceTooLong | Answer::TooManyWords | Answer::CertificateTooLong => 8,
-            Answer::AbsentSource | Answer::AbsentCertificate => 9,
+            Answer::SourcesOver(_) | Answer::ExpansionOver(_) | Answer::CertificateTooLong => 8,
+            Answer::AbsentSource(_) | Answer::AbsentCertificate => 9,
         }
     }
 }

@@ -1,63 +1,73 @@
 //! The answer to `verify`, in the order of answers.
 
-ghost use Rattle.std.specs.Prelude.{◌≡◌, ◌≤◌, IfOk, IsErrOf};
-ghost use Rattle.p10_base.specs.Gathered.{nothing_gathered};
+ghost use Rattle.std.specs.Prelude.{◌≡◌, ◌≤◌, ◌<◌, length, IfOk, IsErrOf};
 ghost use Rattle.p10_world.specs.Faults.{Rose};
 ghost use Rattle.p10_top.specs.Command.{names_of};
-ghost use Rattle.p10_top.specs.Deciding.{Decides, answer_without_words};
+ghost use Rattle.p10_top.specs.Deciding.{Decides, decision_without};
 
 use crate::answer::Answer;
-use crate::command::Verify;
+use crate::command::{Verify, directories};
 use crate::judge::{CERTIFICATE_LIMIT, judge};
 use crate::load::{Trouble, load};
 use p10_base::Sources;
-use p10_lex::{LexFault, lex};
+use p10_expand::{GatherFault, gather};
 use p10_world::Files;
 use std::alloc::Global;
 
-/// The most bytes of a source file.
-pub const SOURCE_LIMIT: u64 = 1_048_576;
+/// An answer, and the sources in which its places lie.
+#[derive(Drop)]
+pub struct Decision {
+    pub answer: Answer,
+    pub sources: Sources,
+}
 
-/// The answer to `verify`, with the gathered sources.
+/// The answer to `verify`.
 pub fn decide<F: Files>(
     alloc: Global,
     verify: &Verify<'_>,
     files: &mut F,
-    sources: &mut Sources,
-) -> Result<Answer, Trouble>
-    requires { sources.old ≡ nothing_gathered }
-    ensures right { IfOk result (Decides (F.held files.old) (names_of verify.now) sources.new) }
+) -> Result<Decision, Trouble>
+    requires some { 0 < length verify.now.sources.now }
+    requires few { length verify.now.sources.now ≤ 65536 }
+    ensures right { IfOk result (λ decision. Decides (F.held files.old) (names_of verify.now) decision.sources decision.answer) }
     ensures failed { IsErrOf result Trouble.Read → Rose (F.faults files.old) (F.faults files.new) }
     ensures count { F.faults files.old ≤ F.faults files.new }
     ensures held { F.held files.new ≡ F.held files.old }
 {
-    let Some(text) = load(alloc, files, verify.source, SOURCE_LIMIT)? else {
-        return Ok(Answer::AbsentSource);
-    };
-    if text.len() as u64 > SOURCE_LIMIT {
-        return Ok(Answer::SourceTooLong);
-    }
-    let name = String::from_str(alloc, verify.source)?;
-    let file = sources.push(name, text)?;
-    sources.push_root(file)?;
-    let words = match lex(alloc, file, sources.text(file)) {
-        Ok(words) => words,
-        Err(fault) => return without_words(fault),
+    let directories = directories(alloc, verify.include)?;
+    let sources = match gather(alloc, files, verify.sources, &directories) {
+        Ok(sources) => sources,
+        Err(fault) => return without_sources(alloc, fault),
     };
     let Some(certificate) = load(alloc, files, verify.certificate, CERTIFICATE_LIMIT)? else {
-        return Ok(Answer::AbsentCertificate);
+        return Ok(Decision {
+            answer: Answer::AbsentCertificate,
+            sources,
+        });
     };
-    Ok(judge(alloc, &words, &certificate)?)
+    let answer = judge(alloc, &sources, &certificate)?;
+    Ok(Decision { answer, sources })
 }
 
-/// The answer where a source that isn't too long has no words.
-fn without_words(fault: LexFault) -> Result<Answer, Trouble>
-    ensures answer { result ≡ answer_without_words fault }
-    ensures no_read { IsErrOf result Trouble.Read → ⊥ }
+/// The answer where the sources aren't gathered.
+fn without_sources(alloc: Global, fault: GatherFault) -> Result<Decision, Trouble>
+    ensures { result ≡ decision_without fault }
 {
+    let sources = Sources::new(alloc);
     match fault {
-        LexFault::Refused(refusal) => Ok(Answer::Refused(refusal)),
-        LexFault::Over(_) => Ok(Answer::TooManyWords),
-        LexFault::Memory => Err(Trouble::Memory),
+        GatherFault::RootAbsent(place) => Ok(Decision {
+            answer: Answer::AbsentSource(place),
+            sources,
+        }),
+        GatherFault::Refused(refusal, sources) => Ok(Decision {
+            answer: Answer::Refused(refusal),
+            sources,
+        }),
+        GatherFault::Over(limit) => Ok(Decision {
+            answer: Answer::SourcesOver(limit),
+            sources,
+        }),
+        GatherFault::Read => Err(Trouble::Read),
+        GatherFault::Memory => Err(Trouble::Memory),
     }
 }

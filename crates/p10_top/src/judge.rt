@@ -1,12 +1,16 @@
-//! What the words of a source and its certificate come to.
+//! What the sources and the certificate come to.
 
-ghost use Rattle.std.specs.Prelude.{◌≡◌, ◌≤◌, length, map, IfOk};
+ghost use Rattle.std.specs.Prelude.{◌≡◌, ◌≤◌, ◌<◌, length, map, IfOk};
+ghost use Rattle.p10_base.specs.Gathered.{count_of};
+ghost use Rattle.p10_expand.specs.Gathering.{HaveWords};
+ghost use Rattle.p10_expand.specs.Steps.{IsExpansion};
 ghost use Rattle.p10_lex.specs.Pieces.{seen};
 ghost use Rattle.p10_top.specs.Answers.{place_of};
-ghost use Rattle.p10_top.specs.Judging.{IsJudged, IsWeighed};
+ghost use Rattle.p10_top.specs.Judging.{AreJudged, IsJudged, IsWeighed, JudgedPlace};
 
 use crate::answer::Answer;
-use p10_base::{Span, Word};
+use p10_base::{Sources, Span, Word};
+use p10_expand::{ExpandFault, Expanded, expand};
 use p10_first::{Condition, Program, certificate, failing};
 use std::alloc::{AllocError, Global};
 
@@ -48,15 +52,54 @@ fn weigh(
     }
 }
 
-/// What the words of a source and the bytes of a certificate come to.
+/// What the words of the only root and the bytes of a certificate come to.
 ///
 /// # Errors
 /// Want of memory alone.
-pub fn judge(alloc: Global, words: &[Word<'_>], certificate: &[u8]) -> Result<Answer, AllocError>
-    ensures { IfOk result (IsJudged (map seen words.now) certificate.now) }
+fn judge_words(alloc: Global, words: &[Word<'_>], certificate: &[u8]) -> Result<Answer, AllocError>
+    ensures { IfOk result (AreJudged (map seen words.now) certificate.now) }
 {
     match p10_first::read(alloc, words)? {
         Some(program) => weigh(alloc, words, &program, certificate),
         None => Ok(Answer::NotBuilt),
+    }
+}
+
+/// What gathered sources and the bytes of a certificate come to. More than one root is no program that can be
+/// verified yet.
+///
+/// # Errors
+/// Want of memory alone.
+pub fn judge(alloc: Global, sources: &Sources, certificate: &[u8]) -> Result<Answer, AllocError>
+    requires some { 0 < count_of sources.now }
+    requires words { HaveWords sources.now }
+    ensures judged { IfOk result (IsJudged sources.now certificate.now) }
+    ensures place { IfOk result (JudgedPlace sources.now) }
+{
+    match expand(alloc, sources) {
+        Ok(expanded) => judge_expanded(alloc, sources, &expanded, certificate),
+        Err(ExpandFault::Over(limit)) => Ok(Answer::ExpansionOver(limit)),
+        Err(ExpandFault::Memory) => Err(AllocError),
+    }
+}
+
+/// What expanded sources and the bytes of a certificate come to.
+fn judge_expanded(
+    alloc: Global,
+    sources: &Sources,
+    expanded: &Expanded<'_>,
+    certificate: &[u8],
+) -> Result<Answer, AllocError>
+    requires some { 0 < count_of sources.now }
+    requires expanded { IsExpansion sources.now expanded.now }
+    ensures judged { IfOk result (IsJudged sources.now certificate.now) }
+    ensures place { IfOk result (JudgedPlace sources.now) }
+{
+    if let Some(refusal) = expanded.refusal {
+        return Ok(Answer::Unexpanded(refusal));
+    }
+    match expanded.roots.as_slice() {
+        [words] => judge_words(alloc, words, certificate),
+        _ => Ok(Answer::NotBuilt),
     }
 }

@@ -29,8 +29,9 @@ pub use p10_first as first;
 
 /// Runs `p10` on the words behind the program's name, and gives the status with which it exits.
 ///
-/// `verify --cert CERTIFICATE SOURCE` tells on `out` whether the certificate bounds every run of the
-/// source's program; all else is told on `err`. Nothing is read of `input` by this command.
+/// `verify [--include DIRECTORIES] --cert CERTIFICATE SOURCE..` tells on `out` whether the certificate bounds
+/// every run of the sources' program; all else is told on `err`. `DIRECTORIES` are joined by `:`, and included
+/// files are looked for in them. Nothing is read of `input` by this command.
 ///
 /// The statuses: 0 accepted, 1 a condition doesn't hold, 2 no command, 3 the source is refused, 4 no
 /// certificate, 5 a read failed, 6 a write failed, 7 want of memory, 8 a limit is passed, 9 a file is

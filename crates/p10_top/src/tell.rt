@@ -3,7 +3,7 @@
 ghost use Rattle.std.specs.Prelude.{◌≡◌, ◌⊎◌, ◌≤◌, OnErr, OnOk};
 ghost use Rattle.p10_world.specs.Faults.{Rose};
 ghost use Rattle.p10_top.specs.Command.{names_of};
-ghost use Rattle.p10_top.specs.Deciding.{HasPlace};
+ghost use Rattle.p10_top.specs.Deciding.{CanBeTold};
 ghost use Rattle.p10_top.specs.Told.{BothTake, BothTakeFronts, err_text, out_text};
 
 use crate::answer::Answer;
@@ -37,7 +37,7 @@ pub fn tell<O: Sink, E: Sink>(
     out: &mut O,
     err: &mut E,
 ) -> Result<(), SinkFault>
-    requires { HasPlace sources.now answer.now }
+    requires { CanBeTold (names_of verify.now) sources.now answer.now }
     ensures ok { OnOk result (BothTake (O.taken out.old) (O.taken out.new) (E.taken err.old) (E.taken err.new) (out_text sources.now answer.now) (err_text (names_of verify.now) sources.now answer.now)) }
     ensures stopped { OnErr result (BothTakeFronts (O.taken out.old) (O.taken out.new) (E.taken err.old) (E.taken err.new) (out_text sources.now answer.now) (err_text (names_of verify.now) sources.now answer.now)) }
     ensures failed { OnErr result (Rose (O.faults out.old) (O.faults out.new) ⊎ Rose (E.faults err.old) (E.faults err.new)) }
@@ -45,11 +45,12 @@ pub fn tell<O: Sink, E: Sink>(
     ensures err_count { E.faults err.old ≤ E.faults err.new }
 {
     match answer {
-        Answer::AbsentSource => put_absent(err, verify.source),
-        Answer::SourceTooLong => put_limit(err, Limit { number: 1 }),
+        Answer::AbsentSource(place) => put_absent(err, verify.source(*place)),
         Answer::Refused(refusal) => put_refusal(err, sources, refusal),
-        Answer::TooManyWords => put_limit(err, Limit { number: 2 }),
+        Answer::SourcesOver(limit) => put_limit(err, *limit),
         Answer::AbsentCertificate => put_absent(err, verify.certificate),
+        Answer::Unexpanded(refusal) => put_refusal(err, sources, refusal),
+        Answer::ExpansionOver(limit) => put_limit(err, *limit),
         Answer::NotBuilt => put_refusal(err, sources, &NOT_BUILT),
         Answer::CertificateTooLong => put_limit(err, Limit { number: 10 }),
         Answer::BadCertificate(line) => put_bad_certificate(err, *line),

@@ -12,6 +12,7 @@ mod lexing;
 mod limits;
 mod memory;
 mod programs;
+mod sources;
 
 /// The words of the command that all tables use.
 const VERIFY: [&str; 4] = ["verify", "--cert", "a.p10", "a.c"];

@@ -1,7 +1,6 @@
 //! The command `verify`.
 
-ghost use Rattle.std.specs.Prelude.{◌≡◌, ◌≢◌, ◌⊎◌, ◌≤◌};
-ghost use Rattle.p10_base.specs.Gathered.{nothing_gathered};
+ghost use Rattle.std.specs.Prelude.{◌≡◌, ◌≢◌, ◌⊎◌, ◌≤◌, ◌<◌, length};
 ghost use Rattle.p10_world.specs.Faults.{Rose};
 ghost use Rattle.p10_top.specs.Command.{names_of};
 ghost use Rattle.p10_top.specs.Deciding.{Answered};
@@ -9,7 +8,7 @@ ghost use Rattle.p10_top.specs.Told.{ToldFor, StoppedFor};
 
 use crate::answer::Answer;
 use crate::command::Verify;
-use crate::decide::decide;
+use crate::decide::{Decision, decide};
 use crate::load::Trouble;
 use crate::tell::tell;
 use p10_base::Sources;
@@ -24,6 +23,8 @@ pub fn run<F: Files, O: Sink, E: Sink>(
     out: &mut O,
     err: &mut E,
 ) -> u8
+    requires some { 0 < length verify.now.sources.now }
+    requires few { length verify.now.sources.now ≤ 65536 }
     ensures told { result ≢ 6 → ToldFor (names_of verify.now)
         (record { held = F.held files.old; faults_before = F.faults files.old; faults_after = F.faults files.new })
         (O.taken out.old) (O.taken out.new) (E.taken err.old) (E.taken err.new) result }
@@ -33,30 +34,31 @@ pub fn run<F: Files, O: Sink, E: Sink>(
     ensures write { result ≡ 6 → Rose (O.faults out.old) (O.faults out.new) ⊎ Rose (E.faults err.old) (E.faults err.new) }
     ensures held { F.held files.new ≡ F.held files.old }
 {
-    let mut sources = Sources::new(alloc);
-    let answer = answer_to(alloc, verify, files, &mut sources);
-    match tell(verify, &answer, &sources, out, err) {
-        Ok(()) => answer.status(),
+    let decision = answer_to(alloc, verify, files);
+    match tell(verify, &decision.answer, &decision.sources, out, err) {
+        Ok(()) => decision.answer.status(),
         Err(_) => 6,
     }
 }
 
-/// The answer to the command, with the gathered sources.
-fn answer_to<F: Files>(
-    alloc: Global,
-    verify: &Verify<'_>,
-    files: &mut F,
-    sources: &mut Sources,
-) -> Answer
-    requires { sources.old ≡ nothing_gathered }
+/// The answer to the command, with the sources in which its places lie.
+fn answer_to<F: Files>(alloc: Global, verify: &Verify<'_>, files: &mut F) -> Decision
+    requires some { 0 < length verify.now.sources.now }
+    requires few { length verify.now.sources.now ≤ 65536 }
     ensures right { Answered
         (record { held = F.held files.old; faults_before = F.faults files.old; faults_after = F.faults files.new })
-        (names_of verify.now) sources.new result }
+        (names_of verify.now) result.sources result.answer }
     ensures held { F.held files.new ≡ F.held files.old }
 {
-    match decide(alloc, verify, files, sources) {
-        Ok(answer) => answer,
-        Err(Trouble::Read) => Answer::ReadFault,
-        Err(Trouble::Memory) => Answer::NoMemory,
+    match decide(alloc, verify, files) {
+        Ok(decision) => decision,
+        Err(Trouble::Read) => Decision {
+            answer: Answer::ReadFault,
+            sources: Sources::new(alloc),
+        },
+        Err(Trouble::Memory) => Decision {
+            answer: Answer::NoMemory,
+            sources: Sources::new(alloc),
+        },
     }
 }

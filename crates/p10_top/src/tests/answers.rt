@@ -5,11 +5,33 @@ use super::*;
 
 /// Words that are no command: too few, too many, another order, another spelling, and names of files
 /// that are empty or begin with `-`.
-static NO_COMMANDS: [&[&str]; 22] = [
+static NO_COMMANDS: [&[&str]; 35] = [
     &[],
     &["verify"],
     &["verify", "--cert", "a.p10"],
-    &["verify", "--cert", "a.p10", "a.c", "a.c"],
+    &["verify", "--cert", "a.p10", "a.c", ""],
+    &["verify", "--cert", "a.p10", "a.c", "-a.c"],
+    &["verify", "--include", "d", "--cert", "a.p10"],
+    &["verify", "--include", "", "--cert", "a.p10", "a.c"],
+    &["verify", "--include", ":d", "--cert", "a.p10", "a.c"],
+    &["verify", "--include", "d:", "--cert", "a.p10", "a.c"],
+    &["verify", "--include", "d::e", "--cert", "a.p10", "a.c"],
+    &["verify", "--include", "-d", "--cert", "a.p10", "a.c"],
+    &["verify", "--include", "d:-e", "--cert", "a.p10", "a.c"],
+    &["verify", "--include=d", "--cert", "a.p10", "a.c"],
+    &["verify", "--cert", "a.p10", "--include", "d", "a.c"],
+    &[
+        "verify",
+        "--include",
+        "d",
+        "--include",
+        "e",
+        "--cert",
+        "a.p10",
+        "a.c",
+    ],
+    &["verify", "--include", "d", "a.c"],
+    &["verify", "--include", "--cert", "a.p10", "a.c"],
     &["verify", "--cert=a.p10", "a.c"],
     &["verify", "--cert=a.p10", "a.c", "a.c"],
     &["verify", "a.c", "--cert", "a.p10"],
@@ -44,6 +66,56 @@ fn words_that_are_no_command(rt: HostRuntime) -> Result<(), Fail> {
         check(&rt, rt.alloc(), words, &mut files, ENOUGH, &want)?;
     }
     assert_eq!(rt; files.calls(), 0);
+    Ok(())
+}
+
+/// The words of a command that names `a.c` until there are so many words.
+fn many_words(alloc: Global, count: usize) -> Result<Vec<&'static str>, Fail> {
+    let mut words = Vec::from_slice(alloc, &VERIFY)?;
+    while words.len() < count {
+        words.push("a.c")?;
+    }
+    Ok(words)
+}
+
+#[test]
+fn most_words_of_a_command(rt: HostRuntime) -> Result<(), Fail> {
+    let alloc = rt.alloc();
+    let mut files = files_of(
+        alloc,
+        &[],
+        Some(SOURCE.as_bytes()),
+        Some(CERTIFICATE.as_bytes()),
+    )?;
+    let usage = Want {
+        status: 2,
+        out: "",
+        err: USAGE,
+    };
+    check(
+        &rt,
+        alloc,
+        &many_words(alloc, 65_537)?,
+        &mut files,
+        ENOUGH,
+        &usage,
+    )?;
+    assert_eq!(rt; files.calls(), 0);
+    let several = Want {
+        status: 3,
+        out: "",
+        err: NOT_BUILT,
+    };
+    check(
+        &rt,
+        alloc,
+        &many_words(alloc, 65_536)?,
+        &mut files,
+        ENOUGH,
+        &several,
+    )?;
+    // A source that is named again isn't read again.
+    assert_eq!(rt; files.calls(), 2);
     Ok(())
 }
 

@@ -1,6 +1,6 @@
 use Rattle.std.proofs.lemmas.Option.{MatchOption-at_some, MatchOption-at_none}
 use Rattle.p10_top.proofs.Sources.{judged, judged_none, many_words}
-use Rattle.p10_top.proofs.judge.judge.Goals as goal
+use Rattle.p10_top.proofs.judge.judge_words.Goals as goal
 
 pub weigh-requires : goal.weigh-requires
 weigh-requires c = many_words _ _ (MatchOption-at_some _ _ _ c.in-Some.is c.in_ok-program.ensures.found)
