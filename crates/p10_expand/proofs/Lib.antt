@@ -25,6 +25,8 @@ pub mod Rows
 pub mod OneExpansion
 pub mod Keeping
 pub mod Origins
+pub mod Counting
+pub mod Few
 pub mod PlainlyObeying
 pub mod Plainly
 pub mod Numbers

@@ -91,7 +91,7 @@ condition_numbered digits line condition s next (judged, (ending, runs, judges),
 
 included_numbered : (g : Gathered) (line : List Word) (name : Text) (s : State) (found : Option ℕ) → NextNumbered (included g line name s found)
 included_numbered g line name s None = (refl, omega arith, omega arith)
-included_numbered g line name s (Some number) = next_if (is_among s.once (name_of g number)) (On Obeyed s) (Enter number (is_header (name_of g number) name) s) tt tt
+included_numbered g line name s (Some number) = next_if (is_among s.once (name_of g number)) (On Obeyed s) (Enter number (is_header g number name) s) tt tt
 
 defined_numbered : (line : List Word) (s : State) (answer : Definition) (macros : Table) → NextNumbered (defined_as line s answer macros)
 defined_numbered line s New macros = next_if (nat_lt 8192 (own_of macros)) (End (Passes (limit 6))) (On Obeyed (record s { macros = macros })) (inr (inr refl)) tt

@@ -301,7 +301,7 @@ module _ (g : Gathered) where
 
   included_holds : (line : List Word) (name : Text) (s : State) (found : Option ℕ) → StateHolds s → LineHolds line → NextHolds (included g line name s found)
   included_holds line name s None h l = (h, operand_lies line l)
-  included_holds line name s (Some number) h l = next_if (is_among s.once (name_of g number)) (On Obeyed s) (Enter number (is_header (name_of g number) name) s) h h
+  included_holds line name s (Some number) h l = next_if (is_among s.once (name_of g number)) (On Obeyed s) (Enter number (is_header g number name) s) h h
 
   does_holds : (digits : Digits) (file : File) (stand : Stand) (line : List Word) (directive : PlainDirective) (s : State) (next : Next) → StateHolds s → LineHolds line → DirectiveHolds directive →
       Does g digits file stand line directive s next → NextHolds next

@@ -211,7 +211,7 @@ operand_bare (hash ∷ name ∷ operand ∷ words) = refl
 
 included_bare : (g : Gathered) (line : List Word) (name : Text) (s : State) (found : Option ℕ) → bare_next (included g line name s found) ≡ included g (bare_words line) name (bare_state s) found
 included_bare g line name s None = ap (refuse (bare_state s) 5) (sym (operand_bare line))
-included_bare g line name s (Some number) = sym (cond_map bare_next (is_among s.once (name_of g number)) (On Obeyed s) (Enter number (is_header (name_of g number) name) s) _ _ refl refl)
+included_bare g line name s (Some number) = sym (cond_map bare_next (is_among s.once (name_of g number)) (On Obeyed s) (Enter number (is_header g number name) s) _ _ refl refl)
 
 -- ## Definitions
 

@@ -5,7 +5,7 @@ use Rattle.p10_base.specs.declared.word.Word.{Word}
 use Rattle.p10_base.specs.declared.word.Kind.TheVariants.{Mark}
 use Rattle.p10_base.specs.declared.report.Refusal.{Refusal}
 use Rattle.p10_base.specs.declared.report.Limit.{Limit}
-use Rattle.p10_base.specs.Gathered.{Gathered, name_of, candidate_of}
+use Rattle.p10_base.specs.Gathered.{Gathered, name_of, text_of, candidate_of}
 use Rattle.p10_direct.specs.Spelling.{Text}
 use Rattle.p10_direct.specs.Lines.{Piece, DirectiveLine, TextRun}
 use Rattle.p10_direct.specs.Balance.{mark_of, first_unbalanced}
@@ -21,6 +21,7 @@ use Rattle.p10_expand.specs.declared.expanded.Obeyed.{Obeyed as ObeyedLine}
 use Rattle.p10_expand.specs.declared.expansion.digits.Digits.{Digits}
 use Rattle.p10_expand.specs.declared.expansion.stand.Stand.{Stand}
 use Rattle.p10_expand.specs.declared.expansion.stand.Stand.TheVariants.{Obeyed, Skipped}
+use Rattle.p10_expand.specs.Headers.{header_of}
 use Rattle.p10_expand.specs.Guards.{is_guarded}
 use Rattle.p10_expand.specs.Skips.{is_obeyed, stand_behind, stand_of_group, stand_of_else}
 use Rattle.p10_expand.specs.Conditionals.{refusal_of, is_defined, RunEnds, Judged, Holds, Fails, Exceeds, JudgesCondition}
@@ -119,16 +120,17 @@ abbrev pub is_some_text : Text → Option Text → Bool
 is_some_text name None = false
 is_some_text name (Some text) = bytes_eq text name
 
--- the file that is found for a name is a built-in header: its name is that name between angle brackets
-abbrev pub is_header : Text → Text → Bool
-is_header text name = is_some_text name (inside 60 62 text)
+-- the file that is found for a name is the built-in header of that name: its own name is that name between angle brackets, and its
+-- text is the header's
+abbrev pub is_header : Gathered → ℕ → Text → Bool
+is_header g number name = is_some_text name (inside 60 62 (name_of g number)) && is_some_text (text_of g number) (header_of name)
 
 -- an include stands for the lines of its candidate, if that isn't included once only, and was before (C99 6.10.2)
 abbrev pub included : Gathered → List Word → Text → State → Option ℕ → Next
 included g line name s None = refuse s 5 (operand_place line)
 included g line name s (Some number) =
     if is_among s.once (name_of g number) then On Obeyed s
-    else Enter number (is_header (name_of g number) name) s
+    else Enter number (is_header g number name) s
 
 -- ## Definitions
 

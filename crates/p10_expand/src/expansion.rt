@@ -17,7 +17,7 @@ mod step;
 mod tests;
 mod texts;
 
-ghost use Rattle.std.specs.Prelude.{◌≡◌, [], ◌++◌, Some, length, replicate, IfOk, IfErr};
+ghost use Rattle.std.specs.Prelude.{◌≡◌, ◌<◌, ◌^◌, [], ◌++◌, Some, length, replicate, sum_by, IfOk, IfErr};
 ghost use Rattle.p10_base.specs.Gathered.{count_of};
 ghost use Rattle.p10_expand.specs.Gathering.{HaveWords};
 ghost use Rattle.p10_expand.specs.Expands.{AreWords, ExpansionsAreUnique};
@@ -52,8 +52,9 @@ pub fn expand<'s>(alloc: Global, sources: &'s Sources) -> Result<Expanded<'s>, E
     requires { HaveWords sources.now }
     ensures expanded { IfOk result (IsExpansion sources.now) }
     ensures fault { IfErr result (IsFault sources.now) }
-    // What follows: each word's text is one of a file, and all places lie in the files.
+    // What follows: each word's text is one of a file, all places lie in the files, and words can be counted by a `u32`.
     ensures comes { IfOk result (λ expanded. ExpansionComes sources.now (expansion_of expanded)) }
+    ensures few { IfOk result (λ expanded. sum_by length (expansion_of expanded).roots < 2 ^ 32) }
 {
     let words = words_of_files(alloc, sources)?;
     let texts = Texts {

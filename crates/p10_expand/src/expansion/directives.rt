@@ -4,8 +4,11 @@ ghost use Rattle.std.specs.Prelude.{◌≡◌, ◌<◌, not, length, OnOk, IfOk}
 ghost use Rattle.p10_base.specs.Gathered.{candidate_of, count_of};
 ghost use Rattle.p10_direct.specs.Directives.{place_of};
 ghost use Rattle.p10_direct.specs.Form.{plain, plain_macro, BeginsWithHash};
+ghost use Rattle.p10_direct.specs.Reading.{inside};
+ghost use Rattle.p10_expand.specs.Headers.{header_of};
 ghost use Rattle.p10_expand.specs.Skips.{stand_of_group, stand_of_else};
-ghost use Rattle.p10_expand.specs.Obeying.{Does, ConditionGives, DefineGives, DefinitionGives, included, is_header, operand_place, mark_word, with_words};
+ghost use Rattle.p10_expand.specs.Obeying.{Does, ConditionGives, DefineGives, DefinitionGives, included, is_some_text, operand_place, mark_word, with_words};
+ghost use Rattle.p10_expand.specs.Obeying as obeying;
 ghost use Rattle.p10_expand.specs.Steps.{Steps, EntersBelow, Lies, inner_of, inner_behind, state_of, file_of, next_of};
 
 use crate::expansion::condition::{Verdict, defines, judge, refusal};
@@ -16,6 +19,7 @@ use crate::expansion::stand::Stand;
 use crate::expansion::state::State;
 use crate::expansion::step::Step;
 use crate::expansion::texts::File;
+use crate::headers::built_in;
 use p10_base::{Kind, Limit, Sources, Span, Word};
 use p10_direct::{Directive, Macro, between, whole};
 use p10_macros::Definition;
@@ -144,25 +148,42 @@ fn include<'w, 's>(
     match sources.candidate(from, name, angle) {
         None => Step::Refused(refusal(5, operand(line))),
         Some(number) => {
-            let text = sources.name(number).as_bytes();
-            if among(&state.once, text) {
+            if among(&state.once, sources.name(number).as_bytes()) {
                 Step::On(Stand::Obeyed)
             } else {
                 Step::Enter {
                     number,
-                    built_in: is_bracketed(text, name),
+                    built_in: is_header(sources, number, name),
                 }
             }
         }
     }
 }
 
+/// Whether the file that is found for a name is the built-in header of that name.
+fn is_header(sources: &Sources, number: u32, name: &[u8]) -> bool
+    requires { number < count_of sources.now }
+    ensures { result ≡ obeying.is_header sources.now number name.now }
+{
+    is_bracketed(sources.name(number).as_bytes(), name) && is_text_of(sources.text(number), name)
+}
+
 /// Whether a file's name is this name between angle brackets.
 fn is_bracketed(text: &[u8], name: &[u8]) -> bool
-    ensures { result ≡ is_header text.now name.now }
+    ensures { result ≡ is_some_text name.now (inside 60 62 text.now) }
 {
     match between(text, b'<', b'>') {
         Some(inner) => inner == name,
+        None => false,
+    }
+}
+
+/// Whether this is the text of the built-in header with this name.
+fn is_text_of(text: &[u8], name: &[u8]) -> bool
+    ensures { result ≡ is_some_text text.now (header_of name.now) }
+{
+    match built_in(name) {
+        Some(header) => header.text == text,
         None => false,
     }
 }
