@@ -242,7 +242,6 @@ static GUARDS: [Guard; 16] = [
 ];
 
 /// The files of a program with the root `a.c`.
-#[tactic(auto, using(crate::proofs::Lexing::gathered_lex))]
 fn gathered(alloc: Global, source: &str, header: &str) -> Result<Sources, Fail>
     ensures { IfOk result HaveWords }
 {

@@ -72,7 +72,7 @@ fn words_that_are_no_command(rt: HostRuntime) -> Result<(), Fail> {
 /// The words of a command that names `a.c` until there are so many words.
 fn many_words(alloc: Global, count: usize) -> Result<Vec<&'static str>, Fail> {
     let mut words = Vec::from_slice(alloc, &VERIFY)?;
-    while words.len() < count {
+    for _ in VERIFY.len()..count {
         words.push("a.c")?;
     }
     Ok(words)
