@@ -302,10 +302,10 @@ fn words_of_macros_stand_at_the_outermost_name(rt: HostRuntime) -> Result<(), Fa
 
 /// Each macro doubles the one before it; the last one is used.
 static EIGHTEEN: &str =
-    "# define D0 x ; # define D1 D0 D0 ; # define D2 D1 D1 ; # define D3 D2 D2 ; # define D4 D3 D3 ; # define D5 D4 D4 ; # define D6 D5 D5 ; # define D7 D6 D6 ; # define D8 D7 D7 ; # define D9 D8 D8 ; # define D10 D9 D9 ; # define D11 D10 D10 ; # define D12 D11 D11 ; # define D13 D12 D12 ; # define D14 D13 D13 ; # define D15 D14 D14 ; # define D16 D15 D15 ; # define D17 D16 D16 ; # define D18 D17 D17 ; D18";
+    "# define x0 x ; # define x1 x0 x0 ; # define x2 x1 x1 ; # define x3 x2 x2 ; # define x4 x3 x3 ; # define x5 x4 x4 ; # define x6 x5 x5 ; # define x7 x6 x6 ; # define x8 x7 x7 ; # define x9 x8 x8 ; # define x10 x9 x9 ; # define x11 x10 x10 ; # define x12 x11 x11 ; # define x13 x12 x12 ; # define x14 x13 x13 ; # define x15 x14 x14 ; # define x16 x15 x15 ; # define x17 x16 x16 ; # define x18 x17 x17 ; x18";
 
 static NINETEEN: &str =
-    "# define D0 x ; # define D1 D0 D0 ; # define D2 D1 D1 ; # define D3 D2 D2 ; # define D4 D3 D3 ; # define D5 D4 D4 ; # define D6 D5 D5 ; # define D7 D6 D6 ; # define D8 D7 D7 ; # define D9 D8 D8 ; # define D10 D9 D9 ; # define D11 D10 D10 ; # define D12 D11 D11 ; # define D13 D12 D12 ; # define D14 D13 D13 ; # define D15 D14 D14 ; # define D16 D15 D15 ; # define D17 D16 D16 ; # define D18 D17 D17 ; # define D19 D18 D18 ; D19";
+    "# define x0 x ; # define x1 x0 x0 ; # define x2 x1 x1 ; # define x3 x2 x2 ; # define x4 x3 x3 ; # define x5 x4 x4 ; # define x6 x5 x5 ; # define x7 x6 x6 ; # define x8 x7 x7 ; # define x9 x8 x8 ; # define x10 x9 x9 ; # define x11 x10 x10 ; # define x12 x11 x11 ; # define x13 x12 x12 ; # define x14 x13 x13 ; # define x15 x14 x14 ; # define x16 x15 x15 ; # define x17 x16 x16 ; # define x18 x17 x17 ; # define x19 x18 x18 ; x19";
 
 #[test]
 fn a_replacement_may_be_too_long(rt: HostRuntime) -> Result<(), Fail> {
