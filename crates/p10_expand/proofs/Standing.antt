@@ -1,5 +1,5 @@
 -- What stands after a file was put behind the others, or linked.
-use Rattle.std.proofs.Common.{◌≡◌, ℕ, zero, suc, ◌+◌, ◌<◌, ◌≤◌, Bool, true, false, cond, List, [], ◌∷◌, ◌++◌, length, take, Option, Some, None, refl, ap, sym, ◌∙◌, subst, inl, inr, arith, length-append, get_or, set, below_more, ◌≢◌}
+use Rattle.std.proofs.Common.{◌≡◌, ℕ, zero, suc, ◌+◌, ◌<◌, ◌≤◌, Bool, true, false, ◌||◌, cond, List, [], ◌∷◌, ◌++◌, length, take, Option, Some, None, refl, ap, sym, ◌∙◌, subst, inl, inr, arith, length-append, get_or, set, below_more, ◌≢◌}
 use Rattle.std.specs.Prelude.{All, IsSome, IsSomeAnd, Ok, Err, bytes_eq, is_some, map}
 use Rattle.std.specs.List.{list_any}
 use Rattle.std.proofs.lemmas.Bool.{cases_order}
@@ -163,6 +163,18 @@ lacked told absent name all found =
     let (k, other, below, is, same) = Any-from_list_any (λ other. bytes_eq other name) absent found in
     let equal : get_or absent k other ≡ name = is ∙ (bytes_eq-Decides other name).0 same in
     subst (λ n. Lacks told n) equal (all k other below)
+
+or_true : (b x : Bool) → x ≡ true → (b || x) ≡ true
+or_true true x p = refl
+or_true false x p = p
+
+last_among : (absent : List (List ℕ)) (value name : List ℕ) → value ≡ name → list_any (λ other. bytes_eq other name) (absent ++ value ∷ []) ≡ true
+last_among [] value name same = ap (λ b. b || false) ((bytes_eq-Decides value name).1 same)
+last_among (other ∷ absent) value name same = or_true (bytes_eq other name) _ (last_among absent value name same)
+
+-- a name that is put behind those found absent is among them
+pub noted_absent : (old new : List (List ℕ)) (value name : List ℕ) → new ≡ old ++ value ∷ [] → value ≡ name → list_any (λ other. bytes_eq other name) new ≡ true
+noted_absent old new value name put same = ap (λ items. list_any (λ other. bytes_eq other name) items) put ∙ last_among old value name same
 
 pub gathered_same : (told : Option (List Named)) (number : ℕ) (k : Known) (f g : SourceFile) → g.name ≡ f.name → g.text ≡ f.text → IsGathered told number k f → IsGathered told number k g
 gathered_same told number k f g name text old = record {

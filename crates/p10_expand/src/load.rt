@@ -1,7 +1,8 @@
 //! Finding the file at a place.
 
-ghost use Rattle.std.specs.Prelude.{◌≡◌, ◌≤◌, ◌<◌, ◌^◌, OnOk, IfOk, IfErr, IsErrOf, length};
-ghost use Rattle.p10_expand.specs.Gathering.{IsNew};
+ghost use Rattle.std.specs.Prelude.{◌≡◌, ◌≤◌, ◌<◌, ◌^◌, ℕ, true, Ok, None, IsOk, OnOk, IfOk, IfErr, IsErrOf, bytes_eq, length};
+ghost use Rattle.std.specs.List.{list_any};
+ghost use Rattle.p10_expand.specs.Gathering.{IsAt, IsNew};
 ghost use Rattle.p10_expand.specs.Standing.{Stands, IsFound, Fails};
 ghost use Rattle.p10_world.specs.Faults.{Rose};
 
@@ -29,6 +30,8 @@ pub fn locate<F: Files>(
     depth: u32,
 ) -> Result<Option<u32>, Trouble>
     requires { Stands (F.held files.old) state.old }
+    // A file that was gathered isn't asked for again, so no read of it fails.
+    ensures again { (number : ℕ) → IsAt state.old.known.items place.now number → IsOk result }
     ensures stands { OnOk result (Stands (F.held files.old) state.new) }
     ensures found { IfOk result (IsFound (F.held files.old) state.old state.new place.now depth) }
     ensures cause { IfErr result (Fails (F.held files.old) state.old state.new place.now) }
@@ -63,6 +66,9 @@ fn load<F: Files>(
 ) -> Result<Option<u32>, Trouble>
     requires stands { Stands (F.held files.old) state.old }
     requires new { IsNew state.old.known.items (Place.File name.now) }
+    // A name that was found absent isn't asked for again, so no read of it fails.
+    ensures again { list_any (λ other. bytes_eq other name.now) state.old.absent.items ≡ true → result ≡ Ok None }
+    ensures noted { IfOk result (λ found. found ≡ None → list_any (λ other. bytes_eq other name.now) state.new.absent.items ≡ true) }
     ensures stands { OnOk result (Stands (F.held files.old) state.new) }
     ensures found { IfOk result (IsFound (F.held files.old) state.old state.new (Place.File name.now) depth) }
     ensures cause { IfErr result (Fails (F.held files.old) state.old state.new (Place.File name.now)) }
