@@ -1,5 +1,6 @@
 -- What holds of all words holds of those that replacement gives.
-use Rattle.std.proofs.Common.{ℕ, zero, suc, ◌==◌, List, [], ◌∷◌, ◌++◌, map, length, Bool, true, false, ◌&&◌, if◌then◌else◌, Option, Some, None, bytes_eq, sym, subst}
+use Rattle.std.proofs.Common.{◌≡◌, ◌⊎◌, inl, inr, ℕ, zero, suc, ◌==◌, List, [], ◌∷◌, ◌++◌, map, length, Bool, true, false, ◌&&◌, if◌then◌else◌, Option, Some, None, bytes_eq, refl, sym, subst}
+use Rattle.std.proofs.lemmas.Slice.Eq.{bytes_eq-Decides}
 use Rattle.std.specs.List.{AllByRecursion, flat_map}
 use Rattle.p10_base.specs.declared.span.Span.{Span}
 use Rattle.p10_base.specs.declared.word.Word.{Word}
@@ -43,28 +44,54 @@ each_flat P Q f h (x ∷ xs) p = each_joined Q (f x) (flat_map f xs) (h x p.0) (
 
 -- ## Replacement
 
-module _ (T : Text → Type 0) (L : Span → Type 0) where
+-- what holds of the words of a text, of the names of macros, of the parts that macros give, wherever these stand, and of the
+-- places of uses
+pub record Kept : Type 1 where
+  pub Stands : Word → Type 0
+  pub IsName : Text → Type 0
+  pub IsPart : Word → Type 0
+  pub IsPlace : Span → Type 0
+  pub part : (word : Word) → Stands word → IsPart word
+  pub place : (word : Word) → Stands word → is_name_kind word.kind ≡ true → IsName word.text.now → IsPlace word.at
+  pub moved : (word : Word) (at : Span) → IsPart word → IsPart (record word { at = at })
+
+-- whether a word begins a use
+abbrev Begins : Use → Type 0
+Begins Stays = ⊥
+Begins _ = Unit {0}
+
+begins_if : (b : Bool) (x : Use) → Begins (if b then x else Stays) → (b ≡ true) × Begins x
+begins_if true x p = (refl, p)
+begins_if false x p = absurd p
+
+module _ (kept : Kept) where
+  -- a word stands in the text, or is a part at the place of a use
   abbrev pub Holds : Word → Type 0
-  Holds word = T word.text.now × L word.at
+  Holds word = kept.Stands word ⊎ (kept.IsPart word × kept.IsPlace word.at)
 
   abbrev pub HoldsSourced : Sourced → Type 0
   HoldsSourced sourced = Holds sourced.word
 
-  abbrev pub HasText : Word → Type 0
-  HasText word = T word.text.now
+  abbrev pub MacroHolds : PlainMacro → Type 0
+  MacroHolds plain = kept.IsName plain.name × AllByRecursion kept.IsPart plain.body
 
-  abbrev pub BodyHolds : PlainMacro → Type 0
-  BodyHolds plain = AllByRecursion HasText plain.body
+  part_of : (word : Word) → Holds word → kept.IsPart word
+  part_of word (inl p) = kept.part word p
+  part_of word (inr p) = p.0
+
+  place_of : (word : Word) → Holds word → is_name_kind word.kind ≡ true → kept.IsName word.text.now → kept.IsPlace word.at
+  place_of word (inl p) kind name = kept.place word p kind name
+  place_of word (inr p) kind name = p.1
 
   abbrev pub TableHolds : Table → Type 0
-  TableHolds table = AllByRecursion (λ (entry : Entry). BodyHolds entry.made) table
+  TableHolds table = AllByRecursion (λ (entry : Entry). MacroHolds entry.made) table
 
   abbrev pub OptionHolds : Option PlainMacro → Type 0
   OptionHolds None = Unit {0}
-  OptionHolds (Some plain) = BodyHolds plain
+  OptionHolds (Some plain) = MacroHolds plain
 
   abbrev UseHolds : Use → Type 0
-  UseHolds (Calls plain arguments rest) = BodyHolds plain × AllByRecursion (AllByRecursion HoldsSourced) arguments × AllByRecursion HoldsSourced rest
+  UseHolds (Calls plain arguments rest) = MacroHolds plain × AllByRecursion (AllByRecursion HoldsSourced) arguments × AllByRecursion HoldsSourced rest
   UseHolds _ = Unit {0}
 
   abbrev ArgumentsHold : Option Arguments → Type 0
@@ -118,18 +145,18 @@ module _ (T : Text → Type 0) (L : Span → Type 0) where
   fitting_holds zero ((word ∷ words) ∷ lists) p = lists_if (0 == length ((word ∷ words) ∷ lists)) ((word ∷ words) ∷ lists) p
   fitting_holds (suc n) lists p = lists_if (suc n == length lists) lists p
 
-  fitted_holds : (plain : PlainMacro) (rest : List Sourced) (lists : Option (List (List Sourced))) → BodyHolds plain → AllByRecursion HoldsSourced rest → ListsHold lists → UseHolds (fitted plain rest lists)
+  fitted_holds : (plain : PlainMacro) (rest : List Sourced) (lists : Option (List (List Sourced))) → MacroHolds plain → AllByRecursion HoldsSourced rest → ListsHold lists → UseHolds (fitted plain rest lists)
   fitted_holds plain rest None p q r = tt
   fitted_holds plain rest (Some lists) p q r = (p, r, q)
 
-  called_holds : (plain : PlainMacro) (parameters : ℕ) (found : Option Arguments) → BodyHolds plain → ArgumentsHold found → UseHolds (called plain parameters found)
+  called_holds : (plain : PlainMacro) (parameters : ℕ) (found : Option Arguments) → MacroHolds plain → ArgumentsHold found → UseHolds (called plain parameters found)
   called_holds plain parameters None p q = tt
   called_holds plain parameters (Some found) p q = fitted_holds plain found.rest (fitting parameters (found.first ∷ found.others)) p q.2 (fitting_holds parameters (found.first ∷ found.others) (q.0, q.1))
 
   recursive_holds : (plain : PlainMacro) (name : Sourced) (use' : Use) → UseHolds use' → UseHolds (unless_recursive plain name use')
   recursive_holds plain name use' p = use_if (name.from plain.name) (Wrong 6) use' tt p
 
-  use_as_holds : (plain : PlainMacro) (parameters : Option (List Text)) (name : Sourced) (words : List Sourced) → BodyHolds plain → AllByRecursion HoldsSourced words → UseHolds (use_as plain parameters name words)
+  use_as_holds : (plain : PlainMacro) (parameters : Option (List Text)) (name : Sourced) (words : List Sourced) → MacroHolds plain → AllByRecursion HoldsSourced words → UseHolds (use_as plain parameters name words)
   use_as_holds plain None name words p q = recursive_holds plain name (Calls plain [] words) (p, tt, q)
   use_as_holds plain (Some parameters) name [] p q = tt
   use_as_holds plain (Some parameters) name (word ∷ words) p q =
@@ -145,48 +172,73 @@ module _ (T : Text → Type 0) (L : Span → Type 0) where
       use_if (is_name_kind name.word.kind) (use_by (macro_named name.word.text.now table) name words) Stays
       (use_by_holds (macro_named name.word.text.now table) name words (named_holds name.word.text.now table p) q) tt
 
-  abbrev SourcedText : Sourced → Type 0
-  SourcedText sourced = T sourced.word.text.now
+  -- a use begins with the name of a macro
+  abbrev NameHolds : Text → Option PlainMacro → Type 0
+  NameHolds name None = Unit {0}
+  NameHolds name (Some plain) = kept.IsName name
+
+  name_if : (name : Text) (b : Bool) (x y : Option PlainMacro) → (b ≡ true → NameHolds name x) → NameHolds name y → NameHolds name (if b then x else y)
+  name_if name true x y p q = p refl
+  name_if name false x y p q = q
+
+  name_holds : (name : Text) (table : Table) → TableHolds table → NameHolds name (macro_named name table)
+  name_holds name [] p = tt
+  name_holds name (entry ∷ table) p =
+      name_if name (bytes_eq name entry.made.name) (Some entry.made) (macro_named name table)
+      (λ same. subst kept.IsName (sym ((bytes_eq-Decides name entry.made.name).0 same)) p.0.0) (name_holds name table p.1)
+
+  name_used : (found : Option PlainMacro) (name : Sourced) (words : List Sourced) → NameHolds name.word.text.now found → Begins (use_by found name words) → kept.IsName name.word.text.now
+  name_used None name words p begins = absurd begins
+  name_used (Some plain) name words p begins = p
+
+  use_place : (table : Table) (name : Sourced) (words : List Sourced) → TableHolds table → HoldsSourced name → Begins (use_of table name words) → kept.IsPlace name.word.at
+  use_place table name words t p begins =
+      let found = macro_named name.word.text.now table in
+      let parts = begins_if (is_name_kind name.word.kind) (use_by found name words) begins in
+      place_of name.word p parts.0 (name_used found name words (name_holds name.word.text.now table t) parts.1)
+
+  abbrev SourcedPart : Sourced → Type 0
+  SourcedPart sourced = kept.IsPart sourced.word
 
   abbrev ValueHolds : Option (List Sourced) → Type 0
   ValueHolds None = Unit {0}
-  ValueHolds (Some value) = AllByRecursion SourcedText value
+  ValueHolds (Some value) = AllByRecursion SourcedPart value
 
   value_if : (b : Bool) (x y : Option (List Sourced)) → ValueHolds x → ValueHolds y → ValueHolds (if b then x else y)
   value_if true x y p q = p
   value_if false x y p q = q
 
-  value_holds : (parameters : List Text) (values : List (List Sourced)) (word : Word) → AllByRecursion (AllByRecursion SourcedText) values → ValueHolds (value_of parameters values word)
+  value_holds : (parameters : List Text) (values : List (List Sourced)) (word : Word) → AllByRecursion (AllByRecursion SourcedPart) values → ValueHolds (value_of parameters values word)
   value_holds [] values word p = tt
   value_holds (parameter ∷ parameters) [] word p = tt
   value_holds (parameter ∷ parameters) (value ∷ values) word p = value_if (is_name parameter word) (Some value) _ p.0 (value_holds parameters values word p.1)
 
-  value_or_holds : (value : Option (List Sourced)) (word : Word) → ValueHolds value → HasText word → AllByRecursion SourcedText (value_or value word)
+  value_or_holds : (value : Option (List Sourced)) (word : Word) → ValueHolds value → kept.IsPart word → AllByRecursion SourcedPart (value_or value word)
   value_or_holds None word p q = (q, tt)
   value_or_holds (Some value) word p q = p
 
-  replacement_holds : (plain : PlainMacro) (name : Sourced) (values : List (List Sourced)) → BodyHolds plain → HoldsSourced name → AllByRecursion (AllByRecursion HoldsSourced) values → AllByRecursion HoldsSourced (replacement plain name values)
+  replacement_holds : (plain : PlainMacro) (name : Sourced) (values : List (List Sourced)) → MacroHolds plain → kept.IsPlace name.word.at → AllByRecursion (AllByRecursion HoldsSourced) values → AllByRecursion HoldsSourced (replacement plain name values)
   replacement_holds plain name values p q r =
-      let texts = each_weaker (AllByRecursion HoldsSourced) (AllByRecursion SourcedText) (λ list. each_weaker HoldsSourced SourcedText (λ sourced held. held.0) list) values r in
-      each_mapped SourcedText HoldsSourced (given plain name) (λ part text. (text, q.1)) _
-      (each_flat HasText SourcedText _ (λ word text. value_or_holds (value_of (texts_of plain.parameters) values word) word (value_holds (texts_of plain.parameters) values word texts) text) plain.body p)
+      let parts = each_weaker (AllByRecursion HoldsSourced) (AllByRecursion SourcedPart) (λ list. each_weaker HoldsSourced SourcedPart (λ sourced held. part_of sourced.word held) list) values r in
+      each_mapped SourcedPart HoldsSourced (given plain name) (λ sourced part. inr (kept.moved sourced.word name.word.at part, q)) _
+      (each_flat kept.IsPart SourcedPart _ (λ word part. value_or_holds (value_of (texts_of plain.parameters) values word) word (value_holds (texts_of plain.parameters) values word parts) part) plain.body p.1)
 
   abbrev pub EndingHolds : Ending (List Sourced) → Type 0
   EndingHolds (Gives made left) = AllByRecursion HoldsSourced made
-  EndingHolds (Refused number at) = L at
+  EndingHolds (Refused number at) = kept.IsPlace at
   EndingHolds TooMany = Unit {0}
 
   abbrev ValuesHold : Ending (List (List Sourced)) → Type 0
   ValuesHold (Gives made left) = AllByRecursion (AllByRecursion HoldsSourced) made
-  ValuesHold (Refused number at) = L at
+  ValuesHold (Refused number at) = kept.IsPlace at
   ValuesHold TooMany = Unit {0}
 
   abbrev OuterHolds : Option Span → Type 0
   OuterHolds None = Unit {0}
-  OuterHolds (Some at) = L at
+  OuterHolds (Some at) = kept.IsPlace at
 
-  place_holds : (outer : Option Span) (name : Sourced) → OuterHolds outer → HoldsSourced name → L (place_in outer name)
-  place_holds None name p q = q.1
+  place_holds : (outer : Option Span) (name : Sourced) → OuterHolds outer → kept.IsPlace name.word.at → kept.IsPlace (place_in outer name)
+  place_holds None name p q = q
   place_holds (Some at) name p q = p
 
   behind_holds : (word : Sourced) (behind : Ending (List Sourced)) → HoldsSourced word → EndingHolds behind → EndingHolds (behind_word word behind)
@@ -204,10 +256,13 @@ module _ (T : Text → Type 0) (L : Span → Type 0) where
         TableHolds table → OuterHolds outer → AllByRecursion HoldsSourced words → EndingHolds ending
     ends_hold no_words t o p = tt
     ends_hold (word_stays {word = word} {behind = behind} is ends gives) t o p = subst EndingHolds (sym gives) (behind_holds word behind p.0 (ends_hold ends t o p.1))
-    ends_hold (use_refused {outer = outer} {word = word} is refused) t o p = subst EndingHolds (sym refused) (place_holds outer word o p.0)
+    ends_hold {table} (use_refused {outer = outer} {word = word} {words = words} is refused) t o p =
+        let place = use_place table word words t p.0 (subst Begins (sym is) tt) in
+        subst EndingHolds (sym refused) (place_holds outer word o place)
     ends_hold {table} (use_replaced {outer = outer} {word = word} {words = words} {plain = plain} {arguments = arguments} {rest = rest} is ends follows) t o p =
         let used : UseHolds (Calls plain arguments rest) = subst UseHolds is (use_holds table word words t p.1) in
-        follows_hold follows t o used.0 p.0 used.2 (arguments_end ends t (place_holds outer word o p.0) used.1)
+        let place = use_place table word words t p.0 (subst Begins (sym is) tt) in
+        follows_hold follows t o used.0 place used.2 (arguments_end ends t (place_holds outer word o place) used.1)
 
     arguments_end : {table : Table} {outer : Option Span} {arguments : List (List Sourced)} {left : ℕ} {ending : Ending (List (List Sourced))} → EndsAll table outer arguments left ending →
         TableHolds table → OuterHolds outer → AllByRecursion (AllByRecursion HoldsSourced) arguments → ValuesHold ending
@@ -218,7 +273,7 @@ module _ (T : Text → Type 0) (L : Span → Type 0) where
     arguments_end (argument_too_long first) t o p = tt
 
     follows_hold : {table : Table} {outer : Option Span} {plain : PlainMacro} {name : Sourced} {rest : List Sourced} {values : Ending (List (List Sourced))} {ending : Ending (List Sourced)} →
-        Follows table outer plain name rest values ending → TableHolds table → OuterHolds outer → BodyHolds plain → HoldsSourced name → AllByRecursion HoldsSourced rest → ValuesHold values → EndingHolds ending
+        Follows table outer plain name rest values ending → TableHolds table → OuterHolds outer → MacroHolds plain → kept.IsPlace name.word.at → AllByRecursion HoldsSourced rest → ValuesHold values → EndingHolds ending
     follows_hold (replacement_made {plain = plain} {name = name} {rest = rest} {values = values} costs ends) t o b n r v =
         ends_hold ends t o (each_joined HoldsSourced (replacement plain name values) rest (replacement_holds plain name values b n v) r)
     follows_hold (replacement_too_long less) t o b n r v = tt
@@ -226,12 +281,12 @@ module _ (T : Text → Type 0) (L : Span → Type 0) where
     follows_hold values_too_long t o b n r v = tt
 
   -- what a run of words gives
-  pub run_holds : (table : Table) (words : List Word) (left : ℕ) (ending : Ending (List Sourced)) → Ends table None (map written words) left ending → TableHolds table → AllByRecursion Holds words → EndingHolds ending
-  run_holds table words left ending ends t p = ends_hold ends t tt (each_mapped Holds HoldsSourced written (λ word held. held) words p)
+  pub run_holds : (table : Table) (words : List Word) (left : ℕ) (ending : Ending (List Sourced)) → Ends table None (map written words) left ending → TableHolds table → AllByRecursion kept.Stands words → EndingHolds ending
+  run_holds table words left ending ends t p = ends_hold ends t tt (each_mapped kept.Stands HoldsSourced written (λ word stands. inl stands) words p)
 
   pub made_holds : (made : List Sourced) → AllByRecursion HoldsSourced made → AllByRecursion Holds (plain_words made)
   made_holds made p = each_mapped HoldsSourced Holds (λ sourced. sourced.word) (λ sourced held. held) made p
 
   pub without_holds : (table : Table) (name : Text) → TableHolds table → TableHolds (without_macro table name)
   without_holds [] name p = tt
-  without_holds (entry ∷ table) name p = each_if (λ (entry : Entry). BodyHolds entry.made) (bytes_eq name entry.made.name) table (entry ∷ without_macro table name) p.1 (p.0, without_holds table name p.1)
+  without_holds (entry ∷ table) name p = each_if (λ (entry : Entry). MacroHolds entry.made) (bytes_eq name entry.made.name) table (entry ∷ without_macro table name) p.1 (p.0, without_holds table name p.1)

@@ -1,14 +1,15 @@
 -- The words of an expansion come from the files, and its refusal has its place in one.
-use Rattle.std.proofs.Common.{◌≡◌, inl, inr, ℕ, zero, suc, ◌-◌, ◌<◌, ◌≤◌, nat_le, List, [], ◌∷◌, ◌++◌, map, length, get_or, Bool, true, false, MatchBool, if◌then◌else◌, Option, Some, None, IfOk, Result, Ok, Err, sym, subst, arith}
-use Rattle.std.specs.List.{AllByRecursion}
+use Rattle.std.proofs.Common.{◌≡◌, inl, inr, ℕ, zero, suc, ◌-◌, ◌<◌, ◌≤◌, nat_le, List, [], ◌∷◌, ◌++◌, map, length, get_or, Bool, true, false, MatchBool, if◌then◌else◌, Option, Some, None, IfOk, Result, Ok, Err, refl, ap, sym, ◌∙◌, subst, arith}
+use Rattle.std.specs.List.{AllByRecursion, Contains}
 use Rattle.p10_base.specs.declared.span.Span.{Span}
 use Rattle.p10_base.specs.declared.word.Word.{Word}
 use Rattle.p10_base.specs.declared.report.Limit.{Limit}
 use Rattle.p10_base.specs.Gathered.{Gathered, LiesIn, count_of, text_of, name_of, candidate_of}
-use Rattle.p10_lex.specs.Pieces.{seen}
-use Rattle.p10_lex.specs.Slices.{AreSlices}
+use Rattle.p10_lex.specs.Pieces.{LexedWord, seen}
+use Rattle.p10_lex.specs.Slices.{IsSlice, AreSlices}
+use Rattle.p10_lex.specs.Lexes.{Answers}
 use Rattle.p10_lex.proofs.SliceLaws.{answer_slices}
-use Rattle.p10_direct.specs.Spelling.{Text}
+use Rattle.p10_direct.specs.Spelling.{Text, is_name_kind}
 use Rattle.p10_direct.specs.Keywords.{keyword_of}
 use Rattle.p10_direct.specs.declared.keyword.Keyword.{Keyword}
 use Rattle.p10_direct.specs.declared.keyword.Keyword.TheVariants as keyword
@@ -33,8 +34,8 @@ use Rattle.p10_expand.specs.Expands.{Layout, Includes, GoesOn, Follows, LinesGiv
 use Rattle.p10_expand.specs.declared.expanded.Expanded.{Expanded}
 use Rattle.p10_expand.specs.declared.expansion.fault.ExpandFault.{ExpandFault}
 use Rattle.p10_expand.specs.Steps.{IsExpansion, expansion_of}
-use Rattle.p10_expand.specs.Coming.{IsOfFile, Comes, IsListed, ExpansionComes}
-use Rattle.p10_expand.proofs.Keeping.{Holds, TableHolds, BodyHolds, EndingHolds, each_joined, each_front, each_back, each_weaker, run_holds, made_holds, without_holds}
+use Rattle.p10_expand.specs.Coming.{HasWords, IsWritten, IsInText, IsDirective, IsMacroName, Comes, in_text, as_mark, by_macro, IsListed, ExpansionComes}
+use Rattle.p10_expand.proofs.Keeping.{Kept, Holds, TableHolds, MacroHolds, EndingHolds, each_joined, each_front, each_back, each_weaker, run_holds, made_holds, without_holds}
 
 -- ## Lists
 
@@ -43,42 +44,128 @@ each_at P [] other p q place = q
 each_at P (x ∷ xs) other p q zero = p.0
 each_at P (x ∷ xs) other p q (suc place) = each_at P xs other p.1 q place
 
-each_place : {A : Type 0} (P : A → Type 0) (xs : List A) (other : A) → ((place : ℕ) → place < length xs → P (get_or xs place other)) → AllByRecursion P xs
-each_place P [] other h = tt
-each_place P (x ∷ xs) other h = (h 0 (omega arith), each_place P xs other (λ place there. h (suc place) (omega arith)))
+-- what holds of a further value, and of each element, holds of the one at a place
+at_or : {A : Type 0} (P : A → Type 0) (xs : List A) (other : A) (place : ℕ) → P other → (place < length xs → P (get_or xs place other)) → P (get_or xs place other)
+at_or P [] other place p q = p
+at_or P (x ∷ xs) other zero p q = q (omega arith)
+at_or P (x ∷ xs) other (suc place) p q = at_or P xs other place p (λ there. q (omega (arith, there)))
+
+each_in : {A B : Type 0} (f : A → B) (xs : List A) → AllByRecursion (λ x. Contains (map f xs) (f x)) xs
+each_in f [] = tt
+each_in f (x ∷ xs) =
+    ((0, omega arith, refl), each_weaker (λ y. Contains (map f xs) (f y)) (λ y. Contains (f x ∷ map f xs) (f y)) (λ y among. (suc among.0, omega (arith, among.1), among.2)) xs (each_in f xs))
+
+each_itself : {A : Type 0} (xs : List A) → AllByRecursion (Contains xs) xs
+each_itself [] = tt
+each_itself (x ∷ xs) =
+    ((0, omega arith, refl), each_weaker (Contains xs) (Contains (x ∷ xs)) (λ y among. (suc among.0, omega (arith, among.1), among.2)) xs (each_itself xs))
+
+each_both : {A : Type 0} (P Q R : A → Type 0) → ((x : A) → P x → Q x → R x) → (xs : List A) → AllByRecursion P xs → AllByRecursion Q xs → AllByRecursion R xs
+each_both P Q R h [] p q = tt
+each_both P Q R h (x ∷ xs) p q = (h x p.0 q.0, each_both P Q R h xs p.1 q.1)
 
 module _ (g : Gathered) where
-  abbrev W : Word → Type 0
-  W = Holds (IsOfFile g) (LiesIn g)
+  -- ## Words
+
+  abbrev Written : Word → Type 0
+  Written word = IsWritten g (seen word)
+
+  abbrev InText : Word → Type 0
+  InText word = IsInText g (seen word)
+
+  abbrev Coming : Word → Type 0
+  Coming word = Comes g (seen word)
+
+  -- a word of a file, but for its place
+  record IsPart (word : Word) : Type 0 where
+    part : LexedWord
+    written : IsWritten g part
+    same : seen word ≡ record part { at = word.at }
+
+  -- the place of a macro's name in a text
+  record IsUse (at : Span) : Type 0 where
+    name : LexedWord
+    is_name : is_name_kind name.kind ≡ true
+    of_macro : IsMacroName g name.text
+    in_text : IsInText g name
+    place : name.at ≡ at
+
+  abbrev kept : Kept
+  kept = record {
+    Stands = InText;
+    IsName = IsMacroName g;
+    IsPart = IsPart;
+    IsPlace = IsUse;
+    part = λ word stands. record { part = seen word; written = stands.written; same = refl };
+    place = λ word stands kind name. record { name = seen word; is_name = kind; of_macro = name; in_text = stands; place = refl };
+    moved = λ word at is. record { part = is.part; written = is.written; same = ap (λ (other : LexedWord). record other { at = at }) is.same };
+  }
+
+  comes : (word : Word) → Holds kept word → Coming word
+  comes word (inl is) = in_text is
+  comes word (inr (part, use')) = by_macro (record {
+    part = part.part;
+    written = part.written;
+    name = use'.name;
+    is_name = use'.is_name;
+    of_macro = use'.of_macro;
+    in_text = use'.in_text;
+    given = part.same ∙ ap (λ at. record part.part { at = at }) (sym use'.place);
+  })
+
+  written_lies : (word : LexedWord) → IsWritten g word → LiesIn g word.at
+  written_lies word is =
+      let of_file : word.at.file ≡ is.file = is.slice.of_file in
+      let start : word.at.start < word.at.end = is.slice.some in
+      let within : word.at.end ≤ length (text_of g is.file) = is.slice.within in record {
+        held = rw of_file is.has.held;
+        within = rw of_file (omega arith);
+      }
+
+  lies : (word : Word) → Written word → LiesIn g word.at
+  lies word is = written_lies (seen word) is
+
+  pub comes_lies : (word : LexedWord) → Comes g word → LiesIn g word.at
+  comes_lies word (in_text is) = written_lies word is.written
+  comes_lies word (as_mark is) = subst (λ (word : LexedWord). LiesIn g word.at) (sym is.mark) (written_lies is.last is.written)
+  comes_lies word (by_macro is) = subst (λ (word : LexedWord). LiesIn g word.at) (sym is.given) (written_lies is.name is.in_text.written)
+
+  use_lies : (at : Span) → IsUse at → LiesIn g at
+  use_lies at is = subst (LiesIn g) is.place (written_lies is.name is.in_text.written)
 
   abbrev LineHolds : List Word → Type 0
   LineHolds [] = ⊥
-  LineHolds (hash ∷ words) = W hash × AllByRecursion W words
+  LineHolds (hash ∷ words) = Written hash × AllByRecursion Written words × IsDirective g (hash ∷ words)
 
-  line_all : (line : List Word) → LineHolds line → AllByRecursion W line
+  line_all : (line : List Word) → LineHolds line → AllByRecursion Written line
   line_all [] h = absurd h
-  line_all (hash ∷ words) h = h
+  line_all (hash ∷ words) h = (h.0, h.1)
+
+  line_is : (line : List Word) → LineHolds line → IsDirective g line
+  line_is [] h = absurd h
+  line_is (hash ∷ words) h = h.2
 
   place_lies : (line : List Word) → LineHolds line → LiesIn g (place_of line)
   place_lies [] h = absurd h
-  place_lies (hash ∷ words) h = record { held = h.0.1.held; within = h.0.1.within }
+  place_lies (hash ∷ words) h = let at : LiesIn g hash.at = lies hash h.0 in record { held = at.held; within = at.within }
 
   operand_lies : (line : List Word) → LineHolds line → LiesIn g (operand_place line)
   operand_lies [] h = absurd h
   operand_lies (hash ∷ []) h = place_lies (hash ∷ []) h
   operand_lies (hash ∷ name ∷ []) h = place_lies (hash ∷ name ∷ []) h
-  operand_lies (hash ∷ name ∷ operand ∷ words) h = h.1.1.0.1
+  operand_lies (hash ∷ name ∷ operand ∷ words) h = lies operand h.1.1.0
 
-  mark_holds : (line : List Word) → LineHolds line → AllByRecursion W (mark_word line)
+  mark_holds : (line : List Word) → LineHolds line → AllByRecursion Coming (mark_word line)
   mark_holds [] h = absurd h
-  mark_holds (hash ∷ words) h = (each_at W (hash ∷ words) hash h h.0 (length (hash ∷ words) - 1), tt)
+  mark_holds (hash ∷ words) h =
+      (as_mark (record { last = seen (get_or (hash ∷ words) (length (hash ∷ words) - 1) hash); written = each_at Written (hash ∷ words) hash (h.0, h.1) h.0 (length (hash ∷ words) - 1); mark = refl }), tt)
 
   abbrev ListedHolds : ObeyedLine → Type 0
-  ListedHolds line = AllByRecursion W line.words × LiesIn g line.span
+  ListedHolds line = AllByRecursion Written line.words × LiesIn g line.span × IsDirective g line.words
 
   record StateHolds (s : State) : Type 0 where
-    macros : TableHolds (IsOfFile g) (LiesIn g) s.macros
-    words : AllByRecursion W s.words
+    macros : TableHolds kept s.macros
+    words : AllByRecursion Coming s.words
     obeyed : AllByRecursion ListedHolds s.obeyed
 
   abbrev EndedHolds : Ended → Type 0
@@ -97,42 +184,45 @@ module _ (g : Gathered) where
 
   -- ## Text
 
-  before_if : (b : Bool) (words : List Word) → AllByRecursion W words → AllByRecursion W (if b then [] else words)
+  before_if : (b : Bool) (words : List Word) → AllByRecursion InText words → AllByRecursion InText (if b then [] else words)
   before_if true words p = tt
   before_if false words p = p
 
-  before_hold : (at : Span) (words : List Word) → AllByRecursion W words → AllByRecursion W (words_before at words)
+  before_hold : (at : Span) (words : List Word) → AllByRecursion InText words → AllByRecursion InText (words_before at words)
   before_hold at [] p = tt
   before_hold at (word ∷ words) p = before_if (begins_at at word) (word ∷ words_before at words) (p.0, before_hold at words p.1)
 
-  given_holds : (ending : Ending (List Sourced)) → EndingHolds (IsOfFile g) (LiesIn g) ending → AllByRecursion W (given_by ending)
-  given_holds (Gives made left) p = made_holds (IsOfFile g) (LiesIn g) made p
+  given_come : (made : List Sourced) → EndingHolds kept (Gives made 0) → AllByRecursion Coming (plain_words made)
+  given_come made p = each_weaker (Holds kept) Coming comes (plain_words made) (made_holds kept made p)
+
+  given_holds : (ending : Ending (List Sourced)) → EndingHolds kept ending → AllByRecursion Coming (given_by ending)
+  given_holds (Gives made left) p = given_come made p
   given_holds (Refused number at) p = tt
   given_holds TooMany p = tt
 
-  more_words : (s : State) (words : List Word) (left : ℕ) → StateHolds s → AllByRecursion W words → StateHolds (record s { words = s.words ++ words; left = left })
-  more_words s words left h p = record { macros = h.macros; words = each_joined W s.words words h.words p; obeyed = h.obeyed }
+  more_words : (s : State) (words : List Word) (left : ℕ) → StateHolds s → AllByRecursion Coming words → StateHolds (record s { words = s.words ++ words; left = left })
+  more_words s words left h p = record { macros = h.macros; words = each_joined Coming s.words words h.words p; obeyed = h.obeyed }
 
-  with_holds : (s : State) (words : List Word) → StateHolds s → AllByRecursion W words → StateHolds (with_words s words)
-  with_holds s words h p = record { macros = h.macros; words = each_joined W s.words words h.words p; obeyed = h.obeyed }
+  with_holds : (s : State) (words : List Word) → StateHolds s → AllByRecursion Coming words → StateHolds (with_words s words)
+  with_holds s words h p = record { macros = h.macros; words = each_joined Coming s.words words h.words p; obeyed = h.obeyed }
 
-  text_ends_hold : (s : State) (words : List Word) (ending : Ending (List Sourced)) (next : Next) → StateHolds s → AllByRecursion W words → EndingHolds (IsOfFile g) (LiesIn g) ending → TextEnds s words ending next → NextHolds next
-  text_ends_hold s words (Gives made left) next h p e is = subst NextHolds (sym is) (more_words s (plain_words made) left h (made_holds (IsOfFile g) (LiesIn g) made e))
+  text_ends_hold : (s : State) (words : List Word) (ending : Ending (List Sourced)) (next : Next) → StateHolds s → AllByRecursion InText words → EndingHolds kept ending → TextEnds s words ending next → NextHolds next
+  text_ends_hold s words (Gives made left) next h p e is = subst NextHolds (sym is) (more_words s (plain_words made) left h (given_come made e))
   text_ends_hold s words (Refused number at) next h p e (before, ends, is) =
-      let out = given_holds before (run_holds (IsOfFile g) (LiesIn g) s.macros (words_before at words) s.left before ends h.macros (before_hold at words p)) in
-      subst NextHolds (sym is) (with_holds s (given_by before) h out, e)
+      let out = given_holds before (run_holds kept s.macros (words_before at words) s.left before ends h.macros (before_hold at words p)) in
+      subst NextHolds (sym is) (with_holds s (given_by before) h out, use_lies at e)
   text_ends_hold s words TooMany next h p e is = subst NextHolds (sym is) tt
 
-  text_holds : (s : State) (words : List Word) (next : Next) → StateHolds s → AllByRecursion W words → TextGives s words next → NextHolds next
+  text_holds : (s : State) (words : List Word) (next : Next) → StateHolds s → AllByRecursion InText words → TextGives s words next → NextHolds next
   text_holds s words next h p (ending, ends, gives) =
-      text_ends_hold s words ending next h p (run_holds (IsOfFile g) (LiesIn g) s.macros words s.left ending ends h.macros p) gives
+      text_ends_hold s words ending next h p (run_holds kept s.macros words s.left ending ends h.macros p) gives
 
   -- ## Items
 
   abbrev Rows : List (List Word) → Type 0
-  Rows lines = AllByRecursion (AllByRecursion W) lines
+  Rows lines = AllByRecursion (AllByRecursion InText) lines
 
-  onto_holds : (word : Word) (lines : List (List Word)) → W word → Rows lines → Rows (onto_line word lines)
+  onto_holds : (word : Word) (lines : List (List Word)) → InText word → Rows lines → Rows (onto_line word lines)
   onto_holds word [] p q = ((p, tt), tt)
   onto_holds word (line ∷ lines) p q = ((p, q.0), q.1)
 
@@ -140,34 +230,46 @@ module _ (g : Gathered) where
   rows_if true x y p q = p
   rows_if false x y p q = q
 
-  lines_hold : (words : List Word) → AllByRecursion W words → Rows (lines_of words)
+  lines_hold : (words : List Word) → AllByRecursion InText words → Rows (lines_of words)
   lines_hold [] p = tt
   lines_hold (word ∷ words) p =
       rows_if (ends_line words) ((word ∷ []) ∷ lines_of words) (onto_line word (lines_of words)) ((p.0, tt), lines_hold words p.1) (onto_holds word (lines_of words) p.0 (lines_hold words p.1))
 
-  words_if : (b : Bool) (x y : List Word) → AllByRecursion W x → AllByRecursion W y → AllByRecursion W (if b then x else y)
+  words_if : (b : Bool) (x y : List Word) → AllByRecursion InText x → AllByRecursion InText y → AllByRecursion InText (if b then x else y)
   words_if true x y p q = p
   words_if false x y p q = q
 
-  new_hold : (given : List Text) (lines : List (List Word)) → Rows lines → AllByRecursion W (new_words given lines)
+  new_hold : (given : List Text) (lines : List (List Word)) → Rows lines → AllByRecursion InText (new_words given lines)
   new_hold given [] p = tt
   new_hold given (line ∷ lines) p =
       words_if (is_among given (item_name line)) (new_words given lines) (line ++ new_words (given ++ item_name line ∷ []) lines)
-      (new_hold given lines p.1) (each_joined W line (new_words (given ++ item_name line ∷ []) lines) p.0 (new_hold (given ++ item_name line ∷ []) lines p.1))
+      (new_hold given lines p.1) (each_joined InText line (new_words (given ++ item_name line ∷ []) lines) p.0 (new_hold (given ++ item_name line ∷ []) lines p.1))
 
-  run_of_text_holds : (built_in : Bool) (s : State) (words : List Word) (next : Next) → StateHolds s → AllByRecursion W words → RunGives built_in s words next → NextHolds next
+  run_of_text_holds : (built_in : Bool) (s : State) (words : List Word) (next : Next) → StateHolds s → AllByRecursion InText words → RunGives built_in s words next → NextHolds next
   run_of_text_holds true s words next h p gives =
       text_holds _ (new_words s.given (lines_of words)) next (record { macros = h.macros; words = h.words; obeyed = h.obeyed }) (new_hold s.given (lines_of words) (lines_hold words p)) gives
   run_of_text_holds false s words next h p gives = text_holds s words next h p gives
 
   -- ## Conditions
 
+  -- the places of words alone
+  abbrev placed : Kept
+  placed = record {
+    Stands = λ word. LiesIn g word.at;
+    IsName = λ name. Unit {0};
+    IsPart = λ word. Unit {0};
+    IsPlace = LiesIn g;
+    part = λ word at. tt;
+    place = λ word at kind name. at;
+    moved = λ word at part. tt;
+  }
+
   abbrev Placed : Word → Type 0
-  Placed = Holds (λ text. Unit {0}) (LiesIn g)
+  Placed word = LiesIn g word.at
 
   answered_at_holds : (digits : Digits) (macros : Table) (word : Word) (others : ℕ → List Word) (found : Option (Text × ℕ)) → Placed word → ((behind : ℕ) → AllByRecursion Placed (others behind)) → AllByRecursion Placed (answered_at digits macros word others found)
   answered_at_holds digits macros word others None p q = (p, q 0)
-  answered_at_holds digits macros word others (Some (name, behind)) p q = ((tt, p.1), q behind)
+  answered_at_holds digits macros word others (Some (name, behind)) p q = (p, q behind)
 
   answered_holds : (digits : Digits) (macros : Table) (behind : ℕ) (words : List Word) → AllByRecursion Placed words → AllByRecursion Placed (answered digits macros behind words)
   answered_holds digits macros behind [] p = tt
@@ -179,16 +281,16 @@ module _ (g : Gathered) where
   words_trivial [] = tt
   words_trivial (word ∷ words) = (tt, words_trivial words)
 
-  table_trivial : (table : Table) → TableHolds (λ text. Unit {0}) (LiesIn g) table
+  table_trivial : (table : Table) → TableHolds placed table
   table_trivial [] = tt
-  table_trivial (entry ∷ table) = (words_trivial entry.made.body, table_trivial table)
+  table_trivial (entry ∷ table) = ((tt, words_trivial entry.made.body), table_trivial table)
 
   abbrev JudgedHolds : Judged → Type 0
   JudgedHolds (Truth truth left) = Unit {0}
   JudgedHolds (Fails refusal) = LiesIn g refusal.span
   JudgedHolds Exceeds = Unit {0}
 
-  judges_hold : (whole : Span) (ending : Ending (List Sourced)) (judged : Judged) → LiesIn g whole → EndingHolds (λ text. Unit {0}) (LiesIn g) ending → Judges whole ending judged → JudgedHolds judged
+  judges_hold : (whole : Span) (ending : Ending (List Sourced)) (judged : Judged) → LiesIn g whole → EndingHolds placed ending → Judges whole ending judged → JudgedHolds judged
   judges_hold whole (Gives made left) judged w e (inl (truth, has, is)) = subst JudgedHolds (sym is) tt
   judges_hold whole (Gives made left) judged w e (inr (none, is)) = subst JudgedHolds (sym is) w
   judges_hold whole (Refused number at) judged w e is = subst JudgedHolds (sym is) e
@@ -199,52 +301,60 @@ module _ (g : Gathered) where
   judged_holds s (Fails refusal) h j = (h, j)
   judged_holds s Exceeds h j = tt
 
-  condition_holds : (digits : Digits) (line condition : List Word) (s : State) (next : Next) → StateHolds s → LineHolds line → AllByRecursion W condition → ConditionGives digits line condition s next → NextHolds next
+  condition_holds : (digits : Digits) (line condition : List Word) (s : State) (next : Next) → StateHolds s → LineHolds line → AllByRecursion Written condition → ConditionGives digits line condition s next → NextHolds next
   condition_holds digits line condition s next h l p (judged, (ending, ends, judges), is) =
-      let placed = answered_holds digits s.macros 0 condition (each_weaker W Placed (λ word held. (tt, held.1)) condition p) in
-      let ending_holds = run_holds (λ text. Unit {0}) (LiesIn g) s.macros (answered digits s.macros 0 condition) s.left ending ends (table_trivial s.macros) placed in
+      let lie = answered_holds digits s.macros 0 condition (each_weaker Written Placed lies condition p) in
+      let ending_holds = run_holds placed s.macros (answered digits s.macros 0 condition) s.left ending ends (table_trivial s.macros) lie in
       subst NextHolds (sym is) (judged_holds s judged h (judges_hold (place_of line) ending judged (place_lies line l) ending_holds judges))
 
   -- ## Directives
 
-  abbrev DirectiveHolds : PlainDirective → Type 0
-  DirectiveHolds (Define made) = BodyHolds (IsOfFile g) (LiesIn g) made
-  DirectiveHolds (If condition) = AllByRecursion W condition
-  DirectiveHolds (Elif condition) = AllByRecursion W condition
-  DirectiveHolds _ = Unit {0}
+  -- the words that the directive keeps
+  abbrev WordsHold : PlainDirective → Type 0
+  WordsHold (Define made) = AllByRecursion IsPart made.body
+  WordsHold (If condition) = AllByRecursion Written condition
+  WordsHold (Elif condition) = AllByRecursion Written condition
+  WordsHold _ = Unit {0}
 
-  continues_hold : (parameters words rest : List Word) → Continues parameters words rest → AllByRecursion W words → AllByRecursion W rest
+  abbrev DirectiveHolds : PlainDirective → Type 0
+  DirectiveHolds (Define made) = MacroHolds kept made
+  DirectiveHolds directive = WordsHold directive
+
+  continues_hold : (parameters words rest : List Word) → Continues parameters words rest → AllByRecursion Written words → AllByRecursion Written rest
   continues_hold [] [] rest c p = absurd c
-  continues_hold [] (close ∷ words) rest c p = subst (AllByRecursion W) c.1 p.1
+  continues_hold [] (close ∷ words) rest c p = subst (AllByRecursion Written) c.1 p.1
   continues_hold (parameter ∷ parameters) [] rest c p = absurd c
   continues_hold (parameter ∷ parameters) (comma ∷ []) rest c p = absurd c
   continues_hold (parameter ∷ parameters) (comma ∷ word ∷ words) rest c p = continues_hold parameters words rest c.2 p.1.1
 
-  list_holds : (parameters words rest : List Word) → IsList parameters words rest → AllByRecursion W words → AllByRecursion W rest
+  list_holds : (parameters words rest : List Word) → IsList parameters words rest → AllByRecursion Written words → AllByRecursion Written rest
   list_holds [] words rest c p = continues_hold [] words rest c p
   list_holds (parameter ∷ parameters) [] rest c p = absurd c
   list_holds (parameter ∷ parameters) (word ∷ words) rest c p = continues_hold parameters words rest c.1 p.1
 
-  body_holds : (name : Word) (parameters : Option (List Word)) (body words : List Word) → DefinesBehind name parameters body words → AllByRecursion W words → AllByRecursion W body
-  body_holds name None body words d p = subst (AllByRecursion W) d.1 p
+  body_holds : (name : Word) (parameters : Option (List Word)) (body words : List Word) → DefinesBehind name parameters body words → AllByRecursion Written words → AllByRecursion Written body
+  body_holds name None body words d p = subst (AllByRecursion Written) d.1 p
   body_holds name (Some parameters) body [] d p = absurd d
   body_holds name (Some parameters) body (paren ∷ words) d p = list_holds parameters words body d.2 p.1
 
-  definition_holds : (definition : Defined) (words : List Word) → DefinesWords definition words → AllByRecursion W words → AllByRecursion W definition.body
+  definition_holds : (definition : Defined) (words : List Word) → DefinesWords definition words → AllByRecursion Written words → AllByRecursion Written definition.body
   definition_holds definition [] d p = absurd d
   definition_holds definition (name ∷ words) d p = body_holds name definition.parameters definition.body words d.2 p.1
 
-  named_holds : (directive : PlainDirective) (name : Option Keyword) (words : List Word) → SpellsNamed directive name words → AllByRecursion W words → DirectiveHolds directive
+  written_part : (word : Word) → Written word → IsPart word
+  written_part word is = record { part = seen word; written = is; same = refl }
+
+  named_holds : (directive : PlainDirective) (name : Option Keyword) (words : List Word) → SpellsNamed directive name words → AllByRecursion Written words → WordsHold directive
   named_holds (Define made) (Some keyword.Define) words (definition, defines, bad, is) p =
-      subst (BodyHolds (IsOfFile g) (LiesIn g)) is (each_weaker W (λ word. IsOfFile g word.text.now) (λ word held. held.0) definition.body (definition_holds definition words defines p))
+      subst (λ (plain : PlainMacro). AllByRecursion IsPart plain.body) is (each_weaker Written IsPart written_part definition.body (definition_holds definition words defines p))
   named_holds (Define made) _ words s p = absurd s
-  named_holds (If condition) (Some keyword.If) words s p = subst (AllByRecursion W) s p
+  named_holds (If condition) (Some keyword.If) words s p = subst (AllByRecursion Written) s p
   named_holds (If condition) _ words s p = absurd s
-  named_holds (Elif condition) (Some keyword.Elif) words s p = subst (AllByRecursion W) s p
+  named_holds (Elif condition) (Some keyword.Elif) words s p = subst (AllByRecursion Written) s p
   named_holds (Elif condition) _ words s p = absurd s
   named_holds _ name words s p = tt
 
-  behind_hash_holds : (directive : PlainDirective) (words : List Word) → SpellsBehind directive words → AllByRecursion W words → DirectiveHolds directive
+  behind_hash_holds : (directive : PlainDirective) (words : List Word) → SpellsBehind directive words → AllByRecursion Written words → WordsHold directive
   behind_hash_holds (Define made) [] s p = absurd s
   behind_hash_holds (Define made) (word ∷ words) s p = named_holds (Define made) (keyword_of word) words s p.1
   behind_hash_holds (If condition) [] s p = absurd s
@@ -255,16 +365,20 @@ module _ (g : Gathered) where
 
   directive_holds : (directive : PlainDirective) (line : List Word) → LineHolds line → Spells directive line → DirectiveHolds directive
   directive_holds directive [] l s = absurd l
-  directive_holds directive (hash ∷ words) l s = behind_hash_holds directive words s.1 l.1
+  directive_holds (Define made) (hash ∷ words) l s =
+      (record { line = hash ∷ words; directive = l.2; made = made; spells = s; same = refl }, behind_hash_holds (Define made) words s.1 l.1)
+  directive_holds (If condition) (hash ∷ words) l s = behind_hash_holds (If condition) words s.1 l.1
+  directive_holds (Elif condition) (hash ∷ words) l s = behind_hash_holds (Elif condition) words s.1 l.1
+  directive_holds _ (hash ∷ words) l s = tt
 
-  bad_named_lies : (whole at : Span) (name : Option Keyword) (words : List Word) → LiesIn g whole → AllByRecursion W words → IsBadNamed whole at name words → LiesIn g at
+  bad_named_lies : (whole at : Span) (name : Option Keyword) (words : List Word) → LiesIn g whole → AllByRecursion Written words → IsBadNamed whole at name words → LiesIn g at
   bad_named_lies whole at (Some keyword.Define) [] w p is = subst (LiesIn g) (sym is) w
   bad_named_lies whole at (Some keyword.Define) (name ∷ words) w p (inl (nameless, is)) = subst (LiesIn g) (sym is) w
   bad_named_lies whole at (Some keyword.Define) (name ∷ words) w p (inr (definition, defines, bad, is)) =
-      subst (LiesIn g) (sym is) (subst (λ (n : Word). LiesIn g n.at) defines.0 p.0.1)
+      subst (LiesIn g) (sym is) (subst (λ (n : Word). LiesIn g n.at) defines.0 (lies name p.0))
   bad_named_lies whole at _ words w p is = absurd is
 
-  bad_behind_lies : (whole at : Span) (words : List Word) → LiesIn g whole → AllByRecursion W words → IsBadBehind whole at words → LiesIn g at
+  bad_behind_lies : (whole at : Span) (words : List Word) → LiesIn g whole → AllByRecursion Written words → IsBadBehind whole at words → LiesIn g at
   bad_behind_lies whole at [] w p is = absurd is
   bad_behind_lies whole at (word ∷ words) w p is = bad_named_lies whole at (keyword_of word) words w p.1 is
 
@@ -272,30 +386,30 @@ module _ (g : Gathered) where
   bad_lies at [] l is = absurd l
   bad_lies at (hash ∷ words) l is = bad_behind_lies (place_of (hash ∷ words)) at words (place_lies (hash ∷ words) l) l.1 is.1
 
-  table_holds : (old new : Table) (made : PlainMacro) (built_in : Bool) (answer : Definition) → TableHolds (IsOfFile g) (LiesIn g) old → BodyHolds (IsOfFile g) (LiesIn g) made → Defines old made built_in answer new → TableHolds (IsOfFile g) (LiesIn g) new
+  table_holds : (old new : Table) (made : PlainMacro) (built_in : Bool) (answer : Definition) → TableHolds kept old → MacroHolds kept made → Defines old made built_in answer new → TableHolds kept new
   table_holds old new made built_in New t b d =
-      subst (TableHolds (IsOfFile g) (LiesIn g)) (sym d.1) (each_joined (λ (entry : Entry). BodyHolds (IsOfFile g) (LiesIn g) entry.made) old (record { made = made; builtin = built_in } ∷ []) t (b, tt))
-  table_holds old new made built_in Same t b d = subst (TableHolds (IsOfFile g) (LiesIn g)) (sym d.1) t
-  table_holds old new made built_in Other t b d = subst (TableHolds (IsOfFile g) (LiesIn g)) (sym d.1) t
+      subst (TableHolds kept) (sym d.1) (each_joined (λ (entry : Entry). MacroHolds kept entry.made) old (record { made = made; builtin = built_in } ∷ []) t (b, tt))
+  table_holds old new made built_in Same t b d = subst (TableHolds kept) (sym d.1) t
+  table_holds old new made built_in Other t b d = subst (TableHolds kept) (sym d.1) t
 
-  with_macros : (s : State) (macros : Table) → StateHolds s → TableHolds (IsOfFile g) (LiesIn g) macros → StateHolds (record s { macros = macros })
+  with_macros : (s : State) (macros : Table) → StateHolds s → TableHolds kept macros → StateHolds (record s { macros = macros })
   with_macros s macros h t = record { macros = t; words = h.words; obeyed = h.obeyed }
 
-  defined_holds : (line : List Word) (s : State) (answer : Definition) (macros : Table) → StateHolds s → LineHolds line → TableHolds (IsOfFile g) (LiesIn g) macros → NextHolds (defined_as line s answer macros)
+  defined_holds : (line : List Word) (s : State) (answer : Definition) (macros : Table) → StateHolds s → LineHolds line → TableHolds kept macros → NextHolds (defined_as line s answer macros)
   defined_holds line s New macros h l t = next_if _ (End (Passes (limit 6))) (On Obeyed (record s { macros = macros })) tt (with_macros s macros h t)
   defined_holds line s Same macros h l t = with_macros s macros h t
   defined_holds line s Other macros h l t = (h, operand_lies line l)
 
-  definition_next_holds : (built_in : Bool) (line : List Word) (made : PlainMacro) (s : State) (next : Next) → StateHolds s → LineHolds line → BodyHolds (IsOfFile g) (LiesIn g) made → DefinitionGives built_in line made s next → NextHolds next
+  definition_next_holds : (built_in : Bool) (line : List Word) (made : PlainMacro) (s : State) (next : Next) → StateHolds s → LineHolds line → MacroHolds kept made → DefinitionGives built_in line made s next → NextHolds next
   definition_next_holds built_in line made s next h l b (answer, macros, defines, is) =
       subst NextHolds (sym is) (defined_holds line s answer macros h l (table_holds s.macros macros made built_in answer h.macros b defines))
 
-  item_holds : (given : Bool) (line : List Word) (made : PlainMacro) (s new : State) (next : Next) → StateHolds s → StateHolds new → LineHolds line → BodyHolds (IsOfFile g) (LiesIn g) made →
+  item_holds : (given : Bool) (line : List Word) (made : PlainMacro) (s new : State) (next : Next) → StateHolds s → StateHolds new → LineHolds line → MacroHolds kept made →
       MatchBool given (next ≡ On Obeyed s) (DefinitionGives true line made new next) → NextHolds next
   item_holds true line made s new next h n l b is = subst NextHolds (sym is) h
   item_holds false line made s new next h n l b gives = definition_next_holds true line made new next n l b gives
 
-  define_holds : (built_in : Bool) (line : List Word) (made : PlainMacro) (s : State) (next : Next) → StateHolds s → LineHolds line → BodyHolds (IsOfFile g) (LiesIn g) made → DefineGives built_in line made s next → NextHolds next
+  define_holds : (built_in : Bool) (line : List Word) (made : PlainMacro) (s : State) (next : Next) → StateHolds s → LineHolds line → MacroHolds kept made → DefineGives built_in line made s next → NextHolds next
   define_holds true line made s next h l b gives = item_holds (is_among s.given made.name) line made s _ next h (record { macros = h.macros; words = h.words; obeyed = h.obeyed }) l b gives
   define_holds false line made s next h l b gives = definition_next_holds false line made s next h l b gives
 
@@ -308,7 +422,7 @@ module _ (g : Gathered) where
   does_holds digits file stand line Null s next h l d is = subst NextHolds (sym is) h
   does_holds digits file stand line (Include name angle) s next h l d is = subst NextHolds (sym is) (included_holds line name s (candidate_of g file.number name angle) h l)
   does_holds digits file stand line (Define made) s next h l d gives = define_holds file.built_in line made s next h l d gives
-  does_holds digits file stand line (Undef name) s next h l d is = subst NextHolds (sym is) (with_macros s _ h (without_holds (IsOfFile g) (LiesIn g) s.macros name h.macros))
+  does_holds digits file stand line (Undef name) s next h l d is = subst NextHolds (sym is) (with_macros s _ h (without_holds kept s.macros name h.macros))
   does_holds digits file stand line (If condition) s next h l d gives = condition_holds digits line condition s next h l d gives
   does_holds digits file stand line (Elif condition) s next h l d gives = condition_holds digits line condition s next h l d gives
   does_holds digits file stand line (Ifdef name) s next h l d is = subst NextHolds (sym is) h
@@ -339,7 +453,7 @@ module _ (g : Gathered) where
 
   listed_holds : (file : File) (place : ℕ) (line : List Word) (s : State) → StateHolds s → LineHolds line → StateHolds (listed file place line s)
   listed_holds file place line s h l =
-      listed_if file.built_in s _ h (record { macros = h.macros; words = h.words; obeyed = each_joined ListedHolds s.obeyed (_ ∷ []) h.obeyed ((line_all line l, place_lies line l), tt) })
+      listed_if file.built_in s _ h (record { macros = h.macros; words = h.words; obeyed = each_joined ListedHolds s.obeyed (_ ∷ []) h.obeyed ((line_all line l, place_lies line l, line_is line l), tt) })
 
   passed_holds : (file : File) (stand : Stand) (place : ℕ) (line : List Word) (s : State) → StateHolds s → LineHolds line → NextHolds (passed file stand place line s)
   passed_holds file stand place line s h l = next_if (breaks_at file place) (refuse (listed file place line s) 2 (place_of line)) _ (listed_holds file place line s h l, place_lies line l) h
@@ -351,23 +465,39 @@ module _ (g : Gathered) where
 
   abbrev PieceHolds : Piece → Type 0
   PieceHolds (DirectiveLine line) = LineHolds line
-  PieceHolds (TextRun words) = AllByRecursion W words
+  PieceHolds (TextRun words) = AllByRecursion InText words
 
   line_holds : (digits : Digits) (file : File) (stand : Stand) (place : ℕ) (piece : Piece) (s : State) (next : Next) → StateHolds s → PieceHolds piece → LineGives g digits file stand place piece s next → NextHolds next
   line_holds digits file stand place (DirectiveLine line) s next h p gives = obeyed_if (is_obeyed stand (mark_of (DirectiveLine line))) digits file stand place line s next h p gives
   line_holds digits file Obeyed place (TextRun words) s next h p gives = run_of_text_holds file.built_in s words next h p gives
   line_holds digits file (Skipped chosen inner) place (TextRun words) s next h p is = subst NextHolds (sym is) h
 
-  piece_holds : (piece : Piece) (rest : List Word) → IsPiece piece rest → AllByRecursion W (words_of piece) → PieceHolds piece
-  piece_holds (DirectiveLine []) rest is p = absurd is
-  piece_holds (DirectiveLine (word ∷ words)) rest is p = p
-  piece_holds (TextRun words) rest is p = p
+  -- the word is one of these, which are those of the file
+  record IsOf (number : ℕ) (words : List Word) (word : Word) : Type 0 where
+    has : HasWords g number words
+    among : Contains (map seen words) (seen word)
+    slice : IsSlice number (text_of g number) (seen word)
 
-  pieces_hold : (words : List Word) (pieces : List Piece) → AreCut words pieces → AllByRecursion W words → AllByRecursion PieceHolds pieces
-  pieces_hold words [] cut p = tt
-  pieces_hold words (piece ∷ pieces) (rest, same, is, cut) p =
-      let all : AllByRecursion W (words_of piece ++ rest) = subst (AllByRecursion W) same p in
-      (piece_holds piece rest is (each_front W (words_of piece) rest all), pieces_hold rest pieces cut (each_back W (words_of piece) rest all))
+  module _ (number : ℕ) (whole : List Word) where
+    abbrev is_written : (word : Word) → IsOf number whole word → Written word
+    is_written word is = record { file = number; words = whole; has = is.has; among = is.among; slice = is.slice }
+
+    module _ (all : List Piece) (all_cut : AreCut whole all) where
+      run_stands : (run : List Word) → Contains all (TextRun run) → (word : Word) → IsOf number whole word → Contains (map seen run) (seen word) → InText word
+      run_stands run piece word is within = record { written = is_written word is; pieces = all; cut = all_cut; run = run; piece = piece; within = within }
+
+      piece_holds : (piece : Piece) (rest : List Word) → IsPiece piece rest → Contains all piece → AllByRecursion (IsOf number whole) (words_of piece) → PieceHolds piece
+      piece_holds (DirectiveLine []) rest is c p = absurd is
+      piece_holds (DirectiveLine (word ∷ words)) rest is c p =
+          let line : IsDirective g (word ∷ words) = record { file = number; words = whole; has = p.0.has; pieces = all; cut = all_cut; piece = c } in
+          (is_written word p.0, each_weaker (IsOf number whole) Written is_written words p.1, line)
+      piece_holds (TextRun words) rest is c p = each_both (IsOf number whole) (λ word. Contains (map seen words) (seen word)) InText (run_stands words c) words p (each_in seen words)
+
+      pieces_hold : (words : List Word) (pieces : List Piece) → AreCut words pieces → AllByRecursion (Contains all) pieces → AllByRecursion (IsOf number whole) words → AllByRecursion PieceHolds pieces
+      pieces_hold words [] cut c p = tt
+      pieces_hold words (piece ∷ pieces) (rest, same, is, cut) c p =
+          let these : AllByRecursion (IsOf number whole) (words_of piece ++ rest) = subst (AllByRecursion (IsOf number whole)) same p in
+          (piece_holds piece rest is c.0 (each_front (IsOf number whole) (words_of piece) rest these), pieces_hold rest pieces cut c.1 (each_back (IsOf number whole) (words_of piece) rest these))
 
   -- ## Files
 
@@ -403,12 +533,12 @@ module _ (g : Gathered) where
     counted_holds true count s h = h
     counted_holds false count s h = option_if (nat_le count s.left) _ (record { macros = h.macros; words = h.words; obeyed = h.obeyed })
 
-    module _ (texts : (number : ℕ) → AllByRecursion W (words_at layout number)) where
+    module _ (texts : (number : ℕ) → AllByRecursion (IsOf number (words_at layout number)) (words_at layout number)) where
       counted_end : (includes : Includes) → ((number : ℕ) (built_in : Bool) (s : State) (ended : Ended) → StateHolds s → includes number built_in s ended → EndedHolds ended) →
           (number : ℕ) (built_in : Bool) (found : Option State) (ended : Ended) → OptionHolds found → CountedGives g layout includes number built_in found ended → EndedHolds ended
       counted_end includes one number built_in None ended h is = subst EndedHolds (sym is) tt
       counted_end includes one number built_in (Some s) ended h (pieces, cut, gives) =
-          lines_end includes one (record { number = number; built_in = built_in; pieces = pieces }) pieces Obeyed 0 s ended h (pieces_hold (words_at layout number) pieces cut (texts number)) gives
+          lines_end includes one (record { number = number; built_in = built_in; pieces = pieces }) pieces Obeyed 0 s ended h (pieces_hold number (words_at layout number) pieces cut (words_at layout number) pieces cut (each_itself pieces) (texts number)) gives
 
       include_end : (nested number : ℕ) (built_in : Bool) (s : State) (ended : Ended) → StateHolds s → IncludeGives g layout nested number built_in s ended → EndedHolds ended
       unfolding IncludeGives
@@ -417,42 +547,39 @@ module _ (g : Gathered) where
 
       -- ## Roots
 
-      empty_hold : (numbers : List ℕ) → Rows (no_words numbers)
+      abbrev RootRows : List (List Word) → Type 0
+      RootRows rows = AllByRecursion (AllByRecursion Coming) rows
+
+      empty_hold : (numbers : List ℕ) → RootRows (no_words numbers)
       empty_hold [] = tt
       empty_hold (number ∷ numbers) = (tt, empty_hold numbers)
 
-      comes : (word : Word) → W word → Comes g word
-      comes word held = record { text = held.0; place = held.1 }
-
       is_listed : (line : ObeyedLine) → ListedHolds line → IsListed g line
-      is_listed line held = record { words = each_weaker W (Comes g) comes line.words held.0; place = held.1 }
-
-      rows_come : (rows : List (List Word)) → Rows rows → AllByRecursion (AllByRecursion (Comes g)) rows
-      rows_come rows held = each_weaker (AllByRecursion W) (AllByRecursion (Comes g)) (λ row. each_weaker W (Comes g) comes row) rows held
+      is_listed line held = record { directive = held.2; words = held.0; place = held.1 }
 
       abbrev AnswerHolds : Result Expansion Limit → Type 0
       AnswerHolds (Ok expansion) = ExpansionComes g expansion
       AnswerHolds (Err limit) = Unit {0}
 
       ended_answers : (behind : List (List Word) → List ObeyedLine → ℕ → Result Expansion Limit → Type 0) →
-          ((roots : List (List Word)) (obeyed : List ObeyedLine) (left : ℕ) (answer : Result Expansion Limit) → Rows roots → AllByRecursion ListedHolds obeyed → behind roots obeyed left answer → AnswerHolds answer) →
-          (others : List ℕ) (roots : List (List Word)) (ended : Ended) (answer : Result Expansion Limit) → Rows roots → EndedHolds ended → RootEnds behind others roots ended answer → AnswerHolds answer
+          ((roots : List (List Word)) (obeyed : List ObeyedLine) (left : ℕ) (answer : Result Expansion Limit) → RootRows roots → AllByRecursion ListedHolds obeyed → behind roots obeyed left answer → AnswerHolds answer) →
+          (others : List ℕ) (roots : List (List Word)) (ended : Ended) (answer : Result Expansion Limit) → RootRows roots → EndedHolds ended → RootEnds behind others roots ended answer → AnswerHolds answer
       ended_answers behind each others roots (Goes s) answer r h gives =
-          each (roots ++ s.words ∷ []) s.obeyed s.left answer (each_joined (AllByRecursion W) roots (s.words ∷ []) r (h.words, tt)) h.obeyed gives
+          each (roots ++ s.words ∷ []) s.obeyed s.left answer (each_joined (AllByRecursion Coming) roots (s.words ∷ []) r (h.words, tt)) h.obeyed gives
       ended_answers behind each others roots (Refuses s refusal) answer r h is =
-          let rows : Rows (roots ++ s.words ∷ [] ++ no_words others) =
-          each_joined (AllByRecursion W) (roots ++ s.words ∷ []) (no_words others) (each_joined (AllByRecursion W) roots (s.words ∷ []) r (h.0.words, tt)) (empty_hold others) in
+          let rows : RootRows (roots ++ s.words ∷ [] ++ no_words others) =
+          each_joined (AllByRecursion Coming) (roots ++ s.words ∷ []) (no_words others) (each_joined (AllByRecursion Coming) roots (s.words ∷ []) r (h.0.words, tt)) (empty_hold others) in
           subst AnswerHolds (sym is) (record {
-            roots = rows_come _ rows;
+            roots = rows;
             obeyed = each_weaker ListedHolds (IsListed g) is_listed s.obeyed h.0.obeyed;
             refusal = h.1;
           })
       ended_answers behind each others roots (Passes limit) answer r h is = subst AnswerHolds (sym is) tt
 
-      roots_end : (numbers : List ℕ) (roots : List (List Word)) (obeyed : List ObeyedLine) (left : ℕ) (answer : Result Expansion Limit) → Rows roots → AllByRecursion ListedHolds obeyed →
+      roots_end : (numbers : List ℕ) (roots : List (List Word)) (obeyed : List ObeyedLine) (left : ℕ) (answer : Result Expansion Limit) → RootRows roots → AllByRecursion ListedHolds obeyed →
           RootsGive g layout numbers roots obeyed left answer → AnswerHolds answer
       roots_end [] roots obeyed left answer r o is =
-          subst AnswerHolds (sym is) (record { roots = rows_come roots r; obeyed = each_weaker ListedHolds (IsListed g) is_listed obeyed o; refusal = tt })
+          subst AnswerHolds (sym is) (record { roots = r; obeyed = each_weaker ListedHolds (IsListed g) is_listed obeyed o; refusal = tt })
       roots_end (number ∷ numbers) roots obeyed left answer r o (ended, gives, behind) =
           let begun : StateHolds (fresh obeyed left) = record { macros = tt; words = tt; obeyed = o } in
           ended_answers _ (λ roots obeyed left answer r o gives. roots_end numbers roots obeyed left answer r o gives) numbers roots ended answer r
@@ -460,23 +587,20 @@ module _ (g : Gathered) where
 
 -- ## The words of the files
 
-word_comes : (g : Gathered) (number : ℕ) (place : ℕ) (words : List Word) → number < count_of g → AreSlices number (text_of g number) place (map seen words) → AllByRecursion (W g) words
-word_comes g number place [] held slices = tt
-word_comes g number place (word ∷ words) held slices =
-    let of_file : word.at.file ≡ number = slices.1.of_file in
-    let start : word.at.start < word.at.end = slices.1.some in
-    let within : word.at.end ≤ length (text_of g number) = slices.1.within in
-    let lies : LiesIn g word.at = record {
-      held = rw of_file held;
-      within = rw of_file (omega arith);
-    } in
-    ((record { file = number; start = word.at.start; end = word.at.end; held = held; slice = slices.1.slice }, lies), word_comes g number word.at.end words held slices.2)
+slice_each : (g : Gathered) (number : ℕ) (place : ℕ) (words : List Word) → AreSlices number (text_of g number) place (map seen words) → AllByRecursion (λ word. IsSlice number (text_of g number) (seen word)) words
+slice_each g number place [] slices = tt
+slice_each g number place (word ∷ words) slices = (slices.1, slice_each g number word.at.end words slices.2)
 
-files_come : (g : Gathered) (layout : Layout) → IsLaidOut g layout → (number : ℕ) → AllByRecursion (W g) (words_at layout number)
+file_comes : (g : Gathered) (number : ℕ) (words : List Word) → number < count_of g → Answers number (text_of g number) (Ok (map seen words)) → AllByRecursion (IsOf g number words) words
+file_comes g number words held lexed =
+    each_both (λ word. Contains (map seen words) (seen word)) (λ word. IsSlice number (text_of g number) (seen word)) (IsOf g number words)
+    (λ word among slice. record { has = record { held = held; lexed = lexed }; among = among; slice = slice }) words (each_in seen words)
+    (slice_each g number 0 words (answer_slices number (text_of g number) (map seen words) lexed))
+
+files_come : (g : Gathered) (layout : Layout) → IsLaidOut g layout → (number : ℕ) → AllByRecursion (IsOf g number (words_at layout number)) (words_at layout number)
 files_come g layout laid number =
-    each_at (AllByRecursion (W g)) layout.words [] (each_place (AllByRecursion (W g)) layout.words []
-    (λ place there. let held : place < count_of g = omega (arith, laid.words.all) in
-    word_comes g place 0 (get_or layout.words place []) held (answer_slices place (text_of g place) (map seen (get_or layout.words place [])) (laid.words.lexed place held)))) tt number
+    at_or (λ words. AllByRecursion (IsOf g number words) words) layout.words [] number tt
+    (λ there. let held : number < count_of g = omega (arith, laid.words.all) in file_comes g number (get_or layout.words number []) held (laid.words.lexed number held))
 
 -- all words of what a program expands to come from its files, and its refusal has its place in one
 pub expansion_comes : (g : Gathered) (layout : Layout) (expansion : Expansion) → IsLaidOut g layout → Expands g layout (Ok expansion) → ExpansionComes g expansion

@@ -9,15 +9,14 @@ use Rattle.p10_base.specs.declared.report.Limit.{Limit}
 use Rattle.p10_base.specs.declared.report.Family.TheVariants.{D}
 use Rattle.p10_base.specs.Gathered.{Gathered, LiesIn, root_count}
 use Rattle.p10_lex.specs.Pieces.{LexedWord, seen}
-use Rattle.p10_expand.specs.declared.expanded.Obeyed.{Obeyed as ObeyedLine}
 use Rattle.p10_expand.specs.declared.expanded.Expanded.{Expanded}
 use Rattle.p10_expand.specs.declared.expansion.fault.ExpandFault.TheVariants.{Over}
 use Rattle.p10_expand.specs.Expands.{Layout, IsLaidOut, Expansion, Expands}
 use Rattle.p10_expand.specs.Steps.{IsExpansion, IsFault, expansion_of}
-use Rattle.p10_expand.specs.Coming.{IsOfFile, Comes, IsListed, ExpansionComes}
+use Rattle.p10_expand.specs.Coming.{IsWritten, Comes, IsListed, ExpansionComes}
 use Rattle.p10_expand.specs.Plain.{PlainObeyed, plain_obeyed, PlainExpansion, plain_expansion, plain_answer, ExpandsTo}
 use Rattle.p10_expand.proofs.Keeping.{each_mapped}
-use Rattle.p10_expand.proofs.Origins.{expansion_comes}
+use Rattle.p10_expand.proofs.Origins.{expansion_comes, comes_lies}
 use Rattle.p10_expand.proofs.Numbers.{IsOfDirectives, IsOfExpansion, AnswerNumbered, expansion_numbered, HasRoots, expansion_many}
 
 -- ## The code's answers
@@ -33,19 +32,23 @@ limit_to g limit (layout, laid, expands) = record { layout = layout; expansion =
 module _ (g : Gathered) where
   -- ## Words, directives and refusals
 
-  -- a word without where it lies in memory has the text of a file, and a place in one
+  -- a word of a root comes from a file, and has its place in one
   pub record WordComes (word : LexedWord) : Type 0 where
-    pub text : IsOfFile g word.text
+    pub comes : Comes g word
     pub place : LiesIn g word.at
 
   abbrev PlainHolds : Result PlainExpansion Limit → Type 0
   PlainHolds (Ok expansion) = All (λ (words : List LexedWord). All WordComes words) expansion.roots
-      × All (λ (line : PlainObeyed). All WordComes line.words × LiesIn g line.span) expansion.obeyed
+      × All (λ (line : PlainObeyed). All (IsWritten g) line.words × LiesIn g line.span) expansion.obeyed
       × IfSome expansion.refusal (λ refusal. LiesIn g refusal.span × IsOfDirectives refusal)
   PlainHolds (Err limit) = IsOfExpansion limit
 
-  words_hold : (words : List Word) → AllByRecursion (Comes g) words → All WordComes (map seen words)
-  words_hold words come = All-from_recursion WordComes (map seen words) (each_mapped (Comes g) WordComes seen (λ word comes. record { text = comes.text; place = comes.place }) words come)
+  words_hold : (words : List Word) → AllByRecursion (λ word. Comes g (seen word)) words → All WordComes (map seen words)
+  words_hold words come =
+      All-from_recursion WordComes (map seen words) (each_mapped (λ word. Comes g (seen word)) WordComes seen (λ word comes. record { comes = comes; place = comes_lies g (seen word) comes }) words come)
+
+  written_hold : (words : List Word) → AllByRecursion (λ word. IsWritten g (seen word)) words → All (IsWritten g) (map seen words)
+  written_hold words written = All-from_recursion (IsWritten g) (map seen words) (each_mapped (λ word. IsWritten g (seen word)) (IsWritten g) seen (λ word is. is) words written)
 
   refusal_holds : (refusal : Option Refusal) → IfSome refusal (λ refusal. LiesIn g refusal.span) → IfSome refusal IsOfDirectives → IfSome refusal (λ refusal. LiesIn g refusal.span × IsOfDirectives refusal)
   refusal_holds None lies numbered = tt
@@ -53,12 +56,11 @@ module _ (g : Gathered) where
 
   answer_holds : (layout : Layout) (answer : Result Expansion Limit) → IsLaidOut g layout → Expands g layout answer → AnswerNumbered g layout answer → PlainHolds (plain_answer answer)
   answer_holds layout (Ok expansion) laid expands numbered =
-      let comes : ExpansionComes g expansion = expansion_comes g layout expansion laid expands in
-      let line_holds : ObeyedLine → PlainObeyed → Type 0 = λ line made. All WordComes made.words × LiesIn g made.span in (
+      let comes : ExpansionComes g expansion = expansion_comes g layout expansion laid expands in (
         All-from_recursion (λ (words : List LexedWord). All WordComes words) (map (map seen) expansion.roots)
-            (each_mapped (AllByRecursion (Comes g)) (λ (words : List LexedWord). All WordComes words) (map seen) words_hold expansion.roots comes.roots),
-        All-from_recursion (λ (line : PlainObeyed). All WordComes line.words × LiesIn g line.span) (map plain_obeyed expansion.obeyed)
-            (each_mapped (IsListed g) (λ (line : PlainObeyed). All WordComes line.words × LiesIn g line.span) plain_obeyed (λ line is. (words_hold line.words is.words, is.place)) expansion.obeyed comes.obeyed),
+            (each_mapped (AllByRecursion (λ word. Comes g (seen word))) (λ (words : List LexedWord). All WordComes words) (map seen) words_hold expansion.roots comes.roots),
+        All-from_recursion (λ (line : PlainObeyed). All (IsWritten g) line.words × LiesIn g line.span) (map plain_obeyed expansion.obeyed)
+            (each_mapped (IsListed g) (λ (line : PlainObeyed). All (IsWritten g) line.words × LiesIn g line.span) plain_obeyed (λ line is. (written_hold line.words is.words, is.place)) expansion.obeyed comes.obeyed),
         refusal_holds expansion.refusal comes.refusal numbered,
       )
   answer_holds layout (Err limit) laid expands numbered = numbered
@@ -70,8 +72,8 @@ module _ (g : Gathered) where
   pub words_come : (expansion : PlainExpansion) → ExpandsTo g (Ok expansion) → All (λ (words : List LexedWord). All WordComes words) expansion.roots
   words_come expansion to = (plain_holds (Ok expansion) to).0
 
-  -- and so do those of the directives that were obeyed
-  pub obeyed_come : (expansion : PlainExpansion) → ExpandsTo g (Ok expansion) → All (λ (line : PlainObeyed). All WordComes line.words × LiesIn g line.span) expansion.obeyed
+  -- those of the directives that were obeyed are words of files
+  pub obeyed_come : (expansion : PlainExpansion) → ExpandsTo g (Ok expansion) → All (λ (line : PlainObeyed). All (IsWritten g) line.words × LiesIn g line.span) expansion.obeyed
   obeyed_come expansion to = (plain_holds (Ok expansion) to).1
 
   -- the refusal has a place in the files, and is one of D1 to D8
