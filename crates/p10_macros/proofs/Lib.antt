@@ -3,10 +3,11 @@ pub mod Unfolding
 pub mod OneEnding
 pub mod Steps
 pub mod Listing
-pub mod Marked
-pub mod Turning
+pub mod Links
+pub mod Parts
 pub mod Putting
 pub mod Standings
+pub mod Calling
 pub mod Lookups
 pub mod Moves
 pub mod Beginnings

@@ -1,7 +1,7 @@
 -- The steps of the code lead from one state to another.
-use Rattle.std.proofs.Common.{◌≡◌, ℕ, ◌<◌, List, [], ◌∷◌, ◌++◌, length, map, None, Bor, Vec, Global, refl, sym, subst, ap, ◌∙◌}
+use Rattle.std.proofs.Common.{◌≡◌, ℕ, ◌+◌, ◌<◌, ◌≤◌, List, [], ◌∷◌, ◌++◌, length, map, Bool, cond, None, Bor, Vec, Global, refl, sym, subst, ap, ◌∙◌, arith}
 use Rattle.std.specs.Prelude.{reverse}
-use Rattle.std.proofs.lemmas.List.{reverse-append, map-append}
+use Rattle.std.proofs.lemmas.List.{reverse-append, map-append, length-reverse}
 use Rattle.p10_base.specs.declared.span.Span.{Span}
 use Rattle.p10_direct.specs.Directives.{PlainMacro}
 use Rattle.p10_direct.specs.Form.{plain_macro}
@@ -11,24 +11,23 @@ use Rattle.p10_macros.specs.declared.pending.Traced.{Traced}
 use Rattle.p10_macros.specs.declared.pending.Pending.{Pending}
 use Rattle.p10_macros.specs.declared.pending.Open.{Open}
 use Rattle.p10_macros.specs.declared.pending.Run.{Run}
-use Rattle.p10_macros.specs.declared.pending.End.{End}
-use Rattle.p10_macros.specs.declared.pending.End.TheVariants.{Nothing, Argument, Call}
+use Rattle.p10_macros.specs.declared.ahead.Ahead.{Ahead}
 use Rattle.p10_macros.specs.declared.replaced.ReplaceFault.{ReplaceFault}
 use Rattle.p10_macros.specs.declared.replaced.ReplaceFault.TheVariants as fault
 use Rattle.p10_macros.specs.Table.{Table}
-use Rattle.p10_macros.specs.Uses.{Sourced, Stays, Wrong, Calls, use_of, replacement, Arguments}
+use Rattle.p10_macros.specs.Uses.{Sourced, closes, Stays, Wrong, Calls, use_of, replacement, Arguments}
 use Rattle.p10_macros.specs.Endings.{Ending, Refused, TooMany}
 use Rattle.p10_macros.specs.Running.{OpenUse, outer_of, Comes}
 use Rattle.p10_macros.specs.Origins.{Extends}
 use Rattle.p10_macros.specs.Traces.{IsTraced, AreTraced, AreValues}
-use Rattle.p10_macros.specs.Standing.{IsOpen, Stands, StandsBy, place_among, State, ComesOf, Represents, LeadsTo, Advances, FaultComes, Fails, ending_word, IsReplacedIn, IsTooLong, IsOpenedIn}
+use Rattle.p10_macros.specs.Standing.{IsOpen, Stands, StandsBy, Role, NextWord, EndsArgument, EndsCall, role_of, place_among, State, ComesOf, Represents, Plays, LeadsTo, AdvancesBy, FaultComes, FailsBy, IsReplacedIn, IsTooLong, IsOpenedIn}
 use Rattle.p10_macros.specs.Putting.{Puts}
 use Rattle.p10_macros.specs.Looking.{macro_used, refusal_at}
 use Rattle.p10_macros.proofs.Putting.{all_traced_more}
 use Rattle.p10_macros.proofs.Steps.{step_stays, step_refused, step_replaced, step_too_long, step_opened, step_next, step_closed, step_closed_too_long, opened}
-use Rattle.p10_macros.proofs.Standings.{stands_more, stands_put, has_next, HasNext, next_opens_is, place_is}
+use Rattle.p10_macros.proofs.Standings.{stop_within, at_stop, stands_more, stands_put, has_next, HasNext, next_opens_is, place_is}
 use Rattle.p10_macros.proofs.Lookups.{stays_where}
-use Rattle.p10_macros.proofs.Marked.{StandsMarked}
+use Rattle.p10_macros.proofs.Calling.{StandsCalled}
 
 all_traced_last : (origins : List Origin) (those : List Traced) (these : List Sourced) (traced : Traced) (word : Sourced) → AreTraced origins those these → IsTraced origins traced word →
     AreTraced origins (those ++ traced ∷ []) (these ++ word ∷ [])
@@ -38,9 +37,10 @@ all_traced_last origins [] (second ∷ these) traced word are is = absurd are
 all_traced_last origins (first ∷ those) [] traced word are is = absurd are
 
 -- lists in place of equal ones
-stands_along : (o o' : List Origin) (i i' : List Pending) (t t' : List Open) (todo : List Sourced) (uses : List OpenUse) → o' ≡ o → i' ≡ i → t' ≡ t → Stands o i t todo uses → Stands o' i' t' todo uses
-stands_along o o' i i' t t' todo uses eo ei et stands =
-    subst (λ (a : List Origin). Stands a i' t' todo uses) (sym eo) (subst (λ (a : List Pending). Stands o a t' todo uses) (sym ei) (subst (λ (a : List Open). Stands o i a todo uses) (sym et) stands))
+stands_along : (o o' : List Origin) (i i' : List Pending) (s s' : ℕ) (t t' : List Open) (todo : List Sourced) (uses : List OpenUse) → o' ≡ o → i' ≡ i → s' ≡ s → t' ≡ t → Stands o i s t todo uses → Stands o' i' s' t' todo uses
+stands_along o o' i i' s s' t t' todo uses eo ei es et stands =
+    subst (λ (a : List Origin). Stands a i' s' t' todo uses) (sym eo)
+    (subst (λ (a : List Pending). Stands o a s' t' todo uses) (sym ei) (subst (λ (a : ℕ). Stands o i a t' todo uses) (sym es) (subst (λ (a : List Open). Stands o i s a todo uses) (sym et) stands)))
 
 traced_along : (o o' : List Origin) (d d' : List Traced) (these : List Sourced) → o' ≡ o → d' ≡ d → AreTraced o d these → AreTraced o' d' these
 traced_along o o' d d' these eo ed are = subst (λ (a : List Origin). AreTraced a d' these) (sym eo) (subst (λ (a : List Traced). AreTraced o a these) (sym ed) are)
@@ -48,36 +48,37 @@ traced_along o o' d d' these eo ed are = subst (λ (a : List Origin). AreTraced 
 -- ## A word stays
 
 module _ (table : Table) (old new : Run) (name : Traced) (done_is : new.done.items ≡ old.done.items ++ name ∷ []) (pending_is : new.pending ≡ old.pending) (open_is : new.open ≡ old.open)
-    (origins_is : new.origins ≡ old.origins) (left_is : new.left ≡ old.left) (none : macro_used table (reverse old.pending.items) name.word ≡ None) where
-  stays_with : (todo done : List Sourced) (uses : List OpenUse) (left : ℕ) → HasNext old.origins.items name (reverse old.pending.items) (reverse old.open.items) todo uses →
+    (origins_is : new.origins ≡ old.origins) (left_is : new.left ≡ old.left) (stop_is : new.stop ≡ old.stop) (none : macro_used table (reverse old.pending.words.items) name.word ≡ None) where
+  stays_with : (todo done : List Sourced) (uses : List OpenUse) (left : ℕ) → HasNext old.origins.items name (reverse old.pending.words.items) old.stop (reverse old.open.items) todo uses →
       AreTraced old.origins.items old.done.items done → old.left ≡ left → LeadsTo table (record { todo = todo; done = done; uses = uses; left = left }) new
   stays_with [] done uses left next are is = absurd next
   stays_with (word ∷ words) done uses left (traced, stands) are is =
       let stays : use_of table word words ≡ Stays =
-      stays_where table (reverse old.pending.items) name.word word words (next_opens_is old.origins.items (reverse old.pending.items) (reverse old.open.items) words uses stands) traced.word none in
+      stays_where table (reverse old.pending.words.items) name.word word words (next_opens_is old.origins.items (reverse old.pending.words.items) old.stop (reverse old.open.items) words uses stands) traced.word none in
       record {
         behind = record { todo = words; done = done ++ word ∷ []; uses = uses; left = left };
         represents = record {
-          stands = stands_along _ _ _ _ _ _ words uses (ap (λ (v : Vec Origin Global). v.items) origins_is) (ap (λ (v : Vec Pending Global). reverse v.items) pending_is) (ap (λ (v : Vec Open Global). reverse v.items) open_is) stands;
+          stands = stands_along _ _ _ _ _ _ _ _ words uses (ap (λ (v : Vec Origin Global). v.items) origins_is) (ap (λ (a : Ahead). reverse a.words.items) pending_is) stop_is (ap (λ (v : Vec Open Global). reverse v.items) open_is) stands;
           done = traced_along _ _ _ _ _ (ap (λ (v : Vec Origin Global). v.items) origins_is) done_is (all_traced_last old.origins.items old.done.items done name word are traced);
           left = left_is ∙ is;
         };
         comes = λ ending. step_stays table uses word words done left stays ending;
       }
 
-  pub moved_stays : Advances table old (ending_word name Nothing) new
-  moved_stays = λ state represents. stays_with state.todo state.done state.uses state.left
-      (has_next old.origins.items name (reverse old.pending.items) (reverse old.open.items) state.todo state.uses represents.stands) represents.done represents.left
+  pub moved_stays : (next : Pending) → next.traced ≡ name → AdvancesBy table old next NextWord new
+  moved_stays next is = λ state plays. stays_with state.todo state.done state.uses state.left
+      (subst (λ (t : Traced). HasNext old.origins.items t (reverse old.pending.words.items) old.stop (reverse old.open.items) state.todo state.uses) is
+      (has_next old.origins.items next (reverse old.pending.words.items) old.stop (reverse old.open.items) state.todo state.uses plays.stands)) plays.done plays.left
 
 -- ## A use is refused
 
 pub moved_refused : (table : Table) (run : Run) (name : Traced) (state : State) (word : Sourced) (words : List Sourced) (items : List Pending) (todo : List Sourced) (number : ℕ) → state.todo ≡ word ∷ words →
-    IsTraced run.origins.items name word → Stands run.origins.items items (reverse run.open.items) todo state.uses → use_of table word words ≡ Wrong number →
+    IsTraced run.origins.items name word → Stands run.origins.items items run.stop (reverse run.open.items) todo state.uses → use_of table word words ≡ Wrong number →
     FaultComes table state (refusal_at number (place_among (reverse run.open.items) name))
 moved_refused table run name state word words items todo number todo_is traced stands is = (
   refl,
   subst (λ (l : List Sourced). Comes table state.uses l state.done state.left (Refused number (place_among (reverse run.open.items) name))) (sym todo_is)
-      (subst (λ (at : Span). Comes table state.uses (word ∷ words) state.done state.left (Refused number at)) (sym (place_is run.origins.items items (reverse run.open.items) todo state.uses name word stands traced))
+      (subst (λ (at : Span). Comes table state.uses (word ∷ words) state.done state.left (Refused number at)) (sym (place_is run.origins.items items run.stop (reverse run.open.items) todo state.uses name word stands traced))
       (step_refused table state.uses word words state.done state.left number is)),
 )
 
@@ -85,17 +86,17 @@ moved_refused table run name state word words items todo number todo_is traced s
 
 module _ (table : Table) (old : Run) (plain : PlainMacro) (name : Traced) (state : State) (word : Sourced) (words rest : List Sourced) (todo_is : state.todo ≡ word ∷ words)
     (traced : IsTraced old.origins.items name word) (left_is : old.left ≡ state.left) (is : use_of table word words ≡ Calls plain [] rest) where
-  pub moved_replaced : (new : Run) → IsReplacedIn old new plain name [] → Stands old.origins.items (reverse old.pending.items) (reverse old.open.items) rest state.uses →
+  pub moved_replaced : (new : Run) → IsReplacedIn old new plain name [] → Stands old.origins.items (reverse old.pending.words.items) old.stop (reverse old.open.items) rest state.uses →
       AreTraced old.origins.items old.done.items state.done → LeadsTo table state new
   moved_replaced new replaced stands are =
       let made = replacement plain word [] in
-      let puts : Puts new.origins.items old.pending.items new.pending.items made old.left new.left = replaced.puts word [] traced tt in
+      let puts : Puts new.origins.items old.pending.words.items new.pending.words.items made old.left new.left = replaced.puts word [] traced tt in
       record {
         behind = record { todo = made ++ rest; done = state.done; uses = state.uses; left = new.left };
         represents = record {
-          stands = stands_along _ _ _ _ _ _ (made ++ rest) state.uses refl puts.pending (ap (λ (l : List Open). reverse l) replaced.opens)
-              (stands_put new.origins.items puts.items made (reverse old.pending.items) (reverse old.open.items) rest state.uses puts.put
-              (stands_more old.origins.items new.origins.items replaced.grown (reverse old.pending.items) (reverse old.open.items) rest state.uses stands));
+          stands = stands_along _ _ _ _ _ _ _ _ (made ++ rest) state.uses refl puts.pending replaced.stop (ap (λ (l : List Open). reverse l) replaced.opens)
+              (stands_put new.origins.items puts.items made (reverse old.pending.words.items) old.stop (reverse old.open.items) rest state.uses puts.put
+              (stands_more old.origins.items new.origins.items replaced.grown (reverse old.pending.words.items) old.stop (reverse old.open.items) rest state.uses stands));
           done = traced_along _ _ _ _ _ refl replaced.done (all_traced_more old.origins.items new.origins.items replaced.grown old.done.items state.done are);
           left = refl;
         };
@@ -112,37 +113,34 @@ module _ (table : Table) (old : Run) (plain : PlainMacro) (name : Traced) (state
 
 -- ## A use is opened
 
-module _ (table : Table) (old mid new : Run) (made : Bor Macro) (name : Traced) (state : State) (word : Sourced) (words : List Sourced) (found : Arguments) (todo_is : state.todo ≡ word ∷ words)
+module _ (table : Table) (old new : Run) (made : Bor Macro) (name : Traced) (state : State) (word : Sourced) (words : List Sourced) (found : Arguments) (todo_is : state.todo ≡ word ∷ words)
     (traced : IsTraced old.origins.items name word) (left_is : old.left ≡ state.left) (is : use_of table word words ≡ Calls (plain_macro made.now) (found.first ∷ found.others) found.rest)
-    (origins_is : mid.origins ≡ old.origins) (open_is : mid.open ≡ old.open) (done_is : mid.done ≡ old.done) (mid_left : mid.left ≡ old.left) where
+    (stop : ℕ) where
   -- the use that is opened
   abbrev opened_use : OpenUse
   opened_use = opened (outer_of state.uses) (plain_macro made.now) word state.done found.others found.rest
 
-  is_opened : (items : List Pending) (todo : List Sourced) → (is' : IsOpenedIn mid new made name) → Stands old.origins.items items (reverse old.open.items) todo state.uses →
+  is_opened : (items : List Pending) (todo : List Sourced) → (is' : IsOpenedIn old new made name stop) → Stands old.origins.items items old.stop (reverse old.open.items) todo state.uses →
       AreTraced old.origins.items old.done.items state.done → IsOpen old.origins.items is'.opened opened_use
-  is_opened items todo is' stands are =
-      let opens : List Open = reverse old.open.items in
-      record {
-        plain = ap plain_macro is'.the_macro;
-        name = subst (λ (t : Traced). IsTraced old.origins.items t word) (sym is'.the_name) traced;
-        place = is'.the_place ∙ ap (λ (v : Vec Open Global). place_among (reverse v.items) name) open_is ∙ place_is old.origins.items items opens todo state.uses name word stands traced;
-        before = traced_along _ _ _ _ _ refl (is'.before ∙ ap (λ (v : Vec Traced Global). v.items) done_is) are;
-        values = subst (λ (l : List (Vec Traced Global)). AreValues old.origins.items (map (λ (v : Vec Traced Global). v.items) l) []) (sym is'.values) tt;
-      }
+  is_opened items todo is' stands are = record {
+    plain = ap plain_macro is'.the_macro;
+    name = subst (λ (t : Traced). IsTraced old.origins.items t word) (sym is'.the_name) traced;
+    place = is'.the_place ∙ place_is old.origins.items items old.stop (reverse old.open.items) todo state.uses name word stands traced;
+    before = traced_along _ _ _ _ _ refl is'.before are;
+    values = subst (λ (l : List (Vec Traced Global)). AreValues old.origins.items (map (λ (v : Vec Traced Global). v.items) l) []) (sym is'.values) tt;
+  }
 
-  pub moved_opened : (items : List Pending) (todo : List Sourced) → IsOpenedIn mid new made name → Stands old.origins.items items (reverse old.open.items) todo state.uses →
-      AreTraced old.origins.items old.done.items state.done → StandsMarked old.origins.items (reverse old.open.items) state.uses (reverse mid.pending.items) found → LeadsTo table state new
-  moved_opened items todo is' stands are marked =
-      let origins : new.origins.items ≡ old.origins.items = is'.origins ∙ ap (λ (v : Vec Origin Global). v.items) origins_is in
-      let opens : reverse new.open.items ≡ is'.opened ∷ reverse old.open.items =
-      ap (λ (l : List Open). reverse l) is'.opens ∙ reverse-append mid.open.items (is'.opened ∷ []) ∙ ap (λ (v : Vec Open Global). is'.opened ∷ reverse v.items) open_is in
+  pub moved_opened : (todo : List Sourced) → IsOpenedIn old new made name stop → Stands old.origins.items (reverse old.pending.words.items) old.stop (reverse old.open.items) todo state.uses →
+      AreTraced old.origins.items old.done.items state.done → StandsCalled old.origins.items old.stop (reverse old.open.items) state.uses (reverse old.pending.words.items) stop found → LeadsTo table state new
+  moved_opened todo is' stands are called =
+      let opens : reverse new.open.items ≡ is'.opened ∷ reverse old.open.items = ap (λ (l : List Open). reverse l) is'.opens ∙ reverse-append old.open.items (is'.opened ∷ []) in
       record {
         behind = record { todo = found.first; done = []; uses = opened_use ∷ state.uses; left = state.left };
         represents = record {
-          stands = stands_along _ _ _ _ _ _ found.first (opened_use ∷ state.uses) origins (ap (λ (l : List Pending). reverse l) is'.pending) opens (marked is'.opened opened_use (is_opened items todo is' stands are));
-          done = traced_along _ _ _ _ _ origins is'.done tt;
-          left = is'.left ∙ mid_left ∙ left_is;
+          stands = stands_along _ _ _ _ _ _ _ _ found.first (opened_use ∷ state.uses) is'.origins (ap (λ (l : List Pending). reverse l) is'.pending) is'.stop opens
+              (called is'.opened opened_use is'.the_stop (is_opened (reverse old.pending.words.items) todo is' stands are));
+          done = traced_along _ _ _ _ _ is'.origins is'.done tt;
+          left = is'.left ∙ left_is;
         };
         comes = λ ending comes. subst (λ (l : List Sourced). Comes table state.uses l state.done state.left ending) (sym todo_is)
             (step_opened table state.uses word words state.done (plain_macro made.now) found.first found.others found.rest is state.left ending comes);
@@ -155,21 +153,23 @@ abbrev pub valued : OpenUse → List Sourced → OpenUse
 valued use' value = record use' { values = use'.values ++ value ∷ [] }
 
 -- the innermost open use got one more value
-module _ (origins : List Origin) (open' renewed : Open) (value : List Sourced) (below : List Open) (renew : (use' : OpenUse) → IsOpen origins open' use' → IsOpen origins renewed (valued use' value)) where
-  module _ (items : List Pending) (again : (todo : List Sourced) (use' : OpenUse) (uses : List OpenUse) → Stands origins items (open' ∷ below) todo (use' ∷ uses) → Stands origins items (renewed ∷ below) todo (valued use' value ∷ uses)) where
-    valued_by : (traced : Traced) (end' : End) (todo : List Sourced) (use' : OpenUse) (uses : List OpenUse) → StandsBy origins (Stands origins items) traced end' (open' ∷ below) todo (use' ∷ uses) →
-        StandsBy origins (Stands origins items) traced end' (renewed ∷ below) todo (valued use' value ∷ uses)
-    valued_by traced Nothing [] use' uses stands = absurd stands
-    valued_by traced Nothing (word ∷ todo) use' uses (is, stands) = (is, again todo use' uses stands)
-    valued_by traced Argument [] use' uses (next, others, waiting, stands) = (next, others, waiting, again next (record use' { waiting = others }) uses stands)
-    valued_by traced Argument (word ∷ todo) use' uses stands = absurd stands
-    valued_by traced Call [] use' uses (waiting, is, stands) = (waiting, renew use' is, stands)
-    valued_by traced Call (word ∷ todo) use' uses stands = absurd stands
+module _ (origins : List Origin) (open' renewed : Open) (value : List Sourced) (below : List Open) (renew : (use' : OpenUse) → IsOpen origins open' use' → IsOpen origins renewed (valued use' value)) (same_stop : renewed.stop ≡ open'.stop) where
+  module _ (items : List Pending)
+      (again : (stop : ℕ) (todo : List Sourced) (use' : OpenUse) (uses : List OpenUse) → Stands origins items stop (open' ∷ below) todo (use' ∷ uses) → Stands origins items stop (renewed ∷ below) todo (valued use' value ∷ uses)) where
+    valued_by : (pending : Pending) (role : Role) (stop : ℕ) (todo : List Sourced) (use' : OpenUse) (uses : List OpenUse) → StandsBy origins (Stands origins items) pending role stop (open' ∷ below) todo (use' ∷ uses) →
+        StandsBy origins (Stands origins items) pending role stop (renewed ∷ below) todo (valued use' value ∷ uses)
+    valued_by pending NextWord stop [] use' uses stands = absurd stands
+    valued_by pending NextWord stop (word ∷ todo) use' uses (is, stands) = (is, again stop todo use' uses stands)
+    valued_by pending EndsArgument stop [] use' uses (next, others, waiting, split, stands) = (next, others, waiting, split, again pending.exits.argument next (record use' { waiting = others }) uses stands)
+    valued_by pending EndsArgument stop (word ∷ todo) use' uses stands = absurd stands
+    valued_by pending EndsCall stop [] use' uses (waiting, is, stands) = (waiting, renew use' is, subst (λ (n : ℕ). Stands origins items n below use'.rest uses) (sym same_stop) stands)
+    valued_by pending EndsCall stop (word ∷ todo) use' uses stands = absurd stands
 
-  stands_valued : (items : List Pending) (todo : List Sourced) (use' : OpenUse) (uses : List OpenUse) → Stands origins items (open' ∷ below) todo (use' ∷ uses) → Stands origins items (renewed ∷ below) todo (valued use' value ∷ uses)
-  stands_valued [] todo use' uses stands = absurd stands
-  stands_valued (pending ∷ items) todo use' uses stands =
-      valued_by items (λ todo' use'' uses' stands'. stands_valued items todo' use'' uses' stands') pending.traced pending.«end» todo use' uses stands
+  stands_valued : (items : List Pending) (stop : ℕ) (todo : List Sourced) (use' : OpenUse) (uses : List OpenUse) →
+      Stands origins items stop (open' ∷ below) todo (use' ∷ uses) → Stands origins items stop (renewed ∷ below) todo (valued use' value ∷ uses)
+  stands_valued [] stop todo use' uses stands = absurd stands
+  stands_valued (pending ∷ items) stop todo use' uses stands =
+      valued_by items (λ stop' todo' use'' uses' stands'. stands_valued items stop' todo' use'' uses' stands') pending (role_of items stop pending.traced.word) stop todo use' uses stands
 
 values_last : (origins : List Origin) (those : List (List Traced)) (these : List (List Sourced)) (traced : List Traced) (value : List Sourced) → AreValues origins those these → AreTraced origins traced value →
     AreValues origins (those ++ traced ∷ []) (these ++ value ∷ [])
@@ -190,9 +190,10 @@ comes_waiting : (table : Table) (use' : OpenUse) (waiting : List (List Sourced))
 comes_waiting table use' waiting uses todo done left ending is comes =
     subst (λ (w : List (List Sourced)). Comes table (record use' { waiting = w } ∷ uses) todo done left ending) (sym is) comes
 
-module _ (table : Table) (old new : Run) (traced : Traced) (open' renewed : Open) (below : List Open) (opens_is : old.open.items ≡ below ++ open' ∷ []) (opens_new : new.open.items ≡ below ++ renewed ∷ [])
-    (same_macro : renewed.made ≡ open'.made) (same_name : renewed.name ≡ open'.name) (same_place : renewed.place ≡ open'.place) (same_before : renewed.before ≡ open'.before)
-    (values_is : renewed.values.items ≡ open'.values.items ++ old.done ∷ []) (done_is : new.done.items ≡ []) (pending_is : new.pending ≡ old.pending) (origins_is : new.origins ≡ old.origins) (left_is : new.left ≡ old.left) where
+module _ (table : Table) (old new : Run) (pending : Pending) (open' renewed : Open) (below : List Open) (opens_is : old.open.items ≡ below ++ open' ∷ []) (opens_new : new.open.items ≡ below ++ renewed ∷ [])
+    (same_macro : renewed.made ≡ open'.made) (same_name : renewed.name ≡ open'.name) (same_place : renewed.place ≡ open'.place) (same_stop : renewed.stop ≡ open'.stop) (same_before : renewed.before ≡ open'.before)
+    (values_is : renewed.values.items ≡ open'.values.items ++ old.done ∷ []) (done_is : new.done.items ≡ []) (pending_is : new.pending ≡ old.pending) (origins_is : new.origins ≡ old.origins) (left_is : new.left ≡ old.left)
+    (stop_is : pending.exits.argument ≡ new.stop) where
   renews : (value : List Sourced) → AreTraced old.origins.items old.done.items value → (use' : OpenUse) → IsOpen old.origins.items open' use' → IsOpen old.origins.items renewed (valued use' value)
   renews value are use' is = record {
     plain = ap (λ (m : Bor Macro). plain_macro m.now) same_macro ∙ is.plain;
@@ -205,15 +206,17 @@ module _ (table : Table) (old new : Run) (traced : Traced) (open' renewed : Open
   reversed : (last : Open) (all : List Open) → all ≡ below ++ last ∷ [] → reverse all ≡ last ∷ reverse below
   reversed last all is = ap (λ (l : List Open). reverse l) is ∙ reverse-append below (last ∷ [])
 
-  argument_with : (todo done : List Sourced) (uses : List OpenUse) (left : ℕ) → StandsBy old.origins.items (Stands old.origins.items (reverse old.pending.items)) traced Argument (open' ∷ reverse below) todo uses →
+  argument_with : (todo done : List Sourced) (uses : List OpenUse) (left : ℕ) →
+      StandsBy old.origins.items (Stands old.origins.items (reverse old.pending.words.items)) pending EndsArgument old.stop (open' ∷ reverse below) todo uses →
       AreTraced old.origins.items old.done.items done → old.left ≡ left → LeadsTo table (record { todo = todo; done = done; uses = uses; left = left }) new
   argument_with [] done [] left stands are is = absurd stands
   argument_with (word ∷ todo) done uses left stands are is = absurd stands
-  argument_with [] done (use' ∷ uses) left (next, others, waiting, stands) are is = record {
+  argument_with [] done (use' ∷ uses) left (next, others, waiting, split, stands) are is = record {
     behind = record { todo = next; done = []; uses = valued (record use' { waiting = others }) done ∷ uses; left = left };
     represents = record {
-      stands = stands_along _ _ _ _ _ _ next (valued (record use' { waiting = others }) done ∷ uses) (ap (λ (v : Vec Origin Global). v.items) origins_is) (ap (λ (v : Vec Pending Global). reverse v.items) pending_is) (reversed renewed new.open.items opens_new)
-          (stands_valued old.origins.items open' renewed done (reverse below) (renews done are) (reverse old.pending.items) next (record use' { waiting = others }) uses stands);
+      stands = stands_along _ _ _ _ _ _ _ _ next (valued (record use' { waiting = others }) done ∷ uses) (ap (λ (v : Vec Origin Global). v.items) origins_is) (ap (λ (a : Ahead). reverse a.words.items) pending_is) (sym stop_is)
+          (reversed renewed new.open.items opens_new)
+          (stands_valued old.origins.items open' renewed done (reverse below) (renews done are) same_stop (reverse old.pending.words.items) pending.exits.argument next (record use' { waiting = others }) uses stands);
       done = traced_along _ _ _ _ _ (ap (λ (v : Vec Origin Global). v.items) origins_is) done_is tt;
       left = left_is ∙ is;
     };
@@ -221,38 +224,18 @@ module _ (table : Table) (old new : Run) (traced : Traced) (open' renewed : Open
         (step_next table uses use'.plain use'.name use'.place use'.before use'.values use'.rest done next others left ending comes);
   }
 
-  pub moved_argument : Advances table old (ending_word traced Argument) new
-  moved_argument = λ state represents. argument_with state.todo state.done state.uses state.left
-      (subst (λ (l : List Open). StandsBy old.origins.items (Stands old.origins.items (reverse old.pending.items)) traced Argument l state.todo state.uses) (reversed open' old.open.items opens_is) represents.stands)
-      represents.done represents.left
+  pub moved_argument : AdvancesBy table old pending EndsArgument new
+  moved_argument = λ state plays. argument_with state.todo state.done state.uses state.left
+      (subst (λ (l : List Open). StandsBy old.origins.items (Stands old.origins.items (reverse old.pending.words.items)) pending EndsArgument old.stop l state.todo state.uses) (reversed open' old.open.items opens_is) plays.stands)
+      plays.done plays.left
 
-none_open_by : (origins : List Origin) (items : List Pending) (again : (todo : List Sourced) (use' : OpenUse) (uses : List OpenUse) → Stands origins items [] todo (use' ∷ uses) → ⊥) (traced : Traced) (end' : End)
-    (todo : List Sourced) (use' : OpenUse) (uses : List OpenUse) → StandsBy origins (Stands origins items) traced end' [] todo (use' ∷ uses) → ⊥
-none_open_by origins items again traced Nothing [] use' uses stands = stands
-none_open_by origins items again traced Nothing (word ∷ todo) use' uses (is, stands) = again todo use' uses stands
-none_open_by origins items again traced Argument [] use' uses (next, others, waiting, stands) = again next (record use' { waiting = others }) uses stands
-none_open_by origins items again traced Argument (word ∷ todo) use' uses stands = stands
-none_open_by origins items again traced Call todo use' uses stands = stands
+pub no_argument : (table : Table) (old new : Run) (pending : Pending) → old.open.items ≡ [] → AdvancesBy table old pending EndsArgument new
+no_argument table old new pending none = λ state plays.
+    absurd (subst (λ (l : List Open). StandsBy old.origins.items (Stands old.origins.items (reverse old.pending.words.items)) pending EndsArgument old.stop (reverse l) state.todo state.uses) none plays.stands)
 
--- without an open use no argument ends
-none_open : (origins : List Origin) (items : List Pending) (todo : List Sourced) (use' : OpenUse) (uses : List OpenUse) → Stands origins items [] todo (use' ∷ uses) → ⊥
-none_open origins [] [] use' uses stands = stands
-none_open origins [] (word ∷ todo) use' uses stands = stands
-none_open origins (pending ∷ items) todo use' uses stands = none_open_by origins items (λ todo' use'' uses' stands'. none_open origins items todo' use'' uses' stands') pending.traced pending.«end» todo use' uses stands
-
-no_argument_by : (origins : List Origin) (items : List Pending) (traced : Traced) (todo : List Sourced) (uses : List OpenUse) → StandsBy origins (Stands origins items) traced Argument [] todo uses → ⊥
-no_argument_by origins items traced [] [] stands = stands
-no_argument_by origins items traced [] (use' ∷ uses) (next, others, waiting, stands) = none_open origins items next (record use' { waiting = others }) uses stands
-no_argument_by origins items traced (word ∷ todo) uses stands = stands
-
-pub no_argument : (table : Table) (old new : Run) (traced : Traced) → old.open.items ≡ [] → Advances table old (ending_word traced Argument) new
-no_argument table old new traced none = λ state represents.
-    absurd (no_argument_by old.origins.items (reverse old.pending.items) traced state.todo state.uses
-    (subst (λ (l : List Open). StandsBy old.origins.items (Stands old.origins.items (reverse old.pending.items)) traced Argument (reverse l) state.todo state.uses) none represents.stands))
-
-pub no_call : (table : Table) (old new : Run) (traced : Traced) → old.open.items ≡ [] → Advances table old (ending_word traced Call) new
-no_call table old new traced none = λ state represents.
-    absurd (subst (λ (l : List Open). StandsBy old.origins.items (Stands old.origins.items (reverse old.pending.items)) traced Call (reverse l) state.todo state.uses) none represents.stands)
+pub no_call : (table : Table) (old new : Run) (pending : Pending) → old.open.items ≡ [] → AdvancesBy table old pending EndsCall new
+no_call table old new pending none = λ state plays.
+    absurd (subst (λ (l : List Open). StandsBy old.origins.items (Stands old.origins.items (reverse old.pending.words.items)) pending EndsCall old.stop (reverse l) state.todo state.uses) none plays.stands)
 
 -- ## The last argument ends
 
@@ -264,25 +247,25 @@ pub record IsEnding (origins : List Origin) (items : List Pending) (open' : Open
   pub uses_is : uses ≡ use' ∷ others
   pub waiting : use'.waiting ≡ []
   pub is : IsOpen origins open' use'
-  pub stands : Stands origins items those use'.rest others
+  pub stands : Stands origins items open'.stop those use'.rest others
 
-is_ending : (origins : List Origin) (items : List Pending) (traced : Traced) (open' : Open) (those : List Open) (todo : List Sourced) (uses : List OpenUse) →
-    StandsBy origins (Stands origins items) traced Call (open' ∷ those) todo uses → IsEnding origins items open' those todo uses
-is_ending origins items traced open' those [] [] stands = absurd stands
-is_ending origins items traced open' those (word ∷ todo) uses stands = absurd stands
-is_ending origins items traced open' those [] (use' ∷ uses) (waiting, is, stands) =
+is_ending : (origins : List Origin) (items : List Pending) (pending : Pending) (stop : ℕ) (open' : Open) (those : List Open) (todo : List Sourced) (uses : List OpenUse) →
+    StandsBy origins (Stands origins items) pending EndsCall stop (open' ∷ those) todo uses → IsEnding origins items open' those todo uses
+is_ending origins items pending stop open' those [] [] stands = absurd stands
+is_ending origins items pending stop open' those (word ∷ todo) uses stands = absurd stands
+is_ending origins items pending stop open' those [] (use' ∷ uses) (waiting, is, stands) =
     record { use' = use'; others = uses; todo_is = refl; uses_is = refl; waiting = waiting; is = is; stands = stands }
 
-module _ (table : Table) (old mid : Run) (traced : Traced) (open' : Open) (below : List Open) (opens_is : old.open.items ≡ below ++ open' ∷ []) (mid_opens : mid.open.items ≡ below)
-    (pending_is : mid.pending ≡ old.pending) (origins_is : mid.origins ≡ old.origins) (left_is : mid.left ≡ old.left) (done_is : mid.done.items ≡ open'.before.items)
+module _ (table : Table) (old mid : Run) (pending : Pending) (open' : Open) (below : List Open) (opens_is : old.open.items ≡ below ++ open' ∷ []) (mid_opens : mid.open.items ≡ below)
+    (pending_is : mid.pending ≡ old.pending) (origins_is : mid.origins ≡ old.origins) (left_is : mid.left ≡ old.left) (stop_is : mid.stop ≡ open'.stop) (done_is : mid.done.items ≡ open'.before.items)
     (values : List (Vec Traced Global)) (values_is : values ≡ open'.values.items ++ old.done ∷ []) where
   reversed_call : reverse old.open.items ≡ open' ∷ reverse below
   reversed_call = ap (λ (l : List Open). reverse l) opens_is ∙ reverse-append below (open' ∷ [])
 
-  module _ (state : State) (represents : Represents old (ending_word traced Call ∷ reverse old.pending.items) state) where
-    ends : IsEnding old.origins.items (reverse old.pending.items) open' (reverse below) state.todo state.uses
-    ends = is_ending old.origins.items (reverse old.pending.items) traced open' (reverse below) state.todo state.uses
-        (subst (λ (l : List Open). StandsBy old.origins.items (Stands old.origins.items (reverse old.pending.items)) traced Call l state.todo state.uses) reversed_call represents.stands)
+  module _ (state : State) (plays : Plays old pending EndsCall state) where
+    ends : IsEnding old.origins.items (reverse old.pending.words.items) open' (reverse below) state.todo state.uses
+    ends = is_ending old.origins.items (reverse old.pending.words.items) pending old.stop open' (reverse below) state.todo state.uses
+        (subst (λ (l : List Open). StandsBy old.origins.items (Stands old.origins.items (reverse old.pending.words.items)) pending EndsCall old.stop l state.todo state.uses) reversed_call plays.stands)
 
     mid_origins : mid.origins.items ≡ old.origins.items
     mid_origins = ap (λ (v : Vec Origin Global). v.items) origins_is
@@ -293,7 +276,7 @@ module _ (table : Table) (old mid : Run) (traced : Traced) (open' : Open) (below
 
     are_values : AreValues mid.origins.items (map (λ (v : Vec Traced Global). v.items) values) (ends.use'.values ++ state.done ∷ [])
     are_values = subst (λ (o : List Origin). AreValues o (map (λ (v : Vec Traced Global). v.items) values) (ends.use'.values ++ state.done ∷ [])) (sym mid_origins)
-        (values_pushed old.origins.items open'.values.items values old.done ends.use'.values state.done values_is ends.is.values represents.done)
+        (values_pushed old.origins.items open'.values.items values old.done ends.use'.values state.done values_is ends.is.values plays.done)
 
     -- what comes of the use comes of the state
     comes_here : (ending : Ending (List Sourced)) → Comes table (record ends.use' { waiting = [] } ∷ ends.others) [] state.done state.left ending → ComesOf table state ending
@@ -304,24 +287,24 @@ module _ (table : Table) (old mid : Run) (traced : Traced) (open' : Open) (below
     call_replaced : (new : Run) → IsReplacedIn mid new (plain_macro open'.made.now) open'.name (map (λ (v : Vec Traced Global). v.items) values) → LeadsTo table state new
     call_replaced new replaced =
         let made = replacement ends.use'.plain ends.use'.name (ends.use'.values ++ state.done ∷ []) in
-        let puts' : Puts new.origins.items mid.pending.items new.pending.items (replacement (plain_macro open'.made.now) ends.use'.name (ends.use'.values ++ state.done ∷ [])) mid.left new.left =
+        let puts' : Puts new.origins.items mid.pending.words.items new.pending.words.items (replacement (plain_macro open'.made.now) ends.use'.name (ends.use'.values ++ state.done ∷ [])) mid.left new.left =
         replaced.puts ends.use'.name (ends.use'.values ++ state.done ∷ []) named are_values in
-        let puts : Puts new.origins.items mid.pending.items new.pending.items made mid.left new.left =
-        subst (λ (p : PlainMacro). Puts new.origins.items mid.pending.items new.pending.items (replacement p ends.use'.name (ends.use'.values ++ state.done ∷ [])) mid.left new.left) ends.is.plain puts' in
+        let puts : Puts new.origins.items mid.pending.words.items new.pending.words.items made mid.left new.left =
+        subst (λ (p : PlainMacro). Puts new.origins.items mid.pending.words.items new.pending.words.items (replacement p ends.use'.name (ends.use'.values ++ state.done ∷ [])) mid.left new.left) ends.is.plain puts' in
         let grown : Extends old.origins.items new.origins.items = subst (λ (o : List Origin). Extends o new.origins.items) mid_origins replaced.grown in
         record {
           behind = record { todo = made ++ ends.use'.rest; done = ends.use'.before; uses = ends.others; left = new.left };
           represents = record {
-            stands = stands_along _ _ _ _ _ _ (made ++ ends.use'.rest) ends.others refl
-                (puts.pending ∙ ap (λ (v : Vec Pending Global). puts.items ++ reverse v.items) pending_is) (ap (λ (l : List Open). reverse l) (replaced.opens ∙ mid_opens))
-                (stands_put new.origins.items puts.items made (reverse old.pending.items) (reverse below) ends.use'.rest ends.others puts.put
-                (stands_more old.origins.items new.origins.items grown (reverse old.pending.items) (reverse below) ends.use'.rest ends.others ends.stands));
+            stands = stands_along _ _ _ _ _ _ _ _ (made ++ ends.use'.rest) ends.others refl (puts.pending ∙ ap (λ (a : Ahead). puts.items ++ reverse a.words.items) pending_is)
+                (replaced.stop ∙ stop_is) (ap (λ (l : List Open). reverse l) (replaced.opens ∙ mid_opens))
+                (stands_put new.origins.items puts.items made (reverse old.pending.words.items) open'.stop (reverse below) ends.use'.rest ends.others puts.put
+                (stands_more old.origins.items new.origins.items grown (reverse old.pending.words.items) open'.stop (reverse below) ends.use'.rest ends.others ends.stands));
             done = traced_along _ _ _ _ _ refl (replaced.done ∙ done_is) (all_traced_more old.origins.items new.origins.items grown open'.before.items ends.use'.before ends.is.before);
             left = refl;
           };
           comes = λ ending comes. comes_here ending
               (step_closed table ends.others ends.use'.plain ends.use'.name ends.use'.place ends.use'.before ends.use'.values ends.use'.rest state.done state.left new.left
-              (sym represents.left ∙ sym left_is ∙ puts.costs) ending comes);
+              (sym plays.left ∙ sym left_is ∙ puts.costs) ending comes);
         }
 
     call_too_long : (f : ReplaceFault) → IsTooLong mid (plain_macro open'.made.now) open'.name (map (λ (v : Vec Traced Global). v.items) values) f → FaultComes table state f
@@ -329,13 +312,30 @@ module _ (table : Table) (old mid : Run) (traced : Traced) (open' : Open) (below
     call_too_long fault.TooMany short =
         let less' : mid.left < length (replacement (plain_macro open'.made.now) ends.use'.name (ends.use'.values ++ state.done ∷ [])) = short ends.use'.name (ends.use'.values ++ state.done ∷ []) named are_values in
         let less : state.left < length (replacement ends.use'.plain ends.use'.name (ends.use'.values ++ state.done ∷ [])) =
-        subst (λ (n : ℕ). n < length (replacement ends.use'.plain ends.use'.name (ends.use'.values ++ state.done ∷ []))) (left_is ∙ represents.left)
+        subst (λ (n : ℕ). n < length (replacement ends.use'.plain ends.use'.name (ends.use'.values ++ state.done ∷ []))) (left_is ∙ plays.left)
         (subst (λ (p : PlainMacro). mid.left < length (replacement p ends.use'.name (ends.use'.values ++ state.done ∷ []))) ends.is.plain less') in
         comes_here TooMany (step_closed_too_long table ends.others ends.use'.plain ends.use'.name ends.use'.place ends.use'.before ends.use'.values ends.use'.rest state.done state.left less)
     call_too_long fault.Memory short = tt
 
-  pub moved_call : (new : Run) → IsReplacedIn mid new (plain_macro open'.made.now) open'.name (map (λ (v : Vec Traced Global). v.items) values) → Advances table old (ending_word traced Call) new
-  moved_call new replaced = λ state represents. call_replaced state represents new replaced
+  pub moved_call : (new : Run) → IsReplacedIn mid new (plain_macro open'.made.now) open'.name (map (λ (v : Vec Traced Global). v.items) values) → AdvancesBy table old pending EndsCall new
+  moved_call new replaced = λ state plays. call_replaced state plays new replaced
 
-  pub moved_call_too_long : (f : ReplaceFault) → IsTooLong mid (plain_macro open'.made.now) open'.name (map (λ (v : Vec Traced Global). v.items) values) f → Fails table old (ending_word traced Call) f
-  moved_call_too_long f short = λ state represents. call_too_long state represents f short
+  pub moved_call_too_long : (f : ReplaceFault) → IsTooLong mid (plain_macro open'.made.now) open'.name (map (λ (v : Vec Traced Global). v.items) values) f → FailsBy table old pending EndsCall f
+  moved_call_too_long f short = λ state plays. call_too_long state plays f short
+
+-- ## The role of the next word
+
+-- at the end of the innermost argument the next word ends it
+pub at_end : (run : Run) (next : Pending) (state : State) (c : Bool) → closes next.traced.word ≡ c → length run.pending.words.items < run.stop → Represents run (next ∷ reverse run.pending.words.items) state →
+    Plays run next (cond c EndsCall EndsArgument) state
+at_end run next state c closed more represents =
+    let items : List Pending = reverse run.pending.words.items in
+    let within : run.stop ≤ length (next ∷ items) = stop_within run.origins.items (next ∷ items) run.stop (reverse run.open.items) state.todo state.uses represents.stands in
+    let is : run.stop ≡ length items + 1 = omega (arith, more, within, length-reverse run.pending.words.items) in
+    let role : role_of items run.stop next.traced.word ≡ cond c EndsCall EndsArgument =
+    ap (λ (b : Bool). cond b (cond (closes next.traced.word) EndsCall EndsArgument) NextWord) (at_stop run.stop (length items) is) ∙ ap (λ (b : Bool). cond b EndsCall EndsArgument) closed in
+    record {
+      stands = subst (λ (r : Role). StandsBy run.origins.items (Stands run.origins.items items) next r run.stop (reverse run.open.items) state.todo state.uses) role represents.stands;
+      done = represents.done;
+      left = represents.left;
+    }

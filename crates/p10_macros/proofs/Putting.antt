@@ -10,13 +10,12 @@ use Rattle.p10_direct.specs.Directives.{PlainMacro}
 use Rattle.p10_macros.specs.declared.origin.Origin.{Origin}
 use Rattle.p10_macros.specs.declared.pending.Traced.{Traced}
 use Rattle.p10_macros.specs.declared.pending.Pending.{Pending}
-use Rattle.p10_macros.specs.declared.pending.End.TheVariants.{Nothing}
 use Rattle.p10_macros.specs.declared.replaced.ReplaceFault.{ReplaceFault}
 use Rattle.p10_macros.specs.declared.replaced.ReplaceFault.TheVariants as fault
 use Rattle.p10_macros.specs.Uses.{Sourced, given, value_of, value_or, texts_of, written, replacement}
 use Rattle.p10_macros.specs.Origins.{listed, Extends, HasBoth, HasFirst}
 use Rattle.p10_macros.specs.Traces.{IsTraced, AreTraced, AreValues}
-use Rattle.p10_macros.specs.Putting.{fresh, ArePut, Puts, IsBase, IsJoined, PutsValue, PutsPart, PutsList, PutsReplacement, part_of, IsValue, Short}
+use Rattle.p10_macros.specs.Putting.{fresh, IsPushed, ArePut, Puts, IsBase, IsJoined, PutsValue, PutsPart, PutsList, PutsReplacement, part_of, IsValue, Short}
 use Rattle.p10_macros.proofs.Listing.{listed_extends, listed_none, longer, or_no_more}
 
 -- ## More origins
@@ -42,7 +41,7 @@ values_more old new grown (traced ∷ those) [] are = absurd are
 
 pub put_more : (old new : List Origin) → Extends old new → (items : List Pending) (words : List Sourced) → ArePut old items words → ArePut new items words
 put_more old new grown [] [] are = tt
-put_more old new grown (pending ∷ items) (word ∷ words) (plain, is, are) = (plain, traced_more old new grown pending.traced word is, put_more old new grown items words are)
+put_more old new grown (pending ∷ items) (word ∷ words) (is, are) = (traced_more old new grown pending.traced word is, put_more old new grown items words are)
 put_more old new grown [] (word ∷ words) are = absurd are
 put_more old new grown (pending ∷ items) [] are = absurd are
 
@@ -88,36 +87,36 @@ base_of old new macro' name name' from has is = record {
 
 -- a word that is put at the place of a use stands for one that the use gives
 fresh_traced : (origins : List Origin) (word : Word) (at : Span) (from : ℕ) (plain : PlainMacro) (name part : Sourced) → word ≡ part.word → at ≡ name.word.at → from ≤ length origins →
-    ((other : Text) → listed origins from other ≡ ((bytes_eq other plain.name || name.from other) || part.from other)) → IsTraced origins (fresh word at from).traced (given plain name part)
+    ((other : Text) → listed origins from other ≡ ((bytes_eq other plain.name || name.from other) || part.from other)) → IsTraced origins (fresh word at from) (given plain name part)
 fresh_traced origins word at from plain name part same place known both = record {
-  word = ap (λ (w : Word). (fresh w at from).traced.word) same ∙ ap (λ (a : Span). (fresh part.word a from).traced.word) place;
+  word = ap (λ (w : Word). (fresh w at from).word) same ∙ ap (λ (a : Span). (fresh part.word a from).word) place;
   known = known;
   from = both;
 }
 
-puts_one : (origins : List Origin) (before behind : List Pending) (pending : Pending) (word : Sourced) (left remaining : ℕ) → behind ≡ before ++ pending ∷ [] → left ≡ remaining + 1 →
-    pending.«end» ≡ Nothing → IsTraced origins pending.traced word → Puts origins before behind (word ∷ []) left remaining
-puts_one origins before behind pending word left remaining is costs plain traced = record {
-  items = pending ∷ [];
-  pending = ap (λ (l : List Pending). reverse l) is ∙ reverse-append before (pending ∷ []);
-  put = (plain, traced, tt);
+puts_one : (origins : List Origin) (before behind : List Pending) (traced : Traced) (word : Sourced) (left remaining : ℕ) → IsPushed before behind traced → left ≡ remaining + 1 →
+    IsTraced origins traced word → Puts origins before behind (word ∷ []) left remaining
+puts_one origins before behind traced word left remaining pushed costs is = record {
+  items = pushed.last ∷ [];
+  pending = ap (λ (l : List Pending). reverse l) pushed.is ∙ reverse-append before (pushed.last ∷ []);
+  put = (subst (λ (t : Traced). IsTraced origins t word) (sym pushed.of) is, tt);
   costs = omega (arith, costs);
 }
 
 pub puts_traced : (old new : List Origin) (before behind : List Pending) (name part : Traced) (from all left remaining : ℕ) → Extends old new →
     ((macro' : Text) (name' : Sourced) → ((other : Text) → listed old name.from other ≡ name'.from other) → part.from ≤ length old → IsBase old from macro' name' → IsJoined old part.from macro' name' new all) →
-    left ≡ remaining + 1 → behind ≡ before ++ fresh part.word name.word.at all ∷ [] → PutsValue old new before behind name from (part ∷ []) left remaining
+    left ≡ remaining + 1 → IsPushed before behind (fresh part.word name.word.at all) → PutsValue old new before behind name from (part ∷ []) left remaining
 puts_traced old new before behind name part from all left remaining grown joined costs is plain name' [] named base are = absurd are
 puts_traced old new before behind name part from all left remaining grown joined costs is plain name' (word ∷ []) named base (traced, are) =
     let joins : IsJoined old part.from plain.name name' new all = joined plain.name name' named.from traced.known base in
-    puts_one new before behind (fresh part.word name.word.at all) (given plain name' word) left remaining is costs refl
+    puts_one new before behind (fresh part.word name.word.at all) (given plain name' word) left remaining is costs
     (fresh_traced new part.word name.word.at all plain name' word traced.word (ap (λ (w : Word). w.at) named.word) joins.known
     (λ other. joins.both other ∙ ap (λ (b : Bool). (bytes_eq other plain.name || name'.from other) || b) (traced.from other)))
 puts_traced old new before behind name part from all left remaining grown joined costs is plain name' (word ∷ (more ∷ words)) named base (traced, are) = absurd are
 
 put_both : (origins : List Origin) (first second : List Pending) (these those : List Sourced) → ArePut origins first these → ArePut origins second those → ArePut origins (first ++ second) (these ++ those)
 put_both origins [] second [] those put put' = put'
-put_both origins (pending ∷ first) second (word ∷ these) those (plain, traced, put) put' = (plain, traced, put_both origins first second these those put put')
+put_both origins (pending ∷ first) second (word ∷ these) those (traced, put) put' = (traced, put_both origins first second these those put put')
 put_both origins [] second (word ∷ these) those put put' = absurd put
 put_both origins (pending ∷ first) second [] those put put' = absurd put
 
@@ -272,18 +271,18 @@ text_nowhere params word values place (inr less) = named_nowhere (texts_at param
 -- ## Words of a replacement list
 
 written_traced : (origins : List Origin) (word : Word) (at : Span) (from : ℕ) (plain : PlainMacro) (name : Sourced) → at ≡ name.word.at → IsBase origins from plain.name name →
-    IsTraced origins (fresh word at from).traced (given plain name (written word))
+    IsTraced origins (fresh word at from) (given plain name (written word))
 written_traced origins word at from plain name place base =
     fresh_traced origins word at from plain name (written word) refl place base.known (λ other. base.base other ∙ or_no_more (bytes_eq other plain.name || name.from other))
 
 -- a word that names no parameter stands for itself
 pub part_itself : (origins : List Origin) (before behind : List Pending) (plain : PlainMacro) (name : Traced) (values : List (List Traced)) (from : ℕ) (word : Word) (left remaining : ℕ) →
     ((any : List Origin) (values' : List (List Sourced)) → AreValues any values values' → IsValue any None (value_of (texts_of plain.parameters) values' word)) →
-    left ≡ remaining + 1 → behind ≡ before ++ fresh word name.word.at from ∷ [] → PutsPart origins origins before behind plain name values from word left remaining
+    left ≡ remaining + 1 → IsPushed before behind (fresh word name.word.at from) → PutsPart origins origins before behind plain name values from word left remaining
 part_itself origins before behind plain name values from word left remaining none costs is name' values' named base are =
     let nothing : value_of (texts_of plain.parameters) values' word ≡ None = is_none (value_of (texts_of plain.parameters) values' word) (none origins values' are) in
     subst (λ (o : Option (List Sourced)). Puts origins before behind (map (given plain name') (value_or o word)) left remaining) (sym nothing)
-    (puts_one origins before behind (fresh word name.word.at from) (given plain name' (written word)) left remaining is costs refl
+    (puts_one origins before behind (fresh word name.word.at from) (given plain name' (written word)) left remaining is costs
     (written_traced origins word name.word.at from plain name' (ap (λ (w : Word). w.at) named.word) base))
   where
     is_none : (o : Option (List Sourced)) → IsValue origins None o → o ≡ None

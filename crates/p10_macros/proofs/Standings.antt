@@ -1,21 +1,21 @@
 -- What pending words and open uses stand for.
-use Rattle.std.proofs.Common.{◌≡◌, List, [], ◌∷◌, ◌++◌, map, Bool, false, ◌&&◌, Vec, Global, refl, sym, subst, ap, ◌∙◌}
+use Rattle.std.proofs.Common.{◌≡◌, ℕ, ◌+◌, ◌<◌, ◌≤◌, ◌==◌, List, [], ◌∷◌, ◌++◌, map, length, Bool, true, false, cond, Vec, Global, refl, sym, subst, ap, ◌∙◌, arith, length-append}
 use Rattle.p10_base.specs.declared.word.Word.{Word}
 use Rattle.p10_macros.specs.declared.origin.Origin.{Origin}
 use Rattle.p10_macros.specs.declared.pending.Traced.{Traced}
 use Rattle.p10_macros.specs.declared.pending.Pending.{Pending}
 use Rattle.p10_macros.specs.declared.pending.Open.{Open}
-use Rattle.p10_macros.specs.declared.pending.End.{End}
-use Rattle.p10_macros.specs.declared.pending.End.TheVariants.{Nothing, Argument, Call}
-use Rattle.p10_macros.specs.Uses.{Sourced, next_opens, opens, closes}
+use Rattle.p10_macros.specs.Uses.{Sourced, next_opens, opens, closes, depth_behind}
 use Rattle.p10_macros.specs.Ends.{place_in}
 use Rattle.p10_macros.specs.Running.{OpenUse, outer_of}
 use Rattle.p10_macros.specs.Origins.{Extends}
 use Rattle.p10_macros.specs.Traces.{IsTraced}
-use Rattle.p10_macros.specs.Standing.{IsOpen, Stands, StandsBy, place_among}
-use Rattle.p10_macros.specs.Marking.{ends_nothing}
+use Rattle.p10_macros.specs.Standing.{IsOpen, Stands, StandsBy, Role, NextWord, EndsArgument, EndsCall, role_of, place_among}
+use Rattle.p10_macros.specs.Links.{call_end}
 use Rattle.p10_macros.specs.Putting.{ArePut}
-use Rattle.p10_macros.specs.Looking.{opens_on_top, closes_on_top}
+use Rattle.p10_macros.specs.Looking.{opens_on_top}
+use Rattle.std.proofs.lemmas.Bool.Decides.{nat_tests}
+use Rattle.p10_macros.proofs.Links.{closes_only, separates_only, call_at_most}
 use Rattle.p10_macros.proofs.Putting.{traced_more, all_traced_more, values_more}
 
 -- ## More origins
@@ -30,120 +30,159 @@ open_more old new grown open' use' is = record {
 }
 
 module _ (old new : List Origin) (grown : Extends old new) (items : List Pending)
-    (again : (those : List Open) (todo : List Sourced) (uses : List OpenUse) → Stands old items those todo uses → Stands new items those todo uses) where
-  stands_more_by : (traced : Traced) (end' : End) (those : List Open) (todo : List Sourced) (uses : List OpenUse) → StandsBy old (Stands old items) traced end' those todo uses → StandsBy new (Stands new items) traced end' those todo uses
-  stands_more_by traced Nothing those (word ∷ todo) uses (is, stands) = (traced_more old new grown traced word is, again those todo uses stands)
-  stands_more_by traced Nothing those [] uses stands = absurd stands
-  stands_more_by traced Argument those [] (use' ∷ uses) (next, others, waiting, stands) = (next, others, waiting, again those next (record use' { waiting = others } ∷ uses) stands)
-  stands_more_by traced Argument those [] [] stands = absurd stands
-  stands_more_by traced Argument those (word ∷ todo) uses stands = absurd stands
-  stands_more_by traced Call (open' ∷ those) [] (use' ∷ uses) (waiting, is, stands) = (waiting, open_more old new grown open' use' is, again those use'.rest uses stands)
-  stands_more_by traced Call [] todo uses stands = absurd stands
-  stands_more_by traced Call (open' ∷ those) (word ∷ todo) uses stands = absurd stands
-  stands_more_by traced Call (open' ∷ those) [] [] stands = absurd stands
+    (again : (stop : ℕ) (those : List Open) (todo : List Sourced) (uses : List OpenUse) → Stands old items stop those todo uses → Stands new items stop those todo uses) where
+  stands_more_by : (pending : Pending) (role : Role) (stop : ℕ) (those : List Open) (todo : List Sourced) (uses : List OpenUse) →
+      StandsBy old (Stands old items) pending role stop those todo uses → StandsBy new (Stands new items) pending role stop those todo uses
+  stands_more_by pending NextWord stop those (word ∷ todo) uses (is, stands) = (traced_more old new grown pending.traced word is, again stop those todo uses stands)
+  stands_more_by pending NextWord stop those [] uses stands = absurd stands
+  stands_more_by pending EndsArgument stop (open' ∷ those) [] (use' ∷ uses) (next, others, waiting, split, stands) =
+      (next, others, waiting, split, again pending.exits.argument (open' ∷ those) next (record use' { waiting = others } ∷ uses) stands)
+  stands_more_by pending EndsArgument stop [] todo uses stands = absurd stands
+  stands_more_by pending EndsArgument stop (open' ∷ those) [] [] stands = absurd stands
+  stands_more_by pending EndsArgument stop (open' ∷ those) (word ∷ todo) uses stands = absurd stands
+  stands_more_by pending EndsCall stop (open' ∷ those) [] (use' ∷ uses) (waiting, is, stands) = (waiting, open_more old new grown open' use' is, again open'.stop those use'.rest uses stands)
+  stands_more_by pending EndsCall stop [] todo uses stands = absurd stands
+  stands_more_by pending EndsCall stop (open' ∷ those) (word ∷ todo) uses stands = absurd stands
+  stands_more_by pending EndsCall stop (open' ∷ those) [] [] stands = absurd stands
 
 -- where nothing is pending, nothing is open and nothing is to be looked through
-abbrev pub IsEmpty : List Open → List Sourced → List OpenUse → Type 0
-IsEmpty those todo uses = (those ≡ []) × (todo ≡ []) × (uses ≡ [])
+abbrev pub IsEmpty : ℕ → List Open → List Sourced → List OpenUse → Type 0
+IsEmpty stop those todo uses = (stop ≡ 0) × (those ≡ []) × (todo ≡ []) × (uses ≡ [])
 
-pub stands_empty : (origins : List Origin) (those : List Open) (todo : List Sourced) (uses : List OpenUse) → Stands origins [] those todo uses → IsEmpty those todo uses
-stands_empty origins [] [] [] stands = (refl, refl, refl)
-stands_empty origins [] [] (use' ∷ uses) stands = absurd stands
-stands_empty origins [] (word ∷ todo) uses stands = absurd stands
-stands_empty origins (open' ∷ those) todo uses stands = absurd stands
+pub stands_empty : (origins : List Origin) (stop : ℕ) (those : List Open) (todo : List Sourced) (uses : List OpenUse) → Stands origins [] stop those todo uses → IsEmpty stop those todo uses
+stands_empty origins stop [] [] [] stands = (stands, refl, refl, refl)
+stands_empty origins stop [] [] (use' ∷ uses) stands = absurd stands
+stands_empty origins stop [] (word ∷ todo) uses stands = absurd stands
+stands_empty origins stop (open' ∷ those) todo uses stands = absurd stands
 
-empty_again : (old new : List Origin) (those : List Open) (todo : List Sourced) (uses : List OpenUse) → Stands old [] those todo uses → Stands new [] those todo uses
-empty_again old new [] [] [] stands = tt
-empty_again old new [] [] (use' ∷ uses) stands = absurd stands
-empty_again old new [] (word ∷ todo) uses stands = absurd stands
-empty_again old new (open' ∷ those) todo uses stands = absurd stands
+empty_again : (old new : List Origin) (stop : ℕ) (those : List Open) (todo : List Sourced) (uses : List OpenUse) → Stands old [] stop those todo uses → Stands new [] stop those todo uses
+empty_again old new stop [] [] [] stands = stands
+empty_again old new stop [] [] (use' ∷ uses) stands = absurd stands
+empty_again old new stop [] (word ∷ todo) uses stands = absurd stands
+empty_again old new stop (open' ∷ those) todo uses stands = absurd stands
 
-pub stands_more : (old new : List Origin) → Extends old new → (items : List Pending) (those : List Open) (todo : List Sourced) (uses : List OpenUse) → Stands old items those todo uses → Stands new items those todo uses
-stands_more old new grown [] those todo uses stands = empty_again old new those todo uses stands
-stands_more old new grown (pending ∷ items) those todo uses stands =
-    stands_more_by old new grown items (λ those' todo' uses' stands'. stands_more old new grown items those' todo' uses' stands') pending.traced pending.«end» those todo uses stands
+pub stands_more : (old new : List Origin) → Extends old new → (items : List Pending) (stop : ℕ) (those : List Open) (todo : List Sourced) (uses : List OpenUse) → Stands old items stop those todo uses → Stands new items stop those todo uses
+stands_more old new grown [] stop those todo uses stands = empty_again old new stop those todo uses stands
+stands_more old new grown (pending ∷ items) stop those todo uses stands =
+    stands_more_by old new grown items (λ stop' those' todo' uses' stands'. stands_more old new grown items stop' those' todo' uses' stands') pending (role_of items stop pending.traced.word) stop those todo uses stands
+
+-- ## Roles
+
+is_stop : (stop count : ℕ) → (stop == count) ≡ true → stop ≡ count
+is_stop stop count e = grind (arith, nat_tests)
+
+not_stop : (stop count : ℕ) → stop ≤ count → (stop == count + 1) ≡ false
+not_stop stop count less = grind (arith, nat_tests)
+
+pub at_stop : (stop count : ℕ) → stop ≡ count + 1 → (stop == count + 1) ≡ true
+at_stop stop count is = grind (arith, nat_tests)
+
+-- a word above the end of the argument is the next one
+pub next_role : (items : List Pending) (stop : ℕ) (word : Word) → stop ≤ length items → role_of items stop word ≡ NextWord
+next_role items stop word less = ap (λ (b : Bool). cond b (cond (closes word) EndsCall EndsArgument) NextWord) (not_stop stop (length items) less)
+
+next_within : (origins : List Origin) (items : List Pending) (again : (stop : ℕ) (those : List Open) (todo : List Sourced) (uses : List OpenUse) → Stands origins items stop those todo uses → stop ≤ length items) (pending : Pending)
+    (stop : ℕ) (those : List Open) (todo : List Sourced) (uses : List OpenUse) → StandsBy origins (Stands origins items) pending NextWord stop those todo uses → stop ≤ length items
+next_within origins items again pending stop those [] uses stands = absurd stands
+next_within origins items again pending stop those (word ∷ todo) uses (is, stands) = again stop those todo uses stands
+
+within_by : (origins : List Origin) (items : List Pending) (again : (stop : ℕ) (those : List Open) (todo : List Sourced) (uses : List OpenUse) → Stands origins items stop those todo uses → stop ≤ length items) (pending : Pending)
+    (stop : ℕ) (those : List Open) (todo : List Sourced) (uses : List OpenUse) (b : Bool) → (stop == length items + 1) ≡ b →
+    StandsBy origins (Stands origins items) pending (cond b (cond (closes pending.traced.word) EndsCall EndsArgument) NextWord) stop those todo uses → stop ≤ length items + 1
+within_by origins items again pending stop those todo uses true e stands = omega (arith, is_stop stop (length items + 1) e)
+within_by origins items again pending stop those todo uses false e stands = omega (arith, next_within origins items again pending stop those todo uses stands)
+
+-- the argument ends among the pending words
+pub stop_within : (origins : List Origin) (items : List Pending) (stop : ℕ) (those : List Open) (todo : List Sourced) (uses : List OpenUse) → Stands origins items stop those todo uses → stop ≤ length items
+stop_within origins [] stop those todo uses stands = omega (arith, (stands_empty origins stop those todo uses stands).0)
+stop_within origins (pending ∷ items) stop those todo uses stands =
+    omega (arith, within_by origins items (λ s t l u e. stop_within origins items s t l u e) pending stop those todo uses (stop == length items + 1) refl stands)
 
 -- ## Words that are put on top
 
-pub stands_word : (origins : List Origin) (pending : Pending) (word : Sourced) (items : List Pending) (those : List Open) (todo : List Sourced) (uses : List OpenUse) →
-    pending.«end» ≡ Nothing → IsTraced origins pending.traced word → Stands origins items those todo uses → Stands origins (pending ∷ items) those (word ∷ todo) uses
-stands_word origins pending word items those todo uses plain traced stands =
-    subst (λ (e : End). StandsBy origins (Stands origins items) pending.traced e those (word ∷ todo) uses) (sym plain) (traced, stands)
+pub stands_word : (origins : List Origin) (pending : Pending) (word : Sourced) (items : List Pending) (stop : ℕ) (those : List Open) (todo : List Sourced) (uses : List OpenUse) →
+    stop ≤ length items → IsTraced origins pending.traced word → Stands origins items stop those todo uses → Stands origins (pending ∷ items) stop those (word ∷ todo) uses
+stands_word origins pending word items stop those todo uses less traced stands =
+    subst (λ (r : Role). StandsBy origins (Stands origins items) pending r stop those (word ∷ todo) uses) (sym (next_role items stop pending.traced.word less)) (traced, stands)
 
-pub stands_put : (origins : List Origin) (put : List Pending) (words : List Sourced) (items : List Pending) (those : List Open) (todo : List Sourced) (uses : List OpenUse) →
-    ArePut origins put words → Stands origins items those todo uses → Stands origins (put ++ items) those (words ++ todo) uses
-stands_put origins [] [] items those todo uses are stands = stands
-stands_put origins (pending ∷ put) (word ∷ words) items those todo uses (plain, traced, are) stands =
-    stands_word origins pending word (put ++ items) those (words ++ todo) uses plain traced (stands_put origins put words items those todo uses are stands)
-stands_put origins [] (word ∷ words) items those todo uses are stands = absurd are
-stands_put origins (pending ∷ put) [] items those todo uses are stands = absurd are
+pub stands_put : (origins : List Origin) (put : List Pending) (words : List Sourced) (items : List Pending) (stop : ℕ) (those : List Open) (todo : List Sourced) (uses : List OpenUse) →
+    ArePut origins put words → Stands origins items stop those todo uses → Stands origins (put ++ items) stop those (words ++ todo) uses
+stands_put origins [] [] items stop those todo uses are stands = stands
+stands_put origins (pending ∷ put) (word ∷ words) items stop those todo uses (traced, are) stands =
+    stands_word origins pending word (put ++ items) stop those (words ++ todo) uses (omega (arith, stop_within origins items stop those todo uses stands, length-append put items)) traced
+    (stands_put origins put words items stop those todo uses are stands)
+stands_put origins [] (word ∷ words) items stop those todo uses are stands = absurd are
+stands_put origins (pending ∷ put) [] items stop those todo uses are stands = absurd are
 
 -- ## The word on top
 
 -- the next pending word stands for a first word, where it ends nothing
-abbrev pub HasNext : List Origin → Traced → List Pending → List Open → List Sourced → List OpenUse → Type 0
-HasNext origins traced items those [] uses = ⊥
-HasNext origins traced items those (word ∷ todo) uses = IsTraced origins traced word × Stands origins items those todo uses
+abbrev pub HasNext : List Origin → Traced → List Pending → ℕ → List Open → List Sourced → List OpenUse → Type 0
+HasNext origins traced items stop those [] uses = ⊥
+HasNext origins traced items stop those (word ∷ todo) uses = IsTraced origins traced word × Stands origins items stop those todo uses
 
-pub has_next : (origins : List Origin) (traced : Traced) (items : List Pending) (those : List Open) (todo : List Sourced) (uses : List OpenUse) →
-    StandsBy origins (Stands origins items) traced Nothing those todo uses → HasNext origins traced items those todo uses
-has_next origins traced items those [] uses stands = stands
-has_next origins traced items those (word ∷ todo) uses stands = stands
+pub has_next : (origins : List Origin) (pending : Pending) (items : List Pending) (stop : ℕ) (those : List Open) (todo : List Sourced) (uses : List OpenUse) →
+    StandsBy origins (Stands origins items) pending NextWord stop those todo uses → HasNext origins pending.traced items stop those todo uses
+has_next origins pending items stop those [] uses stands = stands
+has_next origins pending items stop those (word ∷ todo) uses stands = stands
 
-test_on_top : (test : Word → Bool) → List Pending → Bool
-test_on_top test [] = false
-test_on_top test (pending ∷ items) = ends_nothing pending.«end» && test pending.traced.word
+opens_by : (origins : List Origin) (items : List Pending) (pending : Pending) (stop : ℕ) (those : List Open) (todo : List Sourced) (uses : List OpenUse) (b c : Bool) → closes pending.traced.word ≡ c →
+    StandsBy origins (Stands origins items) pending (cond b (cond c EndsCall EndsArgument) NextWord) stop those todo uses → opens pending.traced.word ≡ next_opens todo
+opens_by origins items pending stop those [] uses false c closed stands = absurd stands
+opens_by origins items pending stop those (word ∷ todo) uses false c closed (is, stands) = ap (λ (w : Word). opens w) is.word
+opens_by origins items pending stop those [] uses true true closed stands = closes_only pending.traced.word closed
+opens_by origins items pending stop [] [] uses true false closed stands = absurd stands
+opens_by origins items pending stop (open' ∷ those) [] [] true false closed stands = absurd stands
+opens_by origins items pending stop (open' ∷ those) [] (use' ∷ uses) true false closed (next, others, waiting, split, stands) = separates_only pending.traced.word split
+opens_by origins items pending stop [] (word ∷ todo) uses true true closed stands = absurd stands
+opens_by origins items pending stop [] (word ∷ todo) uses true false closed stands = absurd stands
+opens_by origins items pending stop (open' ∷ those) (word ∷ todo) uses true true closed stands = absurd stands
+opens_by origins items pending stop (open' ∷ those) (word ∷ todo) uses true false closed stands = absurd stands
 
-first_passes : (test : Word → Bool) → List Sourced → Bool
-first_passes test [] = false
-first_passes test (word ∷ words) = test word.word
-
-by_end : (test : Word → Bool) (origins : List Origin) (items : List Pending) (traced : Traced) (end' : End) (those : List Open) (todo : List Sourced) (uses : List OpenUse) →
-    StandsBy origins (Stands origins items) traced end' those todo uses → (ends_nothing end' && test traced.word) ≡ first_passes test todo
-unfolding first_passes
-by_end test origins items traced Nothing those [] uses stands = absurd stands
-by_end test origins items traced Nothing those (word ∷ todo) uses (is, stands) = ap test is.word
-by_end test origins items traced Argument those [] uses stands = refl
-by_end test origins items traced Argument those (word ∷ todo) uses stands = absurd stands
-by_end test origins items traced Call those [] uses stands = refl
-by_end test origins items traced Call [] (word ∷ todo) uses stands = absurd stands
-by_end test origins items traced Call (open' ∷ those) (word ∷ todo) uses stands = absurd stands
-
-on_top : (test : Word → Bool) (origins : List Origin) (items : List Pending) (those : List Open) (todo : List Sourced) (uses : List OpenUse) → Stands origins items those todo uses → test_on_top test items ≡ first_passes test todo
-unfolding test_on_top first_passes
-on_top test origins [] those todo uses stands = ap (λ (l : List Sourced). first_passes test l) (sym (stands_empty origins those todo uses stands).1)
-on_top test origins (pending ∷ items) those todo uses stands = by_end test origins items pending.traced pending.«end» those todo uses stands
-
-opens_first : (words : List Sourced) → first_passes opens words ≡ next_opens words
-unfolding first_passes
-opens_first [] = refl
-opens_first (word ∷ words) = refl
-
-opens_top : (items : List Pending) → opens_on_top items ≡ test_on_top opens items
-unfolding test_on_top
-opens_top [] = refl
-opens_top (pending ∷ items) = refl
-
-pub next_opens_is : (origins : List Origin) (items : List Pending) (those : List Open) (todo : List Sourced) (uses : List OpenUse) → Stands origins items those todo uses → opens_on_top items ≡ next_opens todo
-next_opens_is origins items those todo uses stands = opens_top items ∙ on_top opens origins items those todo uses stands ∙ opens_first todo
+pub next_opens_is : (origins : List Origin) (items : List Pending) (stop : ℕ) (those : List Open) (todo : List Sourced) (uses : List OpenUse) → Stands origins items stop those todo uses → opens_on_top items ≡ next_opens todo
+next_opens_is origins [] stop those todo uses stands = ap (λ (l : List Sourced). next_opens l) (sym (stands_empty origins stop those todo uses stands).2)
+next_opens_is origins (pending ∷ items) stop those todo uses stands =
+    opens_by origins items pending stop those todo uses (stop == length items + 1) (closes pending.traced.word) refl stands
 
 -- whether the first of the words is a `)`
 abbrev pub next_closes : List Sourced → Bool
 next_closes [] = false
 next_closes (word ∷ words) = closes word.word
 
-closes_first : (words : List Sourced) → first_passes closes words ≡ next_closes words
-unfolding first_passes
-closes_first [] = refl
-closes_first (word ∷ words) = refl
+-- a word that is no end of an argument is the first one
+first_closes : (origins : List Origin) (items : List Pending) (pending : Pending) (stop : ℕ) (those : List Open) (todo : List Sourced) (uses : List OpenUse) → stop ≤ length items →
+    Stands origins (pending ∷ items) stop those todo uses → next_closes todo ≡ closes pending.traced.word
+first_closes origins items pending stop those todo uses less stands =
+    by todo (subst (λ (r : Role). StandsBy origins (Stands origins items) pending r stop those todo uses) (next_role items stop pending.traced.word less) stands)
+  where
+    by : (l : List Sourced) → StandsBy origins (Stands origins items) pending NextWord stop those l uses → next_closes l ≡ closes pending.traced.word
+    by [] stands' = absurd stands'
+    by (word ∷ words) (is, stands') = ap (λ (w : Word). closes w) (sym is.word)
 
-closes_top : (items : List Pending) → closes_on_top items ≡ test_on_top closes items
-unfolding test_on_top
-closes_top [] = refl
-closes_top (pending ∷ items) = refl
+call_by : (pending : Pending) (items : List Pending) (b : Bool) → closes pending.traced.word ≡ b → call_end 0 (pending ∷ items) ≡ cond b (length items + 1) (call_end (depth_behind 0 pending.traced.word) items)
+call_by pending items true closed = rw closed refl
+call_by pending items false closed = rw closed refl
 
-pub next_closes_is : (origins : List Origin) (items : List Pending) (those : List Open) (todo : List Sourced) (uses : List OpenUse) → Stands origins items those todo uses → closes_on_top items ≡ next_closes todo
-next_closes_is origins items those todo uses stands = closes_top items ∙ on_top closes origins items those todo uses stands ∙ closes_first todo
+-- a use ends with its first word, where that word is a `)`
+pub closed_at_once : (origins : List Origin) (items : List Pending) (stop : ℕ) (those : List Open) (todo : List Sourced) (uses : List OpenUse) → Stands origins items stop those todo uses → stop < call_end 0 items →
+    call_end 0 items ≡ length items → next_closes todo ≡ true
+closed_at_once origins [] stop those todo uses stands inside is = absurd (omega arith)
+closed_at_once origins (pending ∷ items) stop those todo uses stands inside is =
+    first_closes origins items pending stop those todo uses (omega (arith, inside, is)) stands ∙ by (closes pending.traced.word) refl
+  where
+    by : (b : Bool) → closes pending.traced.word ≡ b → closes pending.traced.word ≡ true
+    by true closed = closed
+    by false closed = absurd (omega (arith, is, call_by pending items false closed, call_at_most (depth_behind 0 pending.traced.word) items))
+
+pub closed_later : (origins : List Origin) (items : List Pending) (stop : ℕ) (those : List Open) (todo : List Sourced) (uses : List OpenUse) → Stands origins items stop those todo uses → stop < call_end 0 items →
+    (call_end 0 items ≡ length items → ⊥) → next_closes todo ≡ false
+closed_later origins [] stop those todo uses stands inside other = absurd (omega arith)
+closed_later origins (pending ∷ items) stop those todo uses stands inside other = by (closes pending.traced.word) refl
+  where
+    by : (b : Bool) → closes pending.traced.word ≡ b → next_closes todo ≡ false
+    by true closed = absurd (other (omega (arith, call_by pending items true closed)))
+    by false closed =
+        first_closes origins items pending stop those todo uses (omega (arith, inside, call_by pending items false closed, call_at_most (depth_behind 0 pending.traced.word) items)) stands ∙ closed
 
 -- ## Places of refusals
 
@@ -152,29 +191,31 @@ SamePlace [] [] = Unit {0}
 SamePlace (open' ∷ those) (use' ∷ uses) = open'.place ≡ use'.place
 SamePlace _ _ = ⊥
 
-module _ (origins : List Origin) (items : List Pending) (again : (those : List Open) (todo : List Sourced) (uses : List OpenUse) → Stands origins items those todo uses → SamePlace those uses) where
+module _ (origins : List Origin) (items : List Pending) (again : (stop : ℕ) (those : List Open) (todo : List Sourced) (uses : List OpenUse) → Stands origins items stop those todo uses → SamePlace those uses) where
   same_renewed : (those : List Open) (use' : OpenUse) (others : List (List Sourced)) (uses : List OpenUse) → SamePlace those (record use' { waiting = others } ∷ uses) → SamePlace those (use' ∷ uses)
   same_renewed [] use' others uses same = absurd same
   same_renewed (open' ∷ those) use' others uses same = same
 
-  same_place_by : (traced : Traced) (end' : End) (those : List Open) (todo : List Sourced) (uses : List OpenUse) → StandsBy origins (Stands origins items) traced end' those todo uses → SamePlace those uses
-  same_place_by traced Nothing those [] uses stands = absurd stands
-  same_place_by traced Nothing those (word ∷ todo) uses (is, stands) = again those todo uses stands
-  same_place_by traced Argument those [] (use' ∷ uses) (next, others, waiting, stands) = same_renewed those use' others uses (again those next (record use' { waiting = others } ∷ uses) stands)
-  same_place_by traced Argument those [] [] stands = absurd stands
-  same_place_by traced Argument those (word ∷ todo) uses stands = absurd stands
-  same_place_by traced Call (open' ∷ those) [] (use' ∷ uses) (waiting, is, stands) = is.place
-  same_place_by traced Call [] todo uses stands = absurd stands
-  same_place_by traced Call (open' ∷ those) (word ∷ todo) uses stands = absurd stands
-  same_place_by traced Call (open' ∷ those) [] [] stands = absurd stands
+  same_place_by : (pending : Pending) (role : Role) (stop : ℕ) (those : List Open) (todo : List Sourced) (uses : List OpenUse) → StandsBy origins (Stands origins items) pending role stop those todo uses → SamePlace those uses
+  same_place_by pending NextWord stop those [] uses stands = absurd stands
+  same_place_by pending NextWord stop those (word ∷ todo) uses (is, stands) = again stop those todo uses stands
+  same_place_by pending EndsArgument stop (open' ∷ those) [] (use' ∷ uses) (next, others, waiting, split, stands) =
+      same_renewed (open' ∷ those) use' others uses (again pending.exits.argument (open' ∷ those) next (record use' { waiting = others } ∷ uses) stands)
+  same_place_by pending EndsArgument stop [] todo uses stands = absurd stands
+  same_place_by pending EndsArgument stop (open' ∷ those) [] [] stands = absurd stands
+  same_place_by pending EndsArgument stop (open' ∷ those) (word ∷ todo) uses stands = absurd stands
+  same_place_by pending EndsCall stop (open' ∷ those) [] (use' ∷ uses) (waiting, is, stands) = is.place
+  same_place_by pending EndsCall stop [] todo uses stands = absurd stands
+  same_place_by pending EndsCall stop (open' ∷ those) (word ∷ todo) uses stands = absurd stands
+  same_place_by pending EndsCall stop (open' ∷ those) [] [] stands = absurd stands
 
-same_place : (origins : List Origin) (items : List Pending) (those : List Open) (todo : List Sourced) (uses : List OpenUse) → Stands origins items those todo uses → SamePlace those uses
-same_place origins [] [] [] [] stands = tt
-same_place origins [] [] [] (use' ∷ uses) stands = absurd stands
-same_place origins [] [] (word ∷ todo) uses stands = absurd stands
-same_place origins [] (open' ∷ those) todo uses stands = absurd stands
-same_place origins (pending ∷ items) those todo uses stands =
-    same_place_by origins items (λ those' todo' uses' stands'. same_place origins items those' todo' uses' stands') pending.traced pending.«end» those todo uses stands
+same_place : (origins : List Origin) (items : List Pending) (stop : ℕ) (those : List Open) (todo : List Sourced) (uses : List OpenUse) → Stands origins items stop those todo uses → SamePlace those uses
+same_place origins [] stop [] [] [] stands = tt
+same_place origins [] stop [] [] (use' ∷ uses) stands = absurd stands
+same_place origins [] stop [] (word ∷ todo) uses stands = absurd stands
+same_place origins [] stop (open' ∷ those) todo uses stands = absurd stands
+same_place origins (pending ∷ items) stop those todo uses stands =
+    same_place_by origins items (λ stop' those' todo' uses' stands'. same_place origins items stop' those' todo' uses' stands') pending (role_of items stop pending.traced.word) stop those todo uses stands
 
 place_by : (those : List Open) (uses : List OpenUse) (name : Traced) (word : Sourced) → name.word ≡ word.word → SamePlace those uses → place_among those name ≡ place_in (outer_of uses) word
 place_by [] [] name word is same = ap (λ (w : Word). w.at) is
@@ -183,6 +224,6 @@ place_by (open' ∷ those) [] name word is same = absurd same
 place_by (open' ∷ those) (use' ∷ uses) name word is same = same
 
 -- the place of a refusal is that of the outermost use
-pub place_is : (origins : List Origin) (items : List Pending) (those : List Open) (todo : List Sourced) (uses : List OpenUse) (name : Traced) (word : Sourced) → Stands origins items those todo uses →
+pub place_is : (origins : List Origin) (items : List Pending) (stop : ℕ) (those : List Open) (todo : List Sourced) (uses : List OpenUse) (name : Traced) (word : Sourced) → Stands origins items stop those todo uses →
     IsTraced origins name word → place_among those name ≡ place_in (outer_of uses) word
-place_is origins items those todo uses name word stands is = place_by those uses name word is.word (same_place origins items those todo uses stands)
+place_is origins items stop those todo uses name word stands is = place_by those uses name word is.word (same_place origins items stop those todo uses stands)

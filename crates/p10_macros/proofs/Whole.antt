@@ -1,5 +1,5 @@
 -- A replacement from its beginning to its end.
-use Rattle.std.proofs.Common.{◌≡◌, ℕ, List, [], ◌∷◌, ◌++◌, map, None, Vec, Global, refl, sym, subst, ap, ◌∙◌, arith}
+use Rattle.std.proofs.Common.{◌≡◌, ℕ, List, [], ◌∷◌, ◌++◌, map, None, refl, sym, subst, ap, ◌∙◌, arith}
 use Rattle.std.specs.Prelude.{reverse}
 use Rattle.std.proofs.lemmas.List.{reverse-append}
 use Rattle.p10_base.specs.declared.word.Word.{Word}
@@ -8,6 +8,7 @@ use Rattle.p10_macros.specs.declared.pending.Traced.{Traced}
 use Rattle.p10_macros.specs.declared.pending.Pending.{Pending}
 use Rattle.p10_macros.specs.declared.pending.Open.{Open}
 use Rattle.p10_macros.specs.declared.pending.Run.{Run}
+use Rattle.p10_macros.specs.declared.ahead.Ahead.{Ahead}
 use Rattle.p10_macros.specs.declared.replaced.ReplaceFault.{ReplaceFault}
 use Rattle.p10_macros.specs.declared.replaced.ReplaceFault.TheVariants as fault
 use Rattle.p10_macros.specs.Table.{Table}
@@ -15,26 +16,34 @@ use Rattle.p10_macros.specs.Uses.{Sourced, written, plain_words}
 use Rattle.p10_macros.specs.Endings.{Ending, Gives, Refused, TooMany}
 use Rattle.p10_macros.specs.Ends.{Ends}
 use Rattle.p10_macros.specs.Running.{OpenUse, Comes}
-use Rattle.p10_macros.specs.Traces.{AreTraced}
+use Rattle.p10_macros.specs.Traces.{IsTraced, AreTraced}
 use Rattle.p10_macros.specs.Standing.{Stands, State, ComesOf, Represents, LeadsTo, Advances, FaultComes, Fails}
-use Rattle.p10_macros.specs.Beginning.{unread, start_of}
+use Rattle.p10_macros.specs.Beginning.{unread, traced_of, start_of}
 use Rattle.p10_macros.specs.Answers.{IsFault}
 use Rattle.p10_macros.proofs.Listing.{listed_none}
 use Rattle.p10_macros.proofs.Steps.{step_ended, step_begun}
-use Rattle.p10_macros.proofs.Standings.{stands_empty}
+use Rattle.p10_macros.proofs.Standings.{stands_empty, stands_word}
 
 -- ## The beginning
 
-unread_stands : (origins : List Origin) (words : List Word) → Stands origins (map unread words) [] (map written words) []
-unread_stands origins [] = tt
-unread_stands origins (word ∷ words) = (record { word = refl; known = omega arith; from = λ name. listed_none origins 0 name (omega arith) }, unread_stands origins words)
+unread_stands : (origins : List Origin) (items : List Pending) (words : List Word) → traced_of items ≡ map unread words → Stands origins items 0 [] (map written words) []
+unread_stands origins [] [] e = refl
+unread_stands origins [] (word ∷ words) e = cc
+unread_stands origins (pending ∷ items) [] e = cc
+unread_stands origins (pending ∷ items) (word ∷ words) e =
+    let first : pending.traced ≡ unread word = cc in
+    let others : traced_of items ≡ map unread words = cc in
+    let traced : IsTraced origins (unread word) (written word) = record { word = refl; known = omega arith; from = λ name. listed_none origins 0 name (omega arith) } in
+    stands_word origins pending (written word) items 0 [] (map written words) [] (omega arith) (subst (λ (t : Traced). IsTraced origins t (written word)) (sym first) traced) (unread_stands origins items words others)
 
-pub begun : (table : Table) (words : List Word) (left : ℕ) (run : Run) → reverse run.pending.items ≡ map unread words → run.done.items ≡ [] → run.open.items ≡ [] → run.left ≡ left → LeadsTo table (start_of words left) run
-begun table words left run pending done opens left_is = record {
+pub begun : (table : Table) (words : List Word) (left : ℕ) (run : Run) → traced_of (reverse run.pending.words.items) ≡ map unread words → run.done.items ≡ [] → run.open.items ≡ [] → run.left ≡ left → run.stop ≡ 0 →
+    LeadsTo table (start_of words left) run
+begun table words left run pending done opens left_is stop_is = record {
   behind = start_of words left;
   represents = record {
-    stands = subst (λ (l : List Open). Stands run.origins.items (reverse run.pending.items) (reverse l) (map written words) []) (sym opens)
-        (subst (λ (l : List Pending). Stands run.origins.items l [] (map written words) []) (sym pending) (unread_stands run.origins.items words));
+    stands = subst (λ (n : ℕ). Stands run.origins.items (reverse run.pending.words.items) n (reverse run.open.items) (map written words) []) (sym stop_is)
+        (subst (λ (l : List Open). Stands run.origins.items (reverse run.pending.words.items) 0 (reverse l) (map written words) []) (sym opens)
+        (unread_stands run.origins.items (reverse run.pending.words.items) words pending));
     done = subst (λ (l : List Traced). AreTraced run.origins.items l []) (sym done) tt;
     left = left_is;
   };
@@ -44,15 +53,15 @@ begun table words left run pending done opens left_is = record {
 -- ## A step
 
 -- the next word was taken
-taken : (table : Table) (state : State) (old : Run) (popped : Vec Pending Global) (next : Pending) → old.pending.items ≡ popped.items ++ next ∷ [] → (leads : LeadsTo table state old) →
-    Represents (record old { pending = popped }) (next ∷ reverse popped.items) leads.behind
+taken : (table : Table) (state : State) (old : Run) (popped : Ahead) (next : Pending) → old.pending.words.items ≡ popped.words.items ++ next ∷ [] → (leads : LeadsTo table state old) →
+    Represents (record old { pending = popped }) (next ∷ reverse popped.words.items) leads.behind
 taken table state old popped next is leads = record {
-  stands = subst (λ (l : List Pending). Stands old.origins.items l (reverse old.open.items) leads.behind.todo leads.behind.uses) (ap (λ (l : List Pending). reverse l) is ∙ reverse-append popped.items (next ∷ [])) leads.represents.stands;
+  stands = subst (λ (l : List Pending). Stands old.origins.items l old.stop (reverse old.open.items) leads.behind.todo leads.behind.uses) (ap (λ (l : List Pending). reverse l) is ∙ reverse-append popped.words.items (next ∷ [])) leads.represents.stands;
   done = leads.represents.done;
   left = leads.represents.left;
 }
 
-pub advanced : (table : Table) (state : State) (old new : Run) (popped : Vec Pending Global) (next : Pending) → old.pending.items ≡ popped.items ++ next ∷ [] → LeadsTo table state old →
+pub advanced : (table : Table) (state : State) (old new : Run) (popped : Ahead) (next : Pending) → old.pending.words.items ≡ popped.words.items ++ next ∷ [] → LeadsTo table state old →
     Advances table (record old { pending = popped }) next new → LeadsTo table state new
 advanced table state old new popped next is leads advances =
     let further : LeadsTo table leads.behind new = advances leads.behind (taken table state old popped next is leads) in
@@ -68,7 +77,7 @@ fault_is table words left (fault.Refused refusal) (family, comes) = (family, ste
 fault_is table words left fault.TooMany comes = step_begun table (map written words) left TooMany comes
 fault_is table words left fault.Memory comes = tt
 
-pub failed : (table : Table) (words : List Word) (left : ℕ) (old : Run) (popped : Vec Pending Global) (next : Pending) (f : ReplaceFault) → old.pending.items ≡ popped.items ++ next ∷ [] → LeadsTo table (start_of words left) old →
+pub failed : (table : Table) (words : List Word) (left : ℕ) (old : Run) (popped : Ahead) (next : Pending) (f : ReplaceFault) → old.pending.words.items ≡ popped.words.items ++ next ∷ [] → LeadsTo table (start_of words left) old →
     Fails table (record old { pending = popped }) next f → IsFault table words left f
 failed table words left old popped next f is leads fails =
     fault_is table words left f (fault_comes table (start_of words left) leads.behind leads.comes f (fails leads.behind (taken table (start_of words left) old popped next is leads)))
@@ -91,14 +100,14 @@ done_at : (table : Table) (uses : List OpenUse) (todo done : List Sourced) (left
 done_at table uses todo done left nothing none =
     subst (λ (u : List OpenUse). Comes table u todo done left (Gives done left)) (sym none) (subst (λ (l : List Sourced). Comes table [] l done left (Gives done left)) (sym nothing) (step_ended table done left))
 
-pub ended : (table : Table) (words : List Word) (left : ℕ) (run : Run) → run.pending.items ≡ [] → LeadsTo table (start_of words left) run → IsDone table words left run
+pub ended : (table : Table) (words : List Word) (left : ℕ) (run : Run) → run.pending.words.items ≡ [] → LeadsTo table (start_of words left) run → IsDone table words left run
 ended table words left run none leads =
     let state = leads.behind in
-    let empty = stands_empty run.origins.items (reverse run.open.items) state.todo state.uses
-    (subst (λ (l : List Pending). Stands run.origins.items (reverse l) (reverse run.open.items) state.todo state.uses) none leads.represents.stands) in
+    let empty = stands_empty run.origins.items run.stop (reverse run.open.items) state.todo state.uses
+    (subst (λ (l : List Pending). Stands run.origins.items (reverse l) run.stop (reverse run.open.items) state.todo state.uses) none leads.represents.stands) in
     record {
       made = state.done;
       ends = subst (λ (n : ℕ). Ends table None (map written words) left (Gives state.done n)) (sym leads.represents.left)
-          (step_begun table (map written words) left (Gives state.done state.left) (leads.comes (Gives state.done state.left) (done_at table state.uses state.todo state.done state.left empty.1 empty.2)));
+          (step_begun table (map written words) left (Gives state.done state.left) (leads.comes (Gives state.done state.left) (done_at table state.uses state.todo state.done state.left empty.2 empty.3)));
       words_are = traced_words run.origins.items run.done.items state.done leads.represents.done;
     }

@@ -32,7 +32,7 @@ Defines old made builtin Other new = IsSomeAnd (macro_named made.name old) (λ k
 -- the words that come of the words of a source
 abbrev pub IsReplaced : Table → List Word → ℕ → Replaced → Type 0
 IsReplaced table words left replaced =
-    (made : List Sourced) × Ends table None (map written words) left (Gives made replaced.left) × (plain_words made ≡ replaced.words)
+    (made : List Sourced) × Ends table None (map written words) left (Gives made replaced.left) × (plain_words made ≡ replaced.words.items)
 
 -- why there are none
 abbrev pub IsFault : Table → List Word → ℕ → ReplaceFault → Type 0

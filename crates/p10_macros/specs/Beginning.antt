@@ -2,13 +2,17 @@
 use Rattle.std.specs.Prelude.{ℕ, List, [], map}
 use Rattle.p10_base.specs.declared.word.Word.{Word}
 use Rattle.p10_macros.specs.declared.pending.Pending.{Pending}
-use Rattle.p10_macros.specs.declared.pending.End.TheVariants.{Nothing}
+use Rattle.p10_macros.specs.declared.pending.Traced.{Traced}
 use Rattle.p10_macros.specs.Uses.{written}
 use Rattle.p10_macros.specs.Standing.{State}
 
--- a word of the source that is to be looked through
-abbrev pub unread : Word → Pending
-unread word = record { traced = record { word = word; from = 0 }; «end» = Nothing }
+-- a word of the source, which comes from no macro
+abbrev pub unread : Word → Traced
+unread word = record { word = word; from = 0 }
+
+-- pending words with their lists of macros
+abbrev pub traced_of : List Pending → List Traced
+traced_of items = map (λ (pending : Pending). pending.traced) items
 
 -- all words are to be looked through
 abbrev pub start_of : List Word → ℕ → State

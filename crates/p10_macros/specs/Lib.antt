@@ -13,7 +13,7 @@ pub mod Running
 pub mod Origins
 pub mod Traces
 pub mod Standing
-pub mod Marking
+pub mod Links
 pub mod Putting
 pub mod Looking
 pub mod Beginning

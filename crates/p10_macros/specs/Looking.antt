@@ -1,5 +1,5 @@
 -- What the next word and those behind it are.
-use Rattle.std.specs.Prelude.{ℕ, List, [], ◌∷◌, Bool, false, ◌&&◌, ◌||◌, is_none, if◌then◌else◌, Option, Some, None}
+use Rattle.std.specs.Prelude.{ℕ, List, [], ◌∷◌, Bool, false, ◌||◌, is_none, if◌then◌else◌, Option, Some, None}
 use Rattle.p10_base.specs.declared.span.Span.{Span}
 use Rattle.p10_base.specs.declared.word.Word.{Word}
 use Rattle.p10_base.specs.declared.report.Family.TheVariants.{D}
@@ -9,18 +9,12 @@ use Rattle.p10_macros.specs.declared.pending.Pending.{Pending}
 use Rattle.p10_macros.specs.declared.replaced.ReplaceFault.{ReplaceFault}
 use Rattle.p10_macros.specs.declared.replaced.ReplaceFault.TheVariants as fault
 use Rattle.p10_macros.specs.Table.{Table, macro_named}
-use Rattle.p10_macros.specs.Uses.{opens, closes}
-use Rattle.p10_macros.specs.Marking.{ends_nothing}
+use Rattle.p10_macros.specs.Uses.{opens}
 
--- whether the next pending word is a `(` in the innermost argument
+-- whether the next pending word is a `(`
 abbrev pub opens_on_top : List Pending → Bool
 opens_on_top [] = false
-opens_on_top (pending ∷ items) = ends_nothing pending.«end» && opens pending.traced.word
-
--- whether it is a `)` there
-abbrev pub closes_on_top : List Pending → Bool
-closes_on_top [] = false
-closes_on_top (pending ∷ items) = ends_nothing pending.«end» && closes pending.traced.word
+opens_on_top (pending ∷ items) = opens pending.traced.word
 
 abbrev pub used_where : Bool → Option PlainMacro → Option PlainMacro
 used_where open' None = None

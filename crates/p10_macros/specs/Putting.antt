@@ -8,21 +8,26 @@ use Rattle.p10_direct.specs.Directives.{PlainMacro}
 use Rattle.p10_macros.specs.declared.origin.Origin.{Origin}
 use Rattle.p10_macros.specs.declared.pending.Traced.{Traced}
 use Rattle.p10_macros.specs.declared.pending.Pending.{Pending}
-use Rattle.p10_macros.specs.declared.pending.End.TheVariants.{Nothing}
 use Rattle.p10_macros.specs.declared.replaced.ReplaceFault.{ReplaceFault}
 use Rattle.p10_macros.specs.declared.replaced.ReplaceFault.TheVariants as fault
 use Rattle.p10_macros.specs.Uses.{Sourced, given, replacement, value_or, value_of, texts_of}
 use Rattle.p10_macros.specs.Origins.{listed}
 use Rattle.p10_macros.specs.Traces.{IsTraced, AreTraced, AreValues}
 
--- a pending word of a replacement, at the place of the use, with its list of macros
-abbrev pub fresh : Word → Span → ℕ → Pending
-fresh word at from = record { traced = record { word = record { kind = word.kind; text = word.text; at = at; first = word.first }; from = from }; «end» = Nothing }
+-- a word of a replacement, at the place of the use, with its list of macros
+abbrev pub fresh : Word → Span → ℕ → Traced
+fresh word at from = record { word = record { kind = word.kind; text = word.text; at = at; first = word.first }; from = from }
 
--- pending words that end no argument stand for these
+-- a word was put in front of the pending ones
+pub record IsPushed (old new : List Pending) (traced : Traced) : Type 0 where
+  pub last : Pending
+  pub is : new ≡ old ++ last ∷ []
+  pub of : last.traced ≡ traced
+
+-- pending words stand for these
 abbrev pub ArePut : List Origin → List Pending → List Sourced → Type 0
 ArePut origins [] [] = Unit {0}
-ArePut origins (pending ∷ items) (word ∷ words) = (pending.«end» ≡ Nothing) × IsTraced origins pending.traced word × ArePut origins items words
+ArePut origins (pending ∷ items) (word ∷ words) = IsTraced origins pending.traced word × ArePut origins items words
 ArePut origins _ _ = ⊥
 
 -- words were put on top of the pending ones, and taken from those that may be made

@@ -1,6 +1,7 @@
 -- What the parts of a replacement that is under way stand for.
-use Rattle.std.specs.Prelude.{◌≡◌, ℕ, ◌+◌, ◌*◌, ◌<◌, List, [], ◌∷◌, ◌++◌, length, map, reverse, None, true, ◌⊎◌}
+use Rattle.std.specs.Prelude.{◌≡◌, ℕ, ◌+◌, ◌*◌, ◌<◌, ◌==◌, List, [], ◌∷◌, ◌++◌, length, map, reverse, None, true, if◌then◌else◌, ◌⊎◌}
 use Rattle.p10_base.specs.declared.span.Span.{Span}
+use Rattle.p10_base.specs.declared.word.Word.{Word}
 use Rattle.p10_base.specs.declared.report.Family.TheVariants.{D}
 use Rattle.p10_direct.specs.Directives.{PlainMacro}
 use Rattle.p10_direct.specs.Form.{plain_macro}
@@ -10,13 +11,11 @@ use Rattle.p10_macros.specs.declared.origin.Origin.{Origin}
 use Rattle.p10_macros.specs.declared.pending.Traced.{Traced}
 use Rattle.p10_macros.specs.declared.pending.Pending.{Pending}
 use Rattle.p10_macros.specs.declared.pending.Open.{Open}
-use Rattle.p10_macros.specs.declared.pending.End.{End}
-use Rattle.p10_macros.specs.declared.pending.End.TheVariants.{Nothing, Argument, Call}
 use Rattle.p10_macros.specs.declared.replaced.ReplaceFault.{ReplaceFault}
 use Rattle.p10_macros.specs.declared.replaced.ReplaceFault.TheVariants as fault
 use Rattle.p10_macros.specs.declared.pending.Run.{Run}
 use Rattle.p10_macros.specs.Table.{Table}
-use Rattle.p10_macros.specs.Uses.{Sourced, use_of, use_as, called, arguments_in, replacement, next_opens}
+use Rattle.p10_macros.specs.Uses.{Sourced, closes, separates, use_of, use_as, called, arguments_in, replacement, next_opens}
 use Rattle.p10_macros.specs.Endings.{Ending, Refused, TooMany}
 use Rattle.p10_macros.specs.Running.{OpenUse, Comes}
 use Rattle.p10_macros.specs.Origins.{Extends}
@@ -37,18 +36,33 @@ pub record IsOpen (origins : List Origin) (open' : Open) (use' : OpenUse) : Type
   pub before : AreTraced origins open'.before.items use'.before
   pub values : AreValues origins (map (λ value. value.items) open'.values.items) use'.values
 
--- a pending word: it is the next one of the innermost argument, or ends an argument of the innermost open use
-abbrev pub StandsBy : List Origin → (List Open → List Sourced → List OpenUse → Type 0) → Traced → End → List Open → List Sourced → List OpenUse → Type 0
-StandsBy origins Stands traced Nothing those (word ∷ todo) uses = IsTraced origins traced word × Stands those todo uses
-StandsBy origins Stands traced Argument those [] (use' ∷ uses) = (next : List Sourced) × (others : List (List Sourced)) × (use'.waiting ≡ next ∷ others) × Stands those next (record use' { waiting = others } ∷ uses)
-StandsBy origins Stands traced Call (open' ∷ those) [] (use' ∷ uses) = (use'.waiting ≡ []) × IsOpen origins open' use' × Stands those use'.rest uses
-StandsBy origins Stands traced _ _ _ _ = ⊥
+-- what a pending word does
+pub data Role : Type 0 where
+  -- it is the next one of the innermost argument
+  NextWord : Role
+  -- it is a comma that ends that argument
+  EndsArgument : Role
+  -- it is the `)` that ends that argument, which is the last one
+  EndsCall : Role
 
--- the pending words and the open uses, with the next word and the innermost use first, stand for words and uses
-abbrev pub Stands : List Origin → List Pending → List Open → List Sourced → List OpenUse → Type 0
-Stands origins [] [] [] [] = Unit {0}
-Stands origins (pending ∷ items) those todo uses = StandsBy origins (Stands origins items) pending.traced pending.«end» those todo uses
-Stands origins _ _ _ _ = ⊥
+-- the role of a word with these pending behind it, where the argument ends at the place `stop`
+abbrev pub role_of : List Pending → ℕ → Word → Role
+role_of items stop word = if stop == length items + 1 then if closes word then EndsCall else EndsArgument else NextWord
+
+abbrev pub StandsBy : List Origin → (ℕ → List Open → List Sourced → List OpenUse → Type 0) → Pending → Role → ℕ → List Open → List Sourced → List OpenUse → Type 0
+StandsBy origins Stands pending NextWord stop those (word ∷ todo) uses = IsTraced origins pending.traced word × Stands stop those todo uses
+StandsBy origins Stands pending EndsArgument stop (open' ∷ those) [] (use' ∷ uses) =
+    (next : List Sourced) × (others : List (List Sourced)) × (use'.waiting ≡ next ∷ others) × (separates pending.traced.word ≡ true)
+    × Stands pending.exits.argument (open' ∷ those) next (record use' { waiting = others } ∷ uses)
+StandsBy origins Stands pending EndsCall stop (open' ∷ those) [] (use' ∷ uses) = (use'.waiting ≡ []) × IsOpen origins open' use' × Stands open'.stop those use'.rest uses
+StandsBy origins Stands pending _ _ _ _ _ = ⊥
+
+-- the pending words, where the innermost argument ends at the place `stop`, and the open uses, with the next word and the
+-- innermost use first, stand for words and uses
+abbrev pub Stands : List Origin → List Pending → ℕ → List Open → List Sourced → List OpenUse → Type 0
+Stands origins [] stop [] [] [] = stop ≡ 0
+Stands origins (pending ∷ items) stop those todo uses = StandsBy origins (Stands origins items) pending (role_of items stop pending.traced.word) stop those todo uses
+Stands origins _ _ _ _ _ = ⊥
 
 -- ## The whole
 
@@ -64,23 +78,29 @@ ComesOf table state ending = Comes table state.uses state.todo state.done state.
 
 -- a replacement that is under way, where these words are pending, stands for a state
 pub record Represents (run : Run) (items : List Pending) (state : State) : Type 0 where
-  pub stands : Stands run.origins.items items (reverse run.open.items) state.todo state.uses
+  pub stands : Stands run.origins.items items run.stop (reverse run.open.items) state.todo state.uses
+  pub done : AreTraced run.origins.items run.done.items state.done
+  pub left : run.left ≡ state.left
+
+-- the same, where a word that plays a role is next
+pub record Plays (run : Run) (next : Pending) (role : Role) (state : State) : Type 0 where
+  pub stands : StandsBy run.origins.items (Stands run.origins.items (reverse run.pending.words.items)) next role run.stop (reverse run.open.items) state.todo state.uses
   pub done : AreTraced run.origins.items run.done.items state.done
   pub left : run.left ≡ state.left
 
 -- what comes of the state that one replacement stands for, comes of that which the other stood for
 pub record LeadsTo (table : Table) (state : State) (run : Run) : Type 0 where
   pub behind : State
-  pub represents : Represents run (reverse run.pending.items) behind
+  pub represents : Represents run (reverse run.pending.words.items) behind
   pub comes : (ending : Ending (List Sourced)) → ComesOf table behind ending → ComesOf table state ending
-
--- a pending word that ends this
-abbrev pub ending_word : Traced → End → Pending
-ending_word traced end' = record { traced = traced; «end» = end' }
 
 -- a step leads from one replacement, with a next word, to another
 abbrev pub Advances : Table → Run → Pending → Run → Type 0
-Advances table old next new = (state : State) → Represents old (next ∷ reverse old.pending.items) state → LeadsTo table state new
+Advances table old next new = (state : State) → Represents old (next ∷ reverse old.pending.words.items) state → LeadsTo table state new
+
+-- the same, where the next word plays a role
+abbrev pub AdvancesBy : Table → Run → Pending → Role → Run → Type 0
+AdvancesBy table old next role new = (state : State) → Plays old next role state → LeadsTo table state new
 
 -- a fault comes of a state
 abbrev pub FaultComes : Table → State → ReplaceFault → Type 0
@@ -89,7 +109,10 @@ FaultComes table state fault.TooMany = ComesOf table state TooMany
 FaultComes table state fault.Memory = Unit {0}
 
 abbrev pub Fails : Table → Run → Pending → ReplaceFault → Type 0
-Fails table old next fault' = (state : State) → Represents old (next ∷ reverse old.pending.items) state → FaultComes table state fault'
+Fails table old next fault' = (state : State) → Represents old (next ∷ reverse old.pending.words.items) state → FaultComes table state fault'
+
+abbrev pub FailsBy : Table → Run → Pending → Role → ReplaceFault → Type 0
+FailsBy table old next role fault' = (state : State) → Plays old next role state → FaultComes table state fault'
 
 -- the next word is a name that may use a macro
 pub record AtUse (table : Table) (run : Run) (plain : PlainMacro) (name : Traced) (state : State) : Type 0 where
@@ -97,7 +120,7 @@ pub record AtUse (table : Table) (run : Run) (plain : PlainMacro) (name : Traced
   pub words : List Sourced
   pub todo : state.todo ≡ word ∷ words
   pub traced : IsTraced run.origins.items name word
-  pub stands : Stands run.origins.items (reverse run.pending.items) (reverse run.open.items) words state.uses
+  pub stands : Stands run.origins.items (reverse run.pending.words.items) run.stop (reverse run.open.items) words state.uses
   pub done : AreTraced run.origins.items run.done.items state.done
   pub left : run.left ≡ state.left
   pub is : use_of table word words ≡ use_as plain plain.parameters word words
@@ -110,7 +133,7 @@ pub record AtCall (table : Table) (run : Run) (plain : PlainMacro) (parameters :
   pub words : List Sourced
   pub todo : state.todo ≡ word ∷ paren ∷ words
   pub traced : IsTraced run.origins.items name word
-  pub stands : Stands run.origins.items (reverse run.pending.items) (reverse run.open.items) words state.uses
+  pub stands : Stands run.origins.items (reverse run.pending.words.items) run.stop (reverse run.open.items) words state.uses
   pub done : AreTraced run.origins.items run.done.items state.done
   pub left : run.left ≡ state.left
   pub is : use_of table word (paren ∷ words) ≡ called plain parameters (arguments_in 0 words)
@@ -118,29 +141,32 @@ pub record AtCall (table : Table) (run : Run) (plain : PlainMacro) (parameters :
 -- a use was replaced, and nothing else was changed
 pub record IsReplacedIn (old new : Run) (plain : PlainMacro) (name : Traced) (values : List (List Traced)) : Type 0 where
   pub grown : Extends old.origins.items new.origins.items
-  pub puts : PutsReplacement old.origins.items new.origins.items old.pending.items new.pending.items plain name values old.left new.left
+  pub puts : PutsReplacement old.origins.items new.origins.items old.pending.words.items new.pending.words.items plain name values old.left new.left
   pub done : new.done.items ≡ old.done.items
   pub opens : new.open.items ≡ old.open.items
+  pub stop : new.stop ≡ old.stop
 
 -- why a use is not replaced
 abbrev pub IsTooLong : Run → PlainMacro → Traced → List (List Traced) → ReplaceFault → Type 0
 IsTooLong old plain name values fault' =
     (name' : Sourced) (values' : List (List Sourced)) → IsTraced old.origins.items name name' → AreValues old.origins.items values values' → Short fault' (old.left < length (replacement plain name' values'))
 
--- a use was opened
-pub record IsOpenedIn (old new : Run) (made : Bor Macro) (name : Traced) : Type 0 where
+-- a use was opened, whose first argument ends at a place
+pub record IsOpenedIn (old new : Run) (made : Bor Macro) (name : Traced) (place : ℕ) : Type 0 where
   pub opened : Open
   pub opens : new.open.items ≡ old.open.items ++ opened ∷ []
   pub the_macro : opened.made.now ≡ made.now
   pub the_name : opened.name ≡ name
   pub the_place : opened.place ≡ place_among (reverse old.open.items) name
+  pub the_stop : opened.stop ≡ old.stop
   pub before : opened.before.items ≡ old.done.items
   pub values : opened.values.items ≡ []
   pub done : new.done.items ≡ []
-  pub pending : new.pending.items ≡ old.pending.items
+  pub pending : new.pending.words.items ≡ old.pending.words.items
+  pub stop : new.stop ≡ place
   pub origins : new.origins.items ≡ old.origins.items
   pub left : new.left ≡ old.left
 
 -- how much there is to do
 abbrev pub weight : Run → ℕ
-weight run = 2 * run.left + length run.pending.items
+weight run = 2 * run.left + length run.pending.words.items

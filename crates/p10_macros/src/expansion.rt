@@ -1,16 +1,17 @@
 //! Replaces all uses of macros in a run of words.
 
 ghost use Rattle.std.specs.Prelude.{◌≡◌, map, reverse, IfOk, IfErr};
-ghost use Rattle.p10_macros.specs.Beginning.{unread};
+ghost use Rattle.p10_macros.specs.Beginning.{unread, traced_of};
 ghost use Rattle.p10_macros.specs.Ends.{WordsEndInOneWay};
 ghost use Rattle.p10_macros.specs.Left.{NoObjectIsLeft};
 ghost use Rattle.p10_macros.specs.Answers.{table_of, IsReplaced, IsFault};
 
-use crate::pending::{End, Pending, Run, Traced};
+use crate::ahead::Ahead;
+use crate::pending::{Run, Traced};
 use crate::replaced::{ReplaceFault, Replaced};
 use crate::run::step;
 use crate::table::Macros;
-use p10_base::{ListBuf, Word};
+use p10_base::Word;
 use std::alloc::{AllocError, Global};
 
 /// Replaces all uses of macros in a run of words, where `left` words of replacements may still be made.
@@ -33,6 +34,7 @@ pub fn replace<'s>(
     let mut run = Run {
         alloc,
         pending,
+        stop: 0,
         done: Vec::new(alloc),
         open: Vec::new(alloc),
         origins: Vec::new(alloc),
@@ -63,30 +65,27 @@ pub fn no_object_left()
     ensures { NoObjectIsLeft }
 {}
 
-/// The words of a run as pending ones, the first on top.
-fn pending_of<'s>(alloc: Global, words: &[Word<'s>]) -> Result<Vec<Pending<'s>>, AllocError>
-    ensures { IfOk result (λ pending. reverse pending.items ≡ map unread words.now) }
+/// The words of a run as pending ones, the first in front.
+fn pending_of<'s>(alloc: Global, words: &[Word<'s>]) -> Result<Ahead<'s>, AllocError>
+    ensures { IfOk result (λ pending. traced_of (reverse pending.words.items) ≡ map unread words.now) }
 {
-    let mut pending = Vec::new(alloc);
+    let mut pending = Ahead::with_room(alloc, words.len())?;
     let mut place = words.len();
     while place > 0 {
         place -= 1;
-        pending.push(Pending {
-            traced: Traced {
-                word: words[place],
-                from: 0,
-            },
-            end: End::Nothing,
+        pending.push(Traced {
+            word: words[place],
+            from: 0,
         })?;
     }
     Ok(pending)
 }
 
 /// The words alone.
-fn words_of<'s>(alloc: Global, done: &[Traced<'s>]) -> Result<ListBuf<Word<'s>>, AllocError>
-    ensures { IfOk result (λ words. words ≡ map (λ traced. traced.word) done.now) }
+fn words_of<'s>(alloc: Global, done: &[Traced<'s>]) -> Result<Vec<Word<'s>>, AllocError>
+    ensures { IfOk result (λ words. words.items ≡ map (λ traced. traced.word) done.now) }
 {
-    let mut words = ListBuf::of(Vec::new(alloc));
+    let mut words = Vec::with_capacity(alloc, done.len())?;
     for traced in done {
         words.push(traced.word)?;
     }

@@ -6,7 +6,7 @@
 //! crates above.
 #![tactic(auto)]
 
-mod arguments;
+mod ahead;
 mod expansion;
 mod known;
 mod origin;

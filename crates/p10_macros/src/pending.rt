@@ -1,5 +1,6 @@
 //! What a replacement that is under way consists of.
 
+use crate::ahead::Ahead;
 use crate::origin::Origin;
 use p10_base::{Span, Word};
 use p10_direct::Macro;
@@ -12,22 +13,22 @@ pub struct Traced<'s> {
     pub from: usize,
 }
 
-/// Whether a pending word ends a part of a use whose arguments are being replaced.
+/// Where pending words leave parentheses. A place is the number of pending words from the last one up to that place, and
+/// 0 is none.
 #[derive(Clone, Copy)]
-pub enum End {
-    /// It is a word like others.
-    Nothing,
-    /// It is a comma that ends an argument.
-    Argument,
-    /// It is the `)` that ends the last argument.
-    Call,
+pub struct Exits {
+    /// The next comma or `)` in no parentheses of the words before it.
+    pub argument: usize,
+    /// The next `)` in no parentheses of the words before it.
+    pub call: usize,
 }
 
 /// A word that is still to be looked through.
 #[derive(Clone, Copy)]
 pub struct Pending<'s> {
     pub traced: Traced<'s>,
-    pub end: End,
+    /// Where the words behind it leave parentheses.
+    pub exits: Exits,
 }
 
 /// A use whose arguments are being replaced.
@@ -38,6 +39,8 @@ pub struct Open<'m, 'w, 's> {
     pub name: Traced<'s>,
     /// The name in the use of the outermost macro.
     pub place: Span,
+    /// The place of the pending word that ends the argument in which the use stands, or 0.
+    pub stop: usize,
     /// What came of the words before the use.
     pub before: Vec<Traced<'s>>,
     /// What came of the arguments before the one that is being replaced.
@@ -48,8 +51,10 @@ pub struct Open<'m, 'w, 's> {
 #[derive(Drop)]
 pub struct Run<'m, 'w, 's> {
     pub alloc: Global,
-    /// The words that are still to be looked through, the next one last.
-    pub pending: Vec<Pending<'s>>,
+    /// The words that are still to be looked through.
+    pub pending: Ahead<'s>,
+    /// The place of the pending word that ends the innermost argument, or 0.
+    pub stop: usize,
     /// What came of the words before them, in the innermost argument.
     pub done: Vec<Traced<'s>>,
     /// The uses whose arguments are being replaced, the innermost one last.

@@ -1,12 +1,12 @@
 //! What comes of the replacement of macros.
 
-use p10_base::{ListBuf, Refusal, Word};
+use p10_base::{Refusal, Word};
 
 /// The words of a run after every use of a macro was replaced.
 #[derive(Drop)]
 pub struct Replaced<'s> {
     /// The words. One that a macro gave has the place of the name in the use of the outermost macro.
-    pub words: ListBuf<Word<'s>>,
+    pub words: Vec<Word<'s>>,
     /// How many words of replacements may still be made.
     pub left: u64,
 }

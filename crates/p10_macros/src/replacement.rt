@@ -9,10 +9,11 @@ ghost use Rattle.p10_macros.specs.Uses.{Sourced, texts_of, replacement};
 ghost use Rattle.p10_macros.specs.Uses as uses;
 ghost use Rattle.p10_macros.specs.Origins.{listed, Extends};
 ghost use Rattle.p10_macros.specs.Traces.{IsTraced, AreValues};
-ghost use Rattle.p10_macros.specs.Putting.{fresh, IsBase, IsJoined, Short, PutsValue, PutsPart, PutsList, PutsReplacement, IsValue, part_of};
+ghost use Rattle.p10_macros.specs.Putting.{fresh, IsPushed, IsBase, IsJoined, Short, PutsValue, PutsPart, PutsList, PutsReplacement, IsValue, part_of};
 
+use crate::ahead::Ahead;
 use crate::origin::{Origin, add_origin, unite};
-use crate::pending::{End, Pending, Traced};
+use crate::pending::Traced;
 use crate::replaced::ReplaceFault;
 use p10_base::{Kind, Span, Word};
 use p10_direct::Macro;
@@ -21,16 +22,16 @@ use std::alloc::AllocError;
 /// Puts the replacement of a use on top of the pending words, where `left` words may still be made, and tells how many
 /// are left.
 pub fn put_replacement<'s>(
-    pending: &mut Vec<Pending<'s>>,
+    pending: &mut Ahead<'s>,
     origins: &mut Vec<Origin<'s>>,
     made: &Macro<'_, 's>,
     name: Traced<'s>,
     values: &[Vec<Traced<'s>>],
     left: u64,
 ) -> Result<u64, ReplaceFault>
-    ensures lighter { IfOk result (λ remaining. (remaining ≤ left) × (remaining + length pending.new.items ≡ left + length pending.old.items)) }
+    ensures lighter { IfOk result (λ remaining. (remaining ≤ left) × (remaining + length pending.new.words.items ≡ left + length pending.old.words.items)) }
     ensures grown { Extends origins.old.items origins.new.items }
-    ensures ok { IfOk result (PutsReplacement origins.old.items origins.new.items pending.old.items pending.new.items (plain_macro made.now) name.entry (map (λ value. value.items) values.now) left) }
+    ensures ok { IfOk result (PutsReplacement origins.old.items origins.new.items pending.old.words.items pending.new.words.items (plain_macro made.now) name.entry (map (λ value. value.items) values.now) left) }
     ensures err { IfErr result (λ fault. (name' : Sourced) (values' : List (List Sourced)) → IsTraced origins.old.items name.entry name' → AreValues origins.old.items (map (λ value. value.items) values.now) values' → Short fault (left < length (replacement (plain_macro made.now) name' values'))) }
 {
     let from = match add_origin(origins, name.from, made.name) {
@@ -43,7 +44,7 @@ pub fn put_replacement<'s>(
 /// Puts the replacement list of a use on top, where `from` is the number of the list of the macro and of those that the
 /// name comes from.
 fn put_list<'s>(
-    pending: &mut Vec<Pending<'s>>,
+    pending: &mut Ahead<'s>,
     origins: &mut Vec<Origin<'s>>,
     made: &Macro<'_, 's>,
     name: Traced<'s>,
@@ -51,9 +52,9 @@ fn put_list<'s>(
     from: usize,
     left: u64,
 ) -> Result<u64, ReplaceFault>
-    ensures lighter { IfOk result (λ remaining. (remaining ≤ left) × (remaining + length pending.new.items ≡ left + length pending.old.items)) }
+    ensures lighter { IfOk result (λ remaining. (remaining ≤ left) × (remaining + length pending.new.words.items ≡ left + length pending.old.words.items)) }
     ensures grown { Extends origins.old.items origins.new.items }
-    ensures ok { IfOk result (PutsList origins.old.items origins.new.items pending.old.items pending.new.items (plain_macro made.now) name.entry (map (λ value. value.items) values.now) from made.now.body.now left) }
+    ensures ok { IfOk result (PutsList origins.old.items origins.new.items pending.old.words.items pending.new.words.items (plain_macro made.now) name.entry (map (λ value. value.items) values.now) from made.now.body.now left) }
     ensures err { IfErr result (λ fault. (name' : Sourced) (values' : List (List Sourced)) → IsTraced origins.old.items name.entry name' → IsBase origins.old.items from made.now.name.now name' → AreValues origins.old.items (map (λ value. value.items) values.now) values' → Short fault (left < length (flat_map (part_of (plain_macro made.now).parameters values') made.now.body.now))) }
 {
     let mut left = left;
@@ -79,7 +80,7 @@ fn put_list<'s>(
 
 /// Puts what stands for a word of the replacement list on top.
 fn put_part<'s>(
-    pending: &mut Vec<Pending<'s>>,
+    pending: &mut Ahead<'s>,
     origins: &mut Vec<Origin<'s>>,
     made: &Macro<'_, 's>,
     name: Traced<'s>,
@@ -88,9 +89,9 @@ fn put_part<'s>(
     word: &Word<'s>,
     left: u64,
 ) -> Result<u64, ReplaceFault>
-    ensures lighter { IfOk result (λ remaining. (remaining ≤ left) × (remaining + length pending.new.items ≡ left + length pending.old.items)) }
+    ensures lighter { IfOk result (λ remaining. (remaining ≤ left) × (remaining + length pending.new.words.items ≡ left + length pending.old.words.items)) }
     ensures grown { Extends origins.old.items origins.new.items }
-    ensures ok { IfOk result (PutsPart origins.old.items origins.new.items pending.old.items pending.new.items (plain_macro made.now) name.entry (map (λ value. value.items) values.now) from word.now left) }
+    ensures ok { IfOk result (PutsPart origins.old.items origins.new.items pending.old.words.items pending.new.words.items (plain_macro made.now) name.entry (map (λ value. value.items) values.now) from word.now left) }
     ensures err { IfErr result (λ fault. (values' : List (List Sourced)) → AreValues origins.old.items (map (λ value. value.items) values.now) values' → Short fault (left < length (part_of (plain_macro made.now).parameters values' word.now))) }
 {
     match value_of(made, values, word) {
@@ -140,15 +141,15 @@ fn names(word: &Word<'_>, text: &[u8]) -> bool
 
 /// Puts a word of a replacement on top, at the place of the use.
 fn put_word<'s>(
-    pending: &mut Vec<Pending<'s>>,
+    pending: &mut Ahead<'s>,
     word: Word<'s>,
     at: Span,
     from: usize,
     left: u64,
 ) -> Result<u64, ReplaceFault>
-    ensures lighter { IfOk result (λ remaining. (remaining ≤ left) × (remaining + length pending.new.items ≡ left + length pending.old.items)) }
+    ensures lighter { IfOk result (λ remaining. (remaining ≤ left) × (remaining + length pending.new.words.items ≡ left + length pending.old.words.items)) }
     ensures ok { IfOk result (λ remaining. left ≡ remaining + 1) }
-    ensures put { IfOk result (λ remaining. pending.new.items ≡ pending.old.items ++ fresh word.entry at from ∷ []) }
+    ensures put { IfOk result (λ remaining. IsPushed pending.old.words.items pending.new.words.items (fresh word.entry at from)) }
     ensures err { IfErr result (λ fault. Short fault (left ≡ 0)) }
 {
     if left == 0 {
@@ -160,11 +161,7 @@ fn put_word<'s>(
         at,
         first: word.first,
     };
-    let next = Pending {
-        traced: Traced { word, from },
-        end: End::Nothing,
-    };
-    match pending.push(next) {
+    match pending.push(Traced { word, from }) {
         Ok(()) => Ok(left - 1),
         Err(_) => Err(ReplaceFault::Memory),
     }
@@ -172,16 +169,16 @@ fn put_word<'s>(
 
 /// Puts the words of an argument on top.
 fn put_value<'s>(
-    pending: &mut Vec<Pending<'s>>,
+    pending: &mut Ahead<'s>,
     origins: &mut Vec<Origin<'s>>,
     value: &[Traced<'s>],
     name: Traced<'s>,
     from: usize,
     left: u64,
 ) -> Result<u64, ReplaceFault>
-    ensures lighter { IfOk result (λ remaining. (remaining ≤ left) × (remaining + length pending.new.items ≡ left + length pending.old.items)) }
+    ensures lighter { IfOk result (λ remaining. (remaining ≤ left) × (remaining + length pending.new.words.items ≡ left + length pending.old.words.items)) }
     ensures grown { Extends origins.old.items origins.new.items }
-    ensures ok { IfOk result (PutsValue origins.old.items origins.new.items pending.old.items pending.new.items name.entry from value.now left) }
+    ensures ok { IfOk result (PutsValue origins.old.items origins.new.items pending.old.words.items pending.new.words.items name.entry from value.now left) }
     ensures err { IfErr result (λ fault. Short fault (left < length value.now)) }
 {
     let mut left = left;
@@ -195,16 +192,16 @@ fn put_value<'s>(
 
 /// Puts a word of an argument on top.
 fn put_traced<'s>(
-    pending: &mut Vec<Pending<'s>>,
+    pending: &mut Ahead<'s>,
     origins: &mut Vec<Origin<'s>>,
     part: &Traced<'s>,
     name: Traced<'s>,
     from: usize,
     left: u64,
 ) -> Result<u64, ReplaceFault>
-    ensures lighter { IfOk result (λ remaining. (remaining ≤ left) × (remaining + length pending.new.items ≡ left + length pending.old.items)) }
+    ensures lighter { IfOk result (λ remaining. (remaining ≤ left) × (remaining + length pending.new.words.items ≡ left + length pending.old.words.items)) }
     ensures grown { Extends origins.old.items origins.new.items }
-    ensures ok { IfOk result (PutsValue origins.old.items origins.new.items pending.old.items pending.new.items name.entry from (part.now ∷ []) left) }
+    ensures ok { IfOk result (PutsValue origins.old.items origins.new.items pending.old.words.items pending.new.words.items name.entry from (part.now ∷ []) left) }
     ensures costs { IfOk result (λ remaining. left ≡ remaining + 1) }
     ensures err { IfErr result (λ fault. Short fault (left ≡ 0)) }
 {

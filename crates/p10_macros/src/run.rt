@@ -5,16 +5,16 @@ ghost use Rattle.p10_direct.specs.Form.{plain_macro};
 ghost use Rattle.p10_macros.specs.Table.{Table};
 ghost use Rattle.p10_macros.specs.Uses.{Sourced};
 ghost use Rattle.p10_macros.specs.Answers.{table_of};
-ghost use Rattle.p10_macros.specs.Standing.{State, Represents, Advances, Fails, FaultComes, LeadsTo, AtUse, AtCall, IsReplacedIn, IsTooLong, IsOpenedIn, ending_word, place_among, weight};
-ghost use Rattle.p10_macros.specs.Marking.{marked};
-ghost use Rattle.p10_macros.specs.Looking.{macro_used, opens_on_top, closes_on_top, refusal_at};
-ghost use Rattle.p10_macros.specs.declared.pending.End.TheVariants as ends;
+ghost use Rattle.p10_macros.specs.Standing as roles;
+ghost use Rattle.p10_macros.specs.Standing.{State, Advances, AdvancesBy, Fails, FailsBy, FaultComes, LeadsTo, AtUse, AtCall, IsReplacedIn, IsTooLong, IsOpenedIn, place_among, weight};
+ghost use Rattle.p10_macros.specs.Links.{HasExits};
+ghost use Rattle.p10_macros.specs.Looking.{macro_used, opens_on_top, refusal_at};
 ghost use Rattle.p10_macros.specs.declared.replaced.ReplaceFault.TheVariants as faults;
-ghost use Rattle.p10_macros.specs.declared.pending.Traced.{Traced as Kept};
+ghost use Rattle.p10_macros.specs.declared.pending.Pending.{Pending as Next};
 
-use crate::arguments::{ends_nothing, mark_arguments, punctuates};
+use crate::ahead::{Ahead, punctuates};
 use crate::origin::comes_from;
-use crate::pending::{End, Open, Pending, Run, Traced};
+use crate::pending::{Exits, Open, Pending, Run, Traced};
 use crate::replaced::ReplaceFault;
 use crate::replacement::put_replacement;
 use crate::table::Macros;
@@ -33,10 +33,12 @@ pub fn step<'m, 'w, 's>(
     ensures err { IfErr result (Fails (table_of macros.now) run.old next.entry) }
     ensures lighter { OnOk result (weight run.new ≤ weight run.old) }
 {
-    match next.end {
-        End::Nothing => look(run, macros, next.traced),
-        End::Argument => end_argument(run),
-        End::Call => end_call(run),
+    if run.pending.count() >= run.stop {
+        look(run, macros, next)
+    } else if punctuates(&next.traced.word, b")") {
+        end_call(run)
+    } else {
+        end_argument(run, next.exits.argument)
     }
 }
 
@@ -44,15 +46,15 @@ pub fn step<'m, 'w, 's>(
 fn look<'m, 'w, 's>(
     run: &mut Run<'m, 'w, 's>,
     macros: &'m Macros<'w, 's>,
-    word: Traced<'s>,
+    next: Pending<'s>,
 ) -> Result<(), ReplaceFault>
-    ensures ok { OnOk result (Advances (table_of macros.now) run.old (ending_word word.entry ends.Nothing) run.new) }
-    ensures err { IfErr result (Fails (table_of macros.now) run.old (ending_word word.entry ends.Nothing)) }
+    ensures ok { OnOk result (AdvancesBy (table_of macros.now) run.old next.entry roles.NextWord run.new) }
+    ensures err { IfErr result (FailsBy (table_of macros.now) run.old next.entry roles.NextWord) }
     ensures lighter { OnOk result (weight run.new ≤ weight run.old) }
 {
-    match used(macros, run.pending.as_slice(), &word) {
-        None => put_done(run, word),
-        Some(made) => begin_use(run, made, word),
+    match used(macros, &run.pending, &next.traced) {
+        None => put_done(run, next.traced),
+        Some(made) => begin_use(run, made, next.traced),
     }
 }
 
@@ -60,6 +62,7 @@ fn look<'m, 'w, 's>(
 fn put_done<'s>(run: &mut Run<'_, '_, 's>, word: Traced<'s>) -> Result<(), ReplaceFault>
     ensures done { OnOk result (run.new.done.items ≡ run.old.done.items ++ word.entry ∷ []) }
     ensures pending { run.new.pending ≡ run.old.pending }
+    ensures stop { run.new.stop ≡ run.old.stop }
     ensures open { run.new.open ≡ run.old.open }
     ensures origins { run.new.origins ≡ run.old.origins }
     ensures left { run.new.left ≡ run.old.left }
@@ -74,10 +77,10 @@ fn put_done<'s>(run: &mut Run<'_, '_, 's>, word: Traced<'s>) -> Result<(), Repla
 /// The macro that the word uses, where these words are pending behind it.
 fn used<'m, 'w, 's>(
     macros: &'m Macros<'w, 's>,
-    pending: &[Pending<'s>],
+    pending: &Ahead<'s>,
     name: &Traced<'s>,
 ) -> Option<&'m Macro<'w, 's>>
-    ensures { option_map plain_macro (option_copied result) ≡ macro_used (table_of macros.now) (reverse pending.now) name.now.word }
+    ensures { option_map plain_macro (option_copied result) ≡ macro_used (table_of macros.now) (reverse pending.now.words.items) name.now.word }
 {
     if !matches!(name.word.kind, Kind::Name) {
         return None;
@@ -93,30 +96,10 @@ fn used<'m, 'w, 's>(
 }
 
 /// Whether the name of this macro is a use, where these words are pending behind it.
-fn is_used(made: &Macro<'_, '_>, pending: &[Pending<'_>]) -> bool
-    ensures { result ≡ (is_none (plain_macro made.now).parameters || opens_on_top (reverse pending.now)) }
+fn is_used(made: &Macro<'_, '_>, pending: &Ahead<'_>) -> bool
+    ensures { result ≡ (is_none (plain_macro made.now).parameters || opens_on_top (reverse pending.now.words.items)) }
 {
-    made.params.is_none() || opens_next(pending)
-}
-
-/// Whether the next pending word is a `(`.
-fn opens_next(pending: &[Pending<'_>]) -> bool
-    ensures { result ≡ opens_on_top (reverse pending.now) }
-{
-    match pending {
-        [.., next] => ends_nothing(next.end) && punctuates(&next.traced.word, b"("),
-        [] => false,
-    }
-}
-
-/// Whether the next pending word is a `)`.
-fn closes_next(pending: &[Pending<'_>]) -> bool
-    ensures { result ≡ closes_on_top (reverse pending.now) }
-{
-    match pending {
-        [.., next] => ends_nothing(next.end) && punctuates(&next.traced.word, b")"),
-        [] => false,
-    }
+    made.params.is_none() || pending.opens_next()
 }
 
 /// Begins a use: an object-like macro is replaced at once, and the arguments of a function-like one are replaced first.
@@ -136,53 +119,48 @@ fn begin_use<'m, 'w, 's>(
         None => replace_use(run, made, name, Vec::new(run.alloc)),
         Some(params) => {
             let count = params.as_slice().len();
-            let _ = run.pending.pop();
-            begin_call(run, made, count, name)
+            let exits = run.pending.skip();
+            begin_call(run, made, count, name, exits)
         }
     }
 }
 
-/// Begins the use of a function-like macro, whose `(` was the next word.
+/// Begins the use of a function-like macro, whose `(` was the next word; `exits` tells where the words behind that leave
+/// parentheses.
 fn begin_call<'m, 'w, 's>(
     run: &mut Run<'m, 'w, 's>,
     made: &'m Macro<'w, 's>,
     params: usize,
     name: Traced<'s>,
+    exits: Exits,
 ) -> Result<(), ReplaceFault>
+    requires { HasExits exits (reverse run.old.pending.words.items) }
     ensures ok { OnOk result ((table : Table) (state : State) → AtCall table run.old (plain_macro made.entry.now) params name.entry state → LeadsTo table state run.new) }
     ensures err { IfErr result (λ fault. (table : Table) (state : State) → AtCall table run.old (plain_macro made.entry.now) params name.entry state → FaultComes table state fault) }
     ensures lighter { OnOk result (weight run.new ≤ weight run.old) }
 {
-    if params == 0 && closes_next(run.pending.as_slice()) {
-        let _ = run.pending.pop();
+    if exits.call <= run.stop {
+        return Err(refused(run, &name, 8));
+    }
+    if params == 0 && exits.call == run.pending.count() {
+        let _ = run.pending.skip();
         return replace_use(run, made, name, Vec::new(run.alloc));
     }
-    match mark_call(&mut run.pending) {
-        None => Err(refused(run, &name, 8)),
-        Some(count) => if params == count {
-            open_use(run, made, name)
-        } else {
-            Err(refused(run, &name, 7))
-        },
+    if params == run.pending.arguments(exits) {
+        open_use(run, made, name, exits.argument)
+    } else {
+        Err(refused(run, &name, 7))
     }
 }
 
-/// Marks the ends of the arguments that stand on top of the pending words, and tells their number.
-fn mark_call(pending: &mut Vec<Pending<'_>>) -> Option<usize>
-    ensures none { IfNone result (marked 0 (reverse pending.old.items) ≡ None) }
-    ensures some { IfSome result (λ count. marked 0 (reverse pending.old.items) ≡ Some (count, reverse pending.new.items)) }
-    ensures many { length pending.new.items ≡ length pending.old.items }
-{
-    mark_arguments(pending.as_mut_slice())
-}
-
-/// Opens a use, whose first argument is next.
+/// Opens a use, whose first argument is next and ends at the place `stop`.
 fn open_use<'m, 'w, 's>(
     run: &mut Run<'m, 'w, 's>,
     made: &'m Macro<'w, 's>,
     name: Traced<'s>,
+    stop: usize,
 ) -> Result<(), ReplaceFault>
-    ensures ok { OnOk result (IsOpenedIn run.old run.new made.entry name.entry) }
+    ensures ok { OnOk result (IsOpenedIn run.old run.new made.entry name.entry stop) }
     ensures err { IfErr result (λ fault. fault ≡ faults.Memory) }
 {
     let place = place_of(run.open.as_slice(), &name);
@@ -191,6 +169,7 @@ fn open_use<'m, 'w, 's>(
         made,
         name,
         place,
+        stop: mem::replace(&mut run.stop, stop),
         before,
         values: Vec::new(run.alloc),
     };
@@ -222,13 +201,14 @@ fn put_argument<'s>(
     Ok(())
 }
 
-/// Ends an argument before the last one of the innermost open use.
-fn end_argument<'m, 'w, 's>(run: &mut Run<'m, 'w, 's>) -> Result<(), ReplaceFault>
-    ensures ok { OnOk result ((table : Table) (traced : Kept) → Advances table run.old (ending_word traced ends.Argument) run.new) }
+/// Ends an argument before the last one of the innermost open use; the next one ends at the place `stop`.
+fn end_argument<'m, 'w, 's>(run: &mut Run<'m, 'w, 's>, stop: usize) -> Result<(), ReplaceFault>
+    ensures ok { OnOk result ((table : Table) (next : Next) → next.exits.argument ≡ stop → AdvancesBy table run.old next roles.EndsArgument run.new) }
     ensures err { IfErr result (λ fault. fault ≡ faults.Memory) }
     ensures lighter { OnOk result (weight run.new ≤ weight run.old) }
 {
     let value = mem::replace(&mut run.done, Vec::new(run.alloc));
+    run.stop = stop;
     match run.open.pop() {
         None => Ok(()),
         Some(mut open) => match put_argument(&mut open.values, value) {
@@ -243,8 +223,8 @@ fn end_argument<'m, 'w, 's>(run: &mut Run<'m, 'w, 's>) -> Result<(), ReplaceFaul
 
 /// Ends the last argument of the innermost open use, and replaces the use.
 fn end_call<'m, 'w, 's>(run: &mut Run<'m, 'w, 's>) -> Result<(), ReplaceFault>
-    ensures ok { OnOk result ((table : Table) (traced : Kept) → Advances table run.old (ending_word traced ends.Call) run.new) }
-    ensures err { IfErr result (λ fault. (table : Table) (traced : Kept) → Fails table run.old (ending_word traced ends.Call) fault) }
+    ensures ok { OnOk result ((table : Table) (next : Next) → AdvancesBy table run.old next roles.EndsCall run.new) }
+    ensures err { IfErr result (λ fault. (table : Table) (next : Next) → FailsBy table run.old next roles.EndsCall fault) }
     ensures lighter { OnOk result (weight run.new ≤ weight run.old) }
 {
     match run.open.pop() {
@@ -254,10 +234,12 @@ fn end_call<'m, 'w, 's>(run: &mut Run<'m, 'w, 's>) -> Result<(), ReplaceFault>
                 made,
                 name,
                 place: _,
+                stop,
                 before,
                 values,
             } = open;
             let mut values = values;
+            run.stop = stop;
             let value = mem::replace(&mut run.done, before);
             match put_argument(&mut values, value) {
                 Ok(()) => replace_use(run, made, name, values),
@@ -306,10 +288,10 @@ fn refused(run: &Run<'_, '_, '_>, name: &Traced<'_>, number: u8) -> ReplaceFault
 }
 
 /// The name in the use of the outermost macro, where a use with this name stands in these.
-fn place_of(open: &[Open<'_, '_, '_>], name: &Traced<'_>) -> Span
-    ensures { result ≡ place_among (reverse open.now) name.now }
+fn place_of(uses: &[Open<'_, '_, '_>], name: &Traced<'_>) -> Span
+    ensures { result ≡ place_among (reverse uses.now) name.now }
 {
-    match open {
+    match uses {
         [.., innermost] => innermost.place,
         [] => name.word.at,
     }

@@ -1,6 +1,6 @@
 //! Replacements at their edges. Where C99 gives an answer too, the expected words are those of `gcc -E`.
 
-use crate::arguments::punctuates;
+use crate::ahead::punctuates;
 use crate::{Definition, Macros, ReplaceFault, Replaced, replace};
 use p10_base::{Kind, Span, Word};
 use p10_direct::{Directive, Line, Macro, directive, lines};
@@ -16,7 +16,7 @@ struct Row {
     expected: &'static str,
 }
 
-static ROWS: [Row; 34] = [
+static ROWS: [Row; 40] = [
     Row {
         source: "# define A 1 2 ; A x A",
         expected: "1 2 x 1 2",
@@ -88,6 +88,30 @@ static ROWS: [Row; 34] = [
     Row {
         source: "# define F $ ( x ) x + \"x\" ; F ( 4 )",
         expected: "4 + \"x\"",
+    },
+    Row {
+        source: "# define F $ ( x ) [ x ] ; F ( ( F ( ( 1 ) ) , 2 ) )",
+        expected: "[ ( [ ( 1 ) ] , 2 ) ]",
+    },
+    Row {
+        source: "# define F $ ( x ) [ x ] ; F ( ( F ( 1 ) ) ( F ( 2 ) ) )",
+        expected: "[ ( [ 1 ] ) ( [ 2 ] ) ]",
+    },
+    Row {
+        source: "# define F $ ( x , y ) x y ; # define G $ ( x , y ) y x ; F ( G ( 1 , ( 2 , 3 ) ) , ( G ( 4 , 5 ) ) )",
+        expected: "( 2 , 3 ) 1 ( 5 4 )",
+    },
+    Row {
+        source: "# define F $ ( x ) [ x ] ; # define L ( ; F ( L 1 )",
+        expected: "[ ( 1 ]",
+    },
+    Row {
+        source: "# define F $ ( x ) [ x ] ; # define R ) ; F ( 1 R )",
+        expected: "[ 1 ) ]",
+    },
+    Row {
+        source: "# define F $ ( x ) [ x ] ; # define A F ( ( ; F ( A 1 ) ) )",
+        expected: "D8 0",
     },
     Row {
         source: "# define A F ( 1 ; # define F $ ( x ) [ x ] ; A )",
@@ -313,7 +337,7 @@ fn a_replacement_may_be_too_long(rt: HostRuntime) -> Result<(), Fail> {
     let Ok(replaced) = last_line(rt.alloc(), &all, 1_048_576)? else {
         return Err("refused".into());
     };
-    assert_eq!(rt; replaced.words.as_slice().len(), 262_144);
+    assert_eq!(rt; replaced.words.len(), 262_144);
     assert_eq!(rt; replaced.left, 262_146);
     let all = words(rt.alloc(), NINETEEN)?;
     let over = matches!(

@@ -58,7 +58,7 @@ pub fn refusal(number: u8, at: Span) -> Refusal
 
 /// What comes of a condition after replacement.
 fn judge_replaced(whole: Span, replaced: &Replaced<'_>) -> Verdict
-    ensures { (made : List Sourced) → plain_words made ≡ replaced.now.words → Judges whole (Gives made replaced.now.left) (judged_by result) }
+    ensures { (made : List Sourced) → plain_words made ≡ replaced.now.words.items → Judges whole (Gives made replaced.now.left) (judged_by result) }
 {
     match truth(replaced.words.as_slice()) {
         Some(truth) => Verdict::Holds {

@@ -11,7 +11,7 @@ use crate::expansion::stand::Stand;
 use crate::expansion::state::State;
 use crate::expansion::step::Step;
 use p10_base::{Limit, Span, Word};
-use p10_macros::{ReplaceFault, replace};
+use p10_macros::{ReplaceFault, Replaced, replace};
 use std::alloc::{AllocError, Global};
 
 /// Expands a run of text of a file, or of a built-in header.
@@ -43,8 +43,9 @@ fn expand_text<'w, 's>(
 {
     match replace(alloc, &state.macros, words, state.left) {
         Ok(replaced) => {
-            state.words.extend_from_slice(replaced.words.as_slice())?;
-            state.left = replaced.left;
+            let Replaced { words, left } = replaced;
+            put_run(&mut state.words, words)?;
+            state.left = left;
             Ok(Step::On(Stand::Obeyed))
         }
         Err(ReplaceFault::Refused(refusal)) => {
@@ -68,13 +69,25 @@ fn expand_before<'w, 's>(
     let before = &words[..count_before(words, at)];
     match replace(alloc, &state.macros, before, state.left) {
         Ok(replaced) => {
-            state.words.extend_from_slice(replaced.words.as_slice())?;
+            put_run(&mut state.words, replaced.words)?;
             Ok(())
         }
         Err(ReplaceFault::Memory) => Err(AllocError),
         Err(ReplaceFault::Refused(_)) => Ok(()),
         Err(ReplaceFault::TooMany) => Ok(()),
     }
+}
+
+/// Puts the words of a run behind those of its root.
+fn put_run<'s>(words: &mut Vec<Word<'s>>, run: Vec<Word<'s>>) -> Result<(), AllocError>
+    ensures { OnOk result (words.new.items ≡ words.old.items ++ run.entry.items) }
+{
+    if words.is_empty() {
+        // The first run may be all of its root, so its words aren't copied.
+        *words = run;
+        return Ok(());
+    }
+    words.extend_from_slice(run.as_slice())
 }
 
 /// How many words stand before the first at this place.

@@ -1,13 +1,13 @@
 use Rattle.std.proofs.Common.{◌≡◌, ◌≤◌, length, map, drop}
 use Rattle.std.specs.Prelude.{reverse}
-use Rattle.p10_macros.specs.Beginning.{unread}
+use Rattle.p10_macros.specs.Beginning.{unread, traced_of}
 use Rattle.p10_macros.proofs.expansion.pending_of.Given as goal
 
 -- the words behind a place are pending
 abbrev pub invariant-loop-place : goal.invariant-loop-place
 invariant-loop-place l = record {
   inside : l.place ≤ length l.words;
-  behind : reverse l.pending.items ≡ map unread (drop l.place l.words);
+  behind : traced_of (reverse l.pending.words.items) ≡ map unread (drop l.place l.words);
 }
 
 abbrev pub decreases-loop-place : goal.decreases-loop-place

@@ -9,9 +9,9 @@ abbrev pub invariant-loop-place : goal.invariant-loop-place
 invariant-loop-place l = record {
   inside : l.place ≤ length l.made.body.now;
   less : l.left ≤ l.fn.left;
-  lighter : l.left + length l.pending.items ≡ l.fn.left + length l.fn.pending.items;
+  lighter : l.left + length l.pending.words.items ≡ l.fn.left + length l.fn.pending.words.items;
   grown : Extends l.fn.origins.items l.origins.items;
-  puts : PutsListBehind l.fn.origins.items l.origins.items l.fn.pending.items l.pending.items (plain_macro l.made) l.name (map (λ value. value.items) l.values) l.from l.made.body.now l.place l.fn.left l.left;
+  puts : PutsListBehind l.fn.origins.items l.origins.items l.fn.pending.words.items l.pending.words.items (plain_macro l.made) l.name (map (λ value. value.items) l.values) l.from l.made.body.now l.place l.fn.left l.left;
 }
 
 abbrev pub decreases-loop-place : goal.decreases-loop-place

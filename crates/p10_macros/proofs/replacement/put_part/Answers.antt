@@ -5,7 +5,7 @@ use Rattle.p10_macros.proofs.replacement.put_part.Goals as goal
 pub returns-in-None-clause-ok : goal.returns-in-None-clause-ok
 returns-in-None-clause-ok c =
     if_ok_both c.put_word.result c.put_word.ensures.ok c.put_word.ensures.put (λ remaining costs is.
-    part_itself c.args.origins.now.items c.args.pending.now.items c.put_word.new.pending.items (plain_macro c.args.made.now) c.args.name (items_at c.args.values.now) c.args.from c.args.word.now c.args.left remaining c.in-None.ensures costs is)
+    part_itself c.args.origins.now.items c.args.pending.now.words.items c.put_word.new.pending.words.items (plain_macro c.args.made.now) c.args.name (items_at c.args.values.now) c.args.from c.args.word.now c.args.left remaining c.in-None.ensures costs is)
 
 pub returns-in-Some-clause-err : goal.returns-in-Some-clause-err
 returns-in-Some-clause-err c =
@@ -15,5 +15,5 @@ returns-in-Some-clause-err c =
 pub returns-in-Some-clause-ok : goal.returns-in-Some-clause-ok
 returns-in-Some-clause-ok c =
     if_ok_so c.put_value.result c.put_value.ensures.ok (λ remaining puts.
-    part_value c.args.origins.now.items c.put_value.new.origins.items c.args.pending.now.items c.put_value.new.pending.items (plain_macro c.args.made.now) c.args.name (items_at c.args.values.now) c.args.from c.args.word.now
+    part_value c.args.origins.now.items c.put_value.new.origins.items c.args.pending.now.words.items c.put_value.new.pending.words.items (plain_macro c.args.made.now) c.args.name (items_at c.args.values.now) c.args.from c.args.word.now
     c.in-Some.value.now c.args.left remaining c.in-Some.ensures puts)

@@ -8,10 +8,10 @@ abbrev pub invariant-loop-place : goal.invariant-loop-place
 invariant-loop-place l = record {
   inside : l.place ≤ length l.value;
   less : l.left ≤ l.fn.left;
-  lighter : l.left + length l.pending.items ≡ l.fn.left + length l.fn.pending.items;
+  lighter : l.left + length l.pending.words.items ≡ l.fn.left + length l.fn.pending.words.items;
   grown : Extends l.fn.origins.items l.origins.items;
   counted : l.fn.left + l.place ≡ length l.value + l.left;
-  puts : PutsBehind l.fn.origins.items l.origins.items l.fn.pending.items l.pending.items l.name l.from l.value l.place l.fn.left l.left;
+  puts : PutsBehind l.fn.origins.items l.origins.items l.fn.pending.words.items l.pending.words.items l.name l.from l.value l.place l.fn.left l.left;
 }
 
 abbrev pub decreases-loop-place : goal.decreases-loop-place

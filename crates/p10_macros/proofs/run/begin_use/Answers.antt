@@ -36,13 +36,13 @@ returns-in-None-clause-err c =
 
 -- the use of a function-like macro is at its call
 call_of : (c : After-begin_call) (table : Table) (state : State) → AtUse table c.args.run.now (plain_macro c.args.made.now) c.args.name state →
-    AtCall table (record c.args.run.now { pending = c.pop.new.self }) (plain_macro c.args.made.now) (length c.as_slice-count.result.now) c.args.name state
+    AtCall table (record c.args.run.now { pending = c.skip-exits.new.self }) (plain_macro c.args.made.now) (length c.as_slice-count.result.now) c.args.name state
 call_of c table state at =
     let count : length (texts_at c.in-Some.params) ≡ length c.as_slice-count.result.now = length-map c.in-Some.params (λ (text : Bor Text). text.now) ∙ ap length (sym c.as_slice-count.ensures) in
-    subst (λ (n : ℕ). AtCall table (record c.args.run.now { pending = c.pop.new.self }) (plain_macro c.args.made.now) n c.args.name state) count
+    subst (λ (n : ℕ). AtCall table (record c.args.run.now { pending = c.skip-exits.new.self }) (plain_macro c.args.made.now) n c.args.name state) count
     (at_call table c.args.run.now (plain_macro c.args.made.now) c.args.name state at (texts_at c.in-Some.params) (ap (λ (o : Option (List (Bor Text))). option_map texts_at o) c.in-Some.is)
     (ap (λ (l : List Origin). listed l c.args.name.from c.args.made.now.name.now) (sym c.as_slice.ensures.value) ∙ sym c.comes_from.ensures ∙ c.if-comes_from.false)
-    c.pop.new.self c.pop.ensures.rest)
+    c.skip-exits.new.self c.skip-exits.ensures.taken)
 
 pub returns-in-Some-clause-ok : goal.returns-in-Some-clause-ok
 returns-in-Some-clause-ok c = on_ok_so c.begin_call.result c.begin_call.ensures.ok (λ leads. λ table state at. leads table state (call_of c table state at))

@@ -5,10 +5,10 @@ use Rattle.p10_macros.proofs.Moves.{moved_argument, no_argument}
 use Rattle.p10_macros.proofs.run.end_argument.Goals as goal
 
 pub returns-in-None-clause-ok : goal.returns-in-None-clause-ok
-returns-in-None-clause-ok c = λ table traced. no_argument table c.args.run.now _ traced (nil_from_length _ (sym c.args.run.now.open.ok.0 ∙ c.in-None.ensures.cases.0))
+returns-in-None-clause-ok c = λ table next is. no_argument table c.args.run.now _ next (nil_from_length _ (sym c.args.run.now.open.ok.0 ∙ c.in-None.ensures.cases.0))
 
 pub returns-in-Ok-put_open-clause-ok : goal.returns-in-Ok-put_open-clause-ok
-returns-in-Ok-put_open-clause-ok c = λ table traced.
-    moved_argument table c.args.run.now _ traced c.in-Some.open _ c.pop.new.self.items c.in-Some.ensures.items c.in-Ok-put_open.ensures refl refl refl refl
+returns-in-Ok-put_open-clause-ok c = λ table next is.
+    moved_argument table c.args.run.now _ next c.in-Some.open _ c.pop.new.self.items c.in-Some.ensures.items c.in-Ok-put_open.ensures refl refl refl refl refl
     (c.in-Ok.ensures ∙ ap (λ (v : Vec Traced Global). c.in-Some.open.values.items ++ v ∷ []) c.replace-value.ensures.value)
-    (ap (λ (v : Vec Traced Global). v.items) c.replace-value.ensures.after ∙ c.new.ensures.items) refl refl refl
+    (ap (λ (v : Vec Traced Global). v.items) c.replace-value.ensures.after ∙ c.new.ensures.items) refl refl refl is

@@ -12,10 +12,12 @@ returns-in-Ok-clause-ok c = record {
   the_macro = refl;
   the_name = refl;
   the_place = c.place_of-place.ensures ∙ ap (λ (l : List Open). place_among (reverse l) c.args.name) c.as_slice.ensures.value;
+  the_stop = c.replace.ensures.value;
   before = ap (λ (v : Vec Traced Global). v.items) c.replace-before.ensures.value;
   values = c.new-2.ensures.items;
   done = ap (λ (v : Vec Traced Global). v.items) c.replace-before.ensures.after ∙ c.new.ensures.items;
   pending = refl;
+  stop = c.replace.ensures.after;
   origins = refl;
   left = refl;
 }

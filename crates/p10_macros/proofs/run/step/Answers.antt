@@ -1,21 +1,20 @@
-use Rattle.std.proofs.Common.{sym, subst}
-use Rattle.p10_macros.specs.declared.pending.End.{End}
+use Rattle.std.proofs.Common.{refl, sym, ◌∙◌, true, false, arith}
 use Rattle.p10_macros.specs.Answers.{table_of}
-use Rattle.p10_macros.specs.Standing.{Advances, Fails, ending_word}
 use Rattle.p10_macros.proofs.Putting.{on_ok_so, if_err_so}
+use Rattle.p10_macros.proofs.Moves.{at_end}
 use Rattle.p10_macros.proofs.run.step.Goals as goal
 
-pub returns-in-Argument-clause-ok : goal.returns-in-Argument-clause-ok
-returns-in-Argument-clause-ok c =
-    on_ok_so c.end_argument.result c.end_argument.ensures.ok (λ advances.
-    subst (λ (e : End). Advances (table_of c.args.macros.now) c.args.run.now (ending_word c.args.next.traced e) c.end_argument.new.run) (sym c.in-Argument.is) (advances (table_of c.args.macros.now) c.args.next.traced))
+pub returns-then-punctuates-clause-ok : goal.returns-then-punctuates-clause-ok
+returns-then-punctuates-clause-ok c =
+    on_ok_so c.end_call.result c.end_call.ensures.ok (λ advances. λ state represents. advances (table_of c.args.macros.now) c.args.next state
+    (at_end c.args.run.now c.args.next state true (sym c.punctuates.ensures ∙ c.if-punctuates.true) (omega (arith, c.count.ensures, c.if-count-run.false)) represents))
 
-pub returns-in-Call-clause-ok : goal.returns-in-Call-clause-ok
-returns-in-Call-clause-ok c =
-    on_ok_so c.end_call.result c.end_call.ensures.ok (λ advances.
-    subst (λ (e : End). Advances (table_of c.args.macros.now) c.args.run.now (ending_word c.args.next.traced e) c.end_call.new.run) (sym c.in-Call.is) (advances (table_of c.args.macros.now) c.args.next.traced))
+pub returns-then-punctuates-clause-err : goal.returns-then-punctuates-clause-err
+returns-then-punctuates-clause-err c =
+    if_err_so c.end_call.result c.end_call.ensures.err (λ f fails. λ state represents. fails (table_of c.args.macros.now) c.args.next state
+    (at_end c.args.run.now c.args.next state true (sym c.punctuates.ensures ∙ c.if-punctuates.true) (omega (arith, c.count.ensures, c.if-count-run.false)) represents))
 
-pub returns-in-Call-clause-err : goal.returns-in-Call-clause-err
-returns-in-Call-clause-err c =
-    if_err_so c.end_call.result c.end_call.ensures.err (λ f fails.
-    subst (λ (e : End). Fails (table_of c.args.macros.now) c.args.run.now (ending_word c.args.next.traced e) f) (sym c.in-Call.is) (fails (table_of c.args.macros.now) c.args.next.traced))
+pub returns-else-punctuates-clause-ok : goal.returns-else-punctuates-clause-ok
+returns-else-punctuates-clause-ok c =
+    on_ok_so c.end_argument.result c.end_argument.ensures.ok (λ advances. λ state represents. advances (table_of c.args.macros.now) c.args.next refl state
+    (at_end c.args.run.now c.args.next state false (sym c.punctuates.ensures ∙ c.if-punctuates.false) (omega (arith, c.count.ensures, c.if-count-run.false)) represents))

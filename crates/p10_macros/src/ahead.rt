@@ -1,0 +1,146 @@
+//! The words that are still to be looked through.
+//!
+//! Each word knows where the words behind it leave parentheses. So the `)` of a use is found at once, and no word is
+//! passed again for each use around it.
+
+ghost use Rattle.std.specs.Prelude.{◌≡◌, reverse};
+ghost use Rattle.p10_direct.specs.Spelling.{is_punctuator};
+ghost use Rattle.p10_macros.specs.Links.{IsLinked};
+
+use crate::pending::{Exits, Pending, Traced};
+use p10_base::{Kind, Word};
+use std::alloc::{AllocError, Global};
+
+/// Where words leave parentheses that none of them closes.
+const NOWHERE: Exits = Exits {
+    argument: 0,
+    call: 0,
+};
+
+/// The words that are still to be looked through.
+#[derive(Drop)]
+pub struct Ahead<'s> {
+    /// The next one last.
+    words: Vec<Pending<'s>>,
+    ghost linked: { IsLinked (reverse words.items) },
+}
+
+impl<'s> Ahead<'s> {
+    ghost use Rattle.std.specs.Prelude.{◌≡◌, ◌+◌, ◌-◌, ◌<◌, ◌++◌, ◌∷◌, [], length, reverse, take, IfNone, IfSome, IfOk, OnOk};
+    ghost use Rattle.p10_macros.specs.Links.{HasExits, commas, exits_past};
+    ghost use Rattle.p10_macros.specs.Looking.{opens_on_top};
+    ghost use Rattle.p10_macros.specs.Putting.{IsPushed};
+
+    /// No words, and room for so many.
+    pub fn with_room(alloc: Global, count: usize) -> Result<Ahead<'s>, AllocError>
+        ensures { IfOk result (λ ahead. ahead.words.items ≡ []) }
+    {
+        Ok(Ahead {
+            words: Vec::with_capacity(alloc, count)?,
+        })
+    }
+
+    /// How many words there are, which is the place of the next one.
+    pub fn count(&self) -> usize
+        ensures { result ≡ length self.now.words.items }
+    {
+        self.words.len()
+    }
+
+    /// Whether the next word is a `(`.
+    pub fn opens_next(&self) -> bool
+        ensures { result ≡ opens_on_top (reverse self.now.words.items) }
+    {
+        match self.words.as_slice() {
+            [.., next] => punctuates(&next.traced.word, b"("),
+            [] => false,
+        }
+    }
+
+    /// Takes the next word.
+    pub fn pop(&mut self) -> Option<Pending<'s>>
+        ensures none { IfNone result (self.old.words.items ≡ []) }
+        ensures some { IfSome result (λ next. self.old.words.items ≡ self.new.words.items ++ next ∷ []) }
+    {
+        self.words.pop()
+    }
+
+    /// Takes the next word, and tells where the words behind it leave parentheses.
+    pub fn skip(&mut self) -> Exits
+        ensures taken { self.new.words.items ≡ take (length self.old.words.items - 1) self.old.words.items }
+        ensures exits { HasExits result (reverse self.new.words.items) }
+    {
+        match self.words.pop() {
+            None => NOWHERE,
+            Some(next) => next.exits,
+        }
+    }
+
+    /// Puts a word in front of the others.
+    pub fn push(&mut self, traced: Traced<'s>) -> Result<(), AllocError>
+        ensures { OnOk result (IsPushed self.old.words.items self.new.words.items traced.entry) }
+    {
+        let exits = self.exits();
+        self.words.push(Pending { traced, exits })?;
+        Ok(())
+    }
+
+    /// How many arguments stand in front of a `)`, where the words leave parentheses there.
+    pub fn arguments(&self, exits: Exits) -> usize
+        requires exits { HasExits exits (reverse self.now.words.items) }
+        requires closed { 0 < exits.call }
+        ensures { result ≡ commas 0 (reverse self.now.words.items) + 1 }
+    {
+        let mut count = 1;
+        let mut place = exits.argument;
+        while place != exits.call {
+            place = self.words[place - 1].exits.argument;
+            count += 1;
+        }
+        count
+    }
+
+    /// Where the words leave parentheses.
+    fn exits(&self) -> Exits
+        ensures { HasExits result (reverse self.now.words.items) }
+    {
+        match self.words.as_slice() {
+            [] => NOWHERE,
+            [.., next] => if punctuates(&next.traced.word, b")") {
+                Exits {
+                    argument: self.count(),
+                    call: self.count(),
+                }
+            } else if punctuates(&next.traced.word, b",") {
+                Exits {
+                    argument: self.count(),
+                    call: next.exits.call,
+                }
+            } else if punctuates(&next.traced.word, b"(") {
+                self.exits_behind(next.exits.call)
+            } else {
+                next.exits
+            },
+        }
+    }
+
+    /// Where the words behind a place leave parentheses.
+    fn exits_behind(&self, place: usize) -> Exits
+        ensures { result ≡ exits_past (reverse self.now.words.items) place }
+    {
+        if place == 0 {
+            return NOWHERE;
+        }
+        if place > self.count() {
+            return NOWHERE;
+        }
+        self.words[place - 1].exits
+    }
+}
+
+/// Whether the word is this punctuator.
+pub fn punctuates(word: &Word<'_>, text: &[u8]) -> bool
+    ensures { result ≡ is_punctuator text.now word.now }
+{
+    matches!(word.kind, Kind::Punct) && word.text == text
+}
