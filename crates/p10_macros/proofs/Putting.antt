@@ -58,6 +58,12 @@ or_absorbs true s = refl
 or_absorbs false true = refl
 or_absorbs false false = refl
 
+or_swaps : (a b : Bool) → (a || b) ≡ (b || a)
+or_swaps true true = refl
+or_swaps true false = refl
+or_swaps false true = refl
+or_swaps false false = refl
+
 pub joined_none : (old : List Origin) (name from own : ℕ) (macro' : Text) (name' : Sourced) → own ≤ 0 → IsBase old from macro' name' → IsJoined old own macro' name' old from
 joined_none old name from own macro' name' none is = record {
   known = is.known;
@@ -71,10 +77,10 @@ joined_same old name from own macro' name' same known is = record {
       ∙ ap (λ (b : Bool). (bytes_eq other macro' || name'.from other) || b) (sym (known other) ∙ ap (λ (n : ℕ). listed old n other) (sym same));
 }
 
-pub joined_both : (old new : List Origin) (from own all : ℕ) (macro' : Text) (name' : Sourced) → IsBase old from macro' name' → HasBoth old from own new all → IsJoined old own macro' name' new all
+pub joined_both : (old new : List Origin) (from own all : ℕ) (macro' : Text) (name' : Sourced) → IsBase old from macro' name' → HasBoth old own from new all → IsJoined old own macro' name' new all
 joined_both old new from own all macro' name' is has = record {
   known = has.known;
-  both = λ other. has.both other ∙ ap (λ (b : Bool). b || listed old own other) (is.base other);
+  both = λ other. has.both other ∙ or_swaps (listed old own other) (listed old from other) ∙ ap (λ (b : Bool). b || listed old own other) (is.base other);
 }
 
 pub base_of : (old new : List Origin) (macro' : Text) (name : Traced) (name' : Sourced) (from : ℕ) → HasFirst old macro' name.from new from → IsTraced old name name' → IsBase new from macro' name'

@@ -227,5 +227,6 @@ fn both<'s>(
     if own == name {
         return Ok(from);
     }
-    unite(origins, from, own)
+    // The list of the use is mostly the shorter one, so it is put in front of the other, which stays as it is.
+    unite(origins, own, from)
 }

@@ -10,4 +10,4 @@ returns-then-own-name-clause-joined c = λ macro' name' known less is. joined_sa
 
 pub returns-clause-joined : goal.returns-clause-joined
 returns-clause-joined c =
-    if_ok_so c.unite.result c.unite.ensures.both (λ all has. λ macro' name' known less is. joined_both _ _ _ _ all macro' name' is (has is.known less))
+    if_ok_so c.unite.result c.unite.ensures.both (λ all has. λ macro' name' known less is. joined_both _ _ _ _ all macro' name' is (has less is.known))
