@@ -31,3 +31,4 @@ pub mod PlainlyObeying
 pub mod Plainly
 pub mod Numbers
 pub mod PlainAnswers
+pub mod Before

@@ -15,6 +15,7 @@ pub mod Obeying
 pub mod Expands
 pub mod Plain
 pub mod Coming
+pub mod Before
 -- how the private ones come to it
 pub mod Standing
 pub mod Steps

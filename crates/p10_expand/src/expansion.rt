@@ -30,7 +30,7 @@ use crate::expansion::files::expand_file;
 use crate::expansion::state::State;
 use crate::expansion::texts::Texts;
 pub use fault::ExpandFault;
-pub use laws::expands_to_once;
+pub use laws::{expands_to_once, words_before_give};
 use p10_base::{ListBuf, Refusal, Sources, Word};
 use p10_direct::{Lines, lines, one_condition, one_cut, one_outcome};
 use p10_lex::lex;

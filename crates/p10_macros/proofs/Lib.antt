@@ -14,5 +14,6 @@ pub mod Beginnings
 pub mod Tables
 pub mod Whole
 pub mod NoObject
+pub mod Fronts
 pub mod Plainly
 pub mod Numbers

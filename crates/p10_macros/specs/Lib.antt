@@ -6,6 +6,7 @@ pub mod Uses
 pub mod Endings
 pub mod Ends
 pub mod Left
+pub mod Fronts
 pub mod Answers
 -- what holds of the private parts
 pub mod Known

@@ -3,6 +3,7 @@
 ghost use Rattle.std.specs.Prelude.{◌≡◌, map, reverse, IfOk, IfErr};
 ghost use Rattle.p10_macros.specs.Beginning.{unread, traced_of};
 ghost use Rattle.p10_macros.specs.Ends.{WordsEndInOneWay};
+ghost use Rattle.p10_macros.specs.Fronts.{FrontsGive};
 ghost use Rattle.p10_macros.specs.Left.{NoObjectIsLeft};
 ghost use Rattle.p10_macros.specs.Answers.{table_of, IsReplaced, IsFault};
 
@@ -63,6 +64,11 @@ pub fn one_ending()
 /// In a replacement no name of an object-like macro is left.
 pub fn no_object_left()
     ensures { NoObjectIsLeft }
+{}
+
+/// A refusal is at a word of the run, and the words before that one have a replacement.
+pub fn front_gives()
+    ensures { FrontsGive }
 {}
 
 /// The words of a run as pending ones, the first in front.

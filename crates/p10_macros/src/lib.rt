@@ -18,7 +18,7 @@ mod run;
 mod same;
 mod table;
 
-pub use expansion::{no_object_left, one_ending, replace};
+pub use expansion::{front_gives, no_object_left, one_ending, replace};
 pub use replaced::{ReplaceFault, Replaced};
 pub use table::{Definition, Macros};
 
