@@ -3,6 +3,7 @@ pub mod PlainIncludes
 pub mod Texts
 pub mod Naming
 pub mod Including
+pub mod Lacking
 pub mod Standing
 pub mod Searching
 pub mod Linking

@@ -1,12 +1,9 @@
 -- What stands after a file was put behind the others, or linked.
-use Rattle.std.proofs.Common.{◌≡◌, ℕ, zero, suc, ◌+◌, ◌<◌, ◌≤◌, Bool, true, false, ◌||◌, cond, List, [], ◌∷◌, ◌++◌, length, take, Option, Some, None, refl, ap, sym, ◌∙◌, subst, inl, inr, arith, length-append, get_or, set, below_more, ◌≢◌}
-use Rattle.std.specs.Prelude.{All, IsSome, IsSomeAnd, Ok, Err, bytes_eq, is_some, map}
-use Rattle.std.specs.List.{list_any}
+use Rattle.std.proofs.Common.{◌≡◌, ℕ, zero, suc, ◌+◌, ◌<◌, ◌≤◌, Bool, true, false, cond, List, [], ◌∷◌, ◌++◌, length, take, Option, Some, None, refl, ap, sym, ◌∙◌, subst, inl, inr, arith, length-append, get_or, set, below_more, ◌≢◌}
+use Rattle.std.specs.Prelude.{All, IsSome, IsSomeAnd, Ok, Err, is_some, map}
 use Rattle.std.proofs.lemmas.Bool.{cases_order}
 use Rattle.std.proofs.lemmas.List.{get_or_append_left, get_or-set_same, get_or-set_other, length-set, length-take}
 use Rattle.std.proofs.Math.Seq.{get_or-append_seam}
-use Rattle.std.proofs.lemmas.List.Folds.{Any-from_list_any}
-use Rattle.std.proofs.lemmas.Slice.Eq.{bytes_eq-Decides}
 use Rattle.p10_base.specs.declared.report.Limit.{Limit}
 use Rattle.p10_base.specs.declared.sources.SourceFile.{SourceFile}
 use Rattle.p10_base.specs.declared.sources.Link.{Link}
@@ -113,7 +110,7 @@ few_bytes : (number : ℕ) (text : List ℕ) (includes : List Include) → HasIn
 few_bytes number text includes lexed = lexed.lexes.0
 
 pub adds_stands : (told : Option (List Named)) (old new : Gathering) (place : Place) (depth : ℕ) (text : List ℕ) (number : ℕ) →
-    Stands told old → HasFront told place text → AddsFile old new place depth text number → new.absent.items ≡ old.absent.items → Stands told new
+    Stands told old → HasFront told place text → AddsFile old new place depth text number → new.absent ≡ old.absent → Stands told new
 adds_stands told old new place depth text number stands front adds absent =
     let k : Known = record { place = place; depth = depth; includes = adds.includes } in
     let last : IsGathered told (length old.sources.files) k (record { name = name_at place; text = text; links = [] }) =
@@ -157,25 +154,6 @@ at_located told s place depth number stands at =
       how = inl (at, record { sources = refl; known = refl });
     }
 
-pub lacked : (told : Option (List Named)) (absent : List (List ℕ)) (name : List ℕ) → All (Lacks told) absent →
-    list_any (λ other. bytes_eq other name) absent ≡ true → Lacks told name
-lacked told absent name all found =
-    let (k, other, below, is, same) = Any-from_list_any (λ other. bytes_eq other name) absent found in
-    let equal : get_or absent k other ≡ name = is ∙ (bytes_eq-Decides other name).0 same in
-    subst (λ n. Lacks told n) equal (all k other below)
-
-or_true : (b x : Bool) → x ≡ true → (b || x) ≡ true
-or_true true x p = refl
-or_true false x p = p
-
-last_among : (absent : List (List ℕ)) (value name : List ℕ) → value ≡ name → list_any (λ other. bytes_eq other name) (absent ++ value ∷ []) ≡ true
-last_among [] value name same = ap (λ b. b || false) ((bytes_eq-Decides value name).1 same)
-last_among (other ∷ absent) value name same = or_true (bytes_eq other name) _ (last_among absent value name same)
-
--- a name that is put behind those found absent is among them
-pub noted_absent : (old new : List (List ℕ)) (value name : List ℕ) → new ≡ old ++ value ∷ [] → value ≡ name → list_any (λ other. bytes_eq other name) new ≡ true
-noted_absent old new value name put same = ap (λ items. list_any (λ other. bytes_eq other name) items) put ∙ last_among old value name same
-
 pub gathered_same : (told : Option (List Named)) (number : ℕ) (k : Known) (f g : SourceFile) → g.name ≡ f.name → g.text ≡ f.text → IsGathered told number k f → IsGathered told number k g
 gathered_same told number k f g name text old = record {
   named = name ∙ old.named;
@@ -196,7 +174,7 @@ link_file files from n l below =
     ]
 
 stands_link : (told : Option (List Named)) (old new : Gathering) (from : ℕ) (name : List ℕ) (angle : Bool) (to : ℕ) → from < count_of old.sources →
-    Stands told old → new.sources ≡ with_link old.sources from name angle to → new.known.items ≡ old.known.items → new.absent.items ≡ old.absent.items → Stands told new
+    Stands told old → new.sources ≡ with_link old.sources from name angle to → new.known.items ≡ old.known.items → new.absent ≡ old.absent → Stands told new
 stands_link told old new from name angle to below stands sources known absent =
     let l : Link = record { name = name; angle = angle; to = to } in
     let linked : AreGathered told old.known.items (with_link old.sources from name angle to) =
@@ -208,7 +186,7 @@ stands_link told old new from name angle to below stands sources known absent =
       absent = subst (λ names. All (Lacks told) names) (sym absent) stands.absent;
     }
 
-keeps_stands : (told : Option (List Named)) (old new : Gathering) → Stands told old → new.sources ≡ old.sources → new.known.items ≡ old.known.items → new.absent.items ≡ old.absent.items → Stands told new
+keeps_stands : (told : Option (List Named)) (old new : Gathering) → Stands told old → new.sources ≡ old.sources → new.known.items ≡ old.known.items → new.absent ≡ old.absent → Stands told new
 keeps_stands told old new stands sources known absent = record {
   known = ap length known ∙ (stands.known ∙ sym (ap count_of sources));
   gathered = subst (λ k. AreGathered told k new.sources) (sym known) (subst (λ g. AreGathered told old.known.items g) (sym sources) stands.gathered);
@@ -216,7 +194,7 @@ keeps_stands told old new stands sources known absent = record {
 }
 
 stands_cond : (told : Option (List Named)) (old new : Gathering) (from : ℕ) (include : Include) (to : ℕ) (b : Bool) → from < count_of old.sources → Stands told old →
-    new.sources ≡ cond b old.sources (with_link old.sources from include.name include.angle to) → new.known.items ≡ old.known.items → new.absent.items ≡ old.absent.items → Stands told new
+    new.sources ≡ cond b old.sources (with_link old.sources from include.name include.angle to) → new.known.items ≡ old.known.items → new.absent ≡ old.absent → Stands told new
 stands_cond told old new from include to true below stands sources known absent = keeps_stands told old new stands sources known absent
 stands_cond told old new from include to false below stands sources known absent = stands_link told old new from include.name include.angle to below stands sources known absent
 

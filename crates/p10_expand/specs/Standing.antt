@@ -29,7 +29,7 @@ HasFront held (Header name) text = header_of name ≡ Some text
 pub record Stands (held : Option (List Named)) (s : Gathering) : Type 0 where
   pub known : length s.known.items ≡ count_of s.sources
   pub gathered : AreGathered held s.known.items s.sources
-  pub absent : All (Lacks held) s.absent.items
+  pub absent : All (Lacks held) s.absent
 
 -- what was gathered stays as it is
 pub record Keeps (old new : Gathering) : Type 0 where
@@ -105,7 +105,7 @@ FailsFirst held old new places Memory = Unit {0}
 pub record Links (old new : Gathering) (from : ℕ) (include : Include) (to : ℕ) : Type 0 where
   pub sources : new.sources ≡ linked from include to old.sources
   pub known : new.known.items ≡ old.known.items
-  pub absent : new.absent.items ≡ old.absent.items
+  pub absent : new.absent ≡ old.absent
 
 -- ## The code's steps as those of the definition
 

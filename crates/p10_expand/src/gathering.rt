@@ -4,10 +4,11 @@ ghost use Rattle.std.specs.Prelude.{◌≡◌, ◌↔◌, IfOk, IfErr, IfSome, I
 ghost use Rattle.p10_expand.specs.Finding.{name_at};
 ghost use Rattle.p10_expand.specs.Gathering.{is_file as is_file_place};
 
+use crate::absent::Absent;
 use crate::fault::Trouble;
 use crate::includes::includes_of;
 use crate::place::{Include, Place};
-use p10_base::{Limit, ListBuf, Sources, TextBuf};
+use p10_base::{ListBuf, Sources};
 use p10_lex::{LexFault, lex};
 use std::alloc::{AllocError, Global};
 
@@ -28,7 +29,7 @@ pub struct Gathering {
     pub alloc: Global,
     pub sources: Sources,
     pub known: Vec<Known>,
-    pub absent: Vec<TextBuf>,
+    pub absent: Absent,
 }
 
 impl Gathering {
@@ -43,13 +44,13 @@ impl Gathering {
     pub fn new(alloc: Global) -> Gathering
         ensures sources { result.sources ≡ nothing_gathered }
         ensures known { result.known.items ≡ [] }
-        ensures absent { result.absent.items ≡ [] }
+        ensures absent { result.absent ≡ [] }
     {
         Gathering {
             alloc,
             sources: Sources::new(alloc),
             known: Vec::new(alloc),
-            absent: Vec::new(alloc),
+            absent: Absent::new(alloc),
         }
     }
 
@@ -118,9 +119,9 @@ impl Gathering {
 
     /// Whether the file with this name was found absent.
     pub fn lacks(&self, name: &str) -> bool
-        ensures { result ≡ list_any (λ other. bytes_eq other name.now) self.now.absent.items }
+        ensures { result ≡ list_any (λ other. bytes_eq other name.now) self.now.absent }
     {
-        self.absent.iter().any(|other| other.as_str() == name)
+        self.absent.has(name)
     }
 
     /// Gathers one more file, which has this name: lexes its text and reads its include lines.
@@ -134,7 +135,7 @@ impl Gathering {
         requires { string_bytes name ≡ name_at place }
         ensures added { IfOk result (AddsFile self.old self.new place depth text.items) }
         ensures refused { IfErr result (FailsToAdd self.old self.new place text.items) }
-        ensures absent { self.new.absent.items ≡ self.old.absent.items }
+        ensures absent { self.new.absent ≡ self.old.absent }
     {
         if self.sources.count() >= u32::MAX - 1 {
             return Err(Trouble::Memory);

@@ -8,6 +8,7 @@
 //! gathered file. What the words mean is left to others.
 #![tactic(auto)]
 
+mod absent;
 mod candidates;
 mod expanded;
 mod expansion;

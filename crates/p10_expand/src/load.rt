@@ -67,8 +67,8 @@ fn load<F: Files>(
     requires stands { Stands (F.held files.old) state.old }
     requires new { IsNew state.old.known.items (Place.File name.now) }
     // A name that was found absent isn't asked for again, so no read of it fails.
-    ensures again { list_any (λ other. bytes_eq other name.now) state.old.absent.items ≡ true → result ≡ Ok None }
-    ensures noted { IfOk result (λ found. found ≡ None → list_any (λ other. bytes_eq other name.now) state.new.absent.items ≡ true) }
+    ensures again { list_any (λ other. bytes_eq other name.now) state.old.absent ≡ true → result ≡ Ok None }
+    ensures noted { IfOk result (λ found. found ≡ None → list_any (λ other. bytes_eq other name.now) state.new.absent ≡ true) }
     ensures stands { OnOk result (Stands (F.held files.old) state.new) }
     ensures found { IfOk result (IsFound (F.held files.old) state.old state.new (Place.File name.now) depth) }
     ensures cause { IfErr result (Fails (F.held files.old) state.old state.new (Place.File name.now)) }
@@ -90,9 +90,7 @@ fn load<F: Files>(
             Ok(Some(state.add(place, whole, text, depth)?))
         }
         Err(FileFault::Absent) => {
-            state
-                .absent
-                .push(TextBuf::of(String::from_str(alloc, name)?))?;
+            state.absent.add(String::from_str(alloc, name)?)?;
             Ok(None)
         }
         Err(FileFault::Failed) => Err(Trouble::Read),

@@ -1,6 +1,7 @@
 use Rattle.std.proofs.Common.{sym, refl, ◌∙◌, arith}
 use Rattle.std.proofs.lemmas.Result.{err_from_is_err_and}
-use Rattle.p10_expand.proofs.Standing.{lacked, adds_stands, added_file, file_fails_to_add, front_of, noted_absent}
+use Rattle.p10_expand.proofs.Lacking.{lacked, noted_absent}
+use Rattle.p10_expand.proofs.Standing.{adds_stands, added_file, file_fails_to_add, front_of}
 use Rattle.p10_expand.proofs.load.load.Goals as goal
 
 pub returns-then-lacks-clause-found : goal.returns-then-lacks-clause-found
@@ -22,4 +23,4 @@ returns-in-Ok-clause-found g c =
 
 pub returns-in-Err-Absent-clause-noted : goal.returns-in-Err-Absent-clause-noted
 returns-in-Err-Absent-clause-noted g c none =
-    noted_absent _ _ _ c.args.name.now c.in_ok-push-in-Err-Absent.ensures.items (c.of-in-Err-Absent.ensures ∙ c.in_ok-from_str-in-Err-Absent.ensures.ok)
+    noted_absent _ _ _ c.args.name.now c.in_ok-add-in-Err-Absent.ensures.ok c.in_ok-from_str-in-Err-Absent.ensures.ok
