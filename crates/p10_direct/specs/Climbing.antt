@@ -1,4 +1,4 @@
--- Reading a condition from the left: an operand, then operators that bind tightly enough with their right operands, then `?:`.
+-- Reading a condition from the left, by precedence climbing: an operand, then operators that bind tightly enough with their right operands, then `?:`.
 use Rattle.std.specs.Prelude.{ℤ, ℕ, zero, suc, ◌-◌, nat_le, max, List, [], ◌∷◌, drop, Bool, true, false, Option, Some, None, option_map, option_and_then, if◌then◌else◌, codes}
 use Rattle.p10_int.specs.declared.operators.UnOp.{UnOp}
 use Rattle.p10_direct.specs.declared.operator.Binary.{Binary}

@@ -40,7 +40,7 @@ abbrev pub behind_digits : Base → Text → Text
 behind_digits base [] = []
 behind_digits base (byte ∷ text) = if is_digit_of base byte then behind_digits base text else byte ∷ text
 
--- the value of digits, where those before them have a value
+-- the value of these digits behind others, whose value is `value`
 abbrev pub digits_value : Base → ℕ → Text → ℕ
 digits_value base value [] = value
 digits_value base value (byte ∷ digits) = digits_value base (radix_of base * value + digit_of byte) digits

@@ -99,7 +99,8 @@ abbrev pub has_repeat : List Text → Bool
 has_repeat [] = false
 has_repeat (text ∷ texts) = list_any (λ other. bytes_eq other text) texts || has_repeat texts
 
--- a word that no replacement list may have: `#`, `##` (C99 6.10.3.2, 6.10.3.3) and `...`
+-- a word that no replacement list may have here: `#`, which C99 allows in those of object-like macros, `##` (C99 6.10.3.2,
+-- 6.10.3.3) and `...`
 abbrev pub is_refused : Word → Bool
 is_refused word = is_punctuator (codes "#") word || is_punctuator (codes "##") word || is_ellipsis word
 

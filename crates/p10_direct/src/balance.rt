@@ -30,15 +30,8 @@ fn earlier(a: Option<usize>, b: Option<usize>) -> Option<usize>
     }
 }
 
-/// The part that a line has in a conditional, by its second word alone.
+/// What a line is to the conditional in which it stands, by its second word alone.
 pub fn part_of(line: &Line<'_, '_>) -> Mark
-    ensures { result ≡ mark_of (piece_of line.now) }
-{
-    mark(line)
-}
-
-/// What the line is to the conditional in which it stands.
-fn mark(line: &Line<'_, '_>) -> Mark
     ensures { result ≡ mark_of (piece_of line.now) }
 {
     match line {
@@ -66,7 +59,7 @@ fn first_stray(alloc: Global, lines: &[Line<'_, '_>]) -> Result<Option<usize>, A
 {
     let mut pending = Vec::new(alloc);
     for (place, line) in lines.iter().enumerate() {
-        if !take(&mut pending, mark(line))? {
+        if !take(&mut pending, part_of(line))? {
             return Ok(Some(place));
         }
     }
@@ -111,7 +104,7 @@ fn first_unclosed(lines: &[Line<'_, '_>]) -> Option<usize>
     let mut place = lines.len();
     while place > 0 {
         place -= 1;
-        (first, closing) = pass_back(mark(&lines[place]), place, first, closing);
+        (first, closing) = pass_back(part_of(&lines[place]), place, first, closing);
     }
     first
 }

@@ -1,7 +1,7 @@
 //! The constants of a condition and their values (C99 6.4.4.1, 6.4.4.4).
 
 ghost use Rattle.std.specs.Prelude.{◌≡◌, ◌≤◌, ◌*◌, ◌||◌, ◌&&◌, ◌==◌, true, false, Some, None, option_map, if◌then◌else◌};
-ghost use Rattle.p10_direct.specs.Constants.{radix_of, digit_of, is_digit_of, digits_of, behind_digits, small_value, step_of, is_u, is_l, is_x, suffix_of, integer_in, integer_constant, simple_escape, byte_in, escape_of, character_of, character_constant, constant_of};
+ghost use Rattle.p10_direct.specs.Constants.{radix_of, digit_of, is_digit_of, digits_of, behind_digits, small_value, step_of, is_u, is_l, suffix_of, integer_in, integer_constant, simple_escape, byte_in, escape_of, character_of, character_constant, constant_of};
 ghost use Rattle.p10_direct.specs.Tokens.{token_of};
 ghost use Rattle.p10_direct.specs.Valued.{constant_read};
 
@@ -121,13 +121,13 @@ fn step(base: Base, value: u64, byte: u8) -> Option<u64>
     }
 }
 
-fn u(byte: u8) -> bool
+fn is_unsigned_letter(byte: u8) -> bool
     ensures { result ≡ is_u byte }
 {
     byte == b'u' || byte == b'U'
 }
 
-fn l(byte: u8) -> bool
+fn is_long_letter(byte: u8) -> bool
     ensures { result ≡ is_l byte }
 {
     byte == b'l' || byte == b'L'
@@ -150,9 +150,9 @@ fn suffix(text: &[u8]) -> Option<bool>
 fn one_letter(a: u8) -> Option<bool>
     ensures { result ≡ (if is_u a then Some true else if is_l a then Some false else None) }
 {
-    if u(a) {
+    if is_unsigned_letter(a) {
         Some(true)
-    } else if l(a) {
+    } else if is_long_letter(a) {
         Some(false)
     } else {
         None
@@ -163,9 +163,11 @@ fn two_letters(a: u8, b: u8) -> Option<bool>
     ensures { result ≡ (if (is_u a && is_l b) || (is_l a && is_u b) then Some true
         else if is_l a && (a == b) then Some false else None) }
 {
-    if (u(a) && l(b)) || (l(a) && u(b)) {
+    if (is_unsigned_letter(a) && is_long_letter(b))
+        || (is_long_letter(a) && is_unsigned_letter(b))
+    {
         Some(true)
-    } else if l(a) && a == b {
+    } else if is_long_letter(a) && a == b {
         Some(false)
     } else {
         None
@@ -176,7 +178,9 @@ fn three_letters(a: u8, b: u8, c: u8) -> Option<bool>
     ensures { result ≡ (if (is_u a && is_l b && (b == c)) || (is_l a && (a == b) && is_u c) then Some true
         else None) }
 {
-    if (u(a) && l(b) && b == c) || (l(a) && a == b && u(c)) {
+    if (is_unsigned_letter(a) && is_long_letter(b) && b == c)
+        || (is_long_letter(a) && a == b && is_unsigned_letter(c))
+    {
         Some(true)
     } else {
         None

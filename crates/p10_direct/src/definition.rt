@@ -160,12 +160,12 @@ pub fn is_variadic(found: &Definition<'_, '_>) -> bool
 {
     match &found.parameters {
         None => false,
-        Some(parameters) => has_more(parameters.as_slice()),
+        Some(parameters) => has_ellipsis_among(parameters.as_slice()),
     }
 }
 
 /// Whether `...` is among the words.
-fn has_more(words: &[Word<'_>]) -> bool
+fn has_ellipsis_among(words: &[Word<'_>]) -> bool
     ensures { result ≡ list_any is_ellipsis words.now }
 {
     words.iter().any(|word| punctuates(word, b"..."))

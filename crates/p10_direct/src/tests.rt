@@ -133,7 +133,11 @@ fn name(found: &Result<Directive<'_, '_>, DirectFault>) -> &'static str {
         Ok(Directive::InitDone) => "init_done",
         Ok(Directive::TaskLoop) => "task_loop",
         Ok(Directive::OtherPragma) => "pragma",
-        Err(DirectFault::Refused(refusal)) => { if refusal.number == 1 { "D1" } else { "D4" } }
+        Err(DirectFault::Refused(refusal)) => match refusal.number {
+            1 => "D1",
+            4 => "D4",
+            _ => "another refusal",
+        },
         Err(DirectFault::Memory) => "memory",
     }
 }

@@ -27,11 +27,12 @@ RunEnds macros words left ending = Ends macros None (map written words) left end
 
 -- ## `defined X` and `defined(X)`
 
--- what the words behind `defined` ask for: a name, and how many words that takes
+-- the name in parentheses for which the words behind `defined (` ask, and how many words behind `defined` that takes
 abbrev pub asked_inside : List Word → Option (Text × ℕ)
 asked_inside (name ∷ closing ∷ words) = if is_name_kind name.kind && is_punctuator (codes ")") closing then Some (name.text.now, 3) else None
 asked_inside _ = None
 
+-- what the words behind `defined` ask for: a name, and how many words that takes
 abbrev pub asked : List Word → Option (Text × ℕ)
 asked [] = None
 asked (word ∷ words) =

@@ -1,4 +1,4 @@
--- Include guards: a file whose text counts only once.
+-- Include guards: a file whose text counts only once (Holzmann, rule 8, allows conditional compilation for these alone).
 use Rattle.std.specs.Prelude.{ℕ, zero, suc, ◌-◌, length, slice_get, List, [], ◌∷◌, map, Bool, true, false, ◌&&◌, Option, Some, None, if◌then◌else◌, codes}
 use Rattle.p10_base.specs.declared.word.Word.{Word}
 use Rattle.p10_direct.specs.declared.mark.Mark.{Mark}

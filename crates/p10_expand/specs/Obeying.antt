@@ -198,11 +198,11 @@ Acts g digits file stand breaks line (Read directive) s next =
 
 -- ## Lines
 
--- the line at this place is the first that breaks the structure of the file's conditionals
 abbrev pub is_place : ℕ → Option ℕ → Bool
 is_place place None = false
 is_place place (Some other) = place == other
 
+-- the line at this place is the first that breaks the structure of the file's conditionals
 abbrev pub breaks_at : File → ℕ → Bool
 breaks_at file place = is_place place (first_unbalanced file.pieces)
 

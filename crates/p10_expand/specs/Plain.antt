@@ -8,7 +8,7 @@ use Rattle.p10_lex.specs.Pieces.{LexedWord, seen}
 use Rattle.p10_expand.specs.declared.expanded.Obeyed.{Obeyed as ObeyedLine}
 use Rattle.p10_expand.specs.Expands.{Layout, IsLaidOut, Expansion, Expands}
 
--- a directive that stands in no skipped group: its words, its place, and whether it begins an include guard
+-- a directive that was obeyed, or the refused one, which for D2 may stand in a skipped group: its words, its place, and whether it begins an include guard
 pub record PlainObeyed : Type 0 where
   pub words : List LexedWord
   pub span : Span

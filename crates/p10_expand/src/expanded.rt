@@ -15,7 +15,7 @@ pub struct Expanded<'s> {
     pub refusal: Option<Refusal>,
 }
 
-/// A directive that stands in no skipped group, or the line of the refusal D2.
+/// A directive that was obeyed, or the refused one, which for D2 may stand in a skipped group.
 #[derive(Drop)]
 pub struct Obeyed<'s> {
     /// The words of its line, from its `#` on.

@@ -25,7 +25,8 @@ const LONGEST_CHAIN: u32 = 64;
 /// The source files of a program with these roots: the roots in their order, and then, for each gathered
 /// file in order, the files for which its include lines stand, also those of skipped groups.
 ///
-/// `dirs` are the directories in which included files are looked for. No name is asked for twice.
+/// `dirs` are the directories in which included files are looked for. No name is asked for twice. There are fewer than
+/// 2^32 - 1 roots.
 pub fn gather<F: Files>(
     alloc: Global,
     files: &mut F,

@@ -1,4 +1,4 @@
--- Where pending words leave parentheses.
+-- The ends of the argument and of the call in which pending words stand.
 use Rattle.std.specs.Prelude.{◌≡◌, ℕ, suc, ◌+◌, ◌==◌, List, [], ◌∷◌, length, ◌&&◌, ◌||◌, if◌then◌else◌}
 use Rattle.p10_macros.specs.declared.pending.Exits.{Exits}
 use Rattle.p10_macros.specs.declared.pending.Pending.{Pending}
@@ -25,7 +25,7 @@ commas depth (pending ∷ items) =
     else if separates pending.traced.word && (depth == 0) then suc (commas 0 items)
     else commas (depth_behind depth pending.traced.word) items
 
--- the words leave parentheses there
+-- the words stand in front of these ends
 pub record HasExits (exits : Exits) (items : List Pending) : Type 0 where
   pub argument : exits.argument ≡ argument_end 0 items
   pub call : exits.call ≡ call_end 0 items
@@ -43,6 +43,6 @@ abbrev pub behind_place : List Pending → ℕ → List Pending
 behind_place [] place = []
 behind_place (pending ∷ items) place = if place == length items + 1 then items else behind_place items place
 
--- each word knows where the words behind it leave parentheses
+-- each word knows the ends in front of which the words behind it stand
 abbrev pub IsLinked : List Pending → Type 0
 IsLinked items = (place : ℕ) → HasExits (exits_past items place) (behind_place items place)

@@ -12,7 +12,8 @@ pub record Entry : Type 0 where
   pub made : PlainMacro
   pub builtin : Bool
 
--- the macros that are defined, in the order of their definitions; no name stands twice
+-- the macros that are defined, in the order of their definitions; no name stands twice, since only names that aren't there are put
+-- behind the others
 abbrev pub Table : Type 0
 Table = List Entry
 
@@ -39,7 +40,7 @@ same_word this that = same_kind this.kind that.kind && bytes_eq this.text.now th
 abbrev pub same_lists : {A : Type 0} → (A → A → Bool) → List A → List A → Bool
 same_lists same these those = (length these == length those) && list_all (λ pair. same pair.0 pair.1) (zip these those)
 
--- replacement lists are the same where their words are, by kind and spelling; a word has no white space of its own
+-- replacement lists are the same where their words are, by kind and spelling; C99 also asks for white space at the same places
 abbrev pub same_words : List Word → List Word → Bool
 same_words these those = same_lists same_word these those
 

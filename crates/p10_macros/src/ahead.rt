@@ -1,17 +1,17 @@
 //! The words that are still to be looked through.
 //!
-//! Each word knows where the words behind it leave parentheses. So the `)` of a use is found at once, and no word is
-//! passed again for each use around it.
+//! Each word knows the ends of the argument and of the call in which the words behind it stand: the next comma or `)`, and
+//! the next `)`, that none of these words has in parentheses of its own. So the `)` of a use is found at once, and no word
+//! is passed again for each use around it.
 
-ghost use Rattle.std.specs.Prelude.{◌≡◌, reverse};
-ghost use Rattle.p10_direct.specs.Spelling.{is_punctuator};
+ghost use Rattle.std.specs.Prelude.{reverse};
 ghost use Rattle.p10_macros.specs.Links.{IsLinked};
 
 use crate::pending::{Exits, Pending, Traced};
-use p10_base::{Kind, Word};
+use p10_direct::punctuates;
 use std::alloc::{AllocError, Global};
 
-/// Where words leave parentheses that none of them closes.
+/// The ends in front of words of which none ends an argument.
 const NOWHERE: Exits = Exits {
     argument: 0,
     call: 0,
@@ -65,7 +65,7 @@ impl<'s> Ahead<'s> {
         self.words.pop()
     }
 
-    /// Takes the next word, and tells where the words behind it leave parentheses.
+    /// Takes the next word, and tells the ends in front of which the words behind it stand.
     pub fn skip(&mut self) -> Exits
         ensures taken { self.new.words.items ≡ take (length self.old.words.items - 1) self.old.words.items }
         ensures exits { HasExits result (reverse self.new.words.items) }
@@ -85,7 +85,7 @@ impl<'s> Ahead<'s> {
         Ok(())
     }
 
-    /// How many arguments stand in front of a `)`, where the words leave parentheses there.
+    /// How many arguments stand in front of the end of a call, where these are the ends in front of which the words stand.
     pub fn arguments(&self, exits: Exits) -> usize
         requires exits { HasExits exits (reverse self.now.words.items) }
         requires closed { 0 < exits.call }
@@ -100,7 +100,7 @@ impl<'s> Ahead<'s> {
         count
     }
 
-    /// Where the words leave parentheses.
+    /// The ends in front of which the words stand.
     fn exits(&self) -> Exits
         ensures { HasExits result (reverse self.now.words.items) }
     {
@@ -124,7 +124,7 @@ impl<'s> Ahead<'s> {
         }
     }
 
-    /// Where the words behind a place leave parentheses.
+    /// The ends in front of which the words behind a place stand; a place that no word has gives none.
     fn exits_behind(&self, place: usize) -> Exits
         ensures { result ≡ exits_past (reverse self.now.words.items) place }
     {
@@ -136,11 +136,4 @@ impl<'s> Ahead<'s> {
         }
         self.words[place - 1].exits
     }
-}
-
-/// Whether the word is this punctuator.
-pub fn punctuates(word: &Word<'_>, text: &[u8]) -> bool
-    ensures { result ≡ is_punctuator text.now word.now }
-{
-    matches!(word.kind, Kind::Punct) && word.text == text
 }

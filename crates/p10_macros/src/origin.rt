@@ -25,6 +25,7 @@ pub fn comes_from(origins: &[Origin<'_>], number: usize, name: &[u8]) -> bool
         if name == origin.name {
             return true;
         }
+        // A list goes on with an older one, so this doesn't come.
         if origin.further >= at {
             return false;
         }
@@ -47,6 +48,7 @@ pub fn unite<'s>(
     while at > 0 && at <= origins.len() {
         let origin = origins[at - 1];
         all = with_origin(origins, all, origin.name)?;
+        // A list goes on with an older one, so this doesn't come.
         if origin.further >= at {
             return Ok(all);
         }

@@ -13,8 +13,8 @@ pub struct Traced<'s> {
     pub from: usize,
 }
 
-/// Where pending words leave parentheses. A place is the number of pending words from the last one up to that place, and
-/// 0 is none.
+/// The ends of the argument and of the call in which pending words stand. A place is the number of pending words from the
+/// last one up to that place, and 0 is none.
 #[derive(Clone, Copy)]
 pub struct Exits {
     /// The next comma or `)` in no parentheses of the words before it.
@@ -27,7 +27,7 @@ pub struct Exits {
 #[derive(Clone, Copy)]
 pub struct Pending<'s> {
     pub traced: Traced<'s>,
-    /// Where the words behind it leave parentheses.
+    /// The ends in front of which the words behind it stand.
     pub exits: Exits,
 }
 

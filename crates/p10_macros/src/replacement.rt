@@ -2,7 +2,7 @@
 
 ghost use Rattle.std.specs.Prelude.{◌≡◌, ℕ, ◌+◌, ◌<◌, ◌≤◌, List, [], ◌∷◌, ◌++◌, length, map, option_copied, option_map, IfOk, IfErr};
 ghost use Rattle.std.specs.List.{flat_map};
-ghost use Rattle.p10_direct.specs.Spelling.{Text, is_name};
+ghost use Rattle.p10_direct.specs.Spelling.{Text};
 ghost use Rattle.p10_direct.specs.Form.{plain_macro};
 ghost use Rattle.p10_macros.specs.declared.origin.Origin.{Origin as Node};
 ghost use Rattle.p10_macros.specs.Uses.{Sourced, texts_of, replacement};
@@ -15,8 +15,8 @@ use crate::ahead::Ahead;
 use crate::origin::{Origin, add_origin, unite};
 use crate::pending::Traced;
 use crate::replaced::ReplaceFault;
-use p10_base::{Kind, Span, Word};
-use p10_direct::Macro;
+use p10_base::{Span, Word};
+use p10_direct::{Macro, names};
 use std::alloc::AllocError;
 
 /// Puts the replacement of a use on top of the pending words, where `left` words may still be made, and tells how many
@@ -130,13 +130,6 @@ fn value_named<'v, 's>(
         place += 1;
     }
     None
-}
-
-/// Whether the word is this name.
-fn names(word: &Word<'_>, text: &[u8]) -> bool
-    ensures { result ≡ is_name text.now word.now }
-{
-    matches!(word.kind, Kind::Name) && word.text == text
 }
 
 /// Puts a word of a replacement on top, at the place of the use.

@@ -12,14 +12,14 @@ ghost use Rattle.p10_macros.specs.Looking.{macro_used, opens_on_top, refusal_at}
 ghost use Rattle.p10_macros.specs.declared.replaced.ReplaceFault.TheVariants as faults;
 ghost use Rattle.p10_macros.specs.declared.pending.Pending.{Pending as Next};
 
-use crate::ahead::{Ahead, punctuates};
+use crate::ahead::Ahead;
 use crate::origin::comes_from;
 use crate::pending::{Exits, Open, Pending, Run, Traced};
 use crate::replaced::ReplaceFault;
 use crate::replacement::put_replacement;
 use crate::table::Macros;
 use p10_base::{Family, Kind, Refusal, Span};
-use p10_direct::Macro;
+use p10_direct::{Macro, punctuates};
 use std::alloc::AllocError;
 use std::mem;
 
@@ -33,6 +33,7 @@ pub fn step<'m, 'w, 's>(
     ensures err { IfErr result (Fails (table_of macros.now) run.old next.entry) }
     ensures lighter { OnOk result (weight run.new ≤ weight run.old) }
 {
+    // The place of the next word, which was taken, is one more than the words that are left.
     if run.pending.count() >= run.stop {
         look(run, macros, next)
     } else if punctuates(&next.traced.word, b")") {
@@ -125,8 +126,8 @@ fn begin_use<'m, 'w, 's>(
     }
 }
 
-/// Begins the use of a function-like macro, whose `(` was the next word; `exits` tells where the words behind that leave
-/// parentheses.
+/// Begins the use of a function-like macro, whose `(` was the next word; `exits` are the ends in front of which the words
+/// behind that one stand.
 fn begin_call<'m, 'w, 's>(
     run: &mut Run<'m, 'w, 's>,
     made: &'m Macro<'w, 's>,
@@ -210,6 +211,7 @@ fn end_argument<'m, 'w, 's>(run: &mut Run<'m, 'w, 's>, stop: usize) -> Result<()
     let value = mem::replace(&mut run.done, Vec::new(run.alloc));
     run.stop = stop;
     match run.open.pop() {
+        // An argument ends in an open use alone, so this doesn't come.
         None => Ok(()),
         Some(mut open) => match put_argument(&mut open.values, value) {
             Ok(()) => match put_open(&mut run.open, open) {
@@ -228,6 +230,7 @@ fn end_call<'m, 'w, 's>(run: &mut Run<'m, 'w, 's>) -> Result<(), ReplaceFault>
     ensures lighter { OnOk result (weight run.new ≤ weight run.old) }
 {
     match run.open.pop() {
+        // An argument ends in an open use alone, so this doesn't come.
         None => Ok(()),
         Some(open) => {
             let Open {

@@ -1,9 +1,8 @@
 //! Replacements at their edges. Where C99 gives an answer too, the expected words are those of `gcc -E`.
 
-use crate::ahead::punctuates;
 use crate::{Definition, Macros, ReplaceFault, Replaced, replace};
 use p10_base::{Kind, Span, Word};
-use p10_direct::{Directive, Line, Macro, directive, lines};
+use p10_direct::{Directive, Line, Macro, directive, lines, punctuates};
 use std::alloc::{AllocError, Global};
 use std::test::Fail;
 

@@ -28,10 +28,10 @@ fn obeyed<'s>(
 
 /// The directives of a text, each so many times. Those on lines that begin with `#ifndef GUARD` begin
 /// include guards.
-fn expanded<'s>(alloc: Global, text: &'s str, times: usize) -> Result<Expanded<'s>, AllocError> {
+fn expanded<'s>(alloc: Global, text: &'s str, times: usize) -> Result<Expanded<'s>, Fail> {
     let words = match lex(alloc, 0, text.as_bytes()) {
         Ok(words) => words,
-        Err(_) => Vec::new(alloc),
+        Err(_) => return Err(Fail::new("the text has no words")),
     };
     let cut = lines(alloc, &words)?;
     let mut all = Vec::new(alloc);

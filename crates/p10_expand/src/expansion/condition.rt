@@ -166,7 +166,7 @@ fn asked_behind<'s>(words: &[Word<'s>]) -> Option<(&'s [u8], usize)>
     }
 }
 
-/// The name before `)`, and that three words of the question stand behind `defined`.
+/// The name `X` of `defined(X)`, by the words behind its `(`; the question takes three words behind `defined`.
 fn inside<'s>(words: &[Word<'s>]) -> Option<(&'s [u8], usize)>
     ensures value { as_asked result ≡ asked_inside words.now }
     ensures few { IfSome result (λ found. found.1 ≤ 1 + length words.now) }

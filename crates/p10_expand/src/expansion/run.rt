@@ -73,6 +73,7 @@ fn expand_before<'w, 's>(
             Ok(())
         }
         Err(ReplaceFault::Memory) => Err(AllocError),
+        // These words have a replacement (the law `words_before_give`), so no other answer comes.
         Err(ReplaceFault::Refused(_)) => Ok(()),
         Err(ReplaceFault::TooMany) => Ok(()),
     }
