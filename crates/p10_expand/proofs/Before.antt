@@ -5,9 +5,8 @@ use Rattle.p10_base.specs.declared.span.Span.{Span}
 use Rattle.p10_base.specs.declared.word.Word.{Word}
 use Rattle.p10_lex.specs.Pieces.{seen}
 use Rattle.p10_lex.specs.Slices.{AreSlices}
-use Rattle.p10_macros.specs.Table.{Table}
 use Rattle.p10_macros.specs.Uses.{Sourced, written}
-use Rattle.p10_macros.specs.Endings.{Gives, Refused}
+use Rattle.p10_macros.specs.Endings.{Gives}
 use Rattle.p10_macros.specs.Ends.{Ends}
 use Rattle.p10_macros.specs.Fronts.{FrontsGive}
 use Rattle.p10_expand.specs.Obeying.{begins_at, words_before}

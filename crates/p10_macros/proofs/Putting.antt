@@ -15,7 +15,7 @@ use Rattle.p10_macros.specs.declared.replaced.ReplaceFault.TheVariants as fault
 use Rattle.p10_macros.specs.Uses.{Sourced, given, value_of, value_or, texts_of, written, replacement}
 use Rattle.p10_macros.specs.Origins.{listed, Extends, HasBoth, HasFirst}
 use Rattle.p10_macros.specs.Traces.{IsTraced, AreTraced, AreValues}
-use Rattle.p10_macros.specs.Putting.{fresh, IsPushed, ArePut, Puts, IsBase, IsJoined, PutsValue, PutsPart, PutsList, PutsReplacement, part_of, IsValue, Short}
+use Rattle.p10_macros.specs.Putting.{fresh, IsPushed, ArePut, Puts, IsBase, IsJoined, Joins, PutsValue, PutsPart, PutsList, PutsReplacement, part_of, IsValue, Short}
 use Rattle.p10_macros.proofs.Listing.{listed_extends, listed_none, longer, or_no_more}
 
 -- ## More origins
@@ -83,6 +83,19 @@ joined_both old new from own all macro' name' is has = record {
   both = λ other. has.both other ∙ or_swaps (listed old own other) (listed old from other) ∙ ap (λ (b : Bool). b || listed old own other) (is.base other);
 }
 
+-- words of no macro come from those of the use
+pub joins_none : (base : List Origin) (name : Traced) (from : ℕ) → Joins base base name from 0 from
+joins_none base name from macro' name' named is less = joined_none base name.from from 0 macro' name' (omega arith) is
+
+pub joins_known : (base now : List Origin) (name : Traced) (from own known all : ℕ) → own ≡ known → Joins base now name from known all → Joins base now name from own all
+joins_known base now name from own known all same joins = subst (λ (n : ℕ). Joins base now name from n all) (sym same) joins
+
+pub joins_both : (base old new : List Origin) (name : Traced) (from own all : ℕ) → Extends base old →
+    ((macro' : Text) (name' : Sourced) → ((other : Text) → listed old name.from other ≡ name'.from other) → own ≤ length old → IsBase old from macro' name' → IsJoined old own macro' name' new all) → Joins base new name from own all
+joins_both base old new name from own all grown joined macro' name' named is less =
+    let now = joined macro' name' (traced_more base old grown name name' named).from (longer base old grown own less) (base_more base old grown from macro' name' is) in
+    record { known = now.known; both = λ other. now.both other ∙ ap (λ (b : Bool). (bytes_eq other macro' || name'.from other) || b) (listed_extends base old grown own other less) }
+
 pub base_of : (old new : List Origin) (macro' : Text) (name : Traced) (name' : Sourced) (from : ℕ) → HasFirst old macro' name.from new from → IsTraced old name name' → IsBase new from macro' name'
 base_of old new macro' name name' from has is = record {
   known = has.known;
@@ -108,17 +121,6 @@ puts_one origins before behind traced word left remaining pushed costs is = reco
   put = (subst (λ (t : Traced). IsTraced origins t word) (sym pushed.of) is, tt);
   costs = omega (arith, costs);
 }
-
-pub puts_traced : (old new : List Origin) (before behind : List Pending) (name part : Traced) (from all left remaining : ℕ) → Extends old new →
-    ((macro' : Text) (name' : Sourced) → ((other : Text) → listed old name.from other ≡ name'.from other) → part.from ≤ length old → IsBase old from macro' name' → IsJoined old part.from macro' name' new all) →
-    left ≡ remaining + 1 → IsPushed before behind (fresh part.word name.word.at all) → PutsValue old new before behind name from (part ∷ []) left remaining
-puts_traced old new before behind name part from all left remaining grown joined costs is plain name' [] named base are = absurd are
-puts_traced old new before behind name part from all left remaining grown joined costs is plain name' (word ∷ []) named base (traced, are) =
-    let joins : IsJoined old part.from plain.name name' new all = joined plain.name name' named.from traced.known base in
-    puts_one new before behind (fresh part.word name.word.at all) (given plain name' word) left remaining is costs
-    (fresh_traced new part.word name.word.at all plain name' word traced.word (ap (λ (w : Word). w.at) named.word) joins.known
-    (λ other. joins.both other ∙ ap (λ (b : Bool). (bytes_eq other plain.name || name'.from other) || b) (traced.from other)))
-puts_traced old new before behind name part from all left remaining grown joined costs is plain name' (word ∷ (more ∷ words)) named base (traced, are) = absurd are
 
 put_both : (origins : List Origin) (first second : List Pending) (these those : List Sourced) → ArePut origins first these → ArePut origins second those → ArePut origins (first ++ second) (these ++ those)
 put_both origins [] second [] those put put' = put'
@@ -166,17 +168,22 @@ puts_behind_none origins before name from value place left whole plain name' wor
     let none : drop place words ≡ [] = drop_all place words (omega (arith, traced_length origins value words are, whole)) in
     subst (λ (l : List Sourced). Puts origins before before (map (given plain name') l) left left) (sym none) (puts_none origins before left)
 
-pub puts_behind_more : (old middle new : List Origin) (first second third : List Pending) (name : Traced) (from : ℕ) (value : List Traced) (place : ℕ) (none : Traced) (all left remaining : ℕ) →
-    Extends old middle → Extends middle new → 0 < place → place ≤ length value → PutsBehind old middle first second name from value place all left →
-    PutsValue middle new second third name from (slice_index_or value (place - 1) none ∷ []) left remaining → PutsBehind old new first third name from value (place - 1) all remaining
-puts_behind_more old middle new first second third name from value place none all left remaining grown grown' more less these one plain name' words named base are =
+pub puts_behind_word : (old middle new : List Origin) (first second third : List Pending) (name : Traced) (from : ℕ) (value : List Traced) (place : ℕ) (none : Traced) (all total left remaining : ℕ) →
+    Extends old middle → Extends middle new → 0 < place → place ≤ length value → PutsBehind old middle first second name from value place total left →
+    Joins old new name from (slice_index_or value (place - 1) none).from all → left ≡ remaining + 1 → IsPushed second third (fresh (slice_index_or value (place - 1) none).word name.word.at all) →
+    PutsBehind old new first third name from value (place - 1) total remaining
+puts_behind_word old middle new first second third name from value place none all total left remaining grown grown' more less these joins costs pushed plain name' words named base are =
     let (word, traced, next) = traced_at old (place - 1) none value words (omega arith) are in
+    let part : Traced = slice_index_or value (place - 1) none in
     let up : suc (place - 1) ≡ place = omega arith in
     let next' : drop (place - 1) words ≡ word ∷ drop place words = next ∙ ap (λ (n : ℕ). word ∷ drop n words) up in
-    subst (λ (l : List Sourced). Puts new first third (map (given plain name') l) all remaining) (sym next')
-    (puts_more middle new grown' first second third (given plain name' word ∷ []) (map (given plain name') (drop place words)) all left remaining
-    (these plain name' words named base are)
-    (one plain name' (word ∷ []) (traced_more old middle grown name name' named) (base_more old middle grown from plain.name name' base) (traced_more old middle grown _ word traced, tt)))
+    let joined : IsJoined old part.from plain.name name' new all = joins plain.name name' named base traced.known in
+    let here : IsTraced new (fresh part.word name.word.at all) (given plain name' word) =
+    fresh_traced new part.word name.word.at all plain name' word traced.word (ap (λ (w : Word). w.at) named.word) joined.known
+    (λ other. joined.both other ∙ ap (λ (b : Bool). (bytes_eq other plain.name || name'.from other) || b) (traced.from other)) in
+    subst (λ (l : List Sourced). Puts new first third (map (given plain name') l) total remaining) (sym next')
+    (puts_more middle new grown' first second third (given plain name' word ∷ []) (map (given plain name') (drop place words)) total left remaining
+    (these plain name' words named base are) (puts_one new second third (fresh part.word name.word.at all) (given plain name' word) left remaining pushed costs here))
 
 -- a fact of an answer from two others
 pub if_ok_both : {A E : Type 0} {P Q R : A → Type 0} (r : Result A E) → IfOk r P → IfOk r Q → ((x : A) → P x → Q x → R x) → IfOk r R

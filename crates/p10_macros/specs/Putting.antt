@@ -47,6 +47,10 @@ pub record IsJoined (old : List Origin) (own : ℕ) (macro' : Text) (name : Sour
   pub known : all ≤ length new
   pub both : (other : Text) → listed new all other ≡ ((bytes_eq other macro' || name.from other) || listed old own other)
 
+-- the same, for a use with this name, and for lists that were there before its argument was put
+abbrev pub Joins : List Origin → List Origin → Traced → ℕ → ℕ → ℕ → Type 0
+Joins base now name from own all = (macro' : Text) (name' : Sourced) → IsTraced base name name' → IsBase base from macro' name' → own ≤ length base → IsJoined base own macro' name' now all
+
 -- a fault that is no refusal: where words were wanting, this holds
 abbrev pub Short : ReplaceFault → Type 0 → Type 0
 Short (fault.Refused refusal) P = ⊥

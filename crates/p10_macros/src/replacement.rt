@@ -9,7 +9,7 @@ ghost use Rattle.p10_macros.specs.Uses.{Sourced, texts_of, replacement};
 ghost use Rattle.p10_macros.specs.Uses as uses;
 ghost use Rattle.p10_macros.specs.Origins.{listed, Extends};
 ghost use Rattle.p10_macros.specs.Traces.{IsTraced, AreValues};
-ghost use Rattle.p10_macros.specs.Putting.{fresh, IsPushed, IsBase, IsJoined, Short, PutsValue, PutsPart, PutsList, PutsReplacement, IsValue, part_of};
+ghost use Rattle.p10_macros.specs.Putting.{fresh, IsPushed, IsBase, IsJoined, Joins, Short, PutsValue, PutsPart, PutsList, PutsReplacement, IsValue, part_of};
 
 use crate::ahead::Ahead;
 use crate::origin::{Origin, add_origin, unite};
@@ -18,6 +18,13 @@ use crate::replaced::ReplaceFault;
 use p10_base::{Span, Word};
 use p10_direct::{Macro, names};
 use std::alloc::AllocError;
+
+/// A list of macros, by its number, and the list that has those of a use too.
+#[derive(Clone, Copy)]
+struct Joined {
+    own: usize,
+    all: usize,
+}
 
 /// Puts the replacement of a use on top of the pending words, where `left` words may still be made, and tells how many
 /// are left.
@@ -175,33 +182,37 @@ fn put_value<'s>(
     ensures err { IfErr result (λ fault. Short fault (left < length value.now)) }
 {
     let mut left = left;
+    let mut joined = Joined { own: 0, all: from };
     let mut place = value.len();
     while place > 0 {
         place -= 1;
-        left = put_traced(pending, origins, &value[place], name, from, left)?;
+        let part = value[place];
+        match join(origins, name, from, joined, part.from) {
+            Ok(next) => joined = next,
+            Err(_) => return Err(ReplaceFault::Memory),
+        }
+        left = put_word(pending, part.word, name.word.at, joined.all, left)?;
     }
     Ok(left)
 }
 
-/// Puts a word of an argument on top.
-fn put_traced<'s>(
-    pending: &mut Ahead<'s>,
+/// The lists of a word with the list `own`, which is often that of the word behind it: then they are known.
+fn join<'s>(
     origins: &mut Vec<Origin<'s>>,
-    part: &Traced<'s>,
     name: Traced<'s>,
     from: usize,
-    left: u64,
-) -> Result<u64, ReplaceFault>
-    ensures lighter { IfOk result (λ remaining. (remaining ≤ left) × (remaining + length pending.new.words.items ≡ left + length pending.old.words.items)) }
+    known: Joined,
+    own: usize,
+) -> Result<Joined, AllocError>
     ensures grown { Extends origins.old.items origins.new.items }
-    ensures ok { IfOk result (PutsValue origins.old.items origins.new.items pending.old.words.items pending.new.words.items name.entry from (part.now ∷ []) left) }
-    ensures costs { IfOk result (λ remaining. left ≡ remaining + 1) }
-    ensures err { IfErr result (λ fault. Short fault (left ≡ 0)) }
+    ensures own { IfOk result (λ joined. joined.own ≡ own) }
+    ensures joined { IfOk result (λ joined. (base : List Node) → Extends base origins.old.items → Joins base origins.old.items name.entry from known.own known.all → Joins base origins.new.items name.entry from own joined.all) }
 {
-    match both(origins, name.from, from, part.from) {
-        Ok(all) => put_word(pending, part.word, name.word.at, all, left),
-        Err(_) => Err(ReplaceFault::Memory),
+    if own == known.own {
+        return Ok(known);
     }
+    let all = both(origins, name.from, from, own)?;
+    Ok(Joined { own, all })
 }
 
 /// The number of the list of macros that a word of an argument comes from: those of the use, and its own.

@@ -1,5 +1,6 @@
 use Rattle.std.proofs.Common.{◌≡◌, ◌≤◌, ◌+◌, length}
 use Rattle.p10_macros.specs.Origins.{Extends}
+use Rattle.p10_macros.specs.Putting.{Joins}
 use Rattle.p10_macros.proofs.Putting.{PutsBehind}
 use Rattle.p10_macros.proofs.replacement.put_value.Given as goal
 
@@ -10,6 +11,7 @@ invariant-loop-place l = record {
   less : l.left ≤ l.fn.left;
   lighter : l.left + length l.pending.words.items ≡ l.fn.left + length l.fn.pending.words.items;
   grown : Extends l.fn.origins.items l.origins.items;
+  joined : Joins l.fn.origins.items l.origins.items l.name l.from l.joined.own l.joined.all;
   counted : l.fn.left + l.place ≡ length l.value + l.left;
   puts : PutsBehind l.fn.origins.items l.origins.items l.fn.pending.words.items l.pending.words.items l.name l.from l.value l.place l.fn.left l.left;
 }
