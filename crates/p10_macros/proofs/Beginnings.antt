@@ -18,8 +18,8 @@ use Rattle.p10_macros.specs.Table.{Table}
 use Rattle.p10_macros.specs.Uses.{Sourced, Wrong, Calls, use_of, use_as, called, next_opens, Arguments, arguments_in}
 use Rattle.p10_macros.specs.Running.{OpenUse}
 use Rattle.p10_macros.specs.Origins.{listed}
-use Rattle.p10_macros.specs.Traces.{IsTraced, AreTraced}
-use Rattle.p10_macros.specs.Standing.{Plays, Stands, StandsBy, Role, NextWord, EndsArgument, EndsCall, role_of, place_among, State, LeadsTo, FaultComes, AtUse, AtCall, IsReplacedIn, IsTooLong, IsOpenedIn}
+use Rattle.p10_macros.specs.Traces.{IsTraced}
+use Rattle.p10_macros.specs.Standing.{Plays, Stands, StandsBy, Role, NextWord, EndsArgument, EndsCall, role_of, place_among, State, KeepsFor, LeadsTo, FaultComes, AtUse, AtCall, IsReplacedIn, IsTooLong, IsOpenedIn}
 use Rattle.p10_macros.specs.Links.{argument_end, call_end, commas, HasExits}
 use Rattle.p10_macros.specs.Looking.{refusal_at, macro_used}
 use Rattle.p10_macros.proofs.Standings.{HasNext, has_next, next_opens_is, next_closes, closed_at_once, closed_later}
@@ -74,10 +74,10 @@ module _ (table : Table) (old : Run) (plain : PlainMacro) (name : Traced) (state
 
   pub use_object : plain.parameters ≡ None → listed old.origins.items name.from plain.name ≡ false → (new : Run) → IsReplacedIn old new plain name [] → LeadsTo table state new
   use_object none from new replaced =
-      moved_replaced table old plain name state at.word at.words at.words at.todo at.traced at.left (use_of_object none from) new replaced at.stands at.done
+      moved_replaced table old plain name state at.word at.words at.words at.todo at.traced at.keeps (use_of_object none from) new replaced at.stands
 
   pub use_object_too_long : plain.parameters ≡ None → listed old.origins.items name.from plain.name ≡ false → (f : ReplaceFault) → IsTooLong old plain name [] f → FaultComes table state f
-  use_object_too_long none from f short = moved_too_long table old plain name state at.word at.words at.words at.todo at.traced at.left (use_of_object none from) f short
+  use_object_too_long none from f short = moved_too_long table old plain name state at.word at.words at.words at.todo at.traced at.keeps (use_of_object none from) f short
 
   module _ (parameters : List Text) (some : plain.parameters ≡ Some parameters) (from : listed old.origins.items name.from plain.name ≡ false) (popped : Ahead)
       (popped_is : popped.words.items ≡ take (length old.pending.words.items - 1) old.pending.words.items) where
@@ -91,8 +91,7 @@ module _ (table : Table) (old : Run) (plain : PlainMacro) (name : Traced) (state
       traced = at.traced;
       stands = popped_stands old.origins.items old.pending popped old.stop (reverse old.open.items) paren words state.uses popped_is
           (subst (λ (l : List Sourced). Stands old.origins.items (reverse old.pending.words.items) old.stop (reverse old.open.items) l state.uses) e at.stands);
-      done = at.done;
-      left = at.left;
+      keeps = at.keeps;
       is = subst (λ (l : List Sourced). use_of table at.word l ≡ use_as plain plain.parameters at.word l) e at.is
           ∙ ap (λ (p : Option (List Text)). use_as plain p at.word (paren ∷ words)) some ∙ as_function plain parameters at.word paren words open' (from_is false from);
     }
@@ -153,15 +152,15 @@ module _ (table : Table) (old : Run) (plain : PlainMacro) (parameters : ℕ) (na
       none_replaced : (words : List Sourced) → at.words ≡ words → next_closes words ≡ true → (new : Run) → IsReplacedIn (record old { pending = popped }) new plain name [] → LeadsTo table state new
       none_replaced [] e close new replaced = cc
       none_replaced (close' ∷ rest) e close new replaced =
-          moved_replaced table (record old { pending = popped }) plain name state at.word (at.paren ∷ at.words) rest at.todo at.traced at.left
+          moved_replaced table (record old { pending = popped }) plain name state at.word (at.paren ∷ at.words) rest at.todo at.traced at.keeps
           (at.is ∙ ap (λ (l : List Sourced). called plain parameters (arguments_in 0 l)) e ∙ called_none plain parameters close' rest none close) new replaced
           (popped_stands old.origins.items old.pending popped old.stop (reverse old.open.items) close' rest state.uses popped_is
-          (subst (λ (l : List Sourced). Stands old.origins.items items old.stop (reverse old.open.items) l state.uses) e at.stands)) at.done
+          (subst (λ (l : List Sourced). Stands old.origins.items items old.stop (reverse old.open.items) l state.uses) e at.stands))
 
       none_too_long : (words : List Sourced) → at.words ≡ words → next_closes words ≡ true → (f : ReplaceFault) → IsTooLong (record old { pending = popped }) plain name [] f → FaultComes table state f
       none_too_long [] e close f short = cc
       none_too_long (close' ∷ rest) e close f short =
-          moved_too_long table (record old { pending = popped }) plain name state at.word (at.paren ∷ at.words) rest at.todo at.traced at.left
+          moved_too_long table (record old { pending = popped }) plain name state at.word (at.paren ∷ at.words) rest at.todo at.traced at.keeps
           (at.is ∙ ap (λ (l : List Sourced). called plain parameters (arguments_in 0 l)) e ∙ called_none plain parameters close' rest none close) f short
 
       pub call_none : (new : Run) → IsReplacedIn (record old { pending = popped }) new plain name [] → LeadsTo table state new
@@ -182,23 +181,23 @@ pub call_right : (table : Table) (old new : Run) (made : Bor Macro) (parameters 
     (has : HasExits exits (reverse old.pending.words.items)) → (inside : old.stop < exits.call) → parameters ≡ commas 0 (reverse old.pending.words.items) + 1 → IsOpenedIn old new made name exits.argument → LeadsTo table state new
 call_right table old new made parameters name state at exits has inside same opened =
     let found : HasFound table old (plain_macro made.now) parameters name state at exits has inside = has_found table old (plain_macro made.now) parameters name state at exits has inside in
-    moved_opened table old new made name state at.word (at.paren ∷ at.words) found.found at.todo at.traced at.left
-    (at.is ∙ called_with (plain_macro made.now) parameters at.words found.found found.is (same ∙ found.counted)) exits.argument at.words opened at.stands at.done found.stands
+    moved_opened table old new made name state at.word (at.paren ∷ at.words) found.found at.todo at.traced at.keeps
+    (at.is ∙ called_with (plain_macro made.now) parameters at.words found.found found.is (same ∙ found.counted)) exits.argument at.words opened at.stands found.stands
 
 -- ## The name of a macro
 
-at_use_with : (table : Table) (run : Run) (plain : PlainMacro) (name : Traced) (todo done : List Sourced) (uses : List OpenUse) (left : ℕ) → macro_used table (reverse run.pending.words.items) name.word ≡ Some plain →
-    HasNext run.origins.items name (reverse run.pending.words.items) run.stop (reverse run.open.items) todo uses → AreTraced run.origins.items run.done.items done → run.left ≡ left →
-    AtUse table run plain name (record { todo = todo; done = done; uses = uses; left = left })
-at_use_with table run plain name [] done uses left used next are is = absurd next
-at_use_with table run plain name (word ∷ words) done uses left used (traced, stands) are is =
+at_use_with : (table : Table) (run : Run) (plain : PlainMacro) (name : Traced) (given todo done : List Sourced) (uses : List OpenUse) (left : ℕ) → macro_used table (reverse run.pending.words.items) name.word ≡ Some plain →
+    HasNext run.origins.items name (reverse run.pending.words.items) run.stop (reverse run.open.items) todo uses → KeepsFor run (record { given = given; todo = todo; done = done; uses = uses; left = left }) →
+    AtUse table run plain name (record { given = given; todo = todo; done = done; uses = uses; left = left })
+at_use_with table run plain name given [] done uses left used next keeps = absurd next
+at_use_with table run plain name given (word ∷ words) done uses left used (traced, stands) keeps =
     let found : IsUsed table plain word words =
     used_where_found table (reverse run.pending.words.items) name.word plain word words (next_opens_is run.origins.items (reverse run.pending.words.items) run.stop (reverse run.open.items) words uses stands) traced.word used in
-    record { word = word; words = words; todo = refl; traced = traced; stands = stands; done = are; left = is; is = found.is; calls = found.calls }
+    record { word = word; words = words; todo = refl; traced = traced; stands = stands; keeps = keeps; is = found.is; calls = found.calls }
 
 -- a word that names a macro is a use of it
 pub at_use : (table : Table) (run : Run) (plain : PlainMacro) (next : Pending) (state : State) → macro_used table (reverse run.pending.words.items) next.traced.word ≡ Some plain → Plays run next NextWord state →
     AtUse table run plain next.traced state
 at_use table run plain next state used plays =
-    at_use_with table run plain next.traced state.todo state.done state.uses state.left used
-    (has_next run.origins.items next (reverse run.pending.words.items) run.stop (reverse run.open.items) state.todo state.uses plays.stands) plays.done plays.left
+    at_use_with table run plain next.traced state.given state.todo state.done state.uses state.left used
+    (has_next run.origins.items next (reverse run.pending.words.items) run.stop (reverse run.open.items) state.todo state.uses plays.stands) plays.keeps

@@ -3,6 +3,7 @@ use Rattle.std.proofs.Common.{◌≡◌, ℕ, ◌+◌, ◌<◌, ◌≤◌, List,
 use Rattle.std.specs.Prelude.{reverse}
 use Rattle.std.proofs.lemmas.List.{reverse-append, map-append, length-reverse}
 use Rattle.p10_base.specs.declared.span.Span.{Span}
+use Rattle.p10_base.specs.declared.word.Word.{Word}
 use Rattle.p10_direct.specs.Directives.{PlainMacro}
 use Rattle.p10_direct.specs.Form.{plain_macro}
 use Rattle.p10_direct.specs.declared.form.Macro.{Macro}
@@ -15,17 +16,17 @@ use Rattle.p10_macros.specs.declared.ahead.Ahead.{Ahead}
 use Rattle.p10_macros.specs.declared.replaced.ReplaceFault.{ReplaceFault}
 use Rattle.p10_macros.specs.declared.replaced.ReplaceFault.TheVariants as fault
 use Rattle.p10_macros.specs.Table.{Table}
-use Rattle.p10_macros.specs.Uses.{Sourced, closes, Stays, Wrong, Calls, use_of, replacement, Arguments}
-use Rattle.p10_macros.specs.Endings.{Ending, Refused, TooMany}
+use Rattle.p10_macros.specs.Uses.{Sourced, closes, Stays, Wrong, Calls, use_of, replacement, Arguments, plain_words}
+use Rattle.p10_macros.specs.Endings.{Ending, Refused, TooMany, behind_word}
 use Rattle.p10_macros.specs.Running.{OpenUse, outer_of, Comes}
 use Rattle.p10_macros.specs.Origins.{Extends}
 use Rattle.p10_macros.specs.Traces.{IsTraced, AreTraced, AreValues}
-use Rattle.p10_macros.specs.Standing.{IsOpen, Stands, StandsBy, Role, NextWord, EndsArgument, EndsCall, role_of, place_among, State, ComesOf, Represents, Plays, LeadsTo, AdvancesBy, FaultComes, FailsBy, IsReplacedIn, IsTooLong, IsOpenedIn}
+use Rattle.p10_macros.specs.Standing.{IsOpen, Stands, StandsBy, Role, NextWord, EndsArgument, EndsCall, role_of, place_among, State, ComesOf, Represents, Plays, NoneOutside, KeepsFor, given_with, done_with, LeadsTo, AdvancesBy, FaultComes, FailsBy, IsReplacedIn, IsTooLong, IsOpenedIn}
 use Rattle.p10_macros.specs.Putting.{Puts}
 use Rattle.p10_macros.specs.Looking.{macro_used, refusal_at}
 use Rattle.p10_macros.proofs.Putting.{all_traced_more}
-use Rattle.p10_macros.proofs.Steps.{step_stays, step_refused, step_replaced, step_too_long, step_opened, step_next, step_closed, step_closed_too_long, opened}
-use Rattle.p10_macros.proofs.Standings.{stop_within, at_stop, stands_more, stands_put, has_next, HasNext, next_opens_is, place_is}
+use Rattle.p10_macros.proofs.Steps.{behind_one_more, step_given, step_stays, step_refused, step_replaced, step_too_long, step_opened, step_next, step_closed, step_closed_too_long, opened}
+use Rattle.p10_macros.proofs.Standings.{stop_within, at_stop, stands_more, stands_put, has_next, HasNext, next_opens_is, place_is, SamePlace, same_place}
 use Rattle.p10_macros.proofs.Lookups.{stays_where}
 use Rattle.p10_macros.proofs.Calling.{StandsCalled}
 
@@ -47,28 +48,68 @@ traced_along o o' d d' these eo ed are = subst (λ (a : List Origin). AreTraced 
 
 -- ## A word stays
 
-module _ (table : Table) (old new : Run) (name : Traced) (done_is : new.done.items ≡ old.done.items ++ name ∷ []) (pending_is : new.pending ≡ old.pending) (open_is : new.open ≡ old.open)
+module _ (table : Table) (old new : Run) (name : Traced) (words_are : new.words.items ≡ given_with (reverse old.open.items) old.words.items name.word)
+    (done_is : new.done.items ≡ done_with (reverse old.open.items) old.done.items name) (pending_is : new.pending ≡ old.pending) (open_is : new.open ≡ old.open)
     (origins_is : new.origins ≡ old.origins) (left_is : new.left ≡ old.left) (stop_is : new.stop ≡ old.stop) (none : macro_used table (reverse old.pending.words.items) name.word ≡ None) where
-  stays_with : (todo done : List Sourced) (uses : List OpenUse) (left : ℕ) → HasNext old.origins.items name (reverse old.pending.words.items) old.stop (reverse old.open.items) todo uses →
-      AreTraced old.origins.items old.done.items done → old.left ≡ left → LeadsTo table (record { todo = todo; done = done; uses = uses; left = left }) new
-  stays_with [] done uses left next are is = absurd next
-  stays_with (word ∷ words) done uses left (traced, stands) are is =
-      let stays : use_of table word words ≡ Stays =
-      stays_where table (reverse old.pending.words.items) name.word word words (next_opens_is old.origins.items (reverse old.pending.words.items) old.stop (reverse old.open.items) words uses stands) traced.word none in
-      record {
-        behind = record { todo = words; done = done ++ word ∷ []; uses = uses; left = left };
-        represents = record {
-          stands = stands_along _ _ _ _ _ _ _ _ words uses (ap (λ (v : Vec Origin Global). v.items) origins_is) (ap (λ (a : Ahead). reverse a.words.items) pending_is) stop_is (ap (λ (v : Vec Open Global). reverse v.items) open_is) stands;
-          done = traced_along _ _ _ _ _ (ap (λ (v : Vec Origin Global). v.items) origins_is) done_is (all_traced_last old.origins.items old.done.items done name word are traced);
-          left = left_is ∙ is;
+  -- the words behind it stand for what they stood for
+  stands_still : (words : List Sourced) (uses : List OpenUse) → Stands old.origins.items (reverse old.pending.words.items) old.stop (reverse old.open.items) words uses →
+      Stands new.origins.items (reverse new.pending.words.items) new.stop (reverse new.open.items) words uses
+  stands_still words uses = stands_along _ _ _ _ _ _ _ _ words uses (ap (λ (v : Vec Origin Global). v.items) origins_is) (ap (λ (a : Ahead). reverse a.words.items) pending_is) stop_is (ap (λ (v : Vec Open Global). reverse v.items) open_is)
+
+  module _ (word : Sourced) (words given done : List Sourced) (left : ℕ) (traced : IsTraced old.origins.items name word) (stays : use_of table word words ≡ Stays) where
+    abbrev before : List OpenUse → State
+    before uses = record { given = given; todo = word ∷ words; done = done; uses = uses; left = left }
+
+    given_by : (those : List Open) (uses : List OpenUse) → SamePlace those uses → reverse old.open.items ≡ those → Stands old.origins.items (reverse old.pending.words.items) old.stop (reverse old.open.items) words uses →
+        KeepsFor old (before uses) → LeadsTo table (before uses) new
+    given_by [] [] same opens stands keeps = record {
+      behind = record { given = given ++ word ∷ []; todo = words; done = done; uses = []; left = left };
+      represents = record {
+        stands = stands_still words [] stands;
+        keeps = record {
+          given = words_are ∙ ap (λ (l : List Open). given_with l old.words.items name.word) opens
+              ∙ ap (λ (l : List Word). l ++ name.word ∷ []) keeps.given ∙ ap (λ (w : Word). plain_words given ++ w ∷ []) traced.word ∙ sym (map-append (λ (s : Sourced). s.word) given (word ∷ []));
+          done = traced_along _ _ _ _ _ (ap (λ (v : Vec Origin Global). v.items) origins_is) (done_is ∙ ap (λ (l : List Open). done_with l old.done.items name) opens) keeps.done;
+          outside = keeps.outside;
+          left = left_is ∙ keeps.left;
         };
-        comes = λ ending. step_stays table uses word words done left stays ending;
-      }
+      };
+      comes = λ ending (level, comes, is). (
+        behind_word word level,
+        subst (λ (d : List Sourced). Comes table [] (word ∷ words) d left (behind_word word level)) (sym keeps.outside)
+            (step_given table word words left stays level (subst (λ (d : List Sourced). Comes table [] words d left level) keeps.outside comes)),
+        is ∙ behind_one_more given word level,
+      );
+    }
+    given_by (open' ∷ those) (use' ∷ uses) same opens stands keeps = record {
+      behind = record { given = given; todo = words; done = done ++ word ∷ []; uses = use' ∷ uses; left = left };
+      represents = record {
+        stands = stands_still words (use' ∷ uses) stands;
+        keeps = record {
+          given = words_are ∙ ap (λ (l : List Open). given_with l old.words.items name.word) opens ∙ keeps.given;
+          done = traced_along _ _ _ _ _ (ap (λ (v : Vec Origin Global). v.items) origins_is) (done_is ∙ ap (λ (l : List Open). done_with l old.done.items name) opens)
+              (all_traced_last old.origins.items old.done.items done name word keeps.done traced);
+          outside = keeps.outside;
+          left = left_is ∙ keeps.left;
+        };
+      };
+      comes = λ ending (level, comes, is). (level, step_stays table (use' ∷ uses) word words done left stays level comes, is);
+    }
+    given_by [] (use' ∷ uses) same opens stands keeps = absurd same
+    given_by (open' ∷ those) [] same opens stands keeps = absurd same
+
+  stays_with : (given todo done : List Sourced) (uses : List OpenUse) (left : ℕ) → HasNext old.origins.items name (reverse old.pending.words.items) old.stop (reverse old.open.items) todo uses →
+      KeepsFor old (record { given = given; todo = todo; done = done; uses = uses; left = left }) → LeadsTo table (record { given = given; todo = todo; done = done; uses = uses; left = left }) new
+  stays_with given [] done uses left next keeps = absurd next
+  stays_with given (word ∷ words) done uses left (traced, stands) keeps =
+      given_by word words given done left traced
+      (stays_where table (reverse old.pending.words.items) name.word word words (next_opens_is old.origins.items (reverse old.pending.words.items) old.stop (reverse old.open.items) words uses stands) traced.word none)
+      (reverse old.open.items) uses (same_place old.origins.items (reverse old.pending.words.items) old.stop (reverse old.open.items) words uses stands) refl stands keeps
 
   pub moved_stays : (next : Pending) → next.traced ≡ name → AdvancesBy table old next NextWord new
-  moved_stays next is = λ state plays. stays_with state.todo state.done state.uses state.left
+  moved_stays next is = λ state plays. stays_with state.given state.todo state.done state.uses state.left
       (subst (λ (t : Traced). HasNext old.origins.items t (reverse old.pending.words.items) old.stop (reverse old.open.items) state.todo state.uses) is
-      (has_next old.origins.items next (reverse old.pending.words.items) old.stop (reverse old.open.items) state.todo state.uses plays.stands)) plays.done plays.left
+      (has_next old.origins.items next (reverse old.pending.words.items) old.stop (reverse old.open.items) state.todo state.uses plays.stands)) plays.keeps
 
 -- ## A use is refused
 
@@ -77,73 +118,95 @@ pub moved_refused : (table : Table) (run : Run) (name : Traced) (state : State) 
     FaultComes table state (refusal_at number (place_among (reverse run.open.items) name))
 moved_refused table run name state word words items todo number todo_is traced stands is = (
   refl,
-  subst (λ (l : List Sourced). Comes table state.uses l state.done state.left (Refused number (place_among (reverse run.open.items) name))) (sym todo_is)
-      (subst (λ (at : Span). Comes table state.uses (word ∷ words) state.done state.left (Refused number at)) (sym (place_is run.origins.items items run.stop (reverse run.open.items) todo state.uses name word stands traced))
-      (step_refused table state.uses word words state.done state.left number is)),
+  (
+    Refused number (place_among (reverse run.open.items) name),
+    subst (λ (l : List Sourced). Comes table state.uses l state.done state.left (Refused number (place_among (reverse run.open.items) name))) (sym todo_is)
+        (subst (λ (at : Span). Comes table state.uses (word ∷ words) state.done state.left (Refused number at)) (sym (place_is run.origins.items items run.stop (reverse run.open.items) todo state.uses name word stands traced))
+        (step_refused table state.uses word words state.done state.left number is)),
+    refl,
+  ),
 )
 
 -- ## A use without arguments is replaced
 
 module _ (table : Table) (old : Run) (plain : PlainMacro) (name : Traced) (state : State) (word : Sourced) (words rest : List Sourced) (todo_is : state.todo ≡ word ∷ words)
-    (traced : IsTraced old.origins.items name word) (left_is : old.left ≡ state.left) (is : use_of table word words ≡ Calls plain [] rest) where
-  pub moved_replaced : (new : Run) → IsReplacedIn old new plain name [] → Stands old.origins.items (reverse old.pending.words.items) old.stop (reverse old.open.items) rest state.uses →
-      AreTraced old.origins.items old.done.items state.done → LeadsTo table state new
-  moved_replaced new replaced stands are =
+    (traced : IsTraced old.origins.items name word) (keeps : KeepsFor old state) (is : use_of table word words ≡ Calls plain [] rest) where
+  pub moved_replaced : (new : Run) → IsReplacedIn old new plain name [] → Stands old.origins.items (reverse old.pending.words.items) old.stop (reverse old.open.items) rest state.uses → LeadsTo table state new
+  moved_replaced new replaced stands =
       let made = replacement plain word [] in
       let puts : Puts new.origins.items old.pending.words.items new.pending.words.items made old.left new.left = replaced.puts word [] traced tt in
       record {
-        behind = record { todo = made ++ rest; done = state.done; uses = state.uses; left = new.left };
+        behind = record { given = state.given; todo = made ++ rest; done = state.done; uses = state.uses; left = new.left };
         represents = record {
           stands = stands_along _ _ _ _ _ _ _ _ (made ++ rest) state.uses refl puts.pending replaced.stop (ap (λ (l : List Open). reverse l) replaced.opens)
               (stands_put new.origins.items puts.items made (reverse old.pending.words.items) old.stop (reverse old.open.items) rest state.uses puts.put
               (stands_more old.origins.items new.origins.items replaced.grown (reverse old.pending.words.items) old.stop (reverse old.open.items) rest state.uses stands));
-          done = traced_along _ _ _ _ _ refl replaced.done (all_traced_more old.origins.items new.origins.items replaced.grown old.done.items state.done are);
-          left = refl;
+          keeps = record {
+            given = replaced.words ∙ keeps.given;
+            done = traced_along _ _ _ _ _ refl replaced.done (all_traced_more old.origins.items new.origins.items replaced.grown old.done.items state.done keeps.done);
+            outside = keeps.outside;
+            left = refl;
+          };
         };
-        comes = λ ending comes. subst (λ (l : List Sourced). Comes table state.uses l state.done state.left ending) (sym todo_is)
-            (step_replaced table state.uses word words state.done state.left new.left plain rest is (sym left_is ∙ puts.costs) ending comes);
+        comes = λ ending (level, comes, e). (
+          level,
+          subst (λ (l : List Sourced). Comes table state.uses l state.done state.left level) (sym todo_is)
+              (step_replaced table state.uses word words state.done state.left new.left plain rest is (sym keeps.left ∙ puts.costs) level comes),
+          e,
+        );
       }
 
   pub moved_too_long : (f : ReplaceFault) → IsTooLong old plain name [] f → FaultComes table state f
   moved_too_long (fault.Refused refusal) short = absurd (short word [] traced tt)
-  moved_too_long fault.TooMany short =
-      subst (λ (l : List Sourced). Comes table state.uses l state.done state.left TooMany) (sym todo_is)
-      (step_too_long table state.uses word words state.done state.left plain rest is (subst (λ (n : ℕ). n < length (replacement plain word [])) left_is (short word [] traced tt)))
+  moved_too_long fault.TooMany short = (
+    TooMany,
+    subst (λ (l : List Sourced). Comes table state.uses l state.done state.left TooMany) (sym todo_is)
+        (step_too_long table state.uses word words state.done state.left plain rest is (subst (λ (n : ℕ). n < length (replacement plain word [])) keeps.left (short word [] traced tt))),
+    refl,
+  )
   moved_too_long fault.Memory short = tt
 
 -- ## A use is opened
 
 module _ (table : Table) (old new : Run) (made : Bor Macro) (name : Traced) (state : State) (word : Sourced) (words : List Sourced) (found : Arguments) (todo_is : state.todo ≡ word ∷ words)
-    (traced : IsTraced old.origins.items name word) (left_is : old.left ≡ state.left) (is : use_of table word words ≡ Calls (plain_macro made.now) (found.first ∷ found.others) found.rest)
+    (traced : IsTraced old.origins.items name word) (keeps : KeepsFor old state) (is : use_of table word words ≡ Calls (plain_macro made.now) (found.first ∷ found.others) found.rest)
     (stop : ℕ) where
   -- the use that is opened
   abbrev opened_use : OpenUse
   opened_use = opened (outer_of state.uses) (plain_macro made.now) word state.done found.others found.rest
 
   is_opened : (items : List Pending) (todo : List Sourced) → (is' : IsOpenedIn old new made name stop) → Stands old.origins.items items old.stop (reverse old.open.items) todo state.uses →
-      AreTraced old.origins.items old.done.items state.done → IsOpen old.origins.items is'.opened opened_use
-  is_opened items todo is' stands are = record {
+      IsOpen old.origins.items is'.opened opened_use
+  is_opened items todo is' stands = record {
     plain = ap plain_macro is'.the_macro;
     name = subst (λ (t : Traced). IsTraced old.origins.items t word) (sym is'.the_name) traced;
     place = is'.the_place ∙ place_is old.origins.items items old.stop (reverse old.open.items) todo state.uses name word stands traced;
-    before = traced_along _ _ _ _ _ refl is'.before are;
+    before = traced_along _ _ _ _ _ refl is'.before keeps.done;
     values = subst (λ (l : List (Vec Traced Global)). AreValues old.origins.items (map (λ (v : Vec Traced Global). v.items) l) []) (sym is'.values) tt;
   }
 
   pub moved_opened : (todo : List Sourced) → IsOpenedIn old new made name stop → Stands old.origins.items (reverse old.pending.words.items) old.stop (reverse old.open.items) todo state.uses →
-      AreTraced old.origins.items old.done.items state.done → StandsCalled old.origins.items old.stop (reverse old.open.items) state.uses (reverse old.pending.words.items) stop found → LeadsTo table state new
-  moved_opened todo is' stands are called =
+      StandsCalled old.origins.items old.stop (reverse old.open.items) state.uses (reverse old.pending.words.items) stop found → LeadsTo table state new
+  moved_opened todo is' stands called =
       let opens : reverse new.open.items ≡ is'.opened ∷ reverse old.open.items = ap (λ (l : List Open). reverse l) is'.opens ∙ reverse-append old.open.items (is'.opened ∷ []) in
       record {
-        behind = record { todo = found.first; done = []; uses = opened_use ∷ state.uses; left = state.left };
+        behind = record { given = state.given; todo = found.first; done = []; uses = opened_use ∷ state.uses; left = state.left };
         represents = record {
           stands = stands_along _ _ _ _ _ _ _ _ found.first (opened_use ∷ state.uses) is'.origins (ap (λ (l : List Pending). reverse l) is'.pending) is'.stop opens
-              (called is'.opened opened_use is'.the_stop (is_opened (reverse old.pending.words.items) todo is' stands are));
-          done = traced_along _ _ _ _ _ is'.origins is'.done tt;
-          left = is'.left ∙ left_is;
+              (called is'.opened opened_use is'.the_stop (is_opened (reverse old.pending.words.items) todo is' stands));
+          keeps = record {
+            given = is'.words ∙ keeps.given;
+            done = traced_along _ _ _ _ _ is'.origins is'.done tt;
+            outside = keeps.outside;
+            left = is'.left ∙ keeps.left;
+          };
         };
-        comes = λ ending comes. subst (λ (l : List Sourced). Comes table state.uses l state.done state.left ending) (sym todo_is)
-            (step_opened table state.uses word words state.done (plain_macro made.now) found.first found.others found.rest is state.left ending comes);
+        comes = λ ending (level, comes, e). (
+          level,
+          subst (λ (l : List Sourced). Comes table state.uses l state.done state.left level) (sym todo_is)
+              (step_opened table state.uses word words state.done (plain_macro made.now) found.first found.others found.rest is state.left level comes),
+          e,
+        );
       }
 
 -- ## An argument ends
@@ -192,7 +255,7 @@ comes_waiting table use' waiting uses todo done left ending is comes =
 
 module _ (table : Table) (old new : Run) (pending : Pending) (open' renewed : Open) (below : List Open) (opens_is : old.open.items ≡ below ++ open' ∷ []) (opens_new : new.open.items ≡ below ++ renewed ∷ [])
     (same_macro : renewed.made ≡ open'.made) (same_name : renewed.name ≡ open'.name) (same_place : renewed.place ≡ open'.place) (same_stop : renewed.stop ≡ open'.stop) (same_before : renewed.before ≡ open'.before)
-    (values_is : renewed.values.items ≡ open'.values.items ++ old.done ∷ []) (done_is : new.done.items ≡ []) (pending_is : new.pending ≡ old.pending) (origins_is : new.origins ≡ old.origins) (left_is : new.left ≡ old.left)
+    (values_is : renewed.values.items ≡ open'.values.items ++ old.done ∷ []) (words_are : new.words.items ≡ old.words.items) (done_is : new.done.items ≡ []) (pending_is : new.pending ≡ old.pending) (origins_is : new.origins ≡ old.origins) (left_is : new.left ≡ old.left)
     (stop_is : pending.exits.argument ≡ new.stop) where
   renews : (value : List Sourced) → AreTraced old.origins.items old.done.items value → (use' : OpenUse) → IsOpen old.origins.items open' use' → IsOpen old.origins.items renewed (valued use' value)
   renews value are use' is = record {
@@ -206,28 +269,36 @@ module _ (table : Table) (old new : Run) (pending : Pending) (open' renewed : Op
   reversed : (last : Open) (all : List Open) → all ≡ below ++ last ∷ [] → reverse all ≡ last ∷ reverse below
   reversed last all is = ap (λ (l : List Open). reverse l) is ∙ reverse-append below (last ∷ [])
 
-  argument_with : (todo done : List Sourced) (uses : List OpenUse) (left : ℕ) →
+  argument_with : (given todo done : List Sourced) (uses : List OpenUse) (left : ℕ) →
       StandsBy old.origins.items (Stands old.origins.items (reverse old.pending.words.items)) pending EndsArgument old.stop (open' ∷ reverse below) todo uses →
-      AreTraced old.origins.items old.done.items done → old.left ≡ left → LeadsTo table (record { todo = todo; done = done; uses = uses; left = left }) new
-  argument_with [] done [] left stands are is = absurd stands
-  argument_with (word ∷ todo) done uses left stands are is = absurd stands
-  argument_with [] done (use' ∷ uses) left (next, others, waiting, split, stands) are is = record {
-    behind = record { todo = next; done = []; uses = valued (record use' { waiting = others }) done ∷ uses; left = left };
+      KeepsFor old (record { given = given; todo = todo; done = done; uses = uses; left = left }) → LeadsTo table (record { given = given; todo = todo; done = done; uses = uses; left = left }) new
+  argument_with given [] done [] left stands keeps = absurd stands
+  argument_with given (word ∷ todo) done uses left stands keeps = absurd stands
+  argument_with given [] done (use' ∷ uses) left (next, others, waiting, split, stands) keeps = record {
+    behind = record { given = given; todo = next; done = []; uses = valued (record use' { waiting = others }) done ∷ uses; left = left };
     represents = record {
       stands = stands_along _ _ _ _ _ _ _ _ next (valued (record use' { waiting = others }) done ∷ uses) (ap (λ (v : Vec Origin Global). v.items) origins_is) (ap (λ (a : Ahead). reverse a.words.items) pending_is) (sym stop_is)
           (reversed renewed new.open.items opens_new)
-          (stands_valued old.origins.items open' renewed done (reverse below) (renews done are) same_stop (reverse old.pending.words.items) pending.exits.argument next (record use' { waiting = others }) uses stands);
-      done = traced_along _ _ _ _ _ (ap (λ (v : Vec Origin Global). v.items) origins_is) done_is tt;
-      left = left_is ∙ is;
+          (stands_valued old.origins.items open' renewed done (reverse below) (renews done keeps.done) same_stop (reverse old.pending.words.items) pending.exits.argument next (record use' { waiting = others }) uses stands);
+      keeps = record {
+        given = words_are ∙ keeps.given;
+        done = traced_along _ _ _ _ _ (ap (λ (v : Vec Origin Global). v.items) origins_is) done_is tt;
+        outside = keeps.outside;
+        left = left_is ∙ keeps.left;
+      };
     };
-    comes = λ ending comes. comes_waiting table use' (next ∷ others) uses [] done left ending waiting
-        (step_next table uses use'.plain use'.name use'.place use'.before use'.values use'.rest done next others left ending comes);
+    comes = λ ending (level, comes, e). (
+      level,
+      comes_waiting table use' (next ∷ others) uses [] done left level waiting
+          (step_next table uses use'.plain use'.name use'.place use'.before use'.values use'.rest done next others left level comes),
+      e,
+    );
   }
 
   pub moved_argument : AdvancesBy table old pending EndsArgument new
-  moved_argument = λ state plays. argument_with state.todo state.done state.uses state.left
+  moved_argument = λ state plays. argument_with state.given state.todo state.done state.uses state.left
       (subst (λ (l : List Open). StandsBy old.origins.items (Stands old.origins.items (reverse old.pending.words.items)) pending EndsArgument old.stop l state.todo state.uses) (reversed open' old.open.items opens_is) plays.stands)
-      plays.done plays.left
+      plays.keeps
 
 pub no_argument : (table : Table) (old new : Run) (pending : Pending) → old.open.items ≡ [] → AdvancesBy table old pending EndsArgument new
 no_argument table old new pending none = λ state plays.
@@ -257,7 +328,7 @@ is_ending origins items pending stop open' those [] (use' ∷ uses) (waiting, is
     record { use' = use'; others = uses; todo_is = refl; uses_is = refl; waiting = waiting; is = is; stands = stands }
 
 module _ (table : Table) (old mid : Run) (pending : Pending) (open' : Open) (below : List Open) (opens_is : old.open.items ≡ below ++ open' ∷ []) (mid_opens : mid.open.items ≡ below)
-    (pending_is : mid.pending ≡ old.pending) (origins_is : mid.origins ≡ old.origins) (left_is : mid.left ≡ old.left) (stop_is : mid.stop ≡ open'.stop) (done_is : mid.done.items ≡ open'.before.items)
+    (pending_is : mid.pending ≡ old.pending) (origins_is : mid.origins ≡ old.origins) (left_is : mid.left ≡ old.left) (stop_is : mid.stop ≡ open'.stop) (words_are : mid.words.items ≡ old.words.items) (done_is : mid.done.items ≡ open'.before.items)
     (values : List (Vec Traced Global)) (values_is : values ≡ open'.values.items ++ old.done ∷ []) where
   reversed_call : reverse old.open.items ≡ open' ∷ reverse below
   reversed_call = ap (λ (l : List Open). reverse l) opens_is ∙ reverse-append below (open' ∷ [])
@@ -276,10 +347,10 @@ module _ (table : Table) (old mid : Run) (pending : Pending) (open' : Open) (bel
 
     are_values : AreValues mid.origins.items (map (λ (v : Vec Traced Global). v.items) values) (ends.use'.values ++ state.done ∷ [])
     are_values = subst (λ (o : List Origin). AreValues o (map (λ (v : Vec Traced Global). v.items) values) (ends.use'.values ++ state.done ∷ [])) (sym mid_origins)
-        (values_pushed old.origins.items open'.values.items values old.done ends.use'.values state.done values_is ends.is.values plays.done)
+        (values_pushed old.origins.items open'.values.items values old.done ends.use'.values state.done values_is ends.is.values plays.keeps.done)
 
     -- what comes of the use comes of the state
-    comes_here : (ending : Ending (List Sourced)) → Comes table (record ends.use' { waiting = [] } ∷ ends.others) [] state.done state.left ending → ComesOf table state ending
+    comes_here : (ending : Ending (List Sourced)) → Comes table (record ends.use' { waiting = [] } ∷ ends.others) [] state.done state.left ending → Comes table state.uses state.todo state.done state.left ending
     comes_here ending comes =
         subst (λ (l : List Sourced). Comes table state.uses l state.done state.left ending) (sym ends.todo_is)
         (subst (λ (u : List OpenUse). Comes table u [] state.done state.left ending) (sym ends.uses_is) (comes_waiting table ends.use' [] ends.others [] state.done state.left ending ends.waiting comes))
@@ -293,18 +364,26 @@ module _ (table : Table) (old mid : Run) (pending : Pending) (open' : Open) (bel
         subst (λ (p : PlainMacro). Puts new.origins.items mid.pending.words.items new.pending.words.items (replacement p ends.use'.name (ends.use'.values ++ state.done ∷ [])) mid.left new.left) ends.is.plain puts' in
         let grown : Extends old.origins.items new.origins.items = subst (λ (o : List Origin). Extends o new.origins.items) mid_origins replaced.grown in
         record {
-          behind = record { todo = made ++ ends.use'.rest; done = ends.use'.before; uses = ends.others; left = new.left };
+          behind = record { given = state.given; todo = made ++ ends.use'.rest; done = ends.use'.before; uses = ends.others; left = new.left };
           represents = record {
             stands = stands_along _ _ _ _ _ _ _ _ (made ++ ends.use'.rest) ends.others refl (puts.pending ∙ ap (λ (a : Ahead). puts.items ++ reverse a.words.items) pending_is)
                 (replaced.stop ∙ stop_is) (ap (λ (l : List Open). reverse l) (replaced.opens ∙ mid_opens))
                 (stands_put new.origins.items puts.items made (reverse old.pending.words.items) open'.stop (reverse below) ends.use'.rest ends.others puts.put
                 (stands_more old.origins.items new.origins.items grown (reverse old.pending.words.items) open'.stop (reverse below) ends.use'.rest ends.others ends.stands));
-            done = traced_along _ _ _ _ _ refl (replaced.done ∙ done_is) (all_traced_more old.origins.items new.origins.items grown open'.before.items ends.use'.before ends.is.before);
-            left = refl;
+            keeps = record {
+              given = replaced.words ∙ words_are ∙ plays.keeps.given;
+              done = traced_along _ _ _ _ _ refl (replaced.done ∙ done_is) (all_traced_more old.origins.items new.origins.items grown open'.before.items ends.use'.before ends.is.before);
+              outside = subst (λ (u : List OpenUse). NoneOutside u state.done) ends.uses_is plays.keeps.outside;
+              left = refl;
+            };
           };
-          comes = λ ending comes. comes_here ending
-              (step_closed table ends.others ends.use'.plain ends.use'.name ends.use'.place ends.use'.before ends.use'.values ends.use'.rest state.done state.left new.left
-              (sym plays.left ∙ sym left_is ∙ puts.costs) ending comes);
+          comes = λ ending (level, comes, e). (
+            level,
+            comes_here level
+                (step_closed table ends.others ends.use'.plain ends.use'.name ends.use'.place ends.use'.before ends.use'.values ends.use'.rest state.done state.left new.left
+                (sym plays.keeps.left ∙ sym left_is ∙ puts.costs) level comes),
+            e,
+          );
         }
 
     call_too_long : (f : ReplaceFault) → IsTooLong mid (plain_macro open'.made.now) open'.name (map (λ (v : Vec Traced Global). v.items) values) f → FaultComes table state f
@@ -312,9 +391,9 @@ module _ (table : Table) (old mid : Run) (pending : Pending) (open' : Open) (bel
     call_too_long fault.TooMany short =
         let less' : mid.left < length (replacement (plain_macro open'.made.now) ends.use'.name (ends.use'.values ++ state.done ∷ [])) = short ends.use'.name (ends.use'.values ++ state.done ∷ []) named are_values in
         let less : state.left < length (replacement ends.use'.plain ends.use'.name (ends.use'.values ++ state.done ∷ [])) =
-        subst (λ (n : ℕ). n < length (replacement ends.use'.plain ends.use'.name (ends.use'.values ++ state.done ∷ []))) (left_is ∙ plays.left)
+        subst (λ (n : ℕ). n < length (replacement ends.use'.plain ends.use'.name (ends.use'.values ++ state.done ∷ []))) (left_is ∙ plays.keeps.left)
         (subst (λ (p : PlainMacro). mid.left < length (replacement p ends.use'.name (ends.use'.values ++ state.done ∷ []))) ends.is.plain less') in
-        comes_here TooMany (step_closed_too_long table ends.others ends.use'.plain ends.use'.name ends.use'.place ends.use'.before ends.use'.values ends.use'.rest state.done state.left less)
+        (TooMany, comes_here TooMany (step_closed_too_long table ends.others ends.use'.plain ends.use'.name ends.use'.place ends.use'.before ends.use'.values ends.use'.rest state.done state.left less), refl)
     call_too_long fault.Memory short = tt
 
   pub moved_call : (new : Run) → IsReplacedIn mid new (plain_macro open'.made.now) open'.name (map (λ (v : Vec Traced Global). v.items) values) → AdvancesBy table old pending EndsCall new
@@ -336,6 +415,5 @@ at_end run next state c closed more represents =
     ap (λ (b : Bool). cond b (cond (closes next.traced.word) EndsCall EndsArgument) NextWord) (at_stop run.stop (length items) is) ∙ ap (λ (b : Bool). cond b EndsCall EndsArgument) closed in
     record {
       stands = subst (λ (r : Role). StandsBy run.origins.items (Stands run.origins.items items) next r run.stop (reverse run.open.items) state.todo state.uses) role represents.stands;
-      done = represents.done;
-      left = represents.left;
+      keeps = represents.keeps;
     }

@@ -427,6 +427,10 @@ replacement_short old middle plain name values from left f grown first short nam
     (short name' values' (traced_more old middle grown name name' named) (base_of old middle plain.name name name' from first named) (values_more old middle grown values values' are))
     (λ less. omega (arith, less, length-map (flat_map (part_of plain.parameters values') plain.body) (given plain name')))
 
+pub on_ok_both : {A E : Type 0} {P Q R : Type 0} (r : Result A E) → OnOk r P → OnOk r Q → (P → Q → R) → OnOk r R
+on_ok_both (Ok x) p q both = both p q
+on_ok_both (Err e) p q both = tt
+
 pub on_ok_so : {A E : Type 0} {P Q : Type 0} (r : Result A E) → OnOk r P → (P → Q) → OnOk r Q
 on_ok_so (Ok x) p so = so p
 on_ok_so (Err e) p so = tt

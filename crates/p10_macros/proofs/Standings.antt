@@ -209,7 +209,7 @@ module _ (origins : List Origin) (items : List Pending) (again : (stop : ℕ) (t
   same_place_by pending EndsCall stop (open' ∷ those) (word ∷ todo) uses stands = absurd stands
   same_place_by pending EndsCall stop (open' ∷ those) [] [] stands = absurd stands
 
-same_place : (origins : List Origin) (items : List Pending) (stop : ℕ) (those : List Open) (todo : List Sourced) (uses : List OpenUse) → Stands origins items stop those todo uses → SamePlace those uses
+pub same_place : (origins : List Origin) (items : List Pending) (stop : ℕ) (those : List Open) (todo : List Sourced) (uses : List OpenUse) → Stands origins items stop those todo uses → SamePlace those uses
 same_place origins [] stop [] [] [] stands = tt
 same_place origins [] stop [] [] (use' ∷ uses) stands = absurd stands
 same_place origins [] stop [] (word ∷ todo) uses stands = absurd stands

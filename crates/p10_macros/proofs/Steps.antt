@@ -16,12 +16,12 @@ closes_too_many : (table : Table) (uses : List OpenUse) → Closes table uses To
 closes_too_many table [] = refl
 closes_too_many table (use' ∷ uses) = refl
 
-behind_one_more : (done : List Sourced) (word : Sourced) (level : Ending (List Sourced)) → behind_words (done ++ word ∷ []) level ≡ behind_words done (behind_word word level)
+pub behind_one_more : (done : List Sourced) (word : Sourced) (level : Ending (List Sourced)) → behind_words (done ++ word ∷ []) level ≡ behind_words done (behind_word word level)
 behind_one_more done word (Gives words left) = ap (λ (all : List Sourced). Gives all left) (append_assoc done (word ∷ []) words)
 behind_one_more done word (Refused number at) = refl
 behind_one_more done word TooMany = refl
 
-behind_none : (level : Ending (List Sourced)) → behind_words [] level ≡ level
+pub behind_none : (level : Ending (List Sourced)) → behind_words [] level ≡ level
 behind_none (Gives words left) = refl
 behind_none (Refused number at) = refl
 behind_none TooMany = refl
@@ -31,6 +31,12 @@ pub step_stays : (table : Table) (uses : List OpenUse) (word : Sourced) (words d
     (ending : Ending (List Sourced)) → Comes table uses words (done ++ word ∷ []) left ending → Comes table uses (word ∷ words) done left ending
 step_stays table uses word words done left is ending (level, ends, closes) =
     (behind_word word level, word_stays is ends refl, subst (λ (l : Ending (List Sourced)). Closes table uses l ending) (behind_one_more done word level) closes)
+
+-- a word that begins no use and stands in none is given
+pub step_given : (table : Table) (word : Sourced) (words : List Sourced) (left : ℕ) → use_of table word words ≡ Stays →
+    (level : Ending (List Sourced)) → Comes table [] words [] left level → Comes table [] (word ∷ words) [] left (behind_word word level)
+step_given table word words left is level (last, ends, closes) =
+    (behind_word word last, word_stays is ends refl, ap (λ (l : Ending (List Sourced)). behind_word word l) (closes ∙ behind_none last) ∙ sym (behind_none (behind_word word last)))
 
 -- a use is refused
 pub step_refused : (table : Table) (uses : List OpenUse) (word : Sourced) (words done : List Sourced) (left number : ℕ) → use_of table word words ≡ Wrong number →

@@ -1,5 +1,5 @@
 -- A replacement from its beginning to its end.
-use Rattle.std.proofs.Common.{◌≡◌, ℕ, List, [], ◌∷◌, ◌++◌, map, None, refl, sym, subst, ap, ◌∙◌, arith}
+use Rattle.std.proofs.Common.{◌≡◌, ℕ, List, [], ◌∷◌, ◌++◌, map, None, refl, sym, subst, ap, ◌∙◌, arith, append-nil}
 use Rattle.std.specs.Prelude.{reverse}
 use Rattle.std.proofs.lemmas.List.{reverse-append}
 use Rattle.p10_base.specs.declared.word.Word.{Word}
@@ -15,13 +15,13 @@ use Rattle.p10_macros.specs.Table.{Table}
 use Rattle.p10_macros.specs.Uses.{Sourced, written, plain_words}
 use Rattle.p10_macros.specs.Endings.{Ending, Gives, Refused, TooMany}
 use Rattle.p10_macros.specs.Ends.{Ends}
-use Rattle.p10_macros.specs.Running.{OpenUse, Comes}
+use Rattle.p10_macros.specs.Running.{OpenUse}
 use Rattle.p10_macros.specs.Traces.{IsTraced, AreTraced}
-use Rattle.p10_macros.specs.Standing.{Stands, State, ComesOf, Represents, LeadsTo, Advances, FaultComes, Fails}
-use Rattle.p10_macros.specs.Beginning.{unread, traced_of, start_of}
+use Rattle.p10_macros.specs.Standing.{Stands, State, NoneOutside, ComesOf, Represents, LeadsTo, Advances, FaultComes, Fails}
+use Rattle.p10_macros.specs.Beginning.{unread, traced_of, start_of, IsBegun}
 use Rattle.p10_macros.specs.Answers.{IsFault}
 use Rattle.p10_macros.proofs.Listing.{listed_none}
-use Rattle.p10_macros.proofs.Steps.{step_ended, step_begun}
+use Rattle.p10_macros.proofs.Steps.{behind_none, step_ended, step_begun}
 use Rattle.p10_macros.proofs.Standings.{stands_empty, stands_word}
 
 -- ## The beginning
@@ -36,16 +36,14 @@ unread_stands origins (pending ∷ items) (word ∷ words) e =
     let traced : IsTraced origins (unread word) (written word) = record { word = refl; known = omega arith; from = λ name. listed_none origins 0 name (omega arith) } in
     stands_word origins pending (written word) items 0 [] (map written words) [] (omega arith) (subst (λ (t : Traced). IsTraced origins t (written word)) (sym first) traced) (unread_stands origins items words others)
 
-pub begun : (table : Table) (words : List Word) (left : ℕ) (run : Run) → traced_of (reverse run.pending.words.items) ≡ map unread words → run.done.items ≡ [] → run.open.items ≡ [] → run.left ≡ left → run.stop ≡ 0 →
-    LeadsTo table (start_of words left) run
-begun table words left run pending done opens left_is stop_is = record {
+pub begun : (table : Table) (words : List Word) (left : ℕ) (run : Run) → IsBegun words left run → LeadsTo table (start_of words left) run
+begun table words left run is = record {
   behind = start_of words left;
   represents = record {
-    stands = subst (λ (n : ℕ). Stands run.origins.items (reverse run.pending.words.items) n (reverse run.open.items) (map written words) []) (sym stop_is)
-        (subst (λ (l : List Open). Stands run.origins.items (reverse run.pending.words.items) 0 (reverse l) (map written words) []) (sym opens)
-        (unread_stands run.origins.items (reverse run.pending.words.items) words pending));
-    done = subst (λ (l : List Traced). AreTraced run.origins.items l []) (sym done) tt;
-    left = left_is;
+    stands = subst (λ (n : ℕ). Stands run.origins.items (reverse run.pending.words.items) n (reverse run.open.items) (map written words) []) (sym is.stop)
+        (subst (λ (l : List Open). Stands run.origins.items (reverse run.pending.words.items) 0 (reverse l) (map written words) []) (sym is.opens)
+        (unread_stands run.origins.items (reverse run.pending.words.items) words is.pending));
+    keeps = record { given = is.words; done = subst (λ (l : List Traced). AreTraced run.origins.items l []) (sym is.done) tt; outside = refl; left = is.left };
   };
   comes = λ ending comes. comes;
 }
@@ -57,8 +55,7 @@ taken : (table : Table) (state : State) (old : Run) (popped : Ahead) (next : Pen
     Represents (record old { pending = popped }) (next ∷ reverse popped.words.items) leads.behind
 taken table state old popped next is leads = record {
   stands = subst (λ (l : List Pending). Stands old.origins.items l old.stop (reverse old.open.items) leads.behind.todo leads.behind.uses) (ap (λ (l : List Pending). reverse l) is ∙ reverse-append popped.words.items (next ∷ [])) leads.represents.stands;
-  done = leads.represents.done;
-  left = leads.represents.left;
+  keeps = leads.represents.keeps;
 }
 
 pub advanced : (table : Table) (state : State) (old new : Run) (popped : Ahead) (next : Pending) → old.pending.words.items ≡ popped.words.items ++ next ∷ [] → LeadsTo table state old →
@@ -72,9 +69,14 @@ fault_comes table state behind so (fault.Refused refusal) (family, comes) = (fam
 fault_comes table state behind so fault.TooMany comes = so TooMany comes
 fault_comes table state behind so fault.Memory comes = tt
 
+-- what comes of the whole is what comes of the state at its beginning
+whole_comes : (table : Table) (words : List Word) (left : ℕ) (ending : Ending (List Sourced)) → ComesOf table (start_of words left) ending → Ends table None (map written words) left ending
+whole_comes table words left ending (level, comes, is) =
+    subst (λ (e : Ending (List Sourced)). Ends table None (map written words) left e) (sym (is ∙ behind_none level)) (step_begun table (map written words) left level comes)
+
 fault_is : (table : Table) (words : List Word) (left : ℕ) (f : ReplaceFault) → FaultComes table (start_of words left) f → IsFault table words left f
-fault_is table words left (fault.Refused refusal) (family, comes) = (family, step_begun table (map written words) left (Refused refusal.number refusal.span) comes)
-fault_is table words left fault.TooMany comes = step_begun table (map written words) left TooMany comes
+fault_is table words left (fault.Refused refusal) (family, comes) = (family, whole_comes table words left (Refused refusal.number refusal.span) comes)
+fault_is table words left fault.TooMany comes = whole_comes table words left TooMany comes
 fault_is table words left fault.Memory comes = tt
 
 pub failed : (table : Table) (words : List Word) (left : ℕ) (old : Run) (popped : Ahead) (next : Pending) (f : ReplaceFault) → old.pending.words.items ≡ popped.words.items ++ next ∷ [] → LeadsTo table (start_of words left) old →
@@ -84,30 +86,24 @@ failed table words left old popped next f is leads fails =
 
 -- ## The end
 
-traced_words : (origins : List Origin) (those : List Traced) (these : List Sourced) → AreTraced origins those these → plain_words these ≡ map (λ (traced : Traced). traced.word) those
-traced_words origins [] [] are = refl
-traced_words origins (traced ∷ those) (sourced ∷ these) (is, are) = let head : traced.word ≡ sourced.word = is.word in let tail : plain_words these ≡ map (λ (t : Traced). t.word) those = traced_words origins those these are in cc
-traced_words origins [] (sourced ∷ these) are = absurd are
-traced_words origins (traced ∷ those) [] are = absurd are
+done_at : (table : Table) (given todo done : List Sourced) (uses : List OpenUse) (left : ℕ) → todo ≡ [] → uses ≡ [] → NoneOutside uses done →
+    ComesOf table (record { given = given; todo = todo; done = done; uses = uses; left = left }) (Gives given left)
+done_at table given [] [] [] left nothing none outside = (Gives [] left, step_ended table [] left, ap (λ (l : List Sourced). Gives l left) (sym (append-nil given)))
+done_at table given (word ∷ todo) done uses left nothing none outside = cc
+done_at table given [] (word ∷ done) [] left nothing none outside = cc
+done_at table given [] done (use' ∷ uses) left nothing none outside = cc
 
--- what has come of all words
-pub record IsDone (table : Table) (words : List Word) (left : ℕ) (run : Run) : Type 0 where
-  pub made : List Sourced
-  pub ends : Ends table None (map written words) left (Gives made run.left)
-  pub words_are : plain_words made ≡ map (λ (traced : Traced). traced.word) run.done.items
-
-done_at : (table : Table) (uses : List OpenUse) (todo done : List Sourced) (left : ℕ) → (todo ≡ []) → (uses ≡ []) → Comes table uses todo done left (Gives done left)
-done_at table uses todo done left nothing none =
-    subst (λ (u : List OpenUse). Comes table u todo done left (Gives done left)) (sym none) (subst (λ (l : List Sourced). Comes table [] l done left (Gives done left)) (sym nothing) (step_ended table done left))
-
-pub ended : (table : Table) (words : List Word) (left : ℕ) (run : Run) → run.pending.words.items ≡ [] → LeadsTo table (start_of words left) run → IsDone table words left run
+-- when no word is left, what was given is what came of all words
+pub ended : (table : Table) (words : List Word) (left : ℕ) (run : Run) → run.pending.words.items ≡ [] → LeadsTo table (start_of words left) run →
+    (made : List Sourced) × Ends table None (map written words) left (Gives made run.left) × (plain_words made ≡ run.words.items)
 ended table words left run none leads =
     let state = leads.behind in
     let empty = stands_empty run.origins.items run.stop (reverse run.open.items) state.todo state.uses
     (subst (λ (l : List Pending). Stands run.origins.items (reverse l) run.stop (reverse run.open.items) state.todo state.uses) none leads.represents.stands) in
-    record {
-      made = state.done;
-      ends = subst (λ (n : ℕ). Ends table None (map written words) left (Gives state.done n)) (sym leads.represents.left)
-          (step_begun table (map written words) left (Gives state.done state.left) (leads.comes (Gives state.done state.left) (done_at table state.uses state.todo state.done state.left empty.2 empty.3)));
-      words_are = traced_words run.origins.items run.done.items state.done leads.represents.done;
-    }
+    let keeps = leads.represents.keeps in (
+      state.given,
+      subst (λ (n : ℕ). Ends table None (map written words) left (Gives state.given n)) (sym keeps.left)
+          (whole_comes table words left (Gives state.given state.left)
+          (leads.comes (Gives state.given state.left) (done_at table state.given state.todo state.done state.uses state.left empty.2 empty.3 keeps.outside))),
+      sym keeps.given,
+    )

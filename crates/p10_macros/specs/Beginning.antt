@@ -1,8 +1,9 @@
 -- How a replacement begins.
-use Rattle.std.specs.Prelude.{ℕ, List, [], map}
+use Rattle.std.specs.Prelude.{◌≡◌, ℕ, List, [], map, reverse}
 use Rattle.p10_base.specs.declared.word.Word.{Word}
 use Rattle.p10_macros.specs.declared.pending.Pending.{Pending}
 use Rattle.p10_macros.specs.declared.pending.Traced.{Traced}
+use Rattle.p10_macros.specs.declared.pending.Run.{Run}
 use Rattle.p10_macros.specs.Uses.{written}
 use Rattle.p10_macros.specs.Standing.{State}
 
@@ -16,4 +17,13 @@ traced_of items = map (λ (pending : Pending). pending.traced) items
 
 -- all words are to be looked through
 abbrev pub start_of : List Word → ℕ → State
-start_of words left = record { todo = map written words; done = []; uses = []; left = left }
+start_of words left = record { given = []; todo = map written words; done = []; uses = []; left = left }
+
+-- nothing is looked through yet
+pub record IsBegun (those : List Word) (remaining : ℕ) (run : Run) : Type 0 where
+  pub pending : traced_of (reverse run.pending.words.items) ≡ map unread those
+  pub stop : run.stop ≡ 0
+  pub words : run.words.items ≡ []
+  pub done : run.done.items ≡ []
+  pub opens : run.open.items ≡ []
+  pub left : run.left ≡ remaining

@@ -15,9 +15,9 @@ use Rattle.p10_macros.specs.declared.replaced.ReplaceFault.{ReplaceFault}
 use Rattle.p10_macros.specs.declared.replaced.ReplaceFault.TheVariants as fault
 use Rattle.p10_macros.specs.declared.pending.Run.{Run}
 use Rattle.p10_macros.specs.Table.{Table}
-use Rattle.p10_macros.specs.Uses.{Sourced, closes, separates, use_of, use_as, called, arguments_in, replacement, next_opens}
+use Rattle.p10_macros.specs.Uses.{Sourced, closes, separates, use_of, use_as, called, arguments_in, replacement, next_opens, plain_words}
 use Rattle.p10_macros.specs.Endings.{Ending, Refused, TooMany}
-use Rattle.p10_macros.specs.Running.{OpenUse, Comes}
+use Rattle.p10_macros.specs.Running.{OpenUse, Comes, behind_words}
 use Rattle.p10_macros.specs.Origins.{Extends}
 use Rattle.p10_macros.specs.Traces.{IsTraced, AreTraced, AreValues}
 use Rattle.p10_macros.specs.Putting.{PutsReplacement, Short}
@@ -66,27 +66,43 @@ Stands origins _ _ _ _ _ = ⊥
 
 -- ## The whole
 
--- what is to be looked through, what is done, the open uses, and how many words may still be made
+-- the words that came of what stands in no use, what is to be looked through, what is done in the innermost argument, the open
+-- uses, and how many words may still be made
 pub record State : Type 0 where
+  pub given : List Sourced
   pub todo : List Sourced
   pub done : List Sourced
   pub uses : List OpenUse
   pub left : ℕ
 
+-- what comes of a state: the words that were given, and what comes of the others
 abbrev pub ComesOf : Table → State → Ending (List Sourced) → Type 0
-ComesOf table state ending = Comes table state.uses state.todo state.done state.left ending
+ComesOf table state ending = (level : Ending (List Sourced)) × Comes table state.uses state.todo state.done state.left level × (ending ≡ behind_words state.given level)
+
+-- nothing is done outside of uses, for such words were given
+abbrev pub NoneOutside : List OpenUse → List Sourced → Type 0
+NoneOutside [] done = done ≡ []
+NoneOutside (use' ∷ uses) done = NoneOutside uses use'.before
+
+-- what is kept beside the pending words and the open uses stands for a state
+pub record Keeps (origins : List Origin) (words : List Word) (those : List Traced) (remaining : ℕ) (state : State) : Type 0 where
+  pub given : words ≡ plain_words state.given
+  pub done : AreTraced origins those state.done
+  pub outside : NoneOutside state.uses state.done
+  pub left : remaining ≡ state.left
+
+abbrev pub KeepsFor : Run → State → Type 0
+KeepsFor run state = Keeps run.origins.items run.words.items run.done.items run.left state
 
 -- a replacement that is under way, where these words are pending, stands for a state
 pub record Represents (run : Run) (items : List Pending) (state : State) : Type 0 where
   pub stands : Stands run.origins.items items run.stop (reverse run.open.items) state.todo state.uses
-  pub done : AreTraced run.origins.items run.done.items state.done
-  pub left : run.left ≡ state.left
+  pub keeps : KeepsFor run state
 
 -- the same, where a word that plays a role is next
 pub record Plays (run : Run) (next : Pending) (role : Role) (state : State) : Type 0 where
   pub stands : StandsBy run.origins.items (Stands run.origins.items (reverse run.pending.words.items)) next role run.stop (reverse run.open.items) state.todo state.uses
-  pub done : AreTraced run.origins.items run.done.items state.done
-  pub left : run.left ≡ state.left
+  pub keeps : KeepsFor run state
 
 -- what comes of the state that one replacement stands for, comes of that which the other stood for
 pub record LeadsTo (table : Table) (state : State) (run : Run) : Type 0 where
@@ -121,8 +137,7 @@ pub record AtUse (table : Table) (run : Run) (plain : PlainMacro) (name : Traced
   pub todo : state.todo ≡ word ∷ words
   pub traced : IsTraced run.origins.items name word
   pub stands : Stands run.origins.items (reverse run.pending.words.items) run.stop (reverse run.open.items) words state.uses
-  pub done : AreTraced run.origins.items run.done.items state.done
-  pub left : run.left ≡ state.left
+  pub keeps : KeepsFor run state
   pub is : use_of table word words ≡ use_as plain plain.parameters word words
   pub calls : plain.parameters ≡ None ⊎ next_opens words ≡ true
 
@@ -134,17 +149,27 @@ pub record AtCall (table : Table) (run : Run) (plain : PlainMacro) (parameters :
   pub todo : state.todo ≡ word ∷ paren ∷ words
   pub traced : IsTraced run.origins.items name word
   pub stands : Stands run.origins.items (reverse run.pending.words.items) run.stop (reverse run.open.items) words state.uses
-  pub done : AreTraced run.origins.items run.done.items state.done
-  pub left : run.left ≡ state.left
+  pub keeps : KeepsFor run state
   pub is : use_of table word (paren ∷ words) ≡ called plain parameters (arguments_in 0 words)
 
 -- a use was replaced, and nothing else was changed
 pub record IsReplacedIn (old new : Run) (plain : PlainMacro) (name : Traced) (values : List (List Traced)) : Type 0 where
   pub grown : Extends old.origins.items new.origins.items
   pub puts : PutsReplacement old.origins.items new.origins.items old.pending.words.items new.pending.words.items plain name values old.left new.left
+  pub words : new.words.items ≡ old.words.items
   pub done : new.done.items ≡ old.done.items
   pub opens : new.open.items ≡ old.open.items
   pub stop : new.stop ≡ old.stop
+
+-- the words that were given, where one stays and these uses are open
+abbrev pub given_with : List Open → List Word → Word → List Word
+given_with [] words word = words ++ word ∷ []
+given_with (open' ∷ those) words word = words
+
+-- what is done in the innermost argument, where a word stays and these uses are open
+abbrev pub done_with : List Open → List Traced → Traced → List Traced
+done_with [] done traced = done
+done_with (open' ∷ those) done traced = done ++ traced ∷ []
 
 -- why a use is not replaced
 abbrev pub IsTooLong : Run → PlainMacro → Traced → List (List Traced) → ReplaceFault → Type 0
@@ -161,6 +186,7 @@ pub record IsOpenedIn (old new : Run) (made : Bor Macro) (name : Traced) (place 
   pub the_stop : opened.stop ≡ old.stop
   pub before : opened.before.items ≡ old.done.items
   pub values : opened.values.items ≡ []
+  pub words : new.words.items ≡ old.words.items
   pub done : new.done.items ≡ []
   pub pending : new.pending.words.items ≡ old.pending.words.items
   pub stop : new.stop ≡ place

@@ -1,7 +1,7 @@
 //! Replaces all uses of macros in a run of words.
 
 ghost use Rattle.std.specs.Prelude.{◌≡◌, map, reverse, IfOk, IfErr};
-ghost use Rattle.p10_macros.specs.Beginning.{unread, traced_of};
+ghost use Rattle.p10_macros.specs.Beginning.{unread, traced_of, IsBegun};
 ghost use Rattle.p10_macros.specs.Ends.{WordsEndInOneWay};
 ghost use Rattle.p10_macros.specs.Fronts.{FrontsGive};
 ghost use Rattle.p10_macros.specs.Left.{NoObjectIsLeft};
@@ -28,18 +28,9 @@ pub fn replace<'s>(
     ensures replaced { IfOk result (IsReplaced (table_of macros.now) words.now left) }
     ensures refused { IfErr result (IsFault (table_of macros.now) words.now left) }
 {
-    let pending = match pending_of(alloc, words) {
-        Ok(pending) => pending,
+    let mut run = match run_of(alloc, words, left) {
+        Ok(run) => run,
         Err(_) => return Err(ReplaceFault::Memory),
-    };
-    let mut run = Run {
-        alloc,
-        pending,
-        stop: 0,
-        done: Vec::new(alloc),
-        open: Vec::new(alloc),
-        origins: Vec::new(alloc),
-        left,
     };
     while let Some(next) = run.pending.pop() {
         match step(&mut run, macros, next) {
@@ -47,13 +38,10 @@ pub fn replace<'s>(
             Err(fault) => return Err(fault),
         }
     }
-    match words_of(alloc, run.done.as_slice()) {
-        Ok(words) => Ok(Replaced {
-            words,
-            left: run.left,
-        }),
-        Err(_) => Err(ReplaceFault::Memory),
-    }
+    Ok(Replaced {
+        words: run.words,
+        left: run.left,
+    })
 }
 
 /// Words end in one way only: where they have a replacement, it is the only one.
@@ -71,6 +59,27 @@ pub fn front_gives()
     ensures { FrontsGive }
 {}
 
+/// The replacement of a run of words, where none is looked through yet.
+fn run_of<'m, 'w, 's>(
+    alloc: Global,
+    words: &[Word<'s>],
+    left: u64,
+) -> Result<Run<'m, 'w, 's>, AllocError>
+    ensures { IfOk result (IsBegun words.now left) }
+{
+    let pending = pending_of(alloc, words)?;
+    Ok(Run {
+        alloc,
+        pending,
+        stop: 0,
+        words: Vec::with_capacity(alloc, words.len())?,
+        done: Vec::new(alloc),
+        open: Vec::new(alloc),
+        origins: Vec::new(alloc),
+        left,
+    })
+}
+
 /// The words of a run as pending ones, the first in front.
 fn pending_of<'s>(alloc: Global, words: &[Word<'s>]) -> Result<Ahead<'s>, AllocError>
     ensures { IfOk result (λ pending. traced_of (reverse pending.words.items) ≡ map unread words.now) }
@@ -85,15 +94,4 @@ fn pending_of<'s>(alloc: Global, words: &[Word<'s>]) -> Result<Ahead<'s>, AllocE
         })?;
     }
     Ok(pending)
-}
-
-/// The words alone.
-fn words_of<'s>(alloc: Global, done: &[Traced<'s>]) -> Result<Vec<Word<'s>>, AllocError>
-    ensures { IfOk result (λ words. words.items ≡ map (λ traced. traced.word) done.now) }
-{
-    let mut words = Vec::with_capacity(alloc, done.len())?;
-    for traced in done {
-        words.push(traced.word)?;
-    }
-    Ok(words)
 }

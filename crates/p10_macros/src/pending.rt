@@ -41,7 +41,7 @@ pub struct Open<'m, 'w, 's> {
     pub place: Span,
     /// The place of the pending word that ends the argument in which the use stands, or 0.
     pub stop: usize,
-    /// What came of the words before the use.
+    /// What came of the words before the use in the argument in which it stands.
     pub before: Vec<Traced<'s>>,
     /// What came of the arguments before the one that is being replaced.
     pub values: Vec<Vec<Traced<'s>>>,
@@ -55,7 +55,9 @@ pub struct Run<'m, 'w, 's> {
     pub pending: Ahead<'s>,
     /// The place of the pending word that ends the innermost argument, or 0.
     pub stop: usize,
-    /// What came of the words before them, in the innermost argument.
+    /// What came of the words before them that stand in no use.
+    pub words: Vec<Word<'s>>,
+    /// What came of the words before them in the innermost argument.
     pub done: Vec<Traced<'s>>,
     /// The uses whose arguments are being replaced, the innermost one last.
     pub open: Vec<Open<'m, 'w, 's>>,

@@ -6,7 +6,7 @@ ghost use Rattle.p10_macros.specs.Table.{Table};
 ghost use Rattle.p10_macros.specs.Uses.{Sourced};
 ghost use Rattle.p10_macros.specs.Answers.{table_of};
 ghost use Rattle.p10_macros.specs.Standing as roles;
-ghost use Rattle.p10_macros.specs.Standing.{State, Advances, AdvancesBy, Fails, FailsBy, FaultComes, LeadsTo, AtUse, AtCall, IsReplacedIn, IsTooLong, IsOpenedIn, place_among, weight};
+ghost use Rattle.p10_macros.specs.Standing.{given_with, done_with, State, Advances, AdvancesBy, Fails, FailsBy, FaultComes, LeadsTo, AtUse, AtCall, IsReplacedIn, IsTooLong, IsOpenedIn, place_among, weight};
 ghost use Rattle.p10_macros.specs.Links.{HasExits};
 ghost use Rattle.p10_macros.specs.Looking.{macro_used, opens_on_top, refusal_at};
 ghost use Rattle.p10_macros.specs.declared.replaced.ReplaceFault.TheVariants as faults;
@@ -59,9 +59,10 @@ fn look<'m, 'w, 's>(
     }
 }
 
-/// Puts a word that stays to those that are done.
+/// Puts a word that stays to those that are given, or in an argument to those that are done.
 fn put_done<'s>(run: &mut Run<'_, '_, 's>, word: Traced<'s>) -> Result<(), ReplaceFault>
-    ensures done { OnOk result (run.new.done.items ≡ run.old.done.items ++ word.entry ∷ []) }
+    ensures words { OnOk result (run.new.words.items ≡ given_with (reverse run.old.open.items) run.old.words.items word.entry.word) }
+    ensures done { OnOk result (run.new.done.items ≡ done_with (reverse run.old.open.items) run.old.done.items word.entry) }
     ensures pending { run.new.pending ≡ run.old.pending }
     ensures stop { run.new.stop ≡ run.old.stop }
     ensures open { run.new.open ≡ run.old.open }
@@ -69,9 +70,15 @@ fn put_done<'s>(run: &mut Run<'_, '_, 's>, word: Traced<'s>) -> Result<(), Repla
     ensures left { run.new.left ≡ run.old.left }
     ensures err { IfErr result (λ fault. fault ≡ faults.Memory) }
 {
-    match run.done.push(word) {
-        Ok(()) => Ok(()),
-        Err(_) => Err(ReplaceFault::Memory),
+    match run.open.as_slice() {
+        [] => match run.words.push(word.word) {
+            Ok(()) => Ok(()),
+            Err(_) => Err(ReplaceFault::Memory),
+        },
+        [.., _] => match run.done.push(word) {
+            Ok(()) => Ok(()),
+            Err(_) => Err(ReplaceFault::Memory),
+        },
     }
 }
 

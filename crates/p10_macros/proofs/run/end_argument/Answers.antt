@@ -11,4 +11,4 @@ pub returns-in-Ok-put_open-clause-ok : goal.returns-in-Ok-put_open-clause-ok
 returns-in-Ok-put_open-clause-ok c = λ table next is.
     moved_argument table c.args.run.now _ next c.in-Some.open _ c.pop.new.self.items c.in-Some.ensures.items c.in-Ok-put_open.ensures refl refl refl refl refl
     (c.in-Ok.ensures ∙ ap (λ (v : Vec Traced Global). c.in-Some.open.values.items ++ v ∷ []) c.replace-value.ensures.value)
-    (ap (λ (v : Vec Traced Global). v.items) c.replace-value.ensures.after ∙ c.new.ensures.items) refl refl refl is
+    refl (ap (λ (v : Vec Traced Global). v.items) c.replace-value.ensures.after ∙ c.new.ensures.items) refl refl refl is

@@ -8,14 +8,14 @@ use Rattle.p10_macros.proofs.run.end_call.Goals as goal
 pub returns-in-Ok-clause-ok : goal.returns-in-Ok-clause-ok
 returns-in-Ok-clause-ok c =
     on_ok_so c.replace_use.result c.replace_use.ensures.ok (λ replaced. λ table next.
-    moved_call table c.args.run.now _ next c.in-Some.open c.pop.new.self.items c.in-Some.ensures.items refl refl refl refl refl
+    moved_call table c.args.run.now _ next c.in-Some.open c.pop.new.self.items c.in-Some.ensures.items refl refl refl refl refl refl
     (ap (λ (v : Vec Traced Global). v.items) c.replace-value.ensures.after) c.put_argument.new.values.items
     (c.in-Ok.ensures ∙ ap (λ (v : Vec Traced Global). c.in-Some.open.values.items ++ v ∷ []) c.replace-value.ensures.value) c.replace_use.new.run replaced)
 
 pub returns-in-Ok-clause-err : goal.returns-in-Ok-clause-err
 returns-in-Ok-clause-err c =
     if_err_so c.replace_use.result c.replace_use.ensures.err (λ f short. λ table next.
-    moved_call_too_long table c.args.run.now (record c.args.run.now { done = c.replace-value.new.dest; «open» = c.pop.new.self; stop = c.in-Some.open.stop }) next c.in-Some.open c.pop.new.self.items c.in-Some.ensures.items refl refl refl refl refl
+    moved_call_too_long table c.args.run.now (record c.args.run.now { done = c.replace-value.new.dest; «open» = c.pop.new.self; stop = c.in-Some.open.stop }) next c.in-Some.open c.pop.new.self.items c.in-Some.ensures.items refl refl refl refl refl refl
     (ap (λ (v : Vec Traced Global). v.items) c.replace-value.ensures.after) c.put_argument.new.values.items
     (c.in-Ok.ensures ∙ ap (λ (v : Vec Traced Global). c.in-Some.open.values.items ++ v ∷ []) c.replace-value.ensures.value) f short)
 

@@ -1,6 +1,6 @@
 use Rattle.p10_direct.specs.Form.{plain_macro}
 use Rattle.p10_macros.specs.Answers.{table_of}
-use Rattle.p10_macros.proofs.Putting.{on_ok_so, if_err_so}
+use Rattle.p10_macros.proofs.Putting.{on_ok_so, on_ok_both, if_err_so}
 use Rattle.p10_macros.proofs.Moves.{moved_stays}
 use Rattle.p10_macros.proofs.Beginnings.{at_use}
 use Rattle.std.proofs.Common.{refl, sym}
@@ -8,8 +8,8 @@ use Rattle.p10_macros.proofs.run.look.Goals as goal
 
 pub returns-in-None-clause-ok : goal.returns-in-None-clause-ok
 returns-in-None-clause-ok c =
-    on_ok_so c.put_done.result c.put_done.ensures.done (λ done.
-    moved_stays (table_of c.args.macros.now) c.args.run.now c.put_done.new.run c.args.next.traced done c.put_done.ensures.pending c.put_done.ensures.open c.put_done.ensures.origins c.put_done.ensures.left
+    on_ok_both c.put_done.result c.put_done.ensures.words c.put_done.ensures.done (λ words done.
+    moved_stays (table_of c.args.macros.now) c.args.run.now c.put_done.new.run c.args.next.traced words done c.put_done.ensures.pending c.put_done.ensures.open c.put_done.ensures.origins c.put_done.ensures.left
     c.put_done.ensures.stop (sym c.in-None.ensures) c.args.next refl)
 
 pub returns-in-Some-clause-ok : goal.returns-in-Some-clause-ok

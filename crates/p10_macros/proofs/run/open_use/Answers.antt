@@ -15,6 +15,7 @@ returns-in-Ok-clause-ok c = record {
   the_stop = c.replace.ensures.value;
   before = ap (λ (v : Vec Traced Global). v.items) c.replace-before.ensures.value;
   values = c.new-2.ensures.items;
+  words = refl;
   done = ap (λ (v : Vec Traced Global). v.items) c.replace-before.ensures.after ∙ c.new.ensures.items;
   pending = refl;
   stop = c.replace.ensures.after;
