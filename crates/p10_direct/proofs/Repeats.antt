@@ -1,25 +1,72 @@
 -- Texts that stand twice, and parameters one by one.
-use Rattle.std.proofs.Common.{◌≡◌, ℕ, ◌+◌, ◌-◌, ◌<◌, ◌≤◌, List, [], ◌∷◌, ◌++◌, length, take, drop, length-drop, get_or, Bool, true, false, cond, ◌||◌, ◌&&◌, bytes_eq, codes, refl, sym, ◌∙◌, ap, arith}
+use Rattle.std.proofs.Common.{◌≡◌, ℕ, zero, suc, ◌+◌, ◌-◌, ◌<◌, ◌≤◌, List, [], ◌∷◌, ◌++◌, length, take, drop, length-drop, get_or, Bool, true, false, cond, ◌||◌, ◌&&◌, bytes_eq, codes, refl, sym, ◌∙◌, ap, arith, Bor}
 use Rattle.std.specs.List.{list_any}
-use Rattle.std.proofs.lemmas.List.{drop-drop}
+use Rattle.std.proofs.lemmas.Bool.{or_from, or_left, or_right}
+use Rattle.std.proofs.lemmas.List.{drop-drop, drop_more}
 use Rattle.p10_base.specs.declared.word.Word.{Word}
 use Rattle.p10_direct.specs.Spelling.{Text, is_name_kind, is_punctuator}
 use Rattle.p10_direct.specs.Directives.{has_repeat, is_ellipsis, texts_of}
-use Rattle.p10_direct.specs.Reading.{Parameters, Wrong, Listed, Parameter, No, Last, Further, parameter_of, behind_parameters, first_repeats}
+use Rattle.p10_direct.specs.Reading.{Parameters, Wrong, Listed, Parameter, No, Last, Further, parameter_of, behind_parameters}
 use Rattle.p10_direct.proofs.Cuts.{rest_from}
 
-list_any_texts : (test : Text → Bool) (words : List Word) → list_any test (texts_of words) ≡ list_any (λ (word : Word). test word.text.now) words
-list_any_texts test [] = refl
-list_any_texts test (word ∷ words) = ap (λ b. test word.text.now || b) (list_any_texts test words)
+-- ## Words from a place on, with a set of their texts
 
-pub has_repeat_split : (words : List Word) → has_repeat (texts_of words) ≡ (first_repeats (texts_of words) || has_repeat (texts_of (drop 1 words)))
-has_repeat_split [] = refl
-has_repeat_split (word ∷ words) = refl
+abbrev Keys : Type 0
+Keys = List (Bor (List ℕ))
 
-pub repeats_is : (words : List Word) (d : Word) (among : Bool) → 1 ≤ length words → among ≡ list_any (λ (other : Word). bytes_eq other.text.now (get_or words 0 d).text.now) (take (length words - 1) (drop 1 words)) → among ≡ first_repeats (texts_of words)
-repeats_is [] d among some e = absurd (omega (arith, some))
-repeats_is (word ∷ words) d among some e =
-    e ∙ ap (list_any (λ (other : Word). bytes_eq other.text.now word.text.now)) (rest_from 1 (word ∷ words) some) ∙ sym (list_any_texts (λ other. bytes_eq other word.text.now) words)
+abbrev is_key : Keys → Text → Bool
+is_key keys text = list_any (λ (key : Bor (List ℕ)). bytes_eq text key.now) keys
+
+abbrev is_text : List Word → Text → Bool
+is_text words text = list_any (λ other. bytes_eq other text) (texts_of words)
+
+-- a text is among the keys exactly if it is among the texts of the words
+pub record HaveTexts (keys : Keys) (words : List Word) : Type 0 where
+  pub same : (text : Bor (List ℕ)) → is_key keys text.now ≡ is_text words text.now
+
+-- the texts from the place before this one on
+from_before : (words : List Word) (place : ℕ) (d : Word) → 0 < place → place ≤ length words → texts_of (drop (place - 1) words) ≡ (get_or words (place - 1) d).text.now ∷ texts_of (drop place words)
+from_before words place d some inside =
+    let next : place - 1 + 1 ≡ place = omega (arith, some) in
+    ap texts_of (drop_more words (place - 1) d (omega (arith, some, inside))) ∙ ap (λ n. (get_or words (place - 1) d).text.now ∷ texts_of (drop n words)) next
+
+as_or : (a b : Bool) → cond a true b ≡ (a || b)
+as_or true b = refl
+as_or false b = refl
+
+pub one_more : (words : List Word) (place : ℕ) (d : Word) (old new : Keys) → 0 < place → place ≤ length words → HaveTexts old (drop place words)
+    → ((text : Bor (List ℕ)) → is_key new text.now ≡ cond (bytes_eq (get_or words (place - 1) d).text.now text.now) true (is_key old text.now))
+    → HaveTexts new (drop (place - 1) words)
+one_more words place d old new some inside behind added = record {
+  same = λ text.
+      let same = bytes_eq (get_or words (place - 1) d).text.now text.now in
+      added text ∙ as_or same (is_key old text.now) ∙ ap (λ b. same || b) (behind.same text)
+      ∙ sym (ap (list_any (λ other. bytes_eq other text.now)) (from_before words place d some inside));
+}
+
+-- whether a text stands twice, where a set has the texts behind the first
+by_keys : (words : List Word) (place : ℕ) (d : Word) (keys : Keys) → 0 < place → place ≤ length words → HaveTexts keys (drop place words)
+    → has_repeat (texts_of (drop (place - 1) words)) ≡ (is_key keys (get_or words (place - 1) d).text.now || has_repeat (texts_of (drop place words)))
+by_keys words place d keys some inside behind =
+    ap has_repeat (from_before words place d some inside)
+    ∙ ap (λ b. b || has_repeat (texts_of (drop place words))) (sym (behind.same (get_or words (place - 1) d).text))
+
+pub still_none : (words : List Word) (place : ℕ) (d : Word) (keys : Keys) → 0 < place → place ≤ length words → HaveTexts keys (drop place words)
+    → is_key keys (get_or words (place - 1) d).text.now ≡ false → has_repeat (texts_of (drop place words)) ≡ false → has_repeat (texts_of (drop (place - 1) words)) ≡ false
+still_none words place d keys some inside behind fresh none = by_keys words place d keys some inside behind ∙ or_from _ _ fresh none
+
+-- what stands twice from a place on does so in all the words
+twice_in_all : (words : List Word) (place : ℕ) → has_repeat (texts_of (drop place words)) ≡ true → has_repeat (texts_of words) ≡ true
+twice_in_all words zero twice = twice
+twice_in_all [] (suc place) twice = twice
+twice_in_all (word ∷ words) (suc place) twice = or_right _ _ (twice_in_all words place twice)
+
+pub stands_twice : (words : List Word) (place : ℕ) (d : Word) (keys : Keys) → 0 < place → place ≤ length words → HaveTexts keys (drop place words)
+    → is_key keys (get_or words (place - 1) d).text.now ≡ true → true ≡ has_repeat (texts_of words)
+stands_twice words place d keys some inside behind known =
+    sym (twice_in_all words (place - 1) (by_keys words place d keys some inside behind ∙ or_left _ _ known))
+
+-- ## Parameters one by one
 
 -- what a parameter makes of the parameters so far
 abbrev follow : List Word → List Word → Parameter → Parameters

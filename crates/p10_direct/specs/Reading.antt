@@ -1,6 +1,5 @@
 -- Reading a directive from its words, from the first on.
-use Rattle.std.specs.Prelude.{ℕ, ◌-◌, ◌==◌, List, [], ◌∷◌, ◌++◌, length, take, drop, Bool, true, false, ◌&&◌, ◌||◌, nat_le, Option, Some, None, if◌then◌else◌, codes, bytes_eq, slice_index}
-use Rattle.std.specs.List.{list_any}
+use Rattle.std.specs.Prelude.{ℕ, ◌-◌, ◌==◌, List, [], ◌∷◌, ◌++◌, length, take, drop, Bool, true, false, ◌&&◌, ◌||◌, nat_le, Option, Some, None, if◌then◌else◌, codes, slice_index}
 use Rattle.p10_base.specs.declared.span.Span.{Span}
 use Rattle.p10_base.specs.declared.word.Word.{Word}
 use Rattle.p10_direct.specs.declared.keyword.Keyword.{Keyword}
@@ -41,11 +40,6 @@ behind_parameters before _ = Wrong
 abbrev pub parameters_of : List Word → Parameters
 parameters_of [] = Wrong
 parameters_of (word ∷ words) = if is_punctuator (codes ")") word then Listed [] words else behind_parameters [] (word ∷ words)
-
--- the first text stands again
-abbrev pub first_repeats : List Text → Bool
-first_repeats [] = false
-first_repeats (text ∷ texts) = list_any (λ other. bytes_eq other text) texts
 
 abbrev pub has_list : Word → List Word → Bool
 has_list name [] = false

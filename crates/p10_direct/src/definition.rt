@@ -1,10 +1,10 @@
 //! Reads the definition of a macro (C99 6.10.3).
 
-ghost use Rattle.std.specs.Prelude.{◌≡◌, ◌≤◌, [], map, length, option_map, bytes_eq, IfOk};
+ghost use Rattle.std.specs.Prelude.{◌≡◌, ◌≤◌, [], map, length, option_map, IfOk};
 ghost use Rattle.std.specs.List.{list_any};
 ghost use Rattle.p10_direct.specs.Directives.{IsDefinition, is_refused, has_repeat, has_repeated, has_ellipsis, is_ellipsis, is_bad, is_bad_macro, macro_of, texts_of};
 ghost use Rattle.p10_direct.specs.Form.{Tells, fault_of, plain_definition};
-ghost use Rattle.p10_direct.specs.Reading.{definition_of, definition_read, defined_of, judged, parameters_of, behind_parameters, parameter_of, first_repeats, has_list};
+ghost use Rattle.p10_direct.specs.Reading.{definition_of, definition_read, defined_of, judged, parameters_of, behind_parameters, parameter_of, has_list};
 ghost use Rattle.p10_direct.specs.Listed.{parameters_read, parameter_read};
 
 use crate::form::{Definition, DirectFault, Directive, Macro};
@@ -12,6 +12,7 @@ use crate::keyword::punctuates;
 use crate::read::bad_form;
 use p10_base::{Family, Kind, ListBuf, Refusal, Span, Word};
 use std::alloc::{AllocError, Global};
+use std::collections::HashSet;
 
 /// What a parameter list is.
 #[derive(Drop)]
@@ -134,24 +135,26 @@ fn judge<'w, 's>(
 ) -> Result<Directive<'w, 's>, DirectFault>
     ensures { Tells whole (judged (plain_definition found.entry)) result }
 {
-    if is_bad_definition(&found) {
-        return Err(bad_definition(found.name.at));
-    }
-    match parameter_names(alloc, &found.parameters) {
-        Ok(params) => Ok(Directive::Define(Macro {
-            name: found.name.text,
-            params,
-            body: found.body,
-        })),
+    match is_bad_definition(alloc, &found) {
+        Ok(true) => Err(bad_definition(found.name.at)),
+        Ok(false) => match parameter_names(alloc, &found.parameters) {
+            Ok(params) => Ok(Directive::Define(Macro {
+                name: found.name.text,
+                params,
+                body: found.body,
+            })),
+            Err(_) => Err(DirectFault::Memory),
+        },
         Err(_) => Err(DirectFault::Memory),
     }
 }
 
 /// Whether the definition is refused.
-fn is_bad_definition(found: &Definition<'_, '_>) -> bool
-    ensures { result ≡ is_bad (plain_definition found.now) }
+fn is_bad_definition(alloc: Global, found: &Definition<'_, '_>) -> Result<bool, AllocError>
+    ensures { IfOk result (λ bad. bad ≡ is_bad (plain_definition found.now)) }
 {
-    is_variadic(found) || is_bad_macro_of(found)
+    let bad = is_bad_macro_of(alloc, found)?;
+    Ok(is_variadic(found) || bad)
 }
 
 /// Whether `...` is among the parameters.
@@ -172,52 +175,37 @@ fn has_ellipsis_among(words: &[Word<'_>]) -> bool
 }
 
 /// Whether the macro of the definition is refused.
-fn is_bad_macro_of(found: &Definition<'_, '_>) -> bool
-    ensures { result ≡ is_bad_macro (macro_of (plain_definition found.now)) }
+fn is_bad_macro_of(alloc: Global, found: &Definition<'_, '_>) -> Result<bool, AllocError>
+    ensures { IfOk result (λ bad. bad ≡ is_bad_macro (macro_of (plain_definition found.now))) }
 {
-    found.name.text == b"defined".as_slice() || repeats_parameter(found) || has_pasting(found.body)
+    let repeats = repeats_parameter(alloc, found)?;
+    Ok(found.name.text == b"defined".as_slice() || repeats || has_pasting(found.body))
 }
 
 /// Whether a parameter stands twice.
-fn repeats_parameter(found: &Definition<'_, '_>) -> bool
-    ensures { result ≡ has_repeated (macro_of (plain_definition found.now)).parameters }
+fn repeats_parameter(alloc: Global, found: &Definition<'_, '_>) -> Result<bool, AllocError>
+    ensures { IfOk result (λ repeats. repeats ≡ has_repeated (macro_of (plain_definition found.now)).parameters) }
 {
     match &found.parameters {
-        None => false,
-        Some(parameters) => repeats(parameters.as_slice()),
+        None => Ok(false),
+        Some(parameters) => repeats(alloc, parameters.as_slice()),
     }
 }
 
-/// Whether a text stands twice.
-#[tactic(auto, using(crate::proofs::Repeats::has_repeat_split))]
-fn repeats(words: &[Word<'_>]) -> bool
-    ensures { result ≡ has_repeat (texts_of words.now) }
+/// Whether a text stands twice. Each text is looked for in a set of those behind it and not among the words, since
+/// a macro may have very many parameters.
+fn repeats(alloc: Global, words: &[Word<'_>]) -> Result<bool, AllocError>
+    ensures { IfOk result (λ repeats. repeats ≡ has_repeat (texts_of words.now)) }
 {
-    let mut rest = words;
-    while !rest.is_empty() {
-        if repeats_first(rest) {
-            return true;
+    let mut behind = HashSet::new(alloc);
+    let mut place = words.len();
+    while place > 0 {
+        place -= 1;
+        if !behind.insert(words[place].text)? {
+            return Ok(true);
         }
-        rest = &rest[1..];
     }
-    false
-}
-
-/// Whether the text of the first word stands again.
-fn repeats_first(words: &[Word<'_>]) -> bool
-    ensures { result ≡ first_repeats (texts_of words.now) }
-{
-    match words {
-        [] => false,
-        [first, others @ ..] => is_among(first.text, others),
-    }
-}
-
-/// Whether a word has the text.
-fn is_among(text: &[u8], words: &[Word<'_>]) -> bool
-    ensures { result ≡ list_any (λ word. bytes_eq word.text.now text.now) words.now }
-{
-    words.iter().any(|word| word.text == text)
+    Ok(false)
 }
 
 /// Whether a replacement list has `#`, `##` or `...`.

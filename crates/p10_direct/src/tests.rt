@@ -180,6 +180,8 @@ fn directives_are_read_or_refused(rt: HostRuntime) -> Result<(), Fail> {
         ("# define F $ ( ... ) x", "D4", 4),
         ("# define F $ ( a , ... ) x", "D4", 4),
         ("# define F $ ( a , a ) a", "D4", 4),
+        ("# define F $ ( a , b , c , b ) x", "D4", 4),
+        ("# define F $ ( a , b , c , d ) x", "define", 0),
         ("# define A # x", "D4", 4),
         ("# define A x ## y", "D4", 4),
         ("# define A ...", "D4", 4),

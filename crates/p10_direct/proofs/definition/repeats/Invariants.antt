@@ -1,10 +1,15 @@
-use Rattle.std.proofs.Common.{◌≡◌, length}
+use Rattle.std.proofs.Common.{◌≡◌, ◌≤◌, length, drop, false}
 use Rattle.p10_direct.specs.Directives.{has_repeat, texts_of}
+use Rattle.p10_direct.proofs.Repeats.{HaveTexts}
 use Rattle.p10_direct.proofs.definition.repeats.Given as goal
 
--- a text that stands twice does so among those that are left
-abbrev pub invariant-loop-rest : goal.invariant-loop-rest
-invariant-loop-rest l = has_repeat (texts_of l.rest) ≡ has_repeat (texts_of l.words)
+-- the set has the texts of the words from this place on, and none of those stands twice
+abbrev pub invariant-loop-place : goal.invariant-loop-place
+invariant-loop-place l = record {
+  inside : l.place ≤ length l.words;
+  texts : HaveTexts l.behind.keys (drop l.place l.words);
+  none : has_repeat (texts_of (drop l.place l.words)) ≡ false;
+}
 
-abbrev pub decreases-loop-rest : goal.decreases-loop-rest
-decreases-loop-rest l = length l.rest
+abbrev pub decreases-loop-place : goal.decreases-loop-place
+decreases-loop-place l = l.place
