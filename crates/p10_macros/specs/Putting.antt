@@ -14,7 +14,7 @@ use Rattle.p10_macros.specs.Uses.{Sourced, given, replacement, value_or, value_o
 use Rattle.p10_macros.specs.Origins.{listed}
 use Rattle.p10_macros.specs.Traces.{IsTraced, AreTraced, AreValues}
 
--- a word of a replacement, at the place of the use, with its list of macros
+-- a word of a replacement, at the place of the use, with its set of macros
 abbrev pub fresh : Word → Span → ℕ → Traced
 fresh word at from = record { word = record { kind = word.kind; text = word.text; at = at; first = word.first }; from = from }
 
@@ -37,17 +37,17 @@ pub record Puts (origins : List Origin) (before behind : List Pending) (words : 
   pub put : ArePut origins items words
   pub costs : left ≡ length words + remaining
 
--- the list with this number has a macro, and those that the name of its use comes from
+-- the set with this number has a macro, and those that the name of its use comes from
 pub record IsBase (origins : List Origin) (from : ℕ) (macro' : Text) (name : Sourced) : Type 0 where
   pub known : from ≤ length origins
   pub base : (other : Text) → listed origins from other ≡ (bytes_eq other macro' || name.from other)
 
--- the list with this number has the macros of such a list, and those of another
+-- the set with this number has the macros of such a set, and those of another
 pub record IsJoined (old : List Origin) (own : ℕ) (macro' : Text) (name : Sourced) (new : List Origin) (all : ℕ) : Type 0 where
   pub known : all ≤ length new
   pub both : (other : Text) → listed new all other ≡ ((bytes_eq other macro' || name.from other) || listed old own other)
 
--- the same, for a use with this name, and for lists that were there before its argument was put
+-- the same, for a use with this name, and for sets that were there before its argument was put
 abbrev pub Joins : List Origin → List Origin → Traced → ℕ → ℕ → ℕ → Type 0
 Joins base now name from own all = (macro' : Text) (name' : Sourced) → IsTraced base name name' → IsBase base from macro' name' → own ≤ length base → IsJoined base own macro' name' now all
 

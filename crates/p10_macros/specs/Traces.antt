@@ -1,4 +1,4 @@
--- Words that are kept with numbers of lists of macros.
+-- Words that are kept with numbers of sets of macros.
 use Rattle.std.specs.Prelude.{◌≡◌, ◌≤◌, List, [], ◌∷◌, length}
 use Rattle.p10_direct.specs.Spelling.{Text}
 use Rattle.p10_macros.specs.declared.origin.Origin.{Origin}
@@ -6,7 +6,7 @@ use Rattle.p10_macros.specs.declared.pending.Traced.{Traced}
 use Rattle.p10_macros.specs.Uses.{Sourced}
 use Rattle.p10_macros.specs.Origins.{listed}
 
--- a word that is kept with the number of a list of macros
+-- a word that is kept with the number of a set of macros
 pub record IsTraced (origins : List Origin) (traced : Traced) (sourced : Sourced) : Type 0 where
   pub word : traced.word ≡ sourced.word
   pub known : traced.from ≤ length origins

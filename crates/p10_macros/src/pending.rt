@@ -6,7 +6,7 @@ use p10_base::{Span, Word};
 use p10_direct::Macro;
 use std::alloc::Global;
 
-/// A word, and the number of the list of macros that it comes from.
+/// A word, and the number of the set of macros that it comes from.
 #[derive(Clone, Copy)]
 pub struct Traced<'s> {
     pub word: Word<'s>,

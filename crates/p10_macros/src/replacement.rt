@@ -19,7 +19,7 @@ use p10_base::{Span, Word};
 use p10_direct::{Macro, names};
 use std::alloc::AllocError;
 
-/// A list of macros, by its number, and the list that has those of a use too.
+/// A set of macros, by its number, and the set that has those of a use too.
 #[derive(Clone, Copy)]
 struct Joined {
     own: usize,
@@ -48,7 +48,7 @@ pub fn put_replacement<'s>(
     put_list(pending, origins, made, name, values, from, left)
 }
 
-/// Puts the replacement list of a use on top, where `from` is the number of the list of the macro and of those that the
+/// Puts the replacement list of a use on top, where `from` is the number of the set of the macro and of those that the
 /// name comes from.
 fn put_list<'s>(
     pending: &mut Ahead<'s>,
@@ -196,7 +196,7 @@ fn put_value<'s>(
     Ok(left)
 }
 
-/// The lists of a word with the list `own`, which is often that of the word behind it: then they are known.
+/// The sets of a word with the set `own`, which is often that of the word behind it: then they are known.
 fn join<'s>(
     origins: &mut Vec<Origin<'s>>,
     name: Traced<'s>,
@@ -215,7 +215,7 @@ fn join<'s>(
     Ok(Joined { own, all })
 }
 
-/// The number of the list of macros that a word of an argument comes from: those of the use, and its own.
+/// The number of the set of macros that a word of an argument comes from: those of the use, and its own.
 fn both<'s>(
     origins: &mut Vec<Origin<'s>>,
     name: usize,
@@ -231,6 +231,6 @@ fn both<'s>(
     if own == name {
         return Ok(from);
     }
-    // The list of the use is mostly the shorter one, so it is put in front of the other, which stays as it is.
+    // The set of the use is mostly the smaller one, so its macros are put into the other.
     unite(origins, own, from)
 }

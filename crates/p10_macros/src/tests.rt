@@ -15,7 +15,7 @@ struct Row {
     expected: &'static str,
 }
 
-static ROWS: [Row; 40] = [
+static ROWS: [Row; 42] = [
     Row {
         source: "# define A 1 2 ; A x A",
         expected: "1 2 x 1 2",
@@ -176,6 +176,14 @@ static ROWS: [Row; 40] = [
         source: "# define F $ ( x ) x ; # define A F ( 1 , 2 ) ; F ( A )",
         expected: "D7 0",
     },
+    Row {
+        source: "# define A 1 ; # define B A 2 ; # define F $ ( x , y ) y x x ; F ( A B , B 3 A )",
+        expected: "1 2 3 1 1 1 2 1 1 2",
+    },
+    Row {
+        source: "# define F $ ( x ) x ; # define A B ; # define B $ ( x ) x A ; F ( B ( 1 ) ) ( 2 )",
+        expected: "D6 0",
+    },
 ];
 
 /// What a word with this text is.
@@ -189,7 +197,7 @@ fn kind(text: &[u8]) -> Kind {
 }
 
 /// The words of a text; each stands where its text begins there.
-fn words(alloc: Global, text: &'static str) -> Result<Vec<Word<'static>>, AllocError> {
+fn words<'s>(alloc: Global, text: &'s str) -> Result<Vec<Word<'s>>, AllocError> {
     let mut all = Vec::new(alloc);
     let mut start: u32 = 0;
     let mut first = true;
@@ -253,7 +261,7 @@ fn last_line<'w, 's>(
 }
 
 /// How many words of the last line stand before a place.
-fn words_before(all: &[Word<'static>], at: Span) -> usize {
+fn words_before(all: &[Word<'_>], at: Span) -> usize {
     let mut before = 0;
     for word in all {
         if word.first {
@@ -269,9 +277,9 @@ fn words_before(all: &[Word<'static>], at: Span) -> usize {
     before
 }
 
-/// The answer for the last line, as a row writes it.
-fn told(alloc: Global, row: &Row) -> Result<String, Fail> {
-    let all = words(alloc, row.source)?;
+/// The answer for the last line of a source, as a row writes it.
+fn told(alloc: Global, source: &str) -> Result<String, Fail> {
+    let all = words(alloc, source)?;
     match last_line(alloc, &all, 1000)? {
         Err(ReplaceFault::Refused(refusal)) => {
             let number = refusal.number;
@@ -285,7 +293,7 @@ fn told(alloc: Global, row: &Row) -> Result<String, Fail> {
 }
 
 /// The texts of the words between blanks.
-fn joined(alloc: Global, all: &[Word<'static>]) -> Result<String, AllocError> {
+fn joined(alloc: Global, all: &[Word<'_>]) -> Result<String, AllocError> {
     let mut text = String::new(alloc);
     for word in all {
         if !text.is_empty() {
@@ -299,7 +307,38 @@ fn joined(alloc: Global, all: &[Word<'static>]) -> Result<String, AllocError> {
 #[test]
 fn uses_are_replaced(rt: HostRuntime) -> Result<(), Fail> {
     for row in &ROWS {
-        assert_eq!(rt; told(rt.alloc(), row)?.as_str(), row.expected);
+        assert_eq!(rt; told(rt.alloc(), row.source)?.as_str(), row.expected);
+    }
+    Ok(())
+}
+
+/// Calls of a hundred macros, nested in their arguments, of which the innermost is this text; and a further argument.
+fn nested(alloc: Global, innermost: &str) -> Result<String, AllocError> {
+    let mut text = String::from_str(alloc, "# define n $ ( x ) [ x ] ; ")?;
+    for number in 0..100 {
+        text.push_str(format!(in alloc; "# define m{number} $ ( x ) x ; ")?.as_str())?;
+    }
+    for number in 0..100 {
+        text.push_str(format!(in alloc; "m{number} ( ")?.as_str())?;
+    }
+    text.push_str(innermost)?;
+    for _ in 0..100 {
+        text.push_str(" )")?;
+    }
+    text.push_str(" ( 2 )")?;
+    Ok(text)
+}
+
+#[test]
+fn words_come_from_all_macros_round_them(rt: HostRuntime) -> Result<(), Fail> {
+    let source = nested(rt.alloc(), "1")?;
+    assert_eq!(rt; told(rt.alloc(), source.as_str())?.as_str(), "1 ( 2 )");
+    let source = nested(rt.alloc(), "n")?;
+    assert_eq!(rt; told(rt.alloc(), source.as_str())?.as_str(), "[ 2 ]");
+    for number in 0..100 {
+        let innermost = format!(in rt.alloc(); "m{number}")?;
+        let source = nested(rt.alloc(), innermost.as_str())?;
+        assert_eq!(rt; told(rt.alloc(), source.as_str())?.as_str(), "D6 0");
     }
     Ok(())
 }
@@ -351,7 +390,7 @@ fn a_replacement_may_be_too_long(rt: HostRuntime) -> Result<(), Fail> {
 fn a_name_is_defined_in_one_way(rt: HostRuntime) -> Result<(), Fail> {
     let source =
         "# define A 1 2 ; # define A 1 2 ; # define A 2 ; # define F $ ( x ) x ; # define F $ ( y ) x ; # define F x";
-    let all = words(rt.alloc(), source)?;
+    let all: Vec<Word<'static>> = words(rt.alloc(), source)?;
     let cut = lines(rt.alloc(), &all)?;
     let mut macros = Macros::new(rt.alloc());
     let mut answers = Vec::new(rt.alloc());
