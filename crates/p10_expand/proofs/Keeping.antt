@@ -6,7 +6,7 @@ use Rattle.p10_base.specs.declared.span.Span.{Span}
 use Rattle.p10_base.specs.declared.word.Word.{Word}
 use Rattle.p10_direct.specs.Spelling.{Text, is_name, is_name_kind}
 use Rattle.p10_direct.specs.Directives.{PlainMacro}
-use Rattle.p10_macros.specs.Table.{Entry, Table, macro_named, without_macro}
+use Rattle.p10_macros.specs.Table.{Entry, Table, macro_named, behind_first, last_first, without_macro}
 use Rattle.p10_macros.specs.Uses.{Sourced, written, plain_words, Arguments, opens, closes, separates, depth_behind, word_before, argument_before, arguments_in, fitting, Use, Stays, Wrong, Calls, fitted, called, unless_recursive, use_as, use_by, use_of, given, value_of, value_or, texts_of, replacement}
 use Rattle.p10_macros.specs.Endings.{Ending, Gives, Refused, TooMany, behind_word, behind_argument}
 use Rattle.p10_macros.specs.Ends.{Ends, EndsAll, Follows, place_in, no_words, word_stays, use_refused, use_replaced, no_arguments, argument_given, argument_refused, argument_too_long, replacement_made, replacement_too_long, values_refused, values_too_long}
@@ -29,6 +29,14 @@ module _ {A : Type 0} (P : A → Type 0) where
   pub each_if : (b : Bool) (xs ys : List A) → AllByRecursion P xs → AllByRecursion P ys → AllByRecursion P (if b then xs else ys)
   each_if true xs ys p q = p
   each_if false xs ys p q = q
+
+  each_behind : (x : A) (xs : List A) → P x → AllByRecursion P xs → AllByRecursion P (behind_first x xs)
+  each_behind x [] h p = (h, tt)
+  each_behind x (first ∷ others) h p = (p.0, (h, p.1))
+
+  pub each_moved : (xs : List A) → AllByRecursion P xs → AllByRecursion P (last_first xs)
+  each_moved [] p = tt
+  each_moved (x ∷ xs) p = each_behind x (last_first xs) p.0 (each_moved xs p.1)
 
 pub each_mapped : {A B : Type 0} (P : A → Type 0) (Q : B → Type 0) (f : A → B) → ((x : A) → P x → Q (f x)) → (xs : List A) → AllByRecursion P xs → AllByRecursion Q (map f xs)
 each_mapped P Q f h [] p = tt
@@ -289,4 +297,4 @@ module _ (kept : Kept) where
 
   pub without_holds : (table : Table) (name : Text) → TableHolds table → TableHolds (without_macro table name)
   without_holds [] name p = tt
-  without_holds (entry ∷ table) name p = each_if (λ (entry : Entry). MacroHolds entry.made) (bytes_eq name entry.made.name) table (entry ∷ without_macro table name) p.1 (p.0, without_holds table name p.1)
+  without_holds (entry ∷ table) name p = each_if (λ (entry : Entry). MacroHolds entry.made) (bytes_eq name entry.made.name) (last_first table) (entry ∷ without_macro table name) (each_moved (λ (entry : Entry). MacroHolds entry.made) table p.1) (p.0, without_holds table name p.1)

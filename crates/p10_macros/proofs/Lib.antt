@@ -11,7 +11,9 @@ pub mod Calling
 pub mod Lookups
 pub mod Moves
 pub mod Beginnings
+pub mod LastFirst
 pub mod Tables
+pub mod Undefining
 pub mod Whole
 pub mod NoObject
 pub mod Fronts

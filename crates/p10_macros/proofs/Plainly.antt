@@ -14,6 +14,7 @@ use Rattle.p10_macros.specs.Uses.{Sourced, written, plain_words, Arguments, open
 use Rattle.p10_macros.specs.Endings.{Ending, Gives, Refused, TooMany, after, behind_word, behind_argument}
 use Rattle.p10_macros.specs.Ends.{place_in, Ends, EndsAll, Follows, no_words, word_stays, use_refused, use_replaced, no_arguments, argument_given, argument_refused, argument_too_long, replacement_made, replacement_too_long, values_refused, values_too_long}
 use Rattle.p10_macros.specs.Answers.{Defines}
+use Rattle.p10_macros.proofs.LastFirst.{last_mapped}
 
 -- ## The macros that are defined
 
@@ -29,7 +30,7 @@ named_bare name (entry ∷ table) = cond_map (option_map bare_macro) (bytes_eq n
 
 pub without_bare : (table : Table) (name : Text) → without_macro (bare_table table) name ≡ bare_table (without_macro table name)
 without_bare [] name = refl
-without_bare (entry ∷ table) name = cond_map bare_table (bytes_eq name entry.made.name) _ _ _ _ refl (ap (λ entries. bare_entry entry ∷ entries) (without_bare table name))
+without_bare (entry ∷ table) name = cond_map bare_table (bytes_eq name entry.made.name) _ _ _ _ (last_mapped bare_entry table) (ap (λ entries. bare_entry entry ∷ entries) (without_bare table name))
 
 own_from : (count : ℕ) (table : Table) → fold (λ (n : ℕ) (entry : Entry). n + cond (not entry.builtin) 1 0) count (bare_table table) ≡ fold (λ (n : ℕ) (entry : Entry). n + cond (not entry.builtin) 1 0) count table
 own_from count [] = refl

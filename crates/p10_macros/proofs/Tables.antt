@@ -1,17 +1,18 @@
 -- Tables by the entries of their maps.
 use Rattle.std.proofs.Common.{◌≡◌, ℕ, zero, suc, ◌+◌, ◌<◌, ◌==◌, List, [], ◌∷◌, ◌++◌, length, map, slice_index_or, Bool, true, false, ◌&&◌, cond, not, bytes_eq, Option, Some, None, option_map, Bor, refl, sym, subst, ap, ◌∙◌, arith}
-use Rattle.std.specs.Map.{lookup, remove_entry}
+use Rattle.std.specs.Map.{lookup}
 use Rattle.std.proofs.lemmas.List.{map-append, length-map}
 use Rattle.std.proofs.lemmas.Bool.Decides.{nat_tests}
 use Rattle.std.proofs.lemmas.List.Sums.{sum_by-cons}
 use Rattle.std.specs.List.{list_all, zip}
-use Rattle.indexmap.specs.IndexMap.{insert_entry}
+use Rattle.indexmap.specs.IndexMap.{insert_entry, swap_remove_entry}
 use Rattle.p10_direct.specs.Spelling.{Text}
 use Rattle.p10_direct.specs.Form.{plain_macro}
 use Rattle.p10_macros.specs.declared.known.Known.{Known}
-use Rattle.p10_macros.specs.Table.{Table, macro_named, with_macro, without_macro, same_texts}
+use Rattle.p10_macros.specs.Table.{Table, macro_named, with_macro, behind_first, last_first, without_macro, same_texts}
 use Rattle.p10_macros.specs.Known.{AreNamed, own_among, own_if, own_of_one}
 use Rattle.p10_macros.specs.Answers.{entry_of}
+use Rattle.p10_macros.proofs.LastFirst.{last_mapped, without_key, without_key_is}
 
 -- the table of these entries
 abbrev pub table_at : List (Bor Text × Known) → Table
@@ -94,23 +95,32 @@ texts_along (this ∷ these) (that ∷ those) = ap (λ (b : Bool). bytes_eq this
 
 -- ## One macro less
 
+named_behind : (entry : Bor Text × Known) (entries : List (Bor Text × Known)) → entry.0.now ≡ entry.1.made.name.now → AreNamed entries → AreNamed (behind_first entry entries)
+named_behind entry [] head named = named_both entry [] head named
+named_behind entry (first ∷ others) head named =
+    named_both first (entry ∷ others) (named_head first others named) (named_both entry others head (named_tail first others named))
+
+named_moved : (entries : List (Bor Text × Known)) → AreNamed entries → AreNamed (last_first entries)
+named_moved [] named = named
+named_moved (entry ∷ entries) named = named_behind entry (last_first entries) (named_head entry entries named) (named_moved entries (named_tail entry entries named))
+
 module _ (name : Text) where
-  pub removed_named : (entries : List (Bor Text × Known)) → AreNamed entries → AreNamed (remove_entry (names_key name) entries)
+  pub removed_named : (entries : List (Bor Text × Known)) → AreNamed entries → AreNamed (without_key (names_key name) entries)
   removed_named [] named = named
   removed_named (entry ∷ entries) named = go (bytes_eq name entry.0.now) (removed_named entries (named_tail entry entries named))
     where
-      go : (b : Bool) → AreNamed (remove_entry (names_key name) entries) → AreNamed (cond b entries (entry ∷ remove_entry (names_key name) entries))
-      go true again = named_tail entry entries named
-      go false again = named_both entry (remove_entry (names_key name) entries) (named_head entry entries named) again
+      go : (b : Bool) → AreNamed (without_key (names_key name) entries) → AreNamed (cond b (last_first entries) (entry ∷ without_key (names_key name) entries))
+      go true again = named_moved entries (named_tail entry entries named)
+      go false again = named_both entry (without_key (names_key name) entries) (named_head entry entries named) again
 
-  pub removed_table : (entries : List (Bor Text × Known)) → AreNamed entries → table_at (remove_entry (names_key name) entries) ≡ without_macro (table_at entries) name
+  pub removed_table : (entries : List (Bor Text × Known)) → AreNamed entries → table_at (without_key (names_key name) entries) ≡ without_macro (table_at entries) name
   removed_table [] named = refl
   removed_table (entry ∷ entries) named =
       go (bytes_eq name entry.0.now) (bytes_eq name entry.1.made.name.now) (ap (λ (text : Text). bytes_eq name text) (named_head entry entries named)) (removed_table entries (named_tail entry entries named))
     where
-      go : (a b : Bool) → a ≡ b → table_at (remove_entry (names_key name) entries) ≡ without_macro (table_at entries) name →
-          table_at (cond a entries (entry ∷ remove_entry (names_key name) entries)) ≡ cond b (table_at entries) (entry_of entry.1 ∷ without_macro (table_at entries) name)
-      go true true e again = refl
+      go : (a b : Bool) → a ≡ b → table_at (without_key (names_key name) entries) ≡ without_macro (table_at entries) name →
+          table_at (cond a (last_first entries) (entry ∷ without_key (names_key name) entries)) ≡ cond b (last_first (table_at entries)) (entry_of entry.1 ∷ without_macro (table_at entries) name)
+      go true true e again = sym (last_mapped (λ (pair : Bor Text × Known). entry_of pair.1) entries)
       go false false e again = ap (λ (l : Table). entry_of entry.1 ∷ l) again
       go true false e again = cc
       go false true e again = cc
@@ -122,14 +132,24 @@ counted_first entry entries = sum_by-cons (λ (e : Bor Text × Known). cond (not
     go true = refl
     go false = refl
 
-pub removed_count : (name : Text) (entries : List (Bor Text × Known)) → own_among entries ≡ own_of_one (lookup (names_key name) entries) + own_among (remove_entry (names_key name) entries)
+counted_behind : (entry : Bor Text × Known) (entries : List (Bor Text × Known)) → own_among (behind_first entry entries) ≡ own_among (entry ∷ entries)
+counted_behind entry [] = refl
+counted_behind entry (first ∷ others) =
+    omega (arith, counted_first first (entry ∷ others), counted_first entry others, counted_first entry (first ∷ others), counted_first first others)
+
+counted_moved : (entries : List (Bor Text × Known)) → own_among (last_first entries) ≡ own_among entries
+counted_moved [] = refl
+counted_moved (entry ∷ entries) =
+    omega (arith, counted_behind entry (last_first entries), counted_first entry (last_first entries), counted_first entry entries, counted_moved entries)
+
+pub removed_count : (name : Text) (entries : List (Bor Text × Known)) → own_among entries ≡ own_of_one (lookup (names_key name) entries) + own_among (without_key (names_key name) entries)
 removed_count name [] = refl
 removed_count name (entry ∷ entries) = go (bytes_eq name entry.0.now) (removed_count name entries)
   where
-    go : (b : Bool) → own_among entries ≡ own_of_one (lookup (names_key name) entries) + own_among (remove_entry (names_key name) entries) →
-        own_among (entry ∷ entries) ≡ own_of_one (cond b (Some entry.1) (lookup (names_key name) entries)) + own_among (cond b entries (entry ∷ remove_entry (names_key name) entries))
-    go true again = counted_first entry entries
-    go false again = omega (arith, again, counted_first entry entries, counted_first entry (remove_entry (names_key name) entries))
+    go : (b : Bool) → own_among entries ≡ own_of_one (lookup (names_key name) entries) + own_among (without_key (names_key name) entries) →
+        own_among (entry ∷ entries) ≡ own_of_one (cond b (Some entry.1) (lookup (names_key name) entries)) + own_among (cond b (last_first entries) (entry ∷ without_key (names_key name) entries))
+    go true again = omega (arith, counted_first entry entries, counted_moved entries)
+    go false again = omega (arith, again, counted_first entry entries, counted_first entry (without_key (names_key name) entries))
 
 pub counted_last : (entries : List (Bor Text × Known)) (entry : Bor Text × Known) → own_among (entries ++ entry ∷ []) ≡ own_among entries + own_if entry.1.builtin
 counted_last [] entry = counted_first entry [] ∙ omega arith
@@ -164,10 +184,12 @@ pub record IsRemoved (name : Text) (entries new : List (Bor Text × Known)) (rem
   pub counted : own_among entries ≡ own_of_one removed + own_among new
   pub table : table_at new ≡ without_macro (table_at entries) name
 
-pub is_removed : (name : Text) (entries new : List (Bor Text × Known)) (removed : Option Known) → AreNamed entries → removed ≡ lookup (names_key name) entries → new ≡ remove_entry (names_key name) entries →
+pub is_removed : (name : Text) (entries new : List (Bor Text × Known)) (removed : Option Known) → AreNamed entries → removed ≡ lookup (names_key name) entries → new ≡ swap_remove_entry (names_key name) entries →
     IsRemoved name entries new removed
-is_removed name entries new removed named found is = record {
-  named = subst (λ (l : List (Bor Text × Known)). AreNamed l) (sym is) (removed_named name entries named);
-  counted = removed_count name entries ∙ ap (λ (o : Option Known). own_of_one o + own_among (remove_entry (names_key name) entries)) (sym found) ∙ ap (λ (l : List (Bor Text × Known)). own_of_one removed + own_among l) (sym is);
-  table = ap table_at is ∙ removed_table name entries named;
-}
+is_removed name entries new removed named found swapped =
+    let is : new ≡ without_key (names_key name) entries = swapped ∙ without_key_is (names_key name) entries in
+    record {
+      named = subst (λ (l : List (Bor Text × Known)). AreNamed l) (sym is) (removed_named name entries named);
+      counted = removed_count name entries ∙ ap (λ (o : Option Known). own_of_one o + own_among (without_key (names_key name) entries)) (sym found) ∙ ap (λ (l : List (Bor Text × Known)). own_of_one removed + own_among l) (sym is);
+      table = ap table_at is ∙ removed_table name entries named;
+    }

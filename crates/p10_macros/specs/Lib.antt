@@ -2,6 +2,7 @@
 
 -- what the public functions promise
 pub mod Table
+pub mod Undefining
 pub mod Uses
 pub mod Endings
 pub mod Ends

@@ -12,8 +12,8 @@ pub record Entry : Type 0 where
   pub made : PlainMacro
   pub builtin : Bool
 
--- the macros that are defined, in the order of their definitions; no name stands twice, since only names that aren't there are put
--- behind the others
+-- the macros that are defined; no name stands twice, since only names that aren't there are put behind the others, so their order
+-- means nothing
 abbrev pub Table : Type 0
 Table = List Entry
 
@@ -63,10 +63,21 @@ same_macro this that = same_parameters this.parameters that.parameters && same_w
 abbrev pub with_macro : Table → PlainMacro → Bool → Table
 with_macro table made builtin = table ++ (record { made = made; builtin = builtin }) ∷ []
 
--- without the macro of this name
+-- with one more, as the second one behind the first, or alone
+abbrev pub behind_first : {A : Type 0} → A → List A → List A
+behind_first one [] = one ∷ []
+behind_first one (first ∷ others) = first ∷ one ∷ others
+
+-- the last one in front of the others
+abbrev pub last_first : {A : Type 0} → List A → List A
+last_first [] = []
+last_first (one ∷ others) = behind_first one (last_first others)
+
+-- without the macro of this name: the last one takes its place. The order of macros means nothing, and so no other one has to be moved,
+-- however many there are
 abbrev pub without_macro : Table → Text → Table
 without_macro [] name = []
-without_macro (entry ∷ table) name = if bytes_eq name entry.made.name then table else entry ∷ without_macro table name
+without_macro (entry ∷ table) name = if bytes_eq name entry.made.name then last_first table else entry ∷ without_macro table name
 
 -- how many of the macros no built-in header defined
 abbrev pub own_of : Table → ℕ

@@ -21,7 +21,7 @@ mod table;
 
 pub use expansion::{front_gives, no_object_left, one_ending, replace};
 pub use replaced::{ReplaceFault, Replaced};
-pub use table::{Definition, Macros};
+pub use table::{Definition, Macros, one_undefined};
 
 #[cfg(test)]
 mod tests;

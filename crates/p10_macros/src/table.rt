@@ -2,6 +2,7 @@
 
 ghost use Rattle.std.specs.Prelude.{◌≡◌};
 ghost use Rattle.p10_macros.specs.Known.{AreNamed, own_among};
+ghost use Rattle.p10_macros.specs.Undefining.{TakesOneName, TakesOneOwn, StaysNamedOnce};
 
 use crate::known::Known;
 use crate::own::{own_if, own_in};
@@ -21,7 +22,7 @@ pub enum Definition {
     Other,
 }
 
-/// The macros that are defined, in the order of their definitions.
+/// The macros that are defined. Their order means nothing, since no name stands twice.
 #[derive(Drop)]
 pub struct Macros<'w, 's> {
     known: IndexMap<&'s [u8], Known<'w, 's>>,
@@ -82,11 +83,12 @@ impl<'w, 's> Macros<'w, 's> {
         }
     }
 
-    /// Takes the macro with this name out of the table, if there is one.
+    /// Takes the macro with this name out of the table, if there is one. The last one takes its place, so that no
+    /// other one is moved.
     pub fn undefine(&mut self, name: &'s [u8])
         ensures { table_of self.new ≡ without_macro (table_of self.old) name.now }
     {
-        let removed = self.known.shift_remove(&name);
+        let removed = self.known.swap_remove(&name);
         self.own -= own_in(&removed);
     }
 
@@ -103,3 +105,10 @@ impl<'w, 's> Macros<'w, 's> {
         Ok(())
     }
 }
+
+/// Where a macro is undefined its name is taken away and nothing else, and no name comes to stand twice.
+pub fn one_undefined()
+    ensures name { TakesOneName }
+    ensures own { TakesOneOwn }
+    ensures once { StaysNamedOnce }
+{}

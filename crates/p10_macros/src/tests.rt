@@ -417,3 +417,30 @@ fn a_name_is_defined_in_one_way(rt: HostRuntime) -> Result<(), Fail> {
     assert!(rt; macros.get(b"F").is_some());
     Ok(())
 }
+
+#[test]
+fn undefining_leaves_the_other_macros(rt: HostRuntime) -> Result<(), Fail> {
+    let source = "# define A 1 ; # define B 2 ; # define C 3 ; # define D 4 ; A B C D";
+    let all = words(rt.alloc(), source)?;
+    let cut = lines(rt.alloc(), &all)?;
+    let mut macros = Macros::new(rt.alloc());
+    for line in cut.lines.as_slice() {
+        match line {
+            Line::Directive(line) => if let Some(made) = defined(rt.alloc(), line) {
+                let _ = macros.define(made, false)?;
+            },
+            Line::Text(run) => {
+                macros.undefine(b"A");
+                let Ok(replaced) = replace(rt.alloc(), &macros, run, 1000) else {
+                    return Err("refused".into());
+                };
+                assert_eq!(rt;
+                    joined(rt.alloc(), replaced.words.as_slice())?.as_str(),
+                    "A 2 3 4"
+                );
+            }
+        }
+    }
+    assert_eq!(rt; macros.own(), 3);
+    Ok(())
+}

@@ -1,0 +1,29 @@
+-- What it is to undefine a macro: its name is taken away, and nothing else.
+use Rattle.std.specs.Prelude.{◌≡◌, ℕ, ◌+◌, [], ◌∷◌, Bool, None, bytes_eq, if◌then◌else◌}
+use Rattle.p10_direct.specs.Spelling.{Text}
+use Rattle.p10_direct.specs.Directives.{PlainMacro}
+use Rattle.p10_macros.specs.Table.{Table, macro_named, with_macro, without_macro, own_of}
+
+-- no name stands twice
+abbrev pub NamedOnce : Table → Type 0
+NamedOnce [] = Unit {0}
+NamedOnce (entry ∷ table) = (macro_named entry.made.name table ≡ None) × NamedOnce table
+
+-- 1 where there is a macro of this name and no built-in header defined it, 0 else
+abbrev pub own_named : Text → Table → ℕ
+own_named name [] = 0
+own_named name (entry ∷ table) = if bytes_eq name entry.made.name then (if entry.builtin then 0 else 1) else own_named name table
+
+-- without a macro its name has none, and each other name has the one that it had
+abbrev pub TakesOneName : Type 0
+TakesOneName = (table : Table) (name other : Text) → NamedOnce table → macro_named other (without_macro table name) ≡ (if bytes_eq other name then None else macro_named other table)
+
+-- of those that no built-in header defined there is one less exactly where the macro was one of them
+abbrev pub TakesOneOwn : Type 0
+TakesOneOwn = (table : Table) (name : Text) → own_of table ≡ own_named name table + own_of (without_macro table name)
+
+-- no name stands twice without a macro, nor with one more whose name wasn't there
+abbrev pub StaysNamedOnce : Type 0
+StaysNamedOnce =
+    ((table : Table) (name : Text) → NamedOnce table → NamedOnce (without_macro table name))
+    × ((table : Table) (made : PlainMacro) (builtin : Bool) → NamedOnce table → macro_named made.name table ≡ None → NamedOnce (with_macro table made builtin))
