@@ -4,8 +4,6 @@ use Rattle.std.specs.Prelude.{reverse}
 use Rattle.std.proofs.lemmas.List.{length-reverse}
 use Rattle.p10_direct.specs.Spelling.{Text}
 use Rattle.p10_direct.specs.Directives.{PlainMacro}
-use Rattle.p10_direct.specs.Form.{plain_macro}
-use Rattle.p10_direct.specs.declared.form.Macro.{Macro}
 use Rattle.p10_macros.specs.declared.origin.Origin.{Origin}
 use Rattle.p10_macros.specs.declared.pending.Traced.{Traced}
 use Rattle.p10_macros.specs.declared.pending.Pending.{Pending}
@@ -14,6 +12,8 @@ use Rattle.p10_macros.specs.declared.pending.Run.{Run}
 use Rattle.p10_macros.specs.declared.pending.Exits.{Exits}
 use Rattle.p10_macros.specs.declared.ahead.Ahead.{Ahead}
 use Rattle.p10_macros.specs.declared.replaced.ReplaceFault.{ReplaceFault}
+use Rattle.p10_macros.specs.declared.known.Known.{Known}
+use Rattle.p10_macros.specs.Known.{plain_known}
 use Rattle.p10_macros.specs.Table.{Table}
 use Rattle.p10_macros.specs.Uses.{Sourced, Wrong, Calls, use_of, use_as, called, next_opens, Arguments, arguments_in}
 use Rattle.p10_macros.specs.Running.{OpenUse}
@@ -177,12 +177,12 @@ module _ (table : Table) (old : Run) (plain : PlainMacro) (parameters : ℕ) (na
         (λ same. more zero' (omega (arith, same, has.call, length-reverse old.pending.words.items)))))
 
 -- a use is opened
-pub call_right : (table : Table) (old new : Run) (made : Bor Macro) (parameters : ℕ) (name : Traced) (state : State) → (at : AtCall table old (plain_macro made.now) parameters name state) → (exits : Exits) →
+pub call_right : (table : Table) (old new : Run) (made : Bor Known) (parameters : ℕ) (name : Traced) (state : State) → (at : AtCall table old (plain_known made.now) parameters name state) → (exits : Exits) →
     (has : HasExits exits (reverse old.pending.words.items)) → (inside : old.stop < exits.call) → parameters ≡ commas 0 (reverse old.pending.words.items) + 1 → IsOpenedIn old new made name exits.argument → LeadsTo table state new
 call_right table old new made parameters name state at exits has inside same opened =
-    let found : HasFound table old (plain_macro made.now) parameters name state at exits has inside = has_found table old (plain_macro made.now) parameters name state at exits has inside in
+    let found : HasFound table old (plain_known made.now) parameters name state at exits has inside = has_found table old (plain_known made.now) parameters name state at exits has inside in
     moved_opened table old new made name state at.word (at.paren ∷ at.words) found.found at.todo at.traced at.keeps
-    (at.is ∙ called_with (plain_macro made.now) parameters at.words found.found found.is (same ∙ found.counted)) exits.argument at.words opened at.stands found.stands
+    (at.is ∙ called_with (plain_known made.now) parameters at.words found.found found.is (same ∙ found.counted)) exits.argument at.words opened at.stands found.stands
 
 -- ## The name of a macro
 

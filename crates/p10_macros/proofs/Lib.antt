@@ -6,6 +6,7 @@ pub mod Listing
 pub mod Links
 pub mod Parts
 pub mod Putting
+pub mod Parameters
 pub mod Standings
 pub mod Calling
 pub mod Lookups

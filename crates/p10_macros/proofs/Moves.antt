@@ -5,8 +5,6 @@ use Rattle.std.proofs.lemmas.List.{reverse-append, map-append, length-reverse}
 use Rattle.p10_base.specs.declared.span.Span.{Span}
 use Rattle.p10_base.specs.declared.word.Word.{Word}
 use Rattle.p10_direct.specs.Directives.{PlainMacro}
-use Rattle.p10_direct.specs.Form.{plain_macro}
-use Rattle.p10_direct.specs.declared.form.Macro.{Macro}
 use Rattle.p10_macros.specs.declared.origin.Origin.{Origin}
 use Rattle.p10_macros.specs.declared.pending.Traced.{Traced}
 use Rattle.p10_macros.specs.declared.pending.Pending.{Pending}
@@ -15,6 +13,8 @@ use Rattle.p10_macros.specs.declared.pending.Run.{Run}
 use Rattle.p10_macros.specs.declared.ahead.Ahead.{Ahead}
 use Rattle.p10_macros.specs.declared.replaced.ReplaceFault.{ReplaceFault}
 use Rattle.p10_macros.specs.declared.replaced.ReplaceFault.TheVariants as fault
+use Rattle.p10_macros.specs.declared.known.Known.{Known}
+use Rattle.p10_macros.specs.Known.{plain_known}
 use Rattle.p10_macros.specs.Table.{Table}
 use Rattle.p10_macros.specs.Uses.{Sourced, closes, Stays, Wrong, Calls, use_of, replacement, Arguments, plain_words}
 use Rattle.p10_macros.specs.Endings.{Ending, Refused, TooMany, behind_word}
@@ -168,17 +168,17 @@ module _ (table : Table) (old : Run) (plain : PlainMacro) (name : Traced) (state
 
 -- ## A use is opened
 
-module _ (table : Table) (old new : Run) (made : Bor Macro) (name : Traced) (state : State) (word : Sourced) (words : List Sourced) (found : Arguments) (todo_is : state.todo ≡ word ∷ words)
-    (traced : IsTraced old.origins.items name word) (keeps : KeepsFor old state) (is : use_of table word words ≡ Calls (plain_macro made.now) (found.first ∷ found.others) found.rest)
+module _ (table : Table) (old new : Run) (made : Bor Known) (name : Traced) (state : State) (word : Sourced) (words : List Sourced) (found : Arguments) (todo_is : state.todo ≡ word ∷ words)
+    (traced : IsTraced old.origins.items name word) (keeps : KeepsFor old state) (is : use_of table word words ≡ Calls (plain_known made.now) (found.first ∷ found.others) found.rest)
     (stop : ℕ) where
   -- the use that is opened
   abbrev opened_use : OpenUse
-  opened_use = opened (outer_of state.uses) (plain_macro made.now) word state.done found.others found.rest
+  opened_use = opened (outer_of state.uses) (plain_known made.now) word state.done found.others found.rest
 
   is_opened : (items : List Pending) (todo : List Sourced) → (is' : IsOpenedIn old new made name stop) → Stands old.origins.items items old.stop (reverse old.open.items) todo state.uses →
       IsOpen old.origins.items is'.opened opened_use
   is_opened items todo is' stands = record {
-    plain = ap plain_macro is'.the_macro;
+    plain = ap plain_known is'.the_macro;
     name = subst (λ (t : Traced). IsTraced old.origins.items t word) (sym is'.the_name) traced;
     place = is'.the_place ∙ place_is old.origins.items items old.stop (reverse old.open.items) todo state.uses name word stands traced;
     before = traced_along _ _ _ _ _ refl is'.before keeps.done;
@@ -204,7 +204,7 @@ module _ (table : Table) (old new : Run) (made : Bor Macro) (name : Traced) (sta
         comes = λ ending (level, comes, e). (
           level,
           subst (λ (l : List Sourced). Comes table state.uses l state.done state.left level) (sym todo_is)
-              (step_opened table state.uses word words state.done (plain_macro made.now) found.first found.others found.rest is state.left level comes),
+              (step_opened table state.uses word words state.done (plain_known made.now) found.first found.others found.rest is state.left level comes),
           e,
         );
       }
@@ -259,7 +259,7 @@ module _ (table : Table) (old new : Run) (pending : Pending) (open' renewed : Op
     (stop_is : pending.exits.argument ≡ new.stop) where
   renews : (value : List Sourced) → AreTraced old.origins.items old.done.items value → (use' : OpenUse) → IsOpen old.origins.items open' use' → IsOpen old.origins.items renewed (valued use' value)
   renews value are use' is = record {
-    plain = ap (λ (m : Bor Macro). plain_macro m.now) same_macro ∙ is.plain;
+    plain = ap (λ (m : Bor Known). plain_known m.now) same_macro ∙ is.plain;
     name = subst (λ (t : Traced). IsTraced old.origins.items t use'.name) (sym same_name) is.name;
     place = same_place ∙ is.place;
     before = traced_along _ _ _ _ _ refl (ap (λ (v : Vec Traced Global). v.items) same_before) is.before;
@@ -355,10 +355,10 @@ module _ (table : Table) (old mid : Run) (pending : Pending) (open' : Open) (bel
         subst (λ (l : List Sourced). Comes table state.uses l state.done state.left ending) (sym ends.todo_is)
         (subst (λ (u : List OpenUse). Comes table u [] state.done state.left ending) (sym ends.uses_is) (comes_waiting table ends.use' [] ends.others [] state.done state.left ending ends.waiting comes))
 
-    call_replaced : (new : Run) → IsReplacedIn mid new (plain_macro open'.made.now) open'.name (map (λ (v : Vec Traced Global). v.items) values) → LeadsTo table state new
+    call_replaced : (new : Run) → IsReplacedIn mid new (plain_known open'.made.now) open'.name (map (λ (v : Vec Traced Global). v.items) values) → LeadsTo table state new
     call_replaced new replaced =
         let made = replacement ends.use'.plain ends.use'.name (ends.use'.values ++ state.done ∷ []) in
-        let puts' : Puts new.origins.items mid.pending.words.items new.pending.words.items (replacement (plain_macro open'.made.now) ends.use'.name (ends.use'.values ++ state.done ∷ [])) mid.left new.left =
+        let puts' : Puts new.origins.items mid.pending.words.items new.pending.words.items (replacement (plain_known open'.made.now) ends.use'.name (ends.use'.values ++ state.done ∷ [])) mid.left new.left =
         replaced.puts ends.use'.name (ends.use'.values ++ state.done ∷ []) named are_values in
         let puts : Puts new.origins.items mid.pending.words.items new.pending.words.items made mid.left new.left =
         subst (λ (p : PlainMacro). Puts new.origins.items mid.pending.words.items new.pending.words.items (replacement p ends.use'.name (ends.use'.values ++ state.done ∷ [])) mid.left new.left) ends.is.plain puts' in
@@ -386,20 +386,20 @@ module _ (table : Table) (old mid : Run) (pending : Pending) (open' : Open) (bel
           );
         }
 
-    call_too_long : (f : ReplaceFault) → IsTooLong mid (plain_macro open'.made.now) open'.name (map (λ (v : Vec Traced Global). v.items) values) f → FaultComes table state f
+    call_too_long : (f : ReplaceFault) → IsTooLong mid (plain_known open'.made.now) open'.name (map (λ (v : Vec Traced Global). v.items) values) f → FaultComes table state f
     call_too_long (fault.Refused refusal) short = absurd (short ends.use'.name (ends.use'.values ++ state.done ∷ []) named are_values)
     call_too_long fault.TooMany short =
-        let less' : mid.left < length (replacement (plain_macro open'.made.now) ends.use'.name (ends.use'.values ++ state.done ∷ [])) = short ends.use'.name (ends.use'.values ++ state.done ∷ []) named are_values in
+        let less' : mid.left < length (replacement (plain_known open'.made.now) ends.use'.name (ends.use'.values ++ state.done ∷ [])) = short ends.use'.name (ends.use'.values ++ state.done ∷ []) named are_values in
         let less : state.left < length (replacement ends.use'.plain ends.use'.name (ends.use'.values ++ state.done ∷ [])) =
         subst (λ (n : ℕ). n < length (replacement ends.use'.plain ends.use'.name (ends.use'.values ++ state.done ∷ []))) (left_is ∙ plays.keeps.left)
         (subst (λ (p : PlainMacro). mid.left < length (replacement p ends.use'.name (ends.use'.values ++ state.done ∷ []))) ends.is.plain less') in
         (TooMany, comes_here TooMany (step_closed_too_long table ends.others ends.use'.plain ends.use'.name ends.use'.place ends.use'.before ends.use'.values ends.use'.rest state.done state.left less), refl)
     call_too_long fault.Memory short = tt
 
-  pub moved_call : (new : Run) → IsReplacedIn mid new (plain_macro open'.made.now) open'.name (map (λ (v : Vec Traced Global). v.items) values) → AdvancesBy table old pending EndsCall new
+  pub moved_call : (new : Run) → IsReplacedIn mid new (plain_known open'.made.now) open'.name (map (λ (v : Vec Traced Global). v.items) values) → AdvancesBy table old pending EndsCall new
   moved_call new replaced = λ state plays. call_replaced state plays new replaced
 
-  pub moved_call_too_long : (f : ReplaceFault) → IsTooLong mid (plain_macro open'.made.now) open'.name (map (λ (v : Vec Traced Global). v.items) values) f → FailsBy table old pending EndsCall f
+  pub moved_call_too_long : (f : ReplaceFault) → IsTooLong mid (plain_known open'.made.now) open'.name (map (λ (v : Vec Traced Global). v.items) values) f → FailsBy table old pending EndsCall f
   moved_call_too_long f short = λ state plays. call_too_long state plays f short
 
 -- ## The role of the next word

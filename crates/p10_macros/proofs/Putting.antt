@@ -1,11 +1,11 @@
 -- The words of a replacement are put on top from the last one to the first.
-use Rattle.std.proofs.Common.{◌≡◌, ℕ, zero, suc, ◌+◌, ◌-◌, ◌<◌, ◌≤◌, List, [], ◌∷◌, ◌++◌, length, map, drop, slice_index_or, Bool, true, false, ◌||◌, cond, bytes_eq, Option, Some, None, Result, Ok, Err, IfOk, IfErr, OnOk, Vec, Global, Bor, ◌⊎◌, inl, inr, refl, sym, subst, ap, ◌∙◌, arith, append_assoc, length-append, drop-cons}
+use Rattle.std.proofs.Common.{◌≡◌, ℕ, zero, suc, ◌+◌, ◌-◌, ◌<◌, ◌≤◌, List, [], ◌∷◌, ◌++◌, length, map, drop, slice_index_or, Bool, true, false, ◌||◌, bytes_eq, Option, Some, None, Result, Ok, Err, IfOk, IfErr, OnOk, Vec, Global, Bor, refl, sym, subst, ap, ◌∙◌, arith, append_assoc, length-append, drop-cons}
 use Rattle.std.specs.Prelude.{reverse}
 use Rattle.std.specs.List.{flat_map}
-use Rattle.std.proofs.lemmas.List.{reverse-append, map-append, length-map, drop_all, get_or-map}
+use Rattle.std.proofs.lemmas.List.{reverse-append, map-append, length-map, drop_all}
 use Rattle.p10_base.specs.declared.span.Span.{Span}
 use Rattle.p10_base.specs.declared.word.Word.{Word}
-use Rattle.p10_direct.specs.Spelling.{Text, is_name}
+use Rattle.p10_direct.specs.Spelling.{Text}
 use Rattle.p10_direct.specs.Directives.{PlainMacro}
 use Rattle.p10_macros.specs.declared.origin.Origin.{Origin}
 use Rattle.p10_macros.specs.declared.pending.Traced.{Traced}
@@ -198,88 +198,11 @@ puts_behind_all old new before behind name from value place left remaining none 
 
 -- ## Parameters
 
--- the values at a place
-values_at : (origins : List Origin) (place : ℕ) (none : List Traced) (those : List (List Traced)) (these : List (List Sourced)) → place < length those → AreValues origins those these →
-    (value : List Sourced) × AreTraced origins (slice_index_or those place none) value × (drop place these ≡ value ∷ drop (suc place) these)
-values_at origins place none [] these less are = absurd (omega arith)
-values_at origins place none (traced ∷ those) [] less are = absurd are
-values_at origins zero none (traced ∷ those) (value ∷ these) less (is, are) = (value, is, refl)
-values_at origins (suc place) none (traced ∷ those) (value ∷ these) less (is, are) = values_at origins place none those these (omega arith) are
-
-values_length : (origins : List Origin) (those : List (List Traced)) (these : List (List Sourced)) → AreValues origins those these → length those ≡ length these
-values_length origins [] [] are = refl
-values_length origins (traced ∷ those) (value ∷ these) (is, are) = ap suc (values_length origins those these are)
-values_length origins [] (value ∷ these) are = absurd are
-values_length origins (traced ∷ those) [] are = absurd are
-
--- the parameter that the word names stands at a place or behind it
-abbrev pub NamedFrom : List Text → Word → List (List Traced) → ℕ → Type 0
-NamedFrom parameters word values place =
-    (origins : List Origin) (values' : List (List Sourced)) → AreValues origins values values' → value_of parameters values' word ≡ value_of (drop place parameters) (drop place values') word
-
-pub named_later : (parameters : List Text) (word : Word) (values : List (List Traced)) (place : ℕ) (none : Text) → place < length parameters → place < length values →
-    is_name (slice_index_or parameters place none) word ≡ false → NamedFrom parameters word values place → NamedFrom parameters word values (place + 1)
-named_later parameters word values place none less less' other named origins values' are =
-    let (value, traced, next) = values_at origins place [] values values' less' are in
-    named origins values' are
-    ∙ ap (λ (l : List Text). value_of l (drop place values') word) (drop-cons parameters place none less)
-    ∙ ap (λ (l : List (List Sourced)). value_of (slice_index_or parameters place none ∷ drop (suc place) parameters) l word) next
-    ∙ ap (λ (b : Bool). cond b (Some value) (value_of (drop (suc place) parameters) (drop (suc place) values') word)) other
-    ∙ ap (λ (n : ℕ). value_of (drop n parameters) (drop n values') word) (let e : suc place ≡ place + 1 = omega arith in e)
-
-pub named_here : (parameters : List Text) (word : Word) (values : List (List Traced)) (place : ℕ) (none : Text) (none' : List Traced) → place < length parameters → place < length values →
-    is_name (slice_index_or parameters place none) word ≡ true → NamedFrom parameters word values place →
-    (origins : List Origin) (values' : List (List Sourced)) → AreValues origins values values' → IsValue origins (Some (slice_index_or values place none')) (value_of parameters values' word)
-named_here parameters word values place none none' less less' this named origins values' are =
-    let (value, traced, next) = values_at origins place none' values values' less' are in
-    let found : value_of parameters values' word ≡ Some value =
-    named origins values' are
-    ∙ ap (λ (l : List Text). value_of l (drop place values') word) (drop-cons parameters place none less)
-    ∙ ap (λ (l : List (List Sourced)). value_of (slice_index_or parameters place none ∷ drop (suc place) parameters) l word) next
-    ∙ ap (λ (b : Bool). cond b (Some value) (value_of (drop (suc place) parameters) (drop (suc place) values') word)) this in
-    subst (λ (o : Option (List Sourced)). IsValue origins (Some (slice_index_or values place none')) o) (sym found) traced
-
-no_value : (parameters : List Text) (word : Word) → value_of parameters [] word ≡ None
-no_value [] word = refl
-no_value (parameter ∷ parameters) word = refl
-
-pub named_nowhere : (parameters : List Text) (word : Word) (values : List (List Traced)) (place : ℕ) → (length parameters ≤ place) ⊎ (length values ≤ place) → NamedFrom parameters word values place →
-    (origins : List Origin) (values' : List (List Sourced)) → AreValues origins values values' → IsValue origins None (value_of parameters values' word)
-named_nowhere parameters word values place (inl less) named origins values' are =
-    let none : value_of parameters values' word ≡ None = named origins values' are ∙ ap (λ (l : List Text). value_of l (drop place values') word) (drop_all place parameters less) in
-    subst (λ (o : Option (List Sourced)). IsValue origins None o) (sym none) tt
-named_nowhere parameters word values place (inr less) named origins values' are =
-    let none : value_of parameters values' word ≡ None =
-    named origins values' are ∙ ap (λ (l : List (List Sourced)). value_of (drop place parameters) l word) (drop_all place values' (omega (arith, less, values_length origins values values' are))) ∙ no_value (drop place parameters) word in
-    subst (λ (o : Option (List Sourced)). IsValue origins None o) (sym none) tt
-
 abbrev pub texts_at : List (Bor Text) → List Text
 texts_at params = map (λ (text : Bor Text). text.now) params
 
 abbrev pub items_at : List (Vec Traced Global) → List (List Traced)
 items_at values = map (λ (value : Vec Traced Global). value.items) values
-
-module _ (params : List (Bor Text)) (word : Word) (values : List (Vec Traced Global)) (place : ℕ) (none : Bor Text) (less : place < length params) (less' : place < length values) where
-  text_there : slice_index_or (texts_at params) place [] ≡ (slice_index_or params place none).now
-  text_there = get_or-map (λ (text : Bor Text). text.now) params place none [] less
-
-  pub text_later : is_name (slice_index_or params place none).now word ≡ false → NamedFrom (texts_at params) word (items_at values) place → NamedFrom (texts_at params) word (items_at values) (place + 1)
-  text_later other named =
-      named_later (texts_at params) word (items_at values) place [] (omega (arith, length-map params (λ (text : Bor Text). text.now))) (omega (arith, length-map values (λ (v : Vec Traced Global). v.items)))
-      (ap (λ (text : Text). is_name text word) text_there ∙ other) named
-
-  pub text_here : (value : Vec Traced Global) → value ≡ slice_index_or values place value → is_name (slice_index_or params place none).now word ≡ true → NamedFrom (texts_at params) word (items_at values) place →
-      (origins : List Origin) (values' : List (List Sourced)) → AreValues origins (items_at values) values' → IsValue origins (Some value.items) (value_of (texts_at params) values' word)
-  text_here value there this named origins values' are =
-      let same : slice_index_or (items_at values) place [] ≡ value.items = get_or-map (λ (v : Vec Traced Global). v.items) values place value [] less' ∙ ap (λ (v : Vec Traced Global). v.items) (sym there) in
-      subst (λ (l : List Traced). IsValue origins (Some l) (value_of (texts_at params) values' word)) same
-      (named_here (texts_at params) word (items_at values) place [] [] (omega (arith, length-map params (λ (text : Bor Text). text.now))) (omega (arith, length-map values (λ (v : Vec Traced Global). v.items)))
-      (ap (λ (text : Text). is_name text word) text_there ∙ this) named origins values' are)
-
-pub text_nowhere : (params : List (Bor Text)) (word : Word) (values : List (Vec Traced Global)) (place : ℕ) → (length params ≤ place) ⊎ (length values ≤ place) → NamedFrom (texts_at params) word (items_at values) place →
-    (origins : List Origin) (values' : List (List Sourced)) → AreValues origins (items_at values) values' → IsValue origins None (value_of (texts_at params) values' word)
-text_nowhere params word values place (inl less) = named_nowhere (texts_at params) word (items_at values) place (inl (omega (arith, less, length-map params (λ (text : Bor Text). text.now))))
-text_nowhere params word values place (inr less) = named_nowhere (texts_at params) word (items_at values) place (inr (omega (arith, less, length-map values (λ (v : Vec Traced Global). v.items))))
 
 -- ## Words of a replacement list
 
@@ -412,6 +335,12 @@ pub part_value_short : (origins : List Origin) (plain : PlainMacro) (values : Li
     Short f (left < length value) → (values' : List (List Sourced)) → AreValues origins values values' → Short f (left < length (part_of plain.parameters values' word))
 part_value_short origins plain values word value left f is short values' are =
     short_by f (left < length value) (left < length (part_of plain.parameters values' word)) short (λ less. part_short origins plain.parameters values word (Some value) left is less values' are)
+
+pub part_itself_short : (origins : List Origin) (plain : PlainMacro) (values : List (List Traced)) (word : Word) (left : ℕ) (f : ReplaceFault) →
+    ((any : List Origin) (values' : List (List Sourced)) → AreValues any values values' → IsValue any None (value_of (texts_of plain.parameters) values' word)) →
+    Short f (left ≡ 0) → (values' : List (List Sourced)) → AreValues origins values values' → Short f (left < length (part_of plain.parameters values' word))
+part_itself_short origins plain values word left f is short values' are =
+    short_by f (left ≡ 0) (left < length (part_of plain.parameters values' word)) short (λ none. part_short origins plain.parameters values word None left is (omega (arith, none)) values' are)
 
 -- the replacement list with the list of macros that begins with the macro
 pub list_is_replacement : (old middle new : List Origin) (before behind : List Pending) (plain : PlainMacro) (name : Traced) (values : List (List Traced)) (from left remaining : ℕ) → Extends old middle →

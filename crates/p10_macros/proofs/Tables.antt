@@ -47,12 +47,6 @@ found_is name (entry ∷ entries) named =
     go again true false e = cc
     go again false true e = cc
 
-pub found_none : (name : Text) (entries : List (Bor Text × Known)) → AreNamed entries → None ≡ lookup (names_key name) entries → None ≡ macro_named name (table_at entries)
-found_none name entries named none = ap (λ (o : Option Known). option_map (λ (known : Known). plain_macro known.made) o) none ∙ found_is name entries named
-
-pub found_some : (name : Text) (entries : List (Bor Text × Known)) (known : Known) → AreNamed entries → Some known ≡ lookup (names_key name) entries → Some (plain_macro known.made) ≡ macro_named name (table_at entries)
-found_some name entries known named some = ap (λ (o : Option Known). option_map (λ (known' : Known). plain_macro known'.made) o) some ∙ found_is name entries named
-
 -- where no macro has the name the map has none
 pub none_found : (name : Text) (entries : List (Bor Text × Known)) → AreNamed entries → macro_named name (table_at entries) ≡ None → lookup (names_key name) entries ≡ None
 none_found name entries named none = go (lookup (names_key name) entries) (found_is name entries named ∙ none)

@@ -1,7 +1,13 @@
 -- What holds of the entries of a table.
 use Rattle.std.specs.Prelude.{◌≡◌, ℕ, List, Bool, true, false, Option, Some, None, not, count_by, All}
 use Rattle.std.specs.Borrow.{Bor}
+use Rattle.p10_direct.specs.Directives.{PlainMacro}
+use Rattle.p10_direct.specs.Form.{plain_macro}
 use Rattle.p10_macros.specs.declared.known.Known.{Known}
+
+-- the macro of an entry
+abbrev pub plain_known : Known → PlainMacro
+plain_known known = plain_macro known.made
 
 -- each macro stands at its name
 abbrev pub AreNamed : List (Bor (List ℕ) × Known) → Type 0

@@ -11,6 +11,7 @@ pub mod Fronts
 pub mod Answers
 -- what holds of the private parts
 pub mod Known
+pub mod Places
 pub mod Running
 pub mod Origins
 pub mod Traces

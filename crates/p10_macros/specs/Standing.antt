@@ -4,8 +4,6 @@ use Rattle.p10_base.specs.declared.span.Span.{Span}
 use Rattle.p10_base.specs.declared.word.Word.{Word}
 use Rattle.p10_base.specs.declared.report.Family.TheVariants.{D}
 use Rattle.p10_direct.specs.Directives.{PlainMacro}
-use Rattle.p10_direct.specs.Form.{plain_macro}
-use Rattle.p10_direct.specs.declared.form.Macro.{Macro}
 use Rattle.std.specs.Borrow.{Bor}
 use Rattle.p10_macros.specs.declared.origin.Origin.{Origin}
 use Rattle.p10_macros.specs.declared.pending.Traced.{Traced}
@@ -14,6 +12,8 @@ use Rattle.p10_macros.specs.declared.pending.Open.{Open}
 use Rattle.p10_macros.specs.declared.replaced.ReplaceFault.{ReplaceFault}
 use Rattle.p10_macros.specs.declared.replaced.ReplaceFault.TheVariants as fault
 use Rattle.p10_macros.specs.declared.pending.Run.{Run}
+use Rattle.p10_macros.specs.declared.known.Known.{Known}
+use Rattle.p10_macros.specs.Known.{plain_known}
 use Rattle.p10_macros.specs.Table.{Table}
 use Rattle.p10_macros.specs.Uses.{Sourced, closes, separates, use_of, use_as, called, arguments_in, replacement, next_opens, plain_words}
 use Rattle.p10_macros.specs.Endings.{Ending, Refused, TooMany}
@@ -30,7 +30,7 @@ place_among [] name = name.word.at
 place_among (open' ∷ those) name = open'.place
 
 pub record IsOpen (origins : List Origin) (open' : Open) (use' : OpenUse) : Type 0 where
-  pub plain : plain_macro open'.made.now ≡ use'.plain
+  pub plain : plain_known open'.made.now ≡ use'.plain
   pub name : IsTraced origins open'.name use'.name
   pub place : open'.place ≡ use'.place
   pub before : AreTraced origins open'.before.items use'.before
@@ -177,7 +177,7 @@ IsTooLong old plain name values fault' =
     (name' : Sourced) (values' : List (List Sourced)) → IsTraced old.origins.items name name' → AreValues old.origins.items values values' → Short fault' (old.left < length (replacement plain name' values'))
 
 -- a use was opened, whose first argument ends at a place
-pub record IsOpenedIn (old new : Run) (made : Bor Macro) (name : Traced) (place : ℕ) : Type 0 where
+pub record IsOpenedIn (old new : Run) (made : Bor Known) (name : Traced) (place : ℕ) : Type 0 where
   pub opened : Open
   pub opens : new.open.items ≡ old.open.items ++ opened ∷ []
   pub the_macro : opened.made.now ≡ made.now

@@ -13,6 +13,7 @@ mod known;
 mod origin;
 mod own;
 mod pending;
+mod places;
 mod replaced;
 mod replacement;
 mod run;

@@ -1,9 +1,9 @@
 //! What a replacement that is under way consists of.
 
 use crate::ahead::Ahead;
+use crate::known::Known;
 use crate::origin::Origin;
 use p10_base::{Span, Word};
-use p10_direct::Macro;
 use std::alloc::Global;
 
 /// A word, and the number of the set of macros that it comes from.
@@ -34,7 +34,7 @@ pub struct Pending<'s> {
 /// A use whose arguments are being replaced.
 #[derive(Drop)]
 pub struct Open<'m, 'w, 's> {
-    pub made: &'m Macro<'w, 's>,
+    pub made: &'m Known<'w, 's>,
     /// The name in the use.
     pub name: Traced<'s>,
     /// The name in the use of the outermost macro.

@@ -3,20 +3,21 @@
 ghost use Rattle.std.specs.Prelude.{◌≡◌, ℕ, ◌+◌, ◌<◌, ◌≤◌, List, [], ◌∷◌, ◌++◌, length, map, option_copied, option_map, IfOk, IfErr};
 ghost use Rattle.std.specs.List.{flat_map};
 ghost use Rattle.p10_direct.specs.Spelling.{Text};
-ghost use Rattle.p10_direct.specs.Form.{plain_macro};
+ghost use Rattle.p10_direct.specs.Directives.{PlainMacro};
 ghost use Rattle.p10_macros.specs.declared.origin.Origin.{Origin as Node};
+ghost use Rattle.p10_macros.specs.Known.{plain_known};
+ghost use Rattle.p10_macros.specs.Places.{place_of, at_place};
 ghost use Rattle.p10_macros.specs.Uses.{Sourced, texts_of, replacement};
-ghost use Rattle.p10_macros.specs.Uses as uses;
 ghost use Rattle.p10_macros.specs.Origins.{listed, Extends};
 ghost use Rattle.p10_macros.specs.Traces.{IsTraced, AreValues};
-ghost use Rattle.p10_macros.specs.Putting.{fresh, IsPushed, IsBase, IsJoined, Joins, Short, PutsValue, PutsPart, PutsList, PutsReplacement, IsValue, part_of};
+ghost use Rattle.p10_macros.specs.Putting.{fresh, IsPushed, IsBase, IsJoined, Joins, Short, PutsValue, PutsPart, PutsList, PutsReplacement, part_of};
 
 use crate::ahead::Ahead;
+use crate::known::Known;
 use crate::origin::{Origin, add_origin, unite};
 use crate::pending::Traced;
 use crate::replaced::ReplaceFault;
 use p10_base::{Span, Word};
-use p10_direct::{Macro, names};
 use std::alloc::AllocError;
 
 /// A set of macros, by its number, and the set that has those of a use too.
@@ -31,17 +32,17 @@ struct Joined {
 pub fn put_replacement<'s>(
     pending: &mut Ahead<'s>,
     origins: &mut Vec<Origin<'s>>,
-    made: &Macro<'_, 's>,
+    made: &Known<'_, 's>,
     name: Traced<'s>,
     values: &[Vec<Traced<'s>>],
     left: u64,
 ) -> Result<u64, ReplaceFault>
     ensures lighter { IfOk result (λ remaining. (remaining ≤ left) × (remaining + length pending.new.words.items ≡ left + length pending.old.words.items)) }
     ensures grown { Extends origins.old.items origins.new.items }
-    ensures ok { IfOk result (PutsReplacement origins.old.items origins.new.items pending.old.words.items pending.new.words.items (plain_macro made.now) name.entry (map (λ value. value.items) values.now) left) }
-    ensures err { IfErr result (λ fault. (name' : Sourced) (values' : List (List Sourced)) → IsTraced origins.old.items name.entry name' → AreValues origins.old.items (map (λ value. value.items) values.now) values' → Short fault (left < length (replacement (plain_macro made.now) name' values'))) }
+    ensures ok { IfOk result (PutsReplacement origins.old.items origins.new.items pending.old.words.items pending.new.words.items (plain_known made.now) name.entry (map (λ value. value.items) values.now) left) }
+    ensures err { IfErr result (λ fault. (name' : Sourced) (values' : List (List Sourced)) → IsTraced origins.old.items name.entry name' → AreValues origins.old.items (map (λ value. value.items) values.now) values' → Short fault (left < length (replacement (plain_known made.now) name' values'))) }
 {
-    let from = match add_origin(origins, name.from, made.name) {
+    let from = match add_origin(origins, name.from, made.made.name) {
         Ok(from) => from,
         Err(_) => return Err(ReplaceFault::Memory),
     };
@@ -53,7 +54,7 @@ pub fn put_replacement<'s>(
 fn put_list<'s>(
     pending: &mut Ahead<'s>,
     origins: &mut Vec<Origin<'s>>,
-    made: &Macro<'_, 's>,
+    made: &Known<'_, 's>,
     name: Traced<'s>,
     values: &[Vec<Traced<'s>>],
     from: usize,
@@ -61,21 +62,21 @@ fn put_list<'s>(
 ) -> Result<u64, ReplaceFault>
     ensures lighter { IfOk result (λ remaining. (remaining ≤ left) × (remaining + length pending.new.words.items ≡ left + length pending.old.words.items)) }
     ensures grown { Extends origins.old.items origins.new.items }
-    ensures ok { IfOk result (PutsList origins.old.items origins.new.items pending.old.words.items pending.new.words.items (plain_macro made.now) name.entry (map (λ value. value.items) values.now) from made.now.body.now left) }
-    ensures err { IfErr result (λ fault. (name' : Sourced) (values' : List (List Sourced)) → IsTraced origins.old.items name.entry name' → IsBase origins.old.items from made.now.name.now name' → AreValues origins.old.items (map (λ value. value.items) values.now) values' → Short fault (left < length (flat_map (part_of (plain_macro made.now).parameters values') made.now.body.now))) }
+    ensures ok { IfOk result (PutsList origins.old.items origins.new.items pending.old.words.items pending.new.words.items (plain_known made.now) name.entry (map (λ value. value.items) values.now) from made.now.made.body.now left) }
+    ensures err { IfErr result (λ fault. (name' : Sourced) (values' : List (List Sourced)) → IsTraced origins.old.items name.entry name' → IsBase origins.old.items from made.now.made.name.now name' → AreValues origins.old.items (map (λ value. value.items) values.now) values' → Short fault (left < length (flat_map (part_of (plain_known made.now).parameters values') made.now.made.body.now))) }
 {
     let mut left = left;
-    let mut place = made.body.len();
+    let mut place = made.made.body.len();
     while place > 0 {
         place -= 1;
         match put_part(
             pending,
             origins,
-            made,
+            made.parameter(place),
             name,
             values,
             from,
-            &made.body[place],
+            &made.made.body[place],
             left,
         ) {
             Ok(remaining) => left = remaining,
@@ -85,11 +86,12 @@ fn put_list<'s>(
     Ok(left)
 }
 
-/// Puts what stands for a word of the replacement list on top.
+/// Puts what stands for a word of the replacement list on top, where `parameter` is the place of the parameter that it
+/// names.
 fn put_part<'s>(
     pending: &mut Ahead<'s>,
     origins: &mut Vec<Origin<'s>>,
-    made: &Macro<'_, 's>,
+    parameter: Option<usize>,
     name: Traced<'s>,
     values: &[Vec<Traced<'s>>],
     from: usize,
@@ -98,45 +100,29 @@ fn put_part<'s>(
 ) -> Result<u64, ReplaceFault>
     ensures lighter { IfOk result (λ remaining. (remaining ≤ left) × (remaining + length pending.new.words.items ≡ left + length pending.old.words.items)) }
     ensures grown { Extends origins.old.items origins.new.items }
-    ensures ok { IfOk result (PutsPart origins.old.items origins.new.items pending.old.words.items pending.new.words.items (plain_macro made.now) name.entry (map (λ value. value.items) values.now) from word.now left) }
-    ensures err { IfErr result (λ fault. (values' : List (List Sourced)) → AreValues origins.old.items (map (λ value. value.items) values.now) values' → Short fault (left < length (part_of (plain_macro made.now).parameters values' word.now))) }
+    ensures ok { IfOk result (λ remaining. (plain : PlainMacro) → parameter ≡ place_of (texts_of plain.parameters) word.now → PutsPart origins.old.items origins.new.items pending.old.words.items pending.new.words.items plain name.entry (map (λ value. value.items) values.now) from word.now left remaining) }
+    ensures err { IfErr result (λ fault. (plain : PlainMacro) → parameter ≡ place_of (texts_of plain.parameters) word.now → (values' : List (List Sourced)) → AreValues origins.old.items (map (λ value. value.items) values.now) values' → Short fault (left < length (part_of plain.parameters values' word.now))) }
 {
-    match value_of(made, values, word) {
+    match value_at(values, parameter) {
         None => put_word(pending, *word, name.word.at, from, left),
         Some(value) => put_value(pending, origins, value, name, from, left),
     }
 }
 
-/// The value of the parameter that the word names.
-fn value_of<'v, 's>(
-    made: &Macro<'_, 's>,
+/// The value of the parameter at a place.
+fn value_at<'v, 's>(
     values: &'v [Vec<Traced<'s>>],
-    word: &Word<'s>,
+    parameter: Option<usize>,
 ) -> Option<&'v [Traced<'s>]>
-    ensures { (origins : List Node) (values' : List (List Sourced)) → AreValues origins (map (λ value. value.items) values.now) values' → IsValue origins (option_copied result) (uses.value_of (texts_of (plain_macro made.now).parameters) values' word.now) }
+    ensures { option_copied result ≡ at_place parameter (map (λ value. value.items) values.now) }
 {
-    match &made.params {
+    match parameter {
         None => None,
-        Some(params) => value_named(params.as_slice(), values, word),
+        Some(place) => match values.get(place) {
+            None => None,
+            Some(value) => Some(value.as_slice()),
+        },
     }
-}
-
-/// The value of the parameter that the word names, where these are the parameters and their values.
-fn value_named<'v, 's>(
-    params: &[&'s [u8]],
-    values: &'v [Vec<Traced<'s>>],
-    word: &Word<'s>,
-) -> Option<&'v [Traced<'s>]>
-    ensures { (origins : List Node) (values' : List (List Sourced)) → AreValues origins (map (λ value. value.items) values.now) values' → IsValue origins (option_copied result) (uses.value_of (map (λ text. text.now) params.now) values' word.now) }
-{
-    let mut place = 0;
-    while place < params.len() && place < values.len() {
-        if names(word, params[place]) {
-            return Some(values[place].as_slice());
-        }
-        place += 1;
-    }
-    None
 }
 
 /// Puts a word of a replacement on top, at the place of the use.

@@ -4,6 +4,7 @@ ghost use Rattle.std.specs.Prelude.{◌≡◌, ℕ, ◌+◌, ◌*◌, ◌<◌, �
 ghost use Rattle.p10_direct.specs.Form.{plain_macro};
 ghost use Rattle.p10_macros.specs.Table.{Table};
 ghost use Rattle.p10_macros.specs.Uses.{Sourced};
+ghost use Rattle.p10_macros.specs.Known.{plain_known};
 ghost use Rattle.p10_macros.specs.Answers.{table_of};
 ghost use Rattle.p10_macros.specs.Standing as roles;
 ghost use Rattle.p10_macros.specs.Standing.{given_with, done_with, State, Advances, AdvancesBy, Fails, FailsBy, FaultComes, LeadsTo, AtUse, AtCall, IsReplacedIn, IsTooLong, IsOpenedIn, place_among, weight};
@@ -13,6 +14,7 @@ ghost use Rattle.p10_macros.specs.declared.replaced.ReplaceFault.TheVariants as 
 ghost use Rattle.p10_macros.specs.declared.pending.Pending.{Pending as Next};
 
 use crate::ahead::Ahead;
+use crate::known::Known;
 use crate::origin::comes_from;
 use crate::pending::{Exits, Open, Pending, Run, Traced};
 use crate::replaced::ReplaceFault;
@@ -87,15 +89,15 @@ fn used<'m, 'w, 's>(
     macros: &'m Macros<'w, 's>,
     pending: &Ahead<'s>,
     name: &Traced<'s>,
-) -> Option<&'m Macro<'w, 's>>
-    ensures { option_map plain_macro (option_copied result) ≡ macro_used (table_of macros.now) (reverse pending.now.words.items) name.now.word }
+) -> Option<&'m Known<'w, 's>>
+    ensures { option_map plain_known (option_copied result) ≡ macro_used (table_of macros.now) (reverse pending.now.words.items) name.now.word }
 {
     if !matches!(name.word.kind, Kind::Name) {
         return None;
     }
-    match macros.get(name.word.text) {
+    match macros.entry(name.word.text) {
         None => None,
-        Some(made) => if is_used(made, pending) {
+        Some(made) => if is_used(&made.made, pending) {
             Some(made)
         } else {
             None
@@ -113,17 +115,17 @@ fn is_used(made: &Macro<'_, '_>, pending: &Ahead<'_>) -> bool
 /// Begins a use: an object-like macro is replaced at once, and the arguments of a function-like one are replaced first.
 fn begin_use<'m, 'w, 's>(
     run: &mut Run<'m, 'w, 's>,
-    made: &'m Macro<'w, 's>,
+    made: &'m Known<'w, 's>,
     name: Traced<'s>,
 ) -> Result<(), ReplaceFault>
-    ensures ok { OnOk result ((table : Table) (state : State) → AtUse table run.old (plain_macro made.entry.now) name.entry state → LeadsTo table state run.new) }
-    ensures err { IfErr result (λ fault. (table : Table) (state : State) → AtUse table run.old (plain_macro made.entry.now) name.entry state → FaultComes table state fault) }
+    ensures ok { OnOk result ((table : Table) (state : State) → AtUse table run.old (plain_known made.entry.now) name.entry state → LeadsTo table state run.new) }
+    ensures err { IfErr result (λ fault. (table : Table) (state : State) → AtUse table run.old (plain_known made.entry.now) name.entry state → FaultComes table state fault) }
     ensures lighter { OnOk result (weight run.new ≤ weight run.old) }
 {
-    if comes_from(run.origins.as_slice(), name.from, made.name) {
+    if comes_from(run.origins.as_slice(), name.from, made.made.name) {
         return Err(refused(run, &name, 6));
     }
-    match &made.params {
+    match &made.made.params {
         None => replace_use(run, made, name, Vec::new(run.alloc)),
         Some(params) => {
             let count = params.as_slice().len();
@@ -137,14 +139,14 @@ fn begin_use<'m, 'w, 's>(
 /// behind that one stand.
 fn begin_call<'m, 'w, 's>(
     run: &mut Run<'m, 'w, 's>,
-    made: &'m Macro<'w, 's>,
+    made: &'m Known<'w, 's>,
     params: usize,
     name: Traced<'s>,
     exits: Exits,
 ) -> Result<(), ReplaceFault>
     requires { HasExits exits (reverse run.old.pending.words.items) }
-    ensures ok { OnOk result ((table : Table) (state : State) → AtCall table run.old (plain_macro made.entry.now) params name.entry state → LeadsTo table state run.new) }
-    ensures err { IfErr result (λ fault. (table : Table) (state : State) → AtCall table run.old (plain_macro made.entry.now) params name.entry state → FaultComes table state fault) }
+    ensures ok { OnOk result ((table : Table) (state : State) → AtCall table run.old (plain_known made.entry.now) params name.entry state → LeadsTo table state run.new) }
+    ensures err { IfErr result (λ fault. (table : Table) (state : State) → AtCall table run.old (plain_known made.entry.now) params name.entry state → FaultComes table state fault) }
     ensures lighter { OnOk result (weight run.new ≤ weight run.old) }
 {
     if exits.call <= run.stop {
@@ -164,7 +166,7 @@ fn begin_call<'m, 'w, 's>(
 /// Opens a use, whose first argument is next and ends at the place `stop`.
 fn open_use<'m, 'w, 's>(
     run: &mut Run<'m, 'w, 's>,
-    made: &'m Macro<'w, 's>,
+    made: &'m Known<'w, 's>,
     name: Traced<'s>,
     stop: usize,
 ) -> Result<(), ReplaceFault>
@@ -262,12 +264,12 @@ fn end_call<'m, 'w, 's>(run: &mut Run<'m, 'w, 's>) -> Result<(), ReplaceFault>
 /// Replaces a use.
 fn replace_use<'m, 'w, 's>(
     run: &mut Run<'m, 'w, 's>,
-    made: &'m Macro<'w, 's>,
+    made: &'m Known<'w, 's>,
     name: Traced<'s>,
     values: Vec<Vec<Traced<'s>>>,
 ) -> Result<(), ReplaceFault>
-    ensures ok { OnOk result (IsReplacedIn run.old run.new (plain_macro made.entry.now) name.entry (map (λ value. value.items) values.entry.items)) }
-    ensures err { IfErr result (IsTooLong run.old (plain_macro made.entry.now) name.entry (map (λ value. value.items) values.entry.items)) }
+    ensures ok { OnOk result (IsReplacedIn run.old run.new (plain_known made.entry.now) name.entry (map (λ value. value.items) values.entry.items)) }
+    ensures err { IfErr result (IsTooLong run.old (plain_known made.entry.now) name.entry (map (λ value. value.items) values.entry.items)) }
     ensures lighter { OnOk result (weight run.new ≤ weight run.old) }
 {
     match put_replacement(

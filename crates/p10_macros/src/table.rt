@@ -6,6 +6,7 @@ ghost use Rattle.p10_macros.specs.Undefining.{TakesOneName, TakesOneOwn, StaysNa
 
 use crate::known::Known;
 use crate::own::{own_if, own_in};
+use crate::places::places_in;
 use crate::same::same_macro;
 use indexmap::IndexMap;
 use p10_direct::Macro;
@@ -34,6 +35,7 @@ pub struct Macros<'w, 's> {
 impl<'w, 's> Macros<'w, 's> {
     ghost use Rattle.std.specs.Prelude.{◌≡◌, [], option_map, option_copied, IfOk, OnOk, OnErr};
     ghost use Rattle.p10_direct.specs.Form.{plain_macro};
+    ghost use Rattle.p10_macros.specs.Known.{plain_known};
     ghost use Rattle.p10_macros.specs.Table.{macro_named, with_macro, without_macro, own_of};
     ghost use Rattle.p10_macros.specs.Answers.{table_of, Defines};
 
@@ -51,10 +53,17 @@ impl<'w, 's> Macros<'w, 's> {
     pub fn get(&self, name: &'s [u8]) -> Option<&Macro<'w, 's>>
         ensures { option_map plain_macro (option_copied result) ≡ macro_named name.now (table_of self.now) }
     {
-        match self.known.get(&name) {
+        match self.entry(name) {
             None => None,
             Some(known) => Some(&known.made),
         }
+    }
+
+    /// The macro with this name, as the table keeps it.
+    pub(crate) fn entry(&self, name: &'s [u8]) -> Option<&Known<'w, 's>>
+        ensures { option_map plain_known (option_copied result) ≡ macro_named name.now (table_of self.now) }
+    {
+        self.known.get(&name)
     }
 
     /// How many of the macros no built-in header defined.
@@ -100,7 +109,13 @@ impl<'w, 's> Macros<'w, 's> {
     {
         let count = self.known.len();
         let own = own_if(builtin);
-        self.known.insert(made.name, Known { made, builtin })?;
+        let places = places_in(*self.known.allocator(), &made)?;
+        let known = Known {
+            made,
+            builtin,
+            places,
+        };
+        self.known.insert(known.made.name, known)?;
         self.own += own;
         Ok(())
     }

@@ -15,7 +15,7 @@ struct Row {
     expected: &'static str,
 }
 
-static ROWS: [Row; 42] = [
+static ROWS: [Row; 43] = [
     Row {
         source: "# define A 1 2 ; A x A",
         expected: "1 2 x 1 2",
@@ -59,6 +59,10 @@ static ROWS: [Row; 42] = [
     Row {
         source: "# define F $ ( x , y ) x + y - x ; F ( , 3 )",
         expected: "+ 3 -",
+    },
+    Row {
+        source: "# define F $ ( x , y , z ) z x z ; F ( 1 , 2 3 , 4 )",
+        expected: "4 1 4",
     },
     Row {
         source: "# define F $ ( x , y ) y x ; F ( F ( 1 , 2 ) , F ( 3 , 4 ) )",
