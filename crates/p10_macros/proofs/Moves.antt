@@ -254,7 +254,7 @@ comes_waiting table use' waiting uses todo done left ending is comes =
     subst (λ (w : List (List Sourced)). Comes table (record use' { waiting = w } ∷ uses) todo done left ending) (sym is) comes
 
 module _ (table : Table) (old new : Run) (pending : Pending) (open' renewed : Open) (below : List Open) (opens_is : old.open.items ≡ below ++ open' ∷ []) (opens_new : new.open.items ≡ below ++ renewed ∷ [])
-    (same_macro : renewed.made ≡ open'.made) (same_name : renewed.name ≡ open'.name) (same_place : renewed.place ≡ open'.place) (same_stop : renewed.stop ≡ open'.stop) (same_before : renewed.before ≡ open'.before)
+    (same_macro : renewed.known ≡ open'.known) (same_name : renewed.name ≡ open'.name) (same_place : renewed.place ≡ open'.place) (same_stop : renewed.stop ≡ open'.stop) (same_before : renewed.before ≡ open'.before)
     (values_is : renewed.values.items ≡ open'.values.items ++ old.done ∷ []) (words_are : new.words.items ≡ old.words.items) (done_is : new.done.items ≡ []) (pending_is : new.pending ≡ old.pending) (origins_is : new.origins ≡ old.origins) (left_is : new.left ≡ old.left)
     (stop_is : pending.exits.argument ≡ new.stop) where
   renews : (value : List Sourced) → AreTraced old.origins.items old.done.items value → (use' : OpenUse) → IsOpen old.origins.items open' use' → IsOpen old.origins.items renewed (valued use' value)
@@ -355,10 +355,10 @@ module _ (table : Table) (old mid : Run) (pending : Pending) (open' : Open) (bel
         subst (λ (l : List Sourced). Comes table state.uses l state.done state.left ending) (sym ends.todo_is)
         (subst (λ (u : List OpenUse). Comes table u [] state.done state.left ending) (sym ends.uses_is) (comes_waiting table ends.use' [] ends.others [] state.done state.left ending ends.waiting comes))
 
-    call_replaced : (new : Run) → IsReplacedIn mid new (plain_known open'.made.now) open'.name (map (λ (v : Vec Traced Global). v.items) values) → LeadsTo table state new
+    call_replaced : (new : Run) → IsReplacedIn mid new (plain_known open'.known.now) open'.name (map (λ (v : Vec Traced Global). v.items) values) → LeadsTo table state new
     call_replaced new replaced =
         let made = replacement ends.use'.plain ends.use'.name (ends.use'.values ++ state.done ∷ []) in
-        let puts' : Puts new.origins.items mid.pending.words.items new.pending.words.items (replacement (plain_known open'.made.now) ends.use'.name (ends.use'.values ++ state.done ∷ [])) mid.left new.left =
+        let puts' : Puts new.origins.items mid.pending.words.items new.pending.words.items (replacement (plain_known open'.known.now) ends.use'.name (ends.use'.values ++ state.done ∷ [])) mid.left new.left =
         replaced.puts ends.use'.name (ends.use'.values ++ state.done ∷ []) named are_values in
         let puts : Puts new.origins.items mid.pending.words.items new.pending.words.items made mid.left new.left =
         subst (λ (p : PlainMacro). Puts new.origins.items mid.pending.words.items new.pending.words.items (replacement p ends.use'.name (ends.use'.values ++ state.done ∷ [])) mid.left new.left) ends.is.plain puts' in
@@ -386,20 +386,20 @@ module _ (table : Table) (old mid : Run) (pending : Pending) (open' : Open) (bel
           );
         }
 
-    call_too_long : (f : ReplaceFault) → IsTooLong mid (plain_known open'.made.now) open'.name (map (λ (v : Vec Traced Global). v.items) values) f → FaultComes table state f
+    call_too_long : (f : ReplaceFault) → IsTooLong mid (plain_known open'.known.now) open'.name (map (λ (v : Vec Traced Global). v.items) values) f → FaultComes table state f
     call_too_long (fault.Refused refusal) short = absurd (short ends.use'.name (ends.use'.values ++ state.done ∷ []) named are_values)
     call_too_long fault.TooMany short =
-        let less' : mid.left < length (replacement (plain_known open'.made.now) ends.use'.name (ends.use'.values ++ state.done ∷ [])) = short ends.use'.name (ends.use'.values ++ state.done ∷ []) named are_values in
+        let less' : mid.left < length (replacement (plain_known open'.known.now) ends.use'.name (ends.use'.values ++ state.done ∷ [])) = short ends.use'.name (ends.use'.values ++ state.done ∷ []) named are_values in
         let less : state.left < length (replacement ends.use'.plain ends.use'.name (ends.use'.values ++ state.done ∷ [])) =
         subst (λ (n : ℕ). n < length (replacement ends.use'.plain ends.use'.name (ends.use'.values ++ state.done ∷ []))) (left_is ∙ plays.keeps.left)
         (subst (λ (p : PlainMacro). mid.left < length (replacement p ends.use'.name (ends.use'.values ++ state.done ∷ []))) ends.is.plain less') in
         (TooMany, comes_here TooMany (step_closed_too_long table ends.others ends.use'.plain ends.use'.name ends.use'.place ends.use'.before ends.use'.values ends.use'.rest state.done state.left less), refl)
     call_too_long fault.Memory short = tt
 
-  pub moved_call : (new : Run) → IsReplacedIn mid new (plain_known open'.made.now) open'.name (map (λ (v : Vec Traced Global). v.items) values) → AdvancesBy table old pending EndsCall new
+  pub moved_call : (new : Run) → IsReplacedIn mid new (plain_known open'.known.now) open'.name (map (λ (v : Vec Traced Global). v.items) values) → AdvancesBy table old pending EndsCall new
   moved_call new replaced = λ state plays. call_replaced state plays new replaced
 
-  pub moved_call_too_long : (f : ReplaceFault) → IsTooLong mid (plain_known open'.made.now) open'.name (map (λ (v : Vec Traced Global). v.items) values) f → FailsBy table old pending EndsCall f
+  pub moved_call_too_long : (f : ReplaceFault) → IsTooLong mid (plain_known open'.known.now) open'.name (map (λ (v : Vec Traced Global). v.items) values) f → FailsBy table old pending EndsCall f
   moved_call_too_long f short = λ state plays. call_too_long state plays f short
 
 -- ## The role of the next word

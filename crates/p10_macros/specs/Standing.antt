@@ -30,7 +30,7 @@ place_among [] name = name.word.at
 place_among (open' ∷ those) name = open'.place
 
 pub record IsOpen (origins : List Origin) (open' : Open) (use' : OpenUse) : Type 0 where
-  pub plain : plain_known open'.made.now ≡ use'.plain
+  pub plain : plain_known open'.known.now ≡ use'.plain
   pub name : IsTraced origins open'.name use'.name
   pub place : open'.place ≡ use'.place
   pub before : AreTraced origins open'.before.items use'.before
@@ -180,7 +180,7 @@ IsTooLong old plain name values fault' =
 pub record IsOpenedIn (old new : Run) (made : Bor Known) (name : Traced) (place : ℕ) : Type 0 where
   pub opened : Open
   pub opens : new.open.items ≡ old.open.items ++ opened ∷ []
-  pub the_macro : opened.made.now ≡ made.now
+  pub the_macro : opened.known.now ≡ made.now
   pub the_name : opened.name ≡ name
   pub the_place : opened.place ≡ place_among (reverse old.open.items) name
   pub the_stop : opened.stop ≡ old.stop

@@ -34,7 +34,7 @@ pub struct Pending<'s> {
 /// A use whose arguments are being replaced.
 #[derive(Drop)]
 pub struct Open<'m, 'w, 's> {
-    pub made: &'m Known<'w, 's>,
+    pub known: &'m Known<'w, 's>,
     /// The name in the use.
     pub name: Traced<'s>,
     /// The name in the use of the outermost macro.

@@ -32,21 +32,21 @@ struct Joined {
 pub fn put_replacement<'s>(
     pending: &mut Ahead<'s>,
     origins: &mut Vec<Origin<'s>>,
-    made: &Known<'_, 's>,
+    known: &Known<'_, 's>,
     name: Traced<'s>,
     values: &[Vec<Traced<'s>>],
     left: u64,
 ) -> Result<u64, ReplaceFault>
     ensures lighter { IfOk result (λ remaining. (remaining ≤ left) × (remaining + length pending.new.words.items ≡ left + length pending.old.words.items)) }
     ensures grown { Extends origins.old.items origins.new.items }
-    ensures ok { IfOk result (PutsReplacement origins.old.items origins.new.items pending.old.words.items pending.new.words.items (plain_known made.now) name.entry (map (λ value. value.items) values.now) left) }
-    ensures err { IfErr result (λ fault. (name' : Sourced) (values' : List (List Sourced)) → IsTraced origins.old.items name.entry name' → AreValues origins.old.items (map (λ value. value.items) values.now) values' → Short fault (left < length (replacement (plain_known made.now) name' values'))) }
+    ensures ok { IfOk result (PutsReplacement origins.old.items origins.new.items pending.old.words.items pending.new.words.items (plain_known known.now) name.entry (map (λ value. value.items) values.now) left) }
+    ensures err { IfErr result (λ fault. (name' : Sourced) (values' : List (List Sourced)) → IsTraced origins.old.items name.entry name' → AreValues origins.old.items (map (λ value. value.items) values.now) values' → Short fault (left < length (replacement (plain_known known.now) name' values'))) }
 {
-    let from = match add_origin(origins, name.from, made.made.name) {
+    let from = match add_origin(origins, name.from, known.made.name) {
         Ok(from) => from,
         Err(_) => return Err(ReplaceFault::Memory),
     };
-    put_list(pending, origins, made, name, values, from, left)
+    put_list(pending, origins, known, name, values, from, left)
 }
 
 /// Puts the replacement list of a use on top, where `from` is the number of the set of the macro and of those that the
@@ -54,7 +54,7 @@ pub fn put_replacement<'s>(
 fn put_list<'s>(
     pending: &mut Ahead<'s>,
     origins: &mut Vec<Origin<'s>>,
-    made: &Known<'_, 's>,
+    known: &Known<'_, 's>,
     name: Traced<'s>,
     values: &[Vec<Traced<'s>>],
     from: usize,
@@ -62,21 +62,21 @@ fn put_list<'s>(
 ) -> Result<u64, ReplaceFault>
     ensures lighter { IfOk result (λ remaining. (remaining ≤ left) × (remaining + length pending.new.words.items ≡ left + length pending.old.words.items)) }
     ensures grown { Extends origins.old.items origins.new.items }
-    ensures ok { IfOk result (PutsList origins.old.items origins.new.items pending.old.words.items pending.new.words.items (plain_known made.now) name.entry (map (λ value. value.items) values.now) from made.now.made.body.now left) }
-    ensures err { IfErr result (λ fault. (name' : Sourced) (values' : List (List Sourced)) → IsTraced origins.old.items name.entry name' → IsBase origins.old.items from made.now.made.name.now name' → AreValues origins.old.items (map (λ value. value.items) values.now) values' → Short fault (left < length (flat_map (part_of (plain_known made.now).parameters values') made.now.made.body.now))) }
+    ensures ok { IfOk result (PutsList origins.old.items origins.new.items pending.old.words.items pending.new.words.items (plain_known known.now) name.entry (map (λ value. value.items) values.now) from known.now.made.body.now left) }
+    ensures err { IfErr result (λ fault. (name' : Sourced) (values' : List (List Sourced)) → IsTraced origins.old.items name.entry name' → IsBase origins.old.items from known.now.made.name.now name' → AreValues origins.old.items (map (λ value. value.items) values.now) values' → Short fault (left < length (flat_map (part_of (plain_known known.now).parameters values') known.now.made.body.now))) }
 {
     let mut left = left;
-    let mut place = made.made.body.len();
+    let mut place = known.made.body.len();
     while place > 0 {
         place -= 1;
         match put_part(
             pending,
             origins,
-            made.parameter(place),
+            known.parameter(place),
             name,
             values,
             from,
-            &made.made.body[place],
+            &known.made.body[place],
             left,
         ) {
             Ok(remaining) => left = remaining,

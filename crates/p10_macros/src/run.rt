@@ -57,7 +57,7 @@ fn look<'m, 'w, 's>(
 {
     match used(macros, &run.pending, &next.traced) {
         None => put_done(run, next.traced),
-        Some(made) => begin_use(run, made, next.traced),
+        Some(known) => begin_use(run, known, next.traced),
     }
 }
 
@@ -97,8 +97,8 @@ fn used<'m, 'w, 's>(
     }
     match macros.entry(name.word.text) {
         None => None,
-        Some(made) => if is_used(&made.made, pending) {
-            Some(made)
+        Some(known) => if is_used(&known.made, pending) {
+            Some(known)
         } else {
             None
         },
@@ -115,22 +115,22 @@ fn is_used(made: &Macro<'_, '_>, pending: &Ahead<'_>) -> bool
 /// Begins a use: an object-like macro is replaced at once, and the arguments of a function-like one are replaced first.
 fn begin_use<'m, 'w, 's>(
     run: &mut Run<'m, 'w, 's>,
-    made: &'m Known<'w, 's>,
+    known: &'m Known<'w, 's>,
     name: Traced<'s>,
 ) -> Result<(), ReplaceFault>
-    ensures ok { OnOk result ((table : Table) (state : State) → AtUse table run.old (plain_known made.entry.now) name.entry state → LeadsTo table state run.new) }
-    ensures err { IfErr result (λ fault. (table : Table) (state : State) → AtUse table run.old (plain_known made.entry.now) name.entry state → FaultComes table state fault) }
+    ensures ok { OnOk result ((table : Table) (state : State) → AtUse table run.old (plain_known known.entry.now) name.entry state → LeadsTo table state run.new) }
+    ensures err { IfErr result (λ fault. (table : Table) (state : State) → AtUse table run.old (plain_known known.entry.now) name.entry state → FaultComes table state fault) }
     ensures lighter { OnOk result (weight run.new ≤ weight run.old) }
 {
-    if comes_from(run.origins.as_slice(), name.from, made.made.name) {
+    if comes_from(run.origins.as_slice(), name.from, known.made.name) {
         return Err(refused(run, &name, 6));
     }
-    match &made.made.params {
-        None => replace_use(run, made, name, Vec::new(run.alloc)),
+    match &known.made.params {
+        None => replace_use(run, known, name, Vec::new(run.alloc)),
         Some(params) => {
             let count = params.as_slice().len();
             let exits = run.pending.skip();
-            begin_call(run, made, count, name, exits)
+            begin_call(run, known, count, name, exits)
         }
     }
 }
@@ -139,14 +139,14 @@ fn begin_use<'m, 'w, 's>(
 /// behind that one stand.
 fn begin_call<'m, 'w, 's>(
     run: &mut Run<'m, 'w, 's>,
-    made: &'m Known<'w, 's>,
+    known: &'m Known<'w, 's>,
     params: usize,
     name: Traced<'s>,
     exits: Exits,
 ) -> Result<(), ReplaceFault>
     requires { HasExits exits (reverse run.old.pending.words.items) }
-    ensures ok { OnOk result ((table : Table) (state : State) → AtCall table run.old (plain_known made.entry.now) params name.entry state → LeadsTo table state run.new) }
-    ensures err { IfErr result (λ fault. (table : Table) (state : State) → AtCall table run.old (plain_known made.entry.now) params name.entry state → FaultComes table state fault) }
+    ensures ok { OnOk result ((table : Table) (state : State) → AtCall table run.old (plain_known known.entry.now) params name.entry state → LeadsTo table state run.new) }
+    ensures err { IfErr result (λ fault. (table : Table) (state : State) → AtCall table run.old (plain_known known.entry.now) params name.entry state → FaultComes table state fault) }
     ensures lighter { OnOk result (weight run.new ≤ weight run.old) }
 {
     if exits.call <= run.stop {
@@ -154,10 +154,10 @@ fn begin_call<'m, 'w, 's>(
     }
     if params == 0 && exits.call == run.pending.count() {
         let _ = run.pending.skip();
-        return replace_use(run, made, name, Vec::new(run.alloc));
+        return replace_use(run, known, name, Vec::new(run.alloc));
     }
     if params == run.pending.arguments(exits) {
-        open_use(run, made, name, exits.argument)
+        open_use(run, known, name, exits.argument)
     } else {
         Err(refused(run, &name, 7))
     }
@@ -166,17 +166,17 @@ fn begin_call<'m, 'w, 's>(
 /// Opens a use, whose first argument is next and ends at the place `stop`.
 fn open_use<'m, 'w, 's>(
     run: &mut Run<'m, 'w, 's>,
-    made: &'m Known<'w, 's>,
+    known: &'m Known<'w, 's>,
     name: Traced<'s>,
     stop: usize,
 ) -> Result<(), ReplaceFault>
-    ensures ok { OnOk result (IsOpenedIn run.old run.new made.entry name.entry stop) }
+    ensures ok { OnOk result (IsOpenedIn run.old run.new known.entry name.entry stop) }
     ensures err { IfErr result (λ fault. fault ≡ faults.Memory) }
 {
     let place = place_of(run.open.as_slice(), &name);
     let before = mem::replace(&mut run.done, Vec::new(run.alloc));
     let open = Open {
-        made,
+        known,
         name,
         place,
         stop: mem::replace(&mut run.stop, stop),
@@ -243,7 +243,7 @@ fn end_call<'m, 'w, 's>(run: &mut Run<'m, 'w, 's>) -> Result<(), ReplaceFault>
         None => Ok(()),
         Some(open) => {
             let Open {
-                made,
+                known,
                 name,
                 place: _,
                 stop,
@@ -254,7 +254,7 @@ fn end_call<'m, 'w, 's>(run: &mut Run<'m, 'w, 's>) -> Result<(), ReplaceFault>
             run.stop = stop;
             let value = mem::replace(&mut run.done, before);
             match put_argument(&mut values, value) {
-                Ok(()) => replace_use(run, made, name, values),
+                Ok(()) => replace_use(run, known, name, values),
                 Err(_) => Err(ReplaceFault::Memory),
             }
         }
@@ -264,18 +264,18 @@ fn end_call<'m, 'w, 's>(run: &mut Run<'m, 'w, 's>) -> Result<(), ReplaceFault>
 /// Replaces a use.
 fn replace_use<'m, 'w, 's>(
     run: &mut Run<'m, 'w, 's>,
-    made: &'m Known<'w, 's>,
+    known: &'m Known<'w, 's>,
     name: Traced<'s>,
     values: Vec<Vec<Traced<'s>>>,
 ) -> Result<(), ReplaceFault>
-    ensures ok { OnOk result (IsReplacedIn run.old run.new (plain_known made.entry.now) name.entry (map (λ value. value.items) values.entry.items)) }
-    ensures err { IfErr result (IsTooLong run.old (plain_known made.entry.now) name.entry (map (λ value. value.items) values.entry.items)) }
+    ensures ok { OnOk result (IsReplacedIn run.old run.new (plain_known known.entry.now) name.entry (map (λ value. value.items) values.entry.items)) }
+    ensures err { IfErr result (IsTooLong run.old (plain_known known.entry.now) name.entry (map (λ value. value.items) values.entry.items)) }
     ensures lighter { OnOk result (weight run.new ≤ weight run.old) }
 {
     match put_replacement(
         &mut run.pending,
         &mut run.origins,
-        made,
+        known,
         name,
         values.as_slice(),
         run.left,

@@ -15,9 +15,9 @@ returns-in-None-clause-ok c =
 pub returns-in-Some-clause-ok : goal.returns-in-Some-clause-ok
 returns-in-Some-clause-ok c =
     on_ok_so c.begin_use.result c.begin_use.ensures.ok (λ leads. λ state plays. leads (table_of c.args.macros.now) state
-    (at_use (table_of c.args.macros.now) c.args.run.now (plain_known c.in-Some.made.now) c.args.next state (sym c.in-Some.ensures) plays))
+    (at_use (table_of c.args.macros.now) c.args.run.now (plain_known c.in-Some.known.now) c.args.next state (sym c.in-Some.ensures) plays))
 
 pub returns-in-Some-clause-err : goal.returns-in-Some-clause-err
 returns-in-Some-clause-err c =
     if_err_so c.begin_use.result c.begin_use.ensures.err (λ f comes. λ state plays. comes (table_of c.args.macros.now) state
-    (at_use (table_of c.args.macros.now) c.args.run.now (plain_known c.in-Some.made.now) c.args.next state (sym c.in-Some.ensures) plays))
+    (at_use (table_of c.args.macros.now) c.args.run.now (plain_known c.in-Some.known.now) c.args.next state (sym c.in-Some.ensures) plays))
