@@ -21,7 +21,7 @@ use Rattle.p10_macros.specs.Endings.{Ending, Refused, TooMany, behind_word}
 use Rattle.p10_macros.specs.Running.{OpenUse, outer_of, Comes}
 use Rattle.p10_macros.specs.Origins.{Extends}
 use Rattle.p10_macros.specs.Traces.{IsTraced, AreTraced, AreValues}
-use Rattle.p10_macros.specs.Standing.{IsOpen, Stands, StandsBy, Role, NextWord, EndsArgument, EndsCall, role_of, place_among, State, ComesOf, Represents, Plays, NoneOutside, KeepsFor, given_with, done_with, LeadsTo, AdvancesBy, FaultComes, FailsBy, IsReplacedIn, IsTooLong, IsOpenedIn}
+use Rattle.p10_macros.specs.Standing.{IsOpen, Stands, StandsBy, Role, NextWord, EndsArgument, EndsCall, role_of, place_among, State, Represents, Plays, NoneOutside, KeepsFor, given_with, done_with, LeadsTo, AdvancesBy, FaultComes, FailsBy, IsReplacedIn, IsTooLong, IsOpenedIn}
 use Rattle.p10_macros.specs.Putting.{Puts}
 use Rattle.p10_macros.specs.Looking.{macro_used, refusal_at}
 use Rattle.p10_macros.proofs.Putting.{all_traced_more}

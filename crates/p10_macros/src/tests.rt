@@ -425,7 +425,7 @@ fn a_name_is_defined_in_one_way(rt: HostRuntime) -> Result<(), Fail> {
 #[test]
 fn undefining_leaves_the_other_macros(rt: HostRuntime) -> Result<(), Fail> {
     let source = "# define A 1 ; # define B 2 ; # define C 3 ; # define D 4 ; A B C D";
-    let all = words(rt.alloc(), source)?;
+    let all: Vec<Word<'static>> = words(rt.alloc(), source)?;
     let cut = lines(rt.alloc(), &all)?;
     let mut macros = Macros::new(rt.alloc());
     for line in cut.lines.as_slice() {
