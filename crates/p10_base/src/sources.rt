@@ -47,7 +47,7 @@ impl Model for Sources {
 }
 
 impl Sources {
-    ghost use Rattle.std.specs.Prelude.{◌≡◌, ◌+◌, ◌<◌, ◌≤◌, ◌^◌, None, Some, length, OnOk, OnErr, IfOk, IfSome};
+    ghost use Rattle.std.specs.Prelude.{◌≡◌, ◌+◌, ◌<◌, ◌^◌, None, Some, length, OnOk, OnErr, IfOk, IfSome};
     ghost use Rattle.std.specs.String.{string_bytes};
     ghost use Rattle.p10_base.specs.Gathered.{LiesIn, candidate_of, count_of, name_of, nothing_gathered, root_count, root_of, text_of, with_file, with_link, with_root};
     ghost use Rattle.p10_base.specs.Places.{column_of, line_of};

@@ -1,6 +1,6 @@
 //! The include lines of a file.
 
-ghost use Rattle.std.specs.Prelude.{◌≡◌, List, [], ◌∷◌, ◌++◌, IfOk, OnOk};
+ghost use Rattle.std.specs.Prelude.{List, [], ◌∷◌, ◌++◌, IfOk, OnOk};
 ghost use Rattle.p10_direct.specs.Form.{BeginsWithHash};
 ghost use Rattle.p10_direct.specs.Lines.{Piece, piece_of};
 ghost use Rattle.p10_expand.specs.Includes.{Begins, IsNamedBy, NamedIn, AreIncludes};

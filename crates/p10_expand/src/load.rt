@@ -1,6 +1,6 @@
 //! Finding the file at a place.
 
-ghost use Rattle.std.specs.Prelude.{◌≡◌, ◌≤◌, ◌<◌, ◌^◌, ℕ, true, Ok, None, IsOk, OnOk, IfOk, IfErr, IsErrOf, bytes_eq, length};
+ghost use Rattle.std.specs.Prelude.{◌≡◌, ◌≤◌, ◌<◌, ℕ, true, Ok, None, IsOk, OnOk, IfOk, IfErr, IsErrOf, bytes_eq, length};
 ghost use Rattle.std.specs.List.{list_any};
 ghost use Rattle.p10_expand.specs.Gathering.{IsAt, IsNew};
 ghost use Rattle.p10_expand.specs.Standing.{Stands, IsFound, Fails};

@@ -1,7 +1,5 @@
 //! Where an included file is looked for.
 
-ghost use Rattle.std.specs.Prelude.{◌≡◌};
-
 use p10_base::{ListBuf, TextBuf};
 
 /// One candidate of an include line, or a gathered file.

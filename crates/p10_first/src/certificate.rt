@@ -4,7 +4,7 @@
 //! Each reader takes a text and gives a value and what stands after it, or nothing where the text
 //! doesn't begin as it should. All work on slices of the one text and take no memory.
 
-ghost use Rattle.std.specs.Prelude.{◌≡◌, ◌≢◌, ℕ, ◌≤◌, length, option_map, option_copied, IfSome, IfOk, IfErr, OnErr};
+ghost use Rattle.std.specs.Prelude.{◌≡◌, ◌≢◌, ◌≤◌, option_map, option_copied, IfSome, IfOk, IfErr, OnErr};
 ghost use Rattle.p10_first.specs.CertificateReading.{result_map, after_front, number_at, labelled_at, certificate_at, function_at, function_claim, result_at, total_at, signed_at, negative_at, positive_at, name_at};
 ghost use Rattle.p10_first.specs.Certificate.{Claims, IsCertificate, IsFirstWrongLine, certificate_text, claims_of};
 

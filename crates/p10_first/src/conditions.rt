@@ -1,7 +1,7 @@
 //! The conditions on a program and its certificate. The others of a certificate's conditions hold of
 //! every program of the first form: it has no parameter, no call, no loop and no allocation.
 
-ghost use Rattle.std.specs.Prelude.{◌≡◌, ◌<◌, ◌≤◌, ◌+◌, ◌*◌, ◌-◌, ◌^◌, ◌↔◌, min, length, sum_by, IsTrue, IfSome, IfNone, IfOk};
+ghost use Rattle.std.specs.Prelude.{◌≡◌, ◌<◌, ◌+◌, ◌*◌, ◌-◌, ◌^◌, ◌↔◌, min, IsTrue, IfSome, IfNone, IfOk};
 ghost use Rattle.p10_first.specs.Certificate.{claims_of};
 ghost use Rattle.p10_first.specs.Conditions.{NamesMain, ReturnsInRange, Accepts, IsFirstFailure};
 

@@ -1,8 +1,8 @@
 //! Reads words as a program of the first form: one pass, in which what stands so far says which
 //! word may come next.
 
-ghost use Rattle.std.specs.Prelude.{◌≡◌, ◌&&◌, ◌||◌, ◌≤◌, bytes_eq, length, map, IfOk, Some, None, IfSome, IfNone, option_map, OnOk};
-ghost use Rattle.std.specs.List.{list_any, list_all, position_from};
+ghost use Rattle.std.specs.Prelude.{◌≡◌, ◌&&◌, ◌||◌, bytes_eq, map, IfOk, Some, None, IfSome, IfNone, option_map, OnOk};
+ghost use Rattle.std.specs.List.{list_any, position_from};
 ghost use Rattle.p10_first.specs.Form.{is_variable_name, texts, Spells};
 ghost use Rattle.p10_first.specs.Names.{is_reserved};
 ghost use Rattle.p10_first.specs.Reading.{numeral, number_of, atom_of, is_head, after_head, body_of};

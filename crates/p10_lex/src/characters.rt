@@ -1,7 +1,6 @@
 //! The characters of literals and their escapes (C99 6.4.4.4).
 
-ghost use Rattle.std.specs.Prelude.{◌≡◌, ◌+◌, ◌≤◌, length, ℕ};
-ghost use Rattle.std.specs.Option.{option_map};
+ghost use Rattle.std.specs.Prelude.{◌≡◌, ◌+◌};
 ghost use Rattle.p10_lex.specs.declared.characters.Mode.TheVariants.{Plain};
 ghost use Rattle.p10_lex.specs.Splices.{joined};
 ghost use Rattle.p10_lex.specs.Constants.{is_simple_escape, is_allowed};

@@ -1,6 +1,6 @@
 //! Puts the replacement of a use in its place.
 
-ghost use Rattle.std.specs.Prelude.{◌≡◌, ℕ, ◌+◌, ◌<◌, ◌≤◌, List, [], ◌∷◌, ◌++◌, length, map, option_copied, option_map, IfOk, IfErr};
+ghost use Rattle.std.specs.Prelude.{◌≡◌, ◌+◌, ◌<◌, ◌≤◌, List, length, map, option_copied, IfOk, IfErr};
 ghost use Rattle.std.specs.List.{flat_map};
 ghost use Rattle.p10_direct.specs.Spelling.{Text};
 ghost use Rattle.p10_direct.specs.Directives.{PlainMacro};

@@ -1,6 +1,6 @@
 //! Whether two definitions of a macro are the same.
 
-ghost use Rattle.std.specs.Prelude.{◌≡◌, map, option_map, length, bytes_eq};
+ghost use Rattle.std.specs.Prelude.{◌≡◌, map, length, bytes_eq};
 ghost use Rattle.std.specs.List.{list_all, zip};
 ghost use Rattle.p10_direct.specs.Form.{plain_macro};
 ghost use Rattle.p10_macros.specs.Table as table;

@@ -5,7 +5,7 @@
 //! What the parts of an answer mean is left to the crates below.
 #![tactic(auto)]
 
-ghost use Rattle.std.specs.Prelude.{◌≡◌, ◌≢◌, ◌⊎◌, ◌≤◌, IfSome, map, string_bytes};
+ghost use Rattle.std.specs.Prelude.{◌≡◌, ◌≢◌, ◌⊎◌, IfSome, map, string_bytes};
 ghost use Rattle.p10_world.specs.Faults.{Rose};
 ghost use Rattle.p10_top.specs.Headline.{Verified};
 ghost use Rattle.p10_top.specs.Told.{Told, Stopped};

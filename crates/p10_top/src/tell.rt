@@ -1,6 +1,6 @@
 //! What is said for an answer.
 
-ghost use Rattle.std.specs.Prelude.{◌≡◌, ◌⊎◌, ◌≤◌, OnErr, OnOk};
+ghost use Rattle.std.specs.Prelude.{◌⊎◌, ◌≤◌, OnErr, OnOk};
 ghost use Rattle.p10_world.specs.Faults.{Rose};
 ghost use Rattle.p10_top.specs.Command.{names_of};
 ghost use Rattle.p10_top.specs.Deciding.{CanBeTold};

@@ -21,7 +21,7 @@ pub struct HeldFiles {
 }
 
 impl HeldFiles {
-    ghost use Rattle.p10_world.specs.HeldFiles.{named, files_of};
+    ghost use Rattle.p10_world.specs.HeldFiles.{files_of};
 
     /// No files.
     pub fn new(alloc: Global) -> HeldFiles

@@ -1,6 +1,6 @@
 //! The conditions of `#if` and `#elif`.
 
-ghost use Rattle.std.specs.Prelude.{List, ◌≡◌, ◌+◌, ◌≤◌, length, option_map, IfOk, IfSome};
+ghost use Rattle.std.specs.Prelude.{List, ◌≡◌, ◌+◌, ◌≤◌, length, IfOk, IfSome};
 ghost use Rattle.p10_macros.specs.Answers.{table_of};
 ghost use Rattle.p10_expand.specs.Conditionals.{is_defined, asked, asked_inside, asked_at, answered, digit_at, refusal_of, Judges, JudgesCondition};
 ghost use Rattle.p10_macros.specs.Uses.{Sourced, plain_words};

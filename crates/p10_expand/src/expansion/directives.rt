@@ -1,8 +1,7 @@
 //! What the directives do.
 
-ghost use Rattle.std.specs.Prelude.{◌≡◌, ◌<◌, not, length, OnOk, IfOk};
+ghost use Rattle.std.specs.Prelude.{◌≡◌, ◌<◌, OnOk, IfOk};
 ghost use Rattle.p10_base.specs.Gathered.{candidate_of, count_of};
-ghost use Rattle.p10_direct.specs.Directives.{place_of};
 ghost use Rattle.p10_direct.specs.Form.{plain, plain_macro, BeginsWithHash};
 ghost use Rattle.p10_direct.specs.Reading.{inside};
 ghost use Rattle.p10_expand.specs.Headers.{header_of};
