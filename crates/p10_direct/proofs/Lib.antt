@@ -12,3 +12,4 @@ pub mod Trees
 pub mod Truths
 pub mod Heads
 pub mod Plainly
+pub mod Naming

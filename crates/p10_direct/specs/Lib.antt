@@ -12,6 +12,7 @@ pub mod Operators
 pub mod Constants
 pub mod Values
 pub mod Conditions
+pub mod Names
 -- how the private ones come to it
 pub mod Cutting
 pub mod Breaks

@@ -3,7 +3,8 @@
 //!
 //! Entry points: [`lines`], which cuts a file's words into directive lines and runs of text;
 //! [`directive`], which reads one directive line; [`read_definition`], which reads the words of a
-//! definition, also of one that is refused; and [`truth`], which tells what a condition is.
+//! definition, also of one that is refused; and [`truth`], which tells what a condition is. [`Names`]
+//! keeps names, each once, for the crates above.
 //! Invariant: the words of the lines, joined, are the words of the file.
 //! Which lines are obeyed, the replacement of macros, the files that an include names, and a name
 //! that is defined twice are left to the crates above.
@@ -20,6 +21,7 @@ mod form;
 mod keyword;
 mod line;
 mod mark;
+mod name_list;
 mod operator;
 mod part;
 mod read;
@@ -33,6 +35,7 @@ pub use form::{Definition, DirectFault, Directive, Macro};
 pub use keyword::{Keyword, directive_named, names, punctuates};
 pub use line::{Line, Lines};
 pub use mark::Mark;
+pub use name_list::Names;
 pub use read::{between, directive, one_outcome, whole};
 
 #[cfg(test)]

@@ -1,9 +1,9 @@
-//! Lines, directives and conditions at their edges. The truths were computed by `gcc -E`; those of
-//! conditions that stop are by C99 6.5, that of `1 ? 1 , 1 : 0` is by the grammar, which has no comma
-//! here (C99 6.6p3), and those at the greatest depth are by its definition.
+//! Names, lines, directives and conditions at their edges. The truths were computed by `gcc -E`; those
+//! of conditions that stop are by C99 6.5, that of `1 ? 1 , 1 : 0` is by the grammar, which has no
+//! comma here (C99 6.6p3), and those at the greatest depth are by its definition.
 
 use crate::keyword::punctuates;
-use crate::{Definition, DirectFault, Directive, directive, lines, read_definition, truth};
+use crate::{Definition, DirectFault, Directive, Names, directive, lines, read_definition, truth};
 use p10_base::{Kind, Span, Word};
 use std::alloc::{AllocError, Global};
 use std::test::Fail;
@@ -277,5 +277,20 @@ fn definitions_are_read_whole(rt: HostRuntime) -> Result<(), Fail> {
         let found = read_definition(rt.alloc(), all.as_slice())?;
         assert_eq!(rt; found.as_ref().map(lengths), want, "{text}");
     }
+    Ok(())
+}
+
+#[test]
+fn names_are_kept_once(rt: HostRuntime) -> Result<(), Fail> {
+    let mut names = Names::new(rt.alloc());
+    for row in [("a", 0), ("bc", 1), ("a", 0), ("b", 2)] {
+        let (name, want) = row;
+        assert_eq!(rt; names.add(name.as_bytes())?, want, "{name}");
+    }
+    assert_eq!(rt; names.count(), 3);
+    assert_eq!(rt; names.place(b"bc"), Some(1));
+    assert_eq!(rt; names.place(b"c"), None);
+    assert!(rt; names.contains(b"b"));
+    assert!(rt; !names.contains(b"c"));
     Ok(())
 }

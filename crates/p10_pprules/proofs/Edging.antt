@@ -8,8 +8,9 @@ use Rattle.p10_direct.specs.Spelling.{Text}
 use Rattle.p10_direct.specs.Directives.{Definition}
 use Rattle.p10_direct.specs.declared.form.Definition.{Definition as Borrowed}
 use Rattle.p10_direct.specs.Form.{plain_definition}
+use Rattle.p10_direct.specs.Names.{place_in}
 use Rattle.p10_graph.specs.Graphs.{Edge}
-use Rattle.p10_pprules.specs.Listing.{place_in, used_places}
+use Rattle.p10_pprules.specs.Listing.{used_places}
 use Rattle.p10_pprules.specs.Graphs.{LeadsOn, AddsEdges, AddsUses, IsGraphOf}
 use Rattle.p10_pprules.proofs.Members.{mapped_more}
 

@@ -1,6 +1,5 @@
 -- The lemmas of this crate, by subject.
 pub mod Booleans
-pub mod Naming
 pub mod Members
 pub mod Using
 pub mod Edging

@@ -1,33 +1,30 @@
 -- A definition uses a macro of its own macro's component exactly where its list leads back to it.
-use Rattle.std.proofs.Common.{◌≡◌, ℕ, suc, zero, ◌==◌, ◌<◌, List, [], length, get_or, Bool, true, false, cond, not, ◌&&◌, bytes_eq, Some, None, refl, sym, ◌∙◌, ap, subst}
+use Rattle.std.proofs.Common.{◌≡◌, ℕ, suc, zero, ◌==◌, ◌<◌, List, length, Bool, true, false, cond, not, ◌&&◌, bytes_eq, Some, None, refl, sym, ◌∙◌, ap, subst}
 use Rattle.std.specs.Prelude.{slice_index}
 use Rattle.std.specs.List.{Contains, list_any}
 use Rattle.std.proofs.lemmas.Bool.{and_parts, eqb-true, eq-eqb}
-use Rattle.std.proofs.lemmas.List.Quantifiers.{position-Some}
 use Rattle.std.proofs.lemmas.Slice.Eq.{bytes_eq-Decides}
 use Rattle.p10_base.specs.declared.word.Word.{Word}
 use Rattle.p10_direct.specs.Spelling.{Text, is_name_kind}
 use Rattle.p10_direct.specs.Directives.{Definition, texts_of}
+use Rattle.p10_direct.specs.Names.{place_in}
+use Rattle.p10_direct.proofs.Naming.{has_place, same_text, place_before, same_place}
 use Rattle.p10_expand.specs.declared.expanded.Obeyed.{Obeyed}
 use Rattle.p10_graph.specs.Graphs.{Edge, Walk, Reaches}
 use Rattle.p10_graph.specs.Components.{AreComponents}
 use Rattle.p10_pprules.specs.Recursion.{parameters_of, Uses, Leads, here as at_once, further, IsRecursive}
-use Rattle.p10_pprules.specs.Listing.{place_in, used_by, used_places, has_number, returns_from, returns_to}
+use Rattle.p10_pprules.specs.Listing.{used_by, used_places, has_number, returns_from, returns_to}
 use Rattle.p10_pprules.specs.Gathering.{AreDefined}
 use Rattle.p10_pprules.specs.Graphs.{HasNames, IsGraphOf}
 use Rattle.p10_pprules.proofs.Booleans.{both, not_is, is_not, not_both_ways}
-use Rattle.p10_pprules.proofs.Naming.{has_place, same_text}
 use Rattle.p10_pprules.proofs.Members.{any_is, is_any, text_any, any_text, kept, came_from}
 use Rattle.p10_pprules.proofs.Edging.{same_some}
 
 -- ## Uses and places
 
-place_text : (names : List Text) (name : Text) (place : ℕ) → place_in names name ≡ Some place → (place < length names) × (name ≡ get_or names place [])
-place_text names name place e = let h = position-Some (bytes_eq name) names place [] e in (h.0, same_text name (get_or names place []) h.1)
-
 -- names with one place are one name
 one_name : (names : List Text) (this that : Text) (place : ℕ) → place_in names this ≡ Some place → place_in names that ≡ Some place → this ≡ that
-one_name names this that place first second = (place_text names this place first).1 ∙ sym (place_text names that place second).1
+one_name names this that place first second = same_text this that (same_place names this that place first second)
 
 is_false : (b : Bool) → (b ≡ true → ⊥) → b ≡ false
 is_false true other = absurd (other refl)
@@ -97,8 +94,8 @@ module _ (obeyed : List Obeyed) (definitions : List Definition) (names : List Te
       let has : has_number numbers (slice_index numbers own.0) (used_places names definition) ≡ true = ap (returns_from numbers (used_places names definition)) (sym own.1) ∙ e in
       let found = any_is (λ place. slice_index numbers place == slice_index numbers own.0) (used_places names definition) has in
       let next = use_came names definition found.0 found.1 in
-      let near : own.0 < length graph = subst (λ n. own.0 < n) (sym is_graph.nodes) (place_text names definition.name.text.now own.0 own.1).0 in
-      let far : found.0 < length graph = subst (λ n. found.0 < n) (sym is_graph.nodes) (place_text names next.0 found.0 next.2).0 in
+      let near : own.0 < length graph = subst (λ n. own.0 < n) (sym is_graph.nodes) (place_before names definition.name.text.now own.0 own.1) in
+      let far : found.0 < length graph = subst (λ n. found.0 < n) (sym is_graph.nodes) (place_before names next.0 found.0 next.2) in
       let joined = (are.same found.0 own.0 far near).0 (eqb-true _ _ found.2) in
       record { name = next.0; uses = next.1; back = walk_leads joined.there.edges next.0 definition.name.text.now found.0 own.0 joined.there.walk next.2 own.1 }
 
@@ -107,8 +104,8 @@ module _ (obeyed : List Obeyed) (definitions : List Definition) (names : List Te
       let own = defined_place definition held in
       let next = leads_place is.name definition.name.text.now is.back own.0 own.1 in
       let used = use_kept names definition is.name next.0 is.uses next.1 in
-      let near : own.0 < length graph = subst (λ n. own.0 < n) (sym is_graph.nodes) (place_text names definition.name.text.now own.0 own.1).0 in
-      let far : next.0 < length graph = subst (λ n. next.0 < n) (sym is_graph.nodes) (place_text names is.name next.0 next.1).0 in
+      let near : own.0 < length graph = subst (λ n. own.0 < n) (sym is_graph.nodes) (place_before names definition.name.text.now own.0 own.1) in
+      let far : next.0 < length graph = subst (λ n. next.0 < n) (sym is_graph.nodes) (place_before names is.name next.0 next.1) in
       let there = leads_walk is.name definition.name.text.now is.back next.0 own.0 next.1 own.1 in
       let edge : Edge graph own.0 next.0 = (is_graph.edges own.0 next.0).1 (definition, held, (own.1, used)) in
       let back : Reaches graph own.0 next.0 = record { edges = 1; walk = (next.0, edge, refl) } in

@@ -4,10 +4,11 @@ use Rattle.std.specs.Option.{option_to_list}
 use Rattle.std.specs.List.{All, list_any, filter_map, cons_option}
 use Rattle.std.proofs.lemmas.List.{take_more}
 use Rattle.std.proofs.lemmas.List.Elements.{All-nil, All-cons, filter_map-append}
-use Rattle.std.proofs.lemmas.List.Quantifiers.{position-Some}
 use Rattle.p10_base.specs.declared.word.Word.{Word}
 use Rattle.p10_direct.specs.Spelling.{Text, is_name_kind}
-use Rattle.p10_pprules.specs.Listing.{place_in, used_by}
+use Rattle.p10_direct.specs.Names.{place_in}
+use Rattle.p10_direct.proofs.Naming.{place_before}
+use Rattle.p10_pprules.specs.Listing.{used_by}
 
 -- parameters count by their texts alone
 pub used_same : (names these those : List Text) → ((text : Text) → list_any (bytes_eq text) these ≡ list_any (bytes_eq text) those) → (words : List Word) → filter_map (used_by names these) words ≡ filter_map (used_by names those) words
@@ -16,13 +17,10 @@ used_same names these those same (word ∷ words) =
     ap (λ b. cons_option (cond (is_name_kind word.kind && not b) (place_in names word.text.now) None) (filter_map (used_by names these) words)) (same word.text.now)
     ∙ ap (cons_option (used_by names those word)) (used_same names these those same words)
 
-place_within : (names : List Text) (name : Text) (place : ℕ) → place_in names name ≡ Some place → place < length names
-place_within names name place e = (position-Some (bytes_eq name) names place [] e).0
-
 use_within : (names parameters : List Text) (word : Word) (place : ℕ) → used_by names parameters word ≡ Some place → place < length names
 use_within names parameters word place e =
     elim (is_name_kind word.kind && not (list_any (bytes_eq word.text.now) parameters)) as (λ b. cond b (place_in names word.text.now) None ≡ Some place → place < length names)
-    [ true ↦ λ e. place_within names word.text.now place e | false ↦ λ e. absurd cc ] e
+    [ true ↦ λ e. place_before names word.text.now place e | false ↦ λ e. absurd cc ] e
 
 pub used_within : (names parameters : List Text) (words : List Word) → All (λ place. place < length names) (filter_map (used_by names parameters) words)
 used_within names parameters [] = All-nil (λ place. place < length names)

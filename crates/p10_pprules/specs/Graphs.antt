@@ -3,9 +3,10 @@ use Rattle.std.specs.Prelude.{◌≡◌, ℕ, ◌↔◌, ◌⊎◌, List, Some, 
 use Rattle.std.specs.List.{Contains, list_any}
 use Rattle.p10_direct.specs.Spelling.{Text}
 use Rattle.p10_direct.specs.Directives.{Definition}
+use Rattle.p10_direct.specs.Names.{place_in}
 use Rattle.p10_graph.specs.Graphs.{Edge}
 use Rattle.p10_graph.specs.Components.{AreComponents}
-use Rattle.p10_pprules.specs.Listing.{place_in, used_places}
+use Rattle.p10_pprules.specs.Listing.{used_places}
 
 -- these are the names that are defined
 abbrev pub HasNames : List Definition → List Text → Type 0

@@ -1,5 +1,5 @@
 -- The violations of lines and definitions, one after the other.
-use Rattle.std.specs.Prelude.{ℕ, ◌==◌, List, [], ◌∷◌, ◌++◌, Bool, false, not, ◌&&◌, Option, Some, None, if◌then◌else◌, bytes_eq, position, slice_index}
+use Rattle.std.specs.Prelude.{ℕ, ◌==◌, List, [], ◌∷◌, ◌++◌, Bool, false, not, ◌&&◌, Option, Some, None, if◌then◌else◌, bytes_eq, slice_index}
 use Rattle.std.specs.List.{list_any, filter_map}
 use Rattle.p10_base.specs.declared.span.Span.{Span}
 use Rattle.p10_base.specs.declared.word.Word.{Word}
@@ -7,6 +7,7 @@ use Rattle.p10_base.specs.declared.report.Sub.{Sub}
 use Rattle.p10_base.specs.declared.report.Violation.{Violation}
 use Rattle.p10_direct.specs.Spelling.{Text, is_name_kind}
 use Rattle.p10_direct.specs.Directives.{Definition, texts_of}
+use Rattle.p10_direct.specs.Names.{place_in}
 use Rattle.p10_expand.specs.declared.expanded.Obeyed.{Obeyed}
 use Rattle.p10_pprules.specs.Lines.{name_of, operands_of, begins_conditional, is_barred, pastes}
 use Rattle.p10_pprules.specs.Recursion.{parameters_of}
@@ -25,14 +26,6 @@ line_violations line =
     ++ violation_if (row 8 5) (is_barred (name_of line.words) (operands_of line.words)) line.span
 
 -- ## Recursion
-
--- the names after one more came
-abbrev pub with_name : List Text → Text → List Text
-with_name names name = if list_any (bytes_eq name) names then names else names ++ name ∷ []
-
--- the place of a name among the names of macros
-abbrev pub place_in : List Text → Text → Option ℕ
-place_in names name = position (bytes_eq name) names
 
 -- the place of the macro that a word of a list uses, where these are the parameters
 abbrev pub used_by : List Text → List Text → Word → Option ℕ

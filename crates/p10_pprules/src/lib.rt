@@ -14,7 +14,6 @@ mod dereference;
 mod group;
 mod line;
 mod listing;
-mod names;
 mod recursion;
 mod rows;
 mod rules;

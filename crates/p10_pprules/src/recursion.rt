@@ -5,13 +5,13 @@ ghost use Rattle.std.specs.Option.{option_to_list};
 ghost use Rattle.std.specs.List.{All, list_any, filter_map};
 ghost use Rattle.p10_direct.specs.Directives.{texts_of};
 ghost use Rattle.p10_direct.specs.Form.{plain_definition};
+ghost use Rattle.p10_direct.specs.Names.{place_in};
 ghost use Rattle.p10_pprules.specs.Recursion.{parameters_of};
-ghost use Rattle.p10_pprules.specs.Listing.{place_in, used_by, used_places, has_number, returns_to};
+ghost use Rattle.p10_pprules.specs.Listing.{used_by, used_places, has_number, returns_to};
 ghost use Rattle.p10_pprules.specs.Graphs.{HasNames, AreNumbersOf, AddsUses, AddsEdges};
 
-use crate::names::Names;
 use p10_base::{Kind, Word};
-use p10_direct::Definition;
+use p10_direct::{Definition, Names};
 use p10_graph::{Graph, components};
 use std::alloc::{AllocError, Global};
 

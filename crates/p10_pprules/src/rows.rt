@@ -8,11 +8,10 @@ ghost use Rattle.p10_pprules.specs.Listing.{definition_violations};
 
 use crate::dereference::dereferences;
 use crate::listing::push_if;
-use crate::names::Names;
 use crate::recursion::is_recursive;
 use crate::unit::is_complete;
 use p10_base::{Sub, Violation};
-use p10_direct::{Definition, has_pasting, is_variadic};
+use p10_direct::{Definition, Names, has_pasting, is_variadic};
 use std::alloc::{AllocError, Global};
 
 /// Puts the violations of definitions behind the others. The numbers are those of the components of the

@@ -19,9 +19,9 @@ impl<'s> Model for Names<'s> {
 }
 
 impl<'s> Names<'s> {
-    ghost use Rattle.std.specs.Prelude.{◌≡◌, [], bytes_eq, length, OnOk};
+    ghost use Rattle.std.specs.Prelude.{◌≡◌, [], bytes_eq, length, Some, IfOk, OnOk, OnErr};
     ghost use Rattle.std.specs.List.{list_any};
-    ghost use Rattle.p10_pprules.specs.Listing.{place_in, with_name};
+    ghost use Rattle.p10_direct.specs.Names.{place_in, with_name};
 
     /// No names.
     pub fn new(alloc: Global) -> Names<'s>
@@ -32,12 +32,14 @@ impl<'s> Names<'s> {
         }
     }
 
-    /// Puts a name behind the others, unless it is there.
-    pub fn add(&mut self, name: &'s [u8]) -> Result<(), AllocError>
-        ensures { OnOk result (self.new ≡ with_name self.old name.now) }
+    /// Puts a name behind the others, unless it is there, and tells its place.
+    pub fn add(&mut self, name: &'s [u8]) -> Result<usize, AllocError>
+        ensures ok { OnOk result (self.new ≡ with_name self.old name.now) }
+        ensures place { IfOk result (λ place. place_in self.new name.now ≡ Some place) }
+        ensures err { OnErr result (self.new ≡ self.old) }
     {
-        self.set.insert(name)?;
-        Ok(())
+        let (place, _) = self.set.insert_full(name)?;
+        Ok(place)
     }
 
     /// How many names there are.
