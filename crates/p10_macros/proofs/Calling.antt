@@ -2,7 +2,7 @@
 use Rattle.std.proofs.Common.{◌≡◌, ℕ, suc, ◌+◌, ◌<◌, ◌≤◌, ◌==◌, List, [], ◌∷◌, length, Bool, true, false, ◌&&◌, ◌||◌, cond, Option, Some, None, refl, sym, subst, ap, ◌∙◌, arith}
 use Rattle.std.proofs.lemmas.Bool.Decides.{nat_tests}
 use Rattle.p10_base.specs.declared.word.Word.{Word}
-use Rattle.p10_macros.specs.declared.origin.Origin.{Origin}
+use Rattle.p10_macros.specs.declared.origin.Origins.{Origins}
 use Rattle.p10_macros.specs.declared.pending.Pending.{Pending}
 use Rattle.p10_macros.specs.declared.pending.Open.{Open}
 use Rattle.p10_macros.specs.Uses.{Sourced, Arguments, arguments_in, word_before, argument_before, closes, separates, depth_behind}
@@ -18,19 +18,19 @@ abbrev pub with_arguments : OpenUse → List (List Sourced) → List Sourced →
 with_arguments use' others rest = record use' { waiting = others; rest = rest }
 
 -- an open use, whose first argument ends at a place, and the pending words stand for the arguments that were found
-abbrev pub StandsCalled : List Origin → ℕ → List Open → List OpenUse → List Pending → ℕ → Arguments → Type 0
+abbrev pub StandsCalled : Origins → ℕ → List Open → List OpenUse → List Pending → ℕ → Arguments → Type 0
 StandsCalled origins stop those uses items place found =
     (open' : Open) (use' : OpenUse) → open'.stop ≡ stop → IsOpen origins open' use' → Stands origins items place (open' ∷ those) found.first (with_arguments use' found.others found.rest ∷ uses)
 
 -- what the places say is what was found: the `)` stands in the innermost argument, and so many commas before it
-abbrev pub IsCalled : List Origin → ℕ → List Open → List OpenUse → List Pending → ℕ → ℕ → ℕ → Option Arguments → Type 0
+abbrev pub IsCalled : Origins → ℕ → List Open → List OpenUse → List Pending → ℕ → ℕ → ℕ → Option Arguments → Type 0
 IsCalled origins stop those uses items argument call count None = call ≤ stop
 IsCalled origins stop those uses items argument call count (Some found) = (stop < call) × (count + 1 ≡ length (found.first ∷ found.others)) × StandsCalled origins stop those uses items argument found
 
-open_again : (origins : List Origin) (open' : Open) (use' : OpenUse) (others : List (List Sourced)) (rest : List Sourced) → IsOpen origins open' use' → IsOpen origins open' (with_arguments use' others rest)
+open_again : (origins : Origins) (open' : Open) (use' : OpenUse) (others : List (List Sourced)) (rest : List Sourced) → IsOpen origins open' use' → IsOpen origins open' (with_arguments use' others rest)
 open_again origins open' use' others rest is = record { plain = is.plain; name = is.name; place = is.place; before = is.before; values = is.values }
 
-module _ (origins : List Origin) (stop : ℕ) (those : List Open) (uses : List OpenUse) (pending : Pending) (items : List Pending) (less : stop ≤ length items) where
+module _ (origins : Origins) (stop : ℕ) (those : List Open) (uses : List OpenUse) (pending : Pending) (items : List Pending) (less : stop ≤ length items) where
   abbrev here : ℕ
   here = length items + 1
 
@@ -77,7 +77,7 @@ is_zero : (n : ℕ) → (n == 0) ≡ true → n ≡ 0
 is_zero n e = grind (arith, nat_tests)
 
 -- the end of an argument stands for no word
-no_word : (origins : List Origin) (items : List Pending) (pending : Pending) (stop : ℕ) (those : List Open) (uses : List OpenUse) (c : Bool) (todo : List Sourced) →
+no_word : (origins : Origins) (items : List Pending) (pending : Pending) (stop : ℕ) (those : List Open) (uses : List OpenUse) (c : Bool) (todo : List Sourced) →
     StandsBy origins (Stands origins items) pending (cond c EndsCall EndsArgument) stop those todo uses → todo ≡ []
 no_word origins items pending stop those uses c [] stands = refl
 no_word origins items pending stop [] uses true (word ∷ todo) stands = absurd stands
@@ -85,7 +85,7 @@ no_word origins items pending stop (open' ∷ those) uses true (word ∷ todo) s
 no_word origins items pending stop [] uses false (word ∷ todo) stands = absurd stands
 no_word origins items pending stop (open' ∷ those) uses false (word ∷ todo) stands = absurd stands
 
-module _ (origins : List Origin) (stop : ℕ) (those : List Open) (uses : List OpenUse) (depth : ℕ) (pending : Pending) (items : List Pending) (linked : IsLinked (pending ∷ items))
+module _ (origins : Origins) (stop : ℕ) (those : List Open) (uses : List OpenUse) (depth : ℕ) (pending : Pending) (items : List Pending) (linked : IsLinked (pending ∷ items))
     (again : (depth : ℕ) (todo : List Sourced) → Stands origins items stop those todo uses → IsCalled origins stop those uses items (argument_end depth items) (call_end depth items) (commas depth items) (arguments_in depth todo)) where
   abbrev deeper : ℕ
   deeper = depth_behind depth pending.traced.word
@@ -134,7 +134,7 @@ module _ (origins : List Origin) (stop : ℕ) (those : List Open) (uses : List O
   called_role true true todo e stands = at_end todo (no_word origins items pending stop those uses true todo stands) (let is : stop ≡ length items + 1 = grind (arith, nat_tests) in is)
   called_role true false todo e stands = at_end todo (no_word origins items pending stop those uses false todo stands) (let is : stop ≡ length items + 1 = grind (arith, nat_tests) in is)
 
-pub is_called : (origins : List Origin) (stop : ℕ) (those : List Open) (uses : List OpenUse) (depth : ℕ) (items : List Pending) (todo : List Sourced) → IsLinked items → Stands origins items stop those todo uses →
+pub is_called : (origins : Origins) (stop : ℕ) (those : List Open) (uses : List OpenUse) (depth : ℕ) (items : List Pending) (todo : List Sourced) → IsLinked items → Stands origins items stop those todo uses →
     IsCalled origins stop those uses items (argument_end depth items) (call_end depth items) (commas depth items) (arguments_in depth todo)
 is_called origins stop those uses depth [] todo linked stands =
     let empty = stands_empty origins stop those todo uses stands in

@@ -2,7 +2,7 @@
 pub mod Unfolding
 pub mod OneEnding
 pub mod Steps
-pub mod Listing
+pub mod SetsOfMacros
 pub mod Links
 pub mod Parts
 pub mod Putting
@@ -12,6 +12,7 @@ pub mod Calling
 pub mod Lookups
 pub mod Moves
 pub mod Beginnings
+pub mod Blocks
 pub mod LastFirst
 pub mod Tables
 pub mod Undefining

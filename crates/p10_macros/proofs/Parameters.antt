@@ -8,13 +8,13 @@ use Rattle.std.proofs.lemmas.Map.Text.{hash_map_updates_str}
 use Rattle.std.proofs.lemmas.Slice.Eq.{bytes_eq-Decides}
 use Rattle.p10_base.specs.declared.word.Word.{Word}
 use Rattle.p10_direct.specs.Spelling.{Text, is_name_kind}
-use Rattle.p10_macros.specs.declared.origin.Origin.{Origin}
+use Rattle.p10_macros.specs.declared.origin.Origins.{Origins}
 use Rattle.p10_macros.specs.declared.pending.Traced.{Traced}
 use Rattle.p10_macros.specs.Uses.{Sourced, value_of}
 use Rattle.p10_macros.specs.Traces.{AreValues}
 use Rattle.p10_macros.specs.Putting.{IsValue}
 use Rattle.p10_macros.proofs.Putting.{texts_at}
-use Rattle.p10_macros.specs.Places.{place_in, place_of, at_place, at_text}
+use Rattle.p10_macros.specs.Places.{place_in, place_named, at_place, at_text}
 
 -- ## Places by texts
 
@@ -102,14 +102,14 @@ other_value word kind (parameter ∷ texts) (value ∷ values) =
     ap (λ (b : Bool). cond (b && bytes_eq word.text.now parameter) (Some value) (value_of texts values word)) kind ∙ other_value word kind texts values
 
 -- the value of the parameter that a word names stands at the place of that parameter
-pub value_at : (texts : List Text) (values : List (List Sourced)) (word : Word) → value_of texts values word ≡ at_place (place_of texts word) values
+pub value_at : (texts : List Text) (values : List (List Sourced)) (word : Word) → value_of texts values word ≡ at_place (place_named texts word) values
 value_at texts values word = go (is_name_kind word.kind) refl
   where
     go : (b : Bool) → is_name_kind word.kind ≡ b → value_of texts values word ≡ at_place (cond b (place_in texts word.text.now) None) values
     go true kind = named_value word kind texts values
     go false kind = other_value word kind texts values
 
-values_at : (origins : List Origin) (those : List (List Traced)) (these : List (List Sourced)) → AreValues origins those these → (place : ℕ) → IsValue origins (slice_get those place) (slice_get these place)
+values_at : (origins : Origins) (those : List (List Traced)) (these : List (List Sourced)) → AreValues origins those these → (place : ℕ) → IsValue origins (slice_get those place) (slice_get these place)
 values_at origins [] [] are place = tt
 values_at origins (traced ∷ those) (sourced ∷ these) (is, are) zero = is
 values_at origins (traced ∷ those) (sourced ∷ these) (is, are) (suc place) = values_at origins those these are place
@@ -117,8 +117,8 @@ values_at origins [] (sourced ∷ these) are place = absurd are
 values_at origins (traced ∷ those) [] are place = absurd are
 
 -- what stands at the place of the parameter is the value of the word
-pub is_value : (texts : List Text) (word : Word) (place : Option ℕ) (values : List (List Traced)) (value : Option (List Traced)) → place ≡ place_of texts word → value ≡ at_place place values →
-    (origins : List Origin) (values' : List (List Sourced)) → AreValues origins values values' → IsValue origins value (value_of texts values' word)
+pub is_value : (texts : List Text) (word : Word) (place : Option ℕ) (values : List (List Traced)) (value : Option (List Traced)) → place ≡ place_named texts word → value ≡ at_place place values →
+    (origins : Origins) (values' : List (List Sourced)) → AreValues origins values values' → IsValue origins value (value_of texts values' word)
 is_value texts word place values value named there origins values' are =
     let found : value_of texts values' word ≡ at_place place values' = value_at texts values' word ∙ ap (λ (p : Option ℕ). at_place p values') (sym named) in
     subst (λ (v : Option (List Traced)). IsValue origins v (value_of texts values' word)) (sym there)

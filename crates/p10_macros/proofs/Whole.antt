@@ -3,7 +3,7 @@ use Rattle.std.proofs.Common.{◌≡◌, ℕ, List, [], ◌∷◌, ◌++◌, map
 use Rattle.std.specs.Prelude.{reverse}
 use Rattle.std.proofs.lemmas.List.{reverse-append}
 use Rattle.p10_base.specs.declared.word.Word.{Word}
-use Rattle.p10_macros.specs.declared.origin.Origin.{Origin}
+use Rattle.p10_macros.specs.declared.origin.Origins.{Origins}
 use Rattle.p10_macros.specs.declared.pending.Traced.{Traced}
 use Rattle.p10_macros.specs.declared.pending.Pending.{Pending}
 use Rattle.p10_macros.specs.declared.pending.Open.{Open}
@@ -20,30 +20,30 @@ use Rattle.p10_macros.specs.Traces.{IsTraced, AreTraced}
 use Rattle.p10_macros.specs.Standing.{Stands, State, NoneOutside, ComesOf, Represents, LeadsTo, Advances, FaultComes, Fails}
 use Rattle.p10_macros.specs.Beginning.{unread, traced_of, start_of, IsBegun}
 use Rattle.p10_macros.specs.Answers.{IsFault}
-use Rattle.p10_macros.proofs.Listing.{listed_none}
+use Rattle.p10_macros.proofs.SetsOfMacros.{has_no_macro}
 use Rattle.p10_macros.proofs.Steps.{behind_none, step_ended, step_begun}
 use Rattle.p10_macros.proofs.Standings.{stands_empty, stands_word}
 
 -- ## The beginning
 
-unread_stands : (origins : List Origin) (items : List Pending) (words : List Word) → traced_of items ≡ map unread words → Stands origins items 0 [] (map written words) []
+unread_stands : (origins : Origins) (items : List Pending) (words : List Word) → traced_of items ≡ map unread words → Stands origins items 0 [] (map written words) []
 unread_stands origins [] [] e = refl
 unread_stands origins [] (word ∷ words) e = cc
 unread_stands origins (pending ∷ items) [] e = cc
 unread_stands origins (pending ∷ items) (word ∷ words) e =
     let first : pending.traced ≡ unread word = cc in
     let others : traced_of items ≡ map unread words = cc in
-    let traced : IsTraced origins (unread word) (written word) = record { word = refl; known = omega arith; from = λ name. listed_none origins 0 name (omega arith) } in
+    let traced : IsTraced origins (unread word) (written word) = record { word = refl; known = omega arith; from = λ name. has_no_macro origins 0 name (omega arith) } in
     stands_word origins pending (written word) items 0 [] (map written words) [] (omega arith) (subst (λ (t : Traced). IsTraced origins t (written word)) (sym first) traced) (unread_stands origins items words others)
 
 pub begun : (table : Table) (words : List Word) (left : ℕ) (run : Run) → IsBegun words left run → LeadsTo table (start_of words left) run
 begun table words left run is = record {
   behind = start_of words left;
   represents = record {
-    stands = subst (λ (n : ℕ). Stands run.origins.items (reverse run.pending.words.items) n (reverse run.open.items) (map written words) []) (sym is.stop)
-        (subst (λ (l : List Open). Stands run.origins.items (reverse run.pending.words.items) 0 (reverse l) (map written words) []) (sym is.opens)
-        (unread_stands run.origins.items (reverse run.pending.words.items) words is.pending));
-    keeps = record { given = is.words; done = subst (λ (l : List Traced). AreTraced run.origins.items l []) (sym is.done) tt; outside = refl; left = is.left };
+    stands = subst (λ (n : ℕ). Stands run.origins (reverse run.pending.words.items) n (reverse run.open.items) (map written words) []) (sym is.stop)
+        (subst (λ (l : List Open). Stands run.origins (reverse run.pending.words.items) 0 (reverse l) (map written words) []) (sym is.opens)
+        (unread_stands run.origins (reverse run.pending.words.items) words is.pending));
+    keeps = record { given = is.words; done = subst (λ (l : List Traced). AreTraced run.origins l []) (sym is.done) tt; outside = refl; left = is.left };
   };
   comes = λ ending comes. comes;
 }
@@ -54,7 +54,7 @@ begun table words left run is = record {
 taken : (table : Table) (state : State) (old : Run) (popped : Ahead) (next : Pending) → old.pending.words.items ≡ popped.words.items ++ next ∷ [] → (leads : LeadsTo table state old) →
     Represents (record old { pending = popped }) (next ∷ reverse popped.words.items) leads.behind
 taken table state old popped next is leads = record {
-  stands = subst (λ (l : List Pending). Stands old.origins.items l old.stop (reverse old.open.items) leads.behind.todo leads.behind.uses) (ap (λ (l : List Pending). reverse l) is ∙ reverse-append popped.words.items (next ∷ [])) leads.represents.stands;
+  stands = subst (λ (l : List Pending). Stands old.origins l old.stop (reverse old.open.items) leads.behind.todo leads.behind.uses) (ap (λ (l : List Pending). reverse l) is ∙ reverse-append popped.words.items (next ∷ [])) leads.represents.stands;
   keeps = leads.represents.keeps;
 }
 
@@ -98,8 +98,8 @@ pub ended : (table : Table) (words : List Word) (left : ℕ) (run : Run) → run
     (made : List Sourced) × Ends table None (map written words) left (Gives made run.left) × (plain_words made ≡ run.words.items)
 ended table words left run none leads =
     let state = leads.behind in
-    let empty = stands_empty run.origins.items run.stop (reverse run.open.items) state.todo state.uses
-    (subst (λ (l : List Pending). Stands run.origins.items (reverse l) run.stop (reverse run.open.items) state.todo state.uses) none leads.represents.stands) in
+    let empty = stands_empty run.origins run.stop (reverse run.open.items) state.todo state.uses
+    (subst (λ (l : List Pending). Stands run.origins (reverse l) run.stop (reverse run.open.items) state.todo state.uses) none leads.represents.stands) in
     let keeps = leads.represents.keeps in (
       state.given,
       subst (λ (n : ℕ). Ends table None (map written words) left (Gives state.given n)) (sym keeps.left)

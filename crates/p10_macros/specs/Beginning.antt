@@ -11,7 +11,7 @@ use Rattle.p10_macros.specs.Standing.{State}
 abbrev pub unread : Word → Traced
 unread word = record { word = word; from = 0 }
 
--- pending words with their lists of macros
+-- pending words with their sets of macros
 abbrev pub traced_of : List Pending → List Traced
 traced_of items = map (λ (pending : Pending). pending.traced) items
 

@@ -13,6 +13,7 @@ pub mod Answers
 pub mod Known
 pub mod Places
 pub mod Running
+pub mod Sets
 pub mod Origins
 pub mod Traces
 pub mod Standing

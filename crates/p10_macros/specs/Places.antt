@@ -12,13 +12,13 @@ place_in [] text = None
 place_in (parameter ∷ parameters) text = if bytes_eq text parameter then Some 0 else option_map suc (place_in parameters text)
 
 -- the place of the parameter that a word names
-abbrev pub place_of : List Text → Word → Option ℕ
-place_of parameters word = if is_name_kind word.kind then place_in parameters word.text.now else None
+abbrev pub place_named : List Text → Word → Option ℕ
+place_named parameters word = if is_name_kind word.kind then place_in parameters word.text.now else None
 
 -- the same for each word of a replacement list; none are kept for an object-like macro
 abbrev pub places_of : Option (List Text) → List Word → List (Option ℕ)
 places_of None words = []
-places_of (Some parameters) words = map (place_of parameters) words
+places_of (Some parameters) words = map (place_named parameters) words
 
 -- what stands at a place of a list
 abbrev pub at_place : {A : Type 0} → Option ℕ → List A → Option A

@@ -5,7 +5,7 @@ use Rattle.p10_base.specs.declared.word.Word.{Word}
 use Rattle.p10_base.specs.declared.report.Family.TheVariants.{D}
 use Rattle.p10_direct.specs.Directives.{PlainMacro}
 use Rattle.std.specs.Borrow.{Bor}
-use Rattle.p10_macros.specs.declared.origin.Origin.{Origin}
+use Rattle.p10_macros.specs.declared.origin.Origins.{Origins}
 use Rattle.p10_macros.specs.declared.pending.Traced.{Traced}
 use Rattle.p10_macros.specs.declared.pending.Pending.{Pending}
 use Rattle.p10_macros.specs.declared.pending.Open.{Open}
@@ -29,7 +29,7 @@ abbrev pub place_among : List Open → Traced → Span
 place_among [] name = name.word.at
 place_among (open' ∷ those) name = open'.place
 
-pub record IsOpen (origins : List Origin) (open' : Open) (use' : OpenUse) : Type 0 where
+pub record IsOpen (origins : Origins) (open' : Open) (use' : OpenUse) : Type 0 where
   pub plain : plain_known open'.known.now ≡ use'.plain
   pub name : IsTraced origins open'.name use'.name
   pub place : open'.place ≡ use'.place
@@ -49,7 +49,7 @@ pub data Role : Type 0 where
 abbrev pub role_of : List Pending → ℕ → Word → Role
 role_of items stop word = if stop == length items + 1 then if closes word then EndsCall else EndsArgument else NextWord
 
-abbrev pub StandsBy : List Origin → (ℕ → List Open → List Sourced → List OpenUse → Type 0) → Pending → Role → ℕ → List Open → List Sourced → List OpenUse → Type 0
+abbrev pub StandsBy : Origins → (ℕ → List Open → List Sourced → List OpenUse → Type 0) → Pending → Role → ℕ → List Open → List Sourced → List OpenUse → Type 0
 StandsBy origins Stands pending NextWord stop those (word ∷ todo) uses = IsTraced origins pending.traced word × Stands stop those todo uses
 StandsBy origins Stands pending EndsArgument stop (open' ∷ those) [] (use' ∷ uses) =
     (next : List Sourced) × (others : List (List Sourced)) × (use'.waiting ≡ next ∷ others) × (separates pending.traced.word ≡ true)
@@ -59,7 +59,7 @@ StandsBy origins Stands pending _ _ _ _ _ = ⊥
 
 -- the pending words, where the innermost argument ends at the place `stop`, and the open uses, with the next word and the
 -- innermost use first, stand for words and uses
-abbrev pub Stands : List Origin → List Pending → ℕ → List Open → List Sourced → List OpenUse → Type 0
+abbrev pub Stands : Origins → List Pending → ℕ → List Open → List Sourced → List OpenUse → Type 0
 Stands origins [] stop [] [] [] = stop ≡ 0
 Stands origins (pending ∷ items) stop those todo uses = StandsBy origins (Stands origins items) pending (role_of items stop pending.traced.word) stop those todo uses
 Stands origins _ _ _ _ _ = ⊥
@@ -85,23 +85,23 @@ NoneOutside [] done = done ≡ []
 NoneOutside (use' ∷ uses) done = NoneOutside uses use'.before
 
 -- what is kept beside the pending words and the open uses stands for a state
-pub record Keeps (origins : List Origin) (words : List Word) (those : List Traced) (remaining : ℕ) (state : State) : Type 0 where
+pub record Keeps (origins : Origins) (words : List Word) (those : List Traced) (remaining : ℕ) (state : State) : Type 0 where
   pub given : words ≡ plain_words state.given
   pub done : AreTraced origins those state.done
   pub outside : NoneOutside state.uses state.done
   pub left : remaining ≡ state.left
 
 abbrev pub KeepsFor : Run → State → Type 0
-KeepsFor run state = Keeps run.origins.items run.words.items run.done.items run.left state
+KeepsFor run state = Keeps run.origins run.words.items run.done.items run.left state
 
 -- a replacement that is under way, where these words are pending, stands for a state
 pub record Represents (run : Run) (items : List Pending) (state : State) : Type 0 where
-  pub stands : Stands run.origins.items items run.stop (reverse run.open.items) state.todo state.uses
+  pub stands : Stands run.origins items run.stop (reverse run.open.items) state.todo state.uses
   pub keeps : KeepsFor run state
 
 -- the same, where a word that plays a role is next
 pub record Plays (run : Run) (next : Pending) (role : Role) (state : State) : Type 0 where
-  pub stands : StandsBy run.origins.items (Stands run.origins.items (reverse run.pending.words.items)) next role run.stop (reverse run.open.items) state.todo state.uses
+  pub stands : StandsBy run.origins (Stands run.origins (reverse run.pending.words.items)) next role run.stop (reverse run.open.items) state.todo state.uses
   pub keeps : KeepsFor run state
 
 -- what comes of the state that one replacement stands for, comes of that which the other stood for
@@ -135,8 +135,8 @@ pub record AtUse (table : Table) (run : Run) (plain : PlainMacro) (name : Traced
   pub word : Sourced
   pub words : List Sourced
   pub todo : state.todo ≡ word ∷ words
-  pub traced : IsTraced run.origins.items name word
-  pub stands : Stands run.origins.items (reverse run.pending.words.items) run.stop (reverse run.open.items) words state.uses
+  pub traced : IsTraced run.origins name word
+  pub stands : Stands run.origins (reverse run.pending.words.items) run.stop (reverse run.open.items) words state.uses
   pub keeps : KeepsFor run state
   pub is : use_of table word words ≡ use_as plain plain.parameters word words
   pub calls : plain.parameters ≡ None ⊎ next_opens words ≡ true
@@ -147,15 +147,15 @@ pub record AtCall (table : Table) (run : Run) (plain : PlainMacro) (parameters :
   pub paren : Sourced
   pub words : List Sourced
   pub todo : state.todo ≡ word ∷ paren ∷ words
-  pub traced : IsTraced run.origins.items name word
-  pub stands : Stands run.origins.items (reverse run.pending.words.items) run.stop (reverse run.open.items) words state.uses
+  pub traced : IsTraced run.origins name word
+  pub stands : Stands run.origins (reverse run.pending.words.items) run.stop (reverse run.open.items) words state.uses
   pub keeps : KeepsFor run state
   pub is : use_of table word (paren ∷ words) ≡ called plain parameters (arguments_in 0 words)
 
 -- a use was replaced, and nothing else was changed
 pub record IsReplacedIn (old new : Run) (plain : PlainMacro) (name : Traced) (values : List (List Traced)) : Type 0 where
-  pub grown : Extends old.origins.items new.origins.items
-  pub puts : PutsReplacement old.origins.items new.origins.items old.pending.words.items new.pending.words.items plain name values old.left new.left
+  pub grown : Extends old.origins new.origins
+  pub puts : PutsReplacement old.origins new.origins old.pending.words.items new.pending.words.items plain name values old.left new.left
   pub words : new.words.items ≡ old.words.items
   pub done : new.done.items ≡ old.done.items
   pub opens : new.open.items ≡ old.open.items
@@ -174,7 +174,7 @@ done_with (open' ∷ those) done traced = done ++ traced ∷ []
 -- why a use is not replaced
 abbrev pub IsTooLong : Run → PlainMacro → Traced → List (List Traced) → ReplaceFault → Type 0
 IsTooLong old plain name values fault' =
-    (name' : Sourced) (values' : List (List Sourced)) → IsTraced old.origins.items name name' → AreValues old.origins.items values values' → Short fault' (old.left < length (replacement plain name' values'))
+    (name' : Sourced) (values' : List (List Sourced)) → IsTraced old.origins name name' → AreValues old.origins values values' → Short fault' (old.left < length (replacement plain name' values'))
 
 -- a use was opened, whose first argument ends at a place
 pub record IsOpenedIn (old new : Run) (made : Bor Known) (name : Traced) (place : ℕ) : Type 0 where
@@ -190,7 +190,7 @@ pub record IsOpenedIn (old new : Run) (made : Bor Known) (name : Traced) (place 
   pub done : new.done.items ≡ []
   pub pending : new.pending.words.items ≡ old.pending.words.items
   pub stop : new.stop ≡ place
-  pub origins : new.origins.items ≡ old.origins.items
+  pub origins : new.origins ≡ old.origins
   pub left : new.left ≡ old.left
 
 -- how much there is to do

@@ -1,22 +1,28 @@
 -- What it is to undefine a macro: its name is taken away, and nothing else.
-use Rattle.std.specs.Prelude.{◌≡◌, ℕ, ◌+◌, [], ◌∷◌, Bool, None, bytes_eq, if◌then◌else◌}
+use Rattle.std.specs.Prelude.{◌≡◌, ℕ, ◌+◌, [], ◌∷◌, Bool, Option, Some, None, bytes_eq, if◌then◌else◌}
 use Rattle.p10_direct.specs.Spelling.{Text}
 use Rattle.p10_direct.specs.Directives.{PlainMacro}
-use Rattle.p10_macros.specs.Table.{Table, macro_named, with_macro, without_macro, own_of}
+use Rattle.p10_macros.specs.Table.{Entry, Table, macro_named, with_macro, without_macro, own_of}
 
 -- no name stands twice
 abbrev pub NamedOnce : Table → Type 0
 NamedOnce [] = Unit {0}
 NamedOnce (entry ∷ table) = (macro_named entry.made.name table ≡ None) × NamedOnce table
 
+-- the entry of the macro with this name
+abbrev pub entry_named : Text → Table → Option Entry
+entry_named name [] = None
+entry_named name (entry ∷ table) = if bytes_eq name entry.made.name then Some entry else entry_named name table
+
 -- 1 where there is a macro of this name and no built-in header defined it, 0 else
 abbrev pub own_named : Text → Table → ℕ
 own_named name [] = 0
 own_named name (entry ∷ table) = if bytes_eq name entry.made.name then (if entry.builtin then 0 else 1) else own_named name table
 
--- without a macro its name has none, and each other name has the one that it had
+-- without a macro its name has no entry, and each other name has the one that it had; a name that has none changes nothing
+-- (C99 6.10.3.5p2)
 abbrev pub TakesOneName : Type 0
-TakesOneName = (table : Table) (name other : Text) → NamedOnce table → macro_named other (without_macro table name) ≡ (if bytes_eq other name then None else macro_named other table)
+TakesOneName = (table : Table) (name other : Text) → NamedOnce table → entry_named other (without_macro table name) ≡ (if bytes_eq other name then None else entry_named other table)
 
 -- of those that no built-in header defined there is one less exactly where the macro was one of them
 abbrev pub TakesOneOwn : Type 0

@@ -8,6 +8,7 @@ ghost use Rattle.p10_macros.specs.Left.{NoObjectIsLeft};
 ghost use Rattle.p10_macros.specs.Answers.{table_of, IsReplaced, IsFault};
 
 use crate::ahead::Ahead;
+use crate::origin::Origins;
 use crate::pending::{Run, Traced};
 use crate::replaced::{ReplaceFault, Replaced};
 use crate::run::step;
@@ -75,7 +76,7 @@ fn run_of<'m, 'w, 's>(
         words: Vec::with_capacity(alloc, words.len())?,
         done: Vec::new(alloc),
         open: Vec::new(alloc),
-        origins: Vec::new(alloc),
+        origins: Origins::new(alloc),
         left,
     })
 }

@@ -21,13 +21,13 @@ impl<'w, 's> Known<'w, 's> {
     ghost use Rattle.std.specs.Prelude.{◌≡◌, ◌<◌, length, get_or};
     ghost use Rattle.p10_base.specs.declared.word.Word.{Word as BodyWord};
     ghost use Rattle.p10_macros.specs.Known.{plain_known};
-    ghost use Rattle.p10_macros.specs.Places.{place_of};
+    ghost use Rattle.p10_macros.specs.Places.{place_named};
     ghost use Rattle.p10_macros.specs.Uses.{texts_of};
 
     /// The place of the parameter that a word of the replacement list names, where the word stands at `at`.
     pub fn parameter(&self, at: usize) -> Option<usize>
         requires { at < length (plain_known self.now).body }
-        ensures { (none : BodyWord) → result ≡ place_of (texts_of (plain_known self.now).parameters) (get_or (plain_known self.now).body at none) }
+        ensures { (none : BodyWord) → result ≡ place_named (texts_of (plain_known self.now).parameters) (get_or (plain_known self.now).body at none) }
     {
         match self.places.get(at) {
             None => None,

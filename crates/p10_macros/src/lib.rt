@@ -18,11 +18,12 @@ mod replaced;
 mod replacement;
 mod run;
 mod same;
+mod sets;
 mod table;
 
 pub use expansion::{front_gives, no_object_left, one_ending, replace};
 pub use replaced::{ReplaceFault, Replaced};
-pub use table::{Definition, Macros, one_undefined};
+pub use table::{Definition, Macros, undefines_one};
 
 #[cfg(test)]
 mod tests;

@@ -2,7 +2,7 @@
 
 use crate::ahead::Ahead;
 use crate::known::Known;
-use crate::origin::Origin;
+use crate::origin::Origins;
 use p10_base::{Span, Word};
 use std::alloc::Global;
 
@@ -61,7 +61,7 @@ pub struct Run<'m, 'w, 's> {
     pub done: Vec<Traced<'s>>,
     /// The uses whose arguments are being replaced, the innermost one last.
     pub open: Vec<Open<'m, 'w, 's>>,
-    pub origins: Vec<Origin<'s>>,
+    pub origins: Origins<'s>,
     /// How many words of replacements may still be made.
     pub left: u64,
 }

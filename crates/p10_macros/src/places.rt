@@ -19,8 +19,8 @@ pub fn places_in(alloc: Global, made: &Macro<'_, '_>) -> Result<Vec<Option<usize
     match &made.params {
         None => Ok(Vec::new(alloc)),
         Some(params) => {
-            let by_text = by_text(alloc, params.as_slice())?;
-            places_by_text(alloc, &by_text, made.body)
+            let found = by_text(alloc, params.as_slice())?;
+            places_by_text(alloc, &found, made.body)
         }
     }
 }

@@ -4,17 +4,17 @@ ghost use Rattle.std.specs.Prelude.{◌≡◌, ◌+◌, ◌<◌, ◌≤◌, List
 ghost use Rattle.std.specs.List.{flat_map};
 ghost use Rattle.p10_direct.specs.Spelling.{Text};
 ghost use Rattle.p10_direct.specs.Directives.{PlainMacro};
-ghost use Rattle.p10_macros.specs.declared.origin.Origin.{Origin as Node};
+ghost use Rattle.p10_macros.specs.declared.origin.Origins.{Origins as Before};
 ghost use Rattle.p10_macros.specs.Known.{plain_known};
-ghost use Rattle.p10_macros.specs.Places.{place_of, at_place};
+ghost use Rattle.p10_macros.specs.Places.{place_named, at_place};
 ghost use Rattle.p10_macros.specs.Uses.{Sourced, texts_of, replacement};
-ghost use Rattle.p10_macros.specs.Origins.{listed, Extends};
+ghost use Rattle.p10_macros.specs.Origins.{count_of, has_macro, Extends};
 ghost use Rattle.p10_macros.specs.Traces.{IsTraced, AreValues};
 ghost use Rattle.p10_macros.specs.Putting.{fresh, IsPushed, IsBase, IsJoined, Joins, Short, PutsValue, PutsPart, PutsList, PutsReplacement, part_of};
 
 use crate::ahead::Ahead;
 use crate::known::Known;
-use crate::origin::{Origin, add_origin, unite};
+use crate::origin::Origins;
 use crate::pending::Traced;
 use crate::replaced::ReplaceFault;
 use p10_base::{Span, Word};
@@ -31,18 +31,18 @@ struct Joined {
 /// are left.
 pub fn put_replacement<'s>(
     pending: &mut Ahead<'s>,
-    origins: &mut Vec<Origin<'s>>,
+    origins: &mut Origins<'s>,
     known: &Known<'_, 's>,
     name: Traced<'s>,
     values: &[Vec<Traced<'s>>],
     left: u64,
 ) -> Result<u64, ReplaceFault>
     ensures lighter { IfOk result (λ remaining. (remaining ≤ left) × (remaining + length pending.new.words.items ≡ left + length pending.old.words.items)) }
-    ensures grown { Extends origins.old.items origins.new.items }
-    ensures ok { IfOk result (PutsReplacement origins.old.items origins.new.items pending.old.words.items pending.new.words.items (plain_known known.now) name.entry (map (λ value. value.items) values.now) left) }
-    ensures err { IfErr result (λ fault. (name' : Sourced) (values' : List (List Sourced)) → IsTraced origins.old.items name.entry name' → AreValues origins.old.items (map (λ value. value.items) values.now) values' → Short fault (left < length (replacement (plain_known known.now) name' values'))) }
+    ensures grown { Extends origins.old origins.new }
+    ensures ok { IfOk result (PutsReplacement origins.old origins.new pending.old.words.items pending.new.words.items (plain_known known.now) name.entry (map (λ value. value.items) values.now) left) }
+    ensures err { IfErr result (λ fault. (name' : Sourced) (values' : List (List Sourced)) → IsTraced origins.old name.entry name' → AreValues origins.old (map (λ value. value.items) values.now) values' → Short fault (left < length (replacement (plain_known known.now) name' values'))) }
 {
-    let from = match add_origin(origins, name.from, known.made.name) {
+    let from = match origins.with_macro(name.from, known.made.name) {
         Ok(from) => from,
         Err(_) => return Err(ReplaceFault::Memory),
     };
@@ -53,7 +53,7 @@ pub fn put_replacement<'s>(
 /// name comes from.
 fn put_list<'s>(
     pending: &mut Ahead<'s>,
-    origins: &mut Vec<Origin<'s>>,
+    origins: &mut Origins<'s>,
     known: &Known<'_, 's>,
     name: Traced<'s>,
     values: &[Vec<Traced<'s>>],
@@ -61,9 +61,9 @@ fn put_list<'s>(
     left: u64,
 ) -> Result<u64, ReplaceFault>
     ensures lighter { IfOk result (λ remaining. (remaining ≤ left) × (remaining + length pending.new.words.items ≡ left + length pending.old.words.items)) }
-    ensures grown { Extends origins.old.items origins.new.items }
-    ensures ok { IfOk result (PutsList origins.old.items origins.new.items pending.old.words.items pending.new.words.items (plain_known known.now) name.entry (map (λ value. value.items) values.now) from known.now.made.body.now left) }
-    ensures err { IfErr result (λ fault. (name' : Sourced) (values' : List (List Sourced)) → IsTraced origins.old.items name.entry name' → IsBase origins.old.items from known.now.made.name.now name' → AreValues origins.old.items (map (λ value. value.items) values.now) values' → Short fault (left < length (flat_map (part_of (plain_known known.now).parameters values') known.now.made.body.now))) }
+    ensures grown { Extends origins.old origins.new }
+    ensures ok { IfOk result (PutsList origins.old origins.new pending.old.words.items pending.new.words.items (plain_known known.now) name.entry (map (λ value. value.items) values.now) from known.now.made.body.now left) }
+    ensures err { IfErr result (λ fault. (name' : Sourced) (values' : List (List Sourced)) → IsTraced origins.old name.entry name' → IsBase origins.old from known.now.made.name.now name' → AreValues origins.old (map (λ value. value.items) values.now) values' → Short fault (left < length (flat_map (part_of (plain_known known.now).parameters values') known.now.made.body.now))) }
 {
     let mut left = left;
     let mut place = known.made.body.len();
@@ -90,7 +90,7 @@ fn put_list<'s>(
 /// names.
 fn put_part<'s>(
     pending: &mut Ahead<'s>,
-    origins: &mut Vec<Origin<'s>>,
+    origins: &mut Origins<'s>,
     parameter: Option<usize>,
     name: Traced<'s>,
     values: &[Vec<Traced<'s>>],
@@ -99,9 +99,9 @@ fn put_part<'s>(
     left: u64,
 ) -> Result<u64, ReplaceFault>
     ensures lighter { IfOk result (λ remaining. (remaining ≤ left) × (remaining + length pending.new.words.items ≡ left + length pending.old.words.items)) }
-    ensures grown { Extends origins.old.items origins.new.items }
-    ensures ok { IfOk result (λ remaining. (plain : PlainMacro) → parameter ≡ place_of (texts_of plain.parameters) word.now → PutsPart origins.old.items origins.new.items pending.old.words.items pending.new.words.items plain name.entry (map (λ value. value.items) values.now) from word.now left remaining) }
-    ensures err { IfErr result (λ fault. (plain : PlainMacro) → parameter ≡ place_of (texts_of plain.parameters) word.now → (values' : List (List Sourced)) → AreValues origins.old.items (map (λ value. value.items) values.now) values' → Short fault (left < length (part_of plain.parameters values' word.now))) }
+    ensures grown { Extends origins.old origins.new }
+    ensures ok { IfOk result (λ remaining. (plain : PlainMacro) → parameter ≡ place_named (texts_of plain.parameters) word.now → PutsPart origins.old origins.new pending.old.words.items pending.new.words.items plain name.entry (map (λ value. value.items) values.now) from word.now left remaining) }
+    ensures err { IfErr result (λ fault. (plain : PlainMacro) → parameter ≡ place_named (texts_of plain.parameters) word.now → (values' : List (List Sourced)) → AreValues origins.old (map (λ value. value.items) values.now) values' → Short fault (left < length (part_of plain.parameters values' word.now))) }
 {
     match value_at(values, parameter) {
         None => put_word(pending, *word, name.word.at, from, left),
@@ -156,15 +156,15 @@ fn put_word<'s>(
 /// Puts the words of an argument on top.
 fn put_value<'s>(
     pending: &mut Ahead<'s>,
-    origins: &mut Vec<Origin<'s>>,
+    origins: &mut Origins<'s>,
     value: &[Traced<'s>],
     name: Traced<'s>,
     from: usize,
     left: u64,
 ) -> Result<u64, ReplaceFault>
     ensures lighter { IfOk result (λ remaining. (remaining ≤ left) × (remaining + length pending.new.words.items ≡ left + length pending.old.words.items)) }
-    ensures grown { Extends origins.old.items origins.new.items }
-    ensures ok { IfOk result (PutsValue origins.old.items origins.new.items pending.old.words.items pending.new.words.items name.entry from value.now left) }
+    ensures grown { Extends origins.old origins.new }
+    ensures ok { IfOk result (PutsValue origins.old origins.new pending.old.words.items pending.new.words.items name.entry from value.now left) }
     ensures err { IfErr result (λ fault. Short fault (left < length value.now)) }
 {
     let mut left = left;
@@ -184,15 +184,15 @@ fn put_value<'s>(
 
 /// The sets of a word with the set `own`, which is often that of the word behind it: then they are known.
 fn join<'s>(
-    origins: &mut Vec<Origin<'s>>,
+    origins: &mut Origins<'s>,
     name: Traced<'s>,
     from: usize,
     known: Joined,
     own: usize,
 ) -> Result<Joined, AllocError>
-    ensures grown { Extends origins.old.items origins.new.items }
+    ensures grown { Extends origins.old origins.new }
     ensures own { IfOk result (λ joined. joined.own ≡ own) }
-    ensures joined { IfOk result (λ joined. (base : List Node) → Extends base origins.old.items → Joins base origins.old.items name.entry from known.own known.all → Joins base origins.new.items name.entry from own joined.all) }
+    ensures joined { IfOk result (λ joined. (base : Before) → Extends base origins.old → Joins base origins.old name.entry from known.own known.all → Joins base origins.new name.entry from own joined.all) }
 {
     if own == known.own {
         return Ok(known);
@@ -203,13 +203,13 @@ fn join<'s>(
 
 /// The number of the set of macros that a word of an argument comes from: those of the use, and its own.
 fn both<'s>(
-    origins: &mut Vec<Origin<'s>>,
+    origins: &mut Origins<'s>,
     name: usize,
     from: usize,
     own: usize,
 ) -> Result<usize, AllocError>
-    ensures grown { Extends origins.old.items origins.new.items }
-    ensures joined { IfOk result (λ all. (macro' : Text) (name' : Sourced) → ((other : Text) → listed origins.old.items name other ≡ name'.from other) → own ≤ length origins.old.items → IsBase origins.old.items from macro' name' → IsJoined origins.old.items own macro' name' origins.new.items all) }
+    ensures grown { Extends origins.old origins.new }
+    ensures joined { IfOk result (λ all. (macro' : Text) (name' : Sourced) → ((other : Text) → has_macro origins.old name other ≡ name'.from other) → own ≤ count_of origins.old → IsBase origins.old from macro' name' → IsJoined origins.old own macro' name' origins.new all) }
 {
     if own == 0 {
         return Ok(from);
@@ -217,6 +217,5 @@ fn both<'s>(
     if own == name {
         return Ok(from);
     }
-    // The set of the use is mostly the smaller one, so its macros are put into the other.
-    unite(origins, own, from)
+    origins.unite(own, from)
 }

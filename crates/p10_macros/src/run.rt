@@ -14,7 +14,6 @@ ghost use Rattle.p10_macros.specs.declared.pending.Pending.{Pending as Next};
 
 use crate::ahead::Ahead;
 use crate::known::Known;
-use crate::origin::comes_from;
 use crate::pending::{Exits, Open, Pending, Run, Traced};
 use crate::replaced::ReplaceFault;
 use crate::replacement::put_replacement;
@@ -121,7 +120,7 @@ fn begin_use<'m, 'w, 's>(
     ensures err { IfErr result (λ fault. (table : Table) (state : State) → AtUse table run.old (plain_known known.entry.now) name.entry state → FaultComes table state fault) }
     ensures lighter { OnOk result (weight run.new ≤ weight run.old) }
 {
-    if comes_from(run.origins.as_slice(), name.from, known.made.name) {
+    if run.origins.has(name.from, known.made.name) {
         return Err(refused(run, &name, 6));
     }
     match &known.made.params {

@@ -107,6 +107,7 @@ impl<'w, 's> Macros<'w, 's> {
         ensures ok { OnOk result (table_of self.new ≡ with_macro (table_of self.old) (plain_macro made.entry) builtin) }
         ensures err { OnErr result (table_of self.new ≡ table_of self.old) }
     {
+        // As the number of macros fits its type, so does that of some of them.
         let count = self.known.len();
         let own = own_if(builtin);
         let places = places_in(*self.known.allocator(), &made)?;
@@ -122,7 +123,7 @@ impl<'w, 's> Macros<'w, 's> {
 }
 
 /// Where a macro is undefined its name is taken away and nothing else, and no name comes to stand twice.
-pub fn one_undefined()
+pub fn undefines_one()
     ensures name { TakesOneName }
     ensures own { TakesOneOwn }
     ensures once { StaysNamedOnce }

@@ -1,6 +1,6 @@
 use Rattle.std.proofs.Common.{arith}
 use Rattle.p10_macros.specs.Known.{plain_known}
-use Rattle.p10_macros.proofs.Listing.{extends_all, extends_itself}
+use Rattle.p10_macros.proofs.SetsOfMacros.{extends_all, extends_itself}
 use Rattle.p10_macros.proofs.Putting.{list_begun, list_more, list_all, list_short, items_at}
 use Rattle.p10_macros.proofs.replacement.put_list.Goals as goal
 
@@ -28,6 +28,9 @@ loop-place-init c = record {
   inside = omega arith;
   less = omega arith;
   lighter = omega arith;
-  grown = extends_itself c.args.origins.now.items;
+  grown = extends_itself c.args.origins.now;
   puts = list_begun _ _ (plain_known c.args.known.now) c.args.name (items_at c.args.values.now) c.args.from c.args.known.now.made.body.now _ _ (omega arith);
 }
+
+pub returns-in-Err-clause-grown : goal.returns-in-Err-clause-grown
+returns-in-Err-clause-grown c = extends_all _ _ _ c.loop-place.invariant.grown c.in-Err.ensures.grown

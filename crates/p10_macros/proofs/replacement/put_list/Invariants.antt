@@ -10,8 +10,8 @@ invariant-loop-place l = record {
   inside : l.place ≤ length l.known.made.body.now;
   less : l.left ≤ l.fn.left;
   lighter : l.left + length l.pending.words.items ≡ l.fn.left + length l.fn.pending.words.items;
-  grown : Extends l.fn.origins.items l.origins.items;
-  puts : PutsListBehind l.fn.origins.items l.origins.items l.fn.pending.words.items l.pending.words.items (plain_known l.known) l.name (map (λ value. value.items) l.values) l.from l.known.made.body.now l.place l.fn.left l.left;
+  grown : Extends l.fn.origins l.origins;
+  puts : PutsListBehind l.fn.origins l.origins l.fn.pending.words.items l.pending.words.items (plain_known l.known) l.name (map (λ value. value.items) l.values) l.from l.known.made.body.now l.place l.fn.left l.left;
 }
 
 abbrev pub decreases-loop-place : goal.decreases-loop-place

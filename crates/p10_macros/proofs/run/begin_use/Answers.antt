@@ -2,36 +2,34 @@ use Rattle.std.proofs.Common.{◌≡◌, ℕ, List, Option, Bor, Vec, Global, sy
 use Rattle.std.specs.Prelude.{option_map, length}
 use Rattle.std.proofs.lemmas.List.{length-map}
 use Rattle.p10_macros.specs.Known.{plain_known}
-use Rattle.p10_macros.specs.declared.origin.Origin.{Origin}
 use Rattle.p10_macros.specs.declared.replaced.ReplaceFault.{ReplaceFault}
 use Rattle.p10_direct.specs.Spelling.{Text}
 use Rattle.p10_macros.specs.declared.pending.Traced.{Traced}
 use Rattle.p10_macros.specs.Table.{Table}
-use Rattle.p10_macros.specs.Origins.{listed}
 use Rattle.p10_macros.specs.Standing.{FaultComes, IsReplacedIn, IsTooLong, AtUse, AtCall, State}
 use Rattle.p10_macros.proofs.Beginnings.{use_recursive, use_object, use_object_too_long, at_call}
 use Rattle.p10_macros.proofs.Putting.{on_ok_so, if_err_so, texts_at, items_at}
 use Rattle.p10_macros.proofs.run.begin_use.Goals as goal
 use Rattle.p10_macros.proofs.run.begin_use.Goals.{After-begin_call}
 
-pub returns-then-comes_from-clause-err : goal.returns-then-comes_from-clause-err
-returns-then-comes_from-clause-err c = λ table state at.
+pub returns-then-has-clause-err : goal.returns-then-has-clause-err
+returns-then-has-clause-err c = λ table state at.
     subst (λ (f : ReplaceFault). FaultComes table state f) (sym c.refused.ensures)
     (use_recursive table c.args.run.now (plain_known c.args.known.now) c.args.name state at
-    (ap (λ (l : List Origin). listed l c.args.name.from c.args.known.now.made.name.now) (sym c.as_slice.ensures.value) ∙ sym c.comes_from.ensures ∙ c.if-comes_from.true))
+    (sym c.has.ensures ∙ c.if-has.true))
 
 pub returns-in-None-clause-ok : goal.returns-in-None-clause-ok
 returns-in-None-clause-ok c =
     on_ok_so c.replace_use.result c.replace_use.ensures.ok (λ replaced. λ table state at.
     use_object table c.args.run.now (plain_known c.args.known.now) c.args.name state at (ap (λ (o : Option (List (Bor Text))). option_map texts_at o) c.in-None.is)
-    (ap (λ (l : List Origin). listed l c.args.name.from c.args.known.now.made.name.now) (sym c.as_slice.ensures.value) ∙ sym c.comes_from.ensures ∙ c.if-comes_from.false) c.replace_use.new.run
+    (sym c.has.ensures ∙ c.if-has.false) c.replace_use.new.run
     (subst (λ (l : List (Vec Traced Global)). IsReplacedIn c.args.run.now c.replace_use.new.run (plain_known c.args.known.now) c.args.name (items_at l)) c.new.ensures.items replaced))
 
 pub returns-in-None-clause-err : goal.returns-in-None-clause-err
 returns-in-None-clause-err c =
     if_err_so c.replace_use.result c.replace_use.ensures.err (λ f short. λ table state at.
     use_object_too_long table c.args.run.now (plain_known c.args.known.now) c.args.name state at (ap (λ (o : Option (List (Bor Text))). option_map texts_at o) c.in-None.is)
-    (ap (λ (l : List Origin). listed l c.args.name.from c.args.known.now.made.name.now) (sym c.as_slice.ensures.value) ∙ sym c.comes_from.ensures ∙ c.if-comes_from.false) f
+    (sym c.has.ensures ∙ c.if-has.false) f
     (subst (λ (l : List (Vec Traced Global)). IsTooLong c.args.run.now (plain_known c.args.known.now) c.args.name (items_at l) f) c.new.ensures.items short))
 
 -- the use of a function-like macro is at its call
@@ -41,7 +39,7 @@ call_of c table state at =
     let count : length (texts_at c.in-Some.params) ≡ length c.as_slice-count.result.now = length-map c.in-Some.params (λ (text : Bor Text). text.now) ∙ ap length (sym c.as_slice-count.ensures) in
     subst (λ (n : ℕ). AtCall table (record c.args.run.now { pending = c.skip-exits.new.self }) (plain_known c.args.known.now) n c.args.name state) count
     (at_call table c.args.run.now (plain_known c.args.known.now) c.args.name state at (texts_at c.in-Some.params) (ap (λ (o : Option (List (Bor Text))). option_map texts_at o) c.in-Some.is)
-    (ap (λ (l : List Origin). listed l c.args.name.from c.args.known.now.made.name.now) (sym c.as_slice.ensures.value) ∙ sym c.comes_from.ensures ∙ c.if-comes_from.false)
+    (sym c.has.ensures ∙ c.if-has.false)
     c.skip-exits.new.self c.skip-exits.ensures.taken)
 
 pub returns-in-Some-clause-ok : goal.returns-in-Some-clause-ok

@@ -1,5 +1,5 @@
 use Rattle.p10_macros.proofs.Undefining.{takes_one_name, takes_one_own, stays_named_once}
-use Rattle.p10_macros.proofs.table.one_undefined.Goals as goal
+use Rattle.p10_macros.proofs.table.undefines_one.Goals as goal
 
 pub returns-clause-name : goal.returns-clause-name
 returns-clause-name c = takes_one_name
