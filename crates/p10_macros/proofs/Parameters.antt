@@ -12,9 +12,8 @@ use Rattle.p10_macros.specs.declared.origin.Origins.{Origins}
 use Rattle.p10_macros.specs.declared.pending.Traced.{Traced}
 use Rattle.p10_macros.specs.Uses.{Sourced, value_of}
 use Rattle.p10_macros.specs.Traces.{AreValues}
-use Rattle.p10_macros.specs.Putting.{IsValue}
-use Rattle.p10_macros.proofs.Putting.{texts_at}
-use Rattle.p10_macros.specs.Places.{place_in, place_named, at_place, at_text}
+use Rattle.p10_macros.proofs.Putting.{IsValue, texts_at}
+use Rattle.p10_macros.specs.Places.{parameter_in, place_named, at_place, at_text}
 
 -- ## Places by texts
 
@@ -24,7 +23,7 @@ behind place found = option_map (λ n. n + place) found
 
 -- a map has the places of the parameters from one of them on
 abbrev pub HasPlaces : {S : Type 0} → HashMap (Bor Text) ℕ S → List Text → ℕ → Type 0
-HasPlaces by_text texts place = (text : Text) → at_text by_text text ≡ behind place (place_in (drop place texts) text)
+HasPlaces by_text texts place = (text : Text) → at_text by_text text ≡ behind place (parameter_in (drop place texts) text)
 
 same_text : (this that : Text) → bytes_eq this that ≡ bytes_eq that this
 same_text this that = go (bytes_eq this that) (bytes_eq that this) (bytes_eq-Decides this that) (bytes_eq-Decides that this)
@@ -36,11 +35,11 @@ same_text this that = go (bytes_eq this that) (bytes_eq that this) (bytes_eq-Dec
 
 pub has_none : {S : Type 0} (by_text : HashMap (Bor Text) ℕ S) (texts : List Text) (place : ℕ) → IsEmpty by_text → length texts ≤ place → HasPlaces by_text texts place
 has_none by_text texts place empty whole text =
-    ap (λ (entries : List (Bor Text × ℕ)). lookup (λ (key : Bor Text). bytes_eq text key.now) entries) empty ∙ sym (ap (λ (l : List Text). behind place (place_in l text)) (drop_all place texts whole))
+    ap (λ (entries : List (Bor Text × ℕ)). lookup (λ (key : Bor Text). bytes_eq text key.now) entries) empty ∙ sym (ap (λ (l : List Text). behind place (parameter_in l text)) (drop_all place texts whole))
 
 -- the place of one more parameter, in front of the others
-one_more : (parameter text : Text) (rest : List Text) (place : ℕ) → 0 < place → cond (bytes_eq parameter text) (Some (place - 1)) (behind place (place_in rest text)) ≡ behind (place - 1) (place_in (parameter ∷ rest) text)
-one_more parameter text rest place more = go (bytes_eq parameter text) (bytes_eq text parameter) (same_text parameter text) (place_in rest text)
+one_more : (parameter text : Text) (rest : List Text) (place : ℕ) → 0 < place → cond (bytes_eq parameter text) (Some (place - 1)) (behind place (parameter_in rest text)) ≡ behind (place - 1) (parameter_in (parameter ∷ rest) text)
+one_more parameter text rest place more = go (bytes_eq parameter text) (bytes_eq text parameter) (same_text parameter text) (parameter_in rest text)
   where
     go : (a b : Bool) → a ≡ b → (found : Option ℕ) → cond a (Some (place - 1)) (behind place found) ≡ behind (place - 1) (cond b (Some 0) (option_map suc found))
     go true true e found = ap (λ (n : ℕ). Some n) (omega arith)
@@ -62,12 +61,12 @@ has_more old new params place none more less has updates text =
     hash_map_updates_str parameter old new (Some (place - 1)) updates text
     ∙ ap (λ (o : Option ℕ). cond (bytes_eq parameter text) (Some (place - 1)) o) (has text)
     ∙ one_more parameter text rest place more
-    ∙ ap (λ (l : List Text). behind (place - 1) (place_in l text)) (sym front)
+    ∙ ap (λ (l : List Text). behind (place - 1) (parameter_in l text)) (sym front)
 
-pub has_all : {S : Type 0} (by_text : HashMap (Bor Text) ℕ S) (texts : List Text) (place : ℕ) → place ≤ 0 → HasPlaces by_text texts place → (text : Text) → at_text by_text text ≡ place_in texts text
+pub has_all : {S : Type 0} (by_text : HashMap (Bor Text) ℕ S) (texts : List Text) (place : ℕ) → place ≤ 0 → HasPlaces by_text texts place → (text : Text) → at_text by_text text ≡ parameter_in texts text
 has_all by_text texts place none has text =
     let e : place ≡ 0 = omega arith in
-    has text ∙ ap (λ (n : ℕ). behind n (place_in (drop n texts) text)) e ∙ all (place_in texts text)
+    has text ∙ ap (λ (n : ℕ). behind n (parameter_in (drop n texts) text)) e ∙ all (parameter_in texts text)
   where
     all : (found : Option ℕ) → behind 0 found ≡ found
     all None = refl
@@ -79,13 +78,13 @@ nothing : (found : Option ℕ) → None ≡ at_place {A = List Sourced} found []
 nothing None = refl
 nothing (Some place) = refl
 
-named_value : (word : Word) → is_name_kind word.kind ≡ true → (texts : List Text) (values : List (List Sourced)) → value_of texts values word ≡ at_place (place_in texts word.text.now) values
+named_value : (word : Word) → is_name_kind word.kind ≡ true → (texts : List Text) (values : List (List Sourced)) → value_of texts values word ≡ at_place (parameter_in texts word.text.now) values
 named_value word kind [] [] = refl
 named_value word kind [] (value ∷ values) = refl
-named_value word kind (parameter ∷ texts) [] = nothing (cond (bytes_eq word.text.now parameter) (Some 0) (option_map suc (place_in texts word.text.now)))
+named_value word kind (parameter ∷ texts) [] = nothing (cond (bytes_eq word.text.now parameter) (Some 0) (option_map suc (parameter_in texts word.text.now)))
 named_value word kind (parameter ∷ texts) (value ∷ values) =
     ap (λ (b : Bool). cond (b && bytes_eq word.text.now parameter) (Some value) (value_of texts values word)) kind
-    ∙ go (bytes_eq word.text.now parameter) (place_in texts word.text.now) (named_value word kind texts values)
+    ∙ go (bytes_eq word.text.now parameter) (parameter_in texts word.text.now) (named_value word kind texts values)
   where
     go : (b : Bool) (found : Option ℕ) → value_of texts values word ≡ at_place found values →
         cond b (Some value) (value_of texts values word) ≡ at_place (cond b (Some 0) (option_map suc found)) (value ∷ values)
@@ -105,7 +104,7 @@ other_value word kind (parameter ∷ texts) (value ∷ values) =
 pub value_at : (texts : List Text) (values : List (List Sourced)) (word : Word) → value_of texts values word ≡ at_place (place_named texts word) values
 value_at texts values word = go (is_name_kind word.kind) refl
   where
-    go : (b : Bool) → is_name_kind word.kind ≡ b → value_of texts values word ≡ at_place (cond b (place_in texts word.text.now) None) values
+    go : (b : Bool) → is_name_kind word.kind ≡ b → value_of texts values word ≡ at_place (cond b (parameter_in texts word.text.now) None) values
     go true kind = named_value word kind texts values
     go false kind = other_value word kind texts values
 

@@ -15,7 +15,7 @@ use Rattle.p10_macros.specs.declared.replaced.ReplaceFault.TheVariants as fault
 use Rattle.p10_macros.specs.Uses.{Sourced, given, value_of, value_or, texts_of, written, replacement}
 use Rattle.p10_macros.specs.Origins.{count_of, has_macro, Extends, HasBoth, HasOne}
 use Rattle.p10_macros.specs.Traces.{IsTraced, AreTraced, AreValues}
-use Rattle.p10_macros.specs.Putting.{fresh, IsPushed, ArePut, Puts, IsBase, IsJoined, Joins, PutsValue, PutsPart, PutsList, PutsReplacement, part_of, IsValue, Short}
+use Rattle.p10_macros.specs.Putting.{fresh, IsPushed, ArePut, Puts, IsBase, IsJoined, Joins, PutsValue, PutsPart, PutsList, PutsReplacement, part_of, Short}
 use Rattle.p10_macros.proofs.SetsOfMacros.{still_has, has_no_macro, longer, or_no_more}
 
 -- ## More origins
@@ -197,6 +197,12 @@ puts_behind_all old new before behind name from value place left remaining none 
     subst (λ (l : List Sourced). Puts new before behind (map (given plain name') l) left remaining) all (puts plain name' words named base are)
 
 -- ## Parameters
+
+-- the value of a parameter: its words, or there is none
+abbrev pub IsValue : Origins → Option (List Traced) → Option (List Sourced) → Type 0
+IsValue origins None None = Unit {0}
+IsValue origins (Some value) (Some words) = AreTraced origins value words
+IsValue origins _ _ = ⊥
 
 abbrev pub texts_at : List (Bor Text) → List Text
 texts_at params = map (λ (text : Bor Text). text.now) params

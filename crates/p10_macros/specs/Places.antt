@@ -7,13 +7,13 @@ use Rattle.p10_base.specs.declared.word.Word.{Word}
 use Rattle.p10_direct.specs.Spelling.{Text, is_name_kind}
 
 -- the place of the first parameter with this text
-abbrev pub place_in : List Text → Text → Option ℕ
-place_in [] text = None
-place_in (parameter ∷ parameters) text = if bytes_eq text parameter then Some 0 else option_map suc (place_in parameters text)
+abbrev pub parameter_in : List Text → Text → Option ℕ
+parameter_in [] text = None
+parameter_in (parameter ∷ parameters) text = if bytes_eq text parameter then Some 0 else option_map suc (parameter_in parameters text)
 
 -- the place of the parameter that a word names
 abbrev pub place_named : List Text → Word → Option ℕ
-place_named parameters word = if is_name_kind word.kind then place_in parameters word.text.now else None
+place_named parameters word = if is_name_kind word.kind then parameter_in parameters word.text.now else None
 
 -- the same for each word of a replacement list; none are kept for an object-like macro
 abbrev pub places_of : Option (List Text) → List Word → List (Option ℕ)

@@ -84,9 +84,3 @@ abbrev pub PutsReplacement : Origins → Origins → List Pending → List Pendi
 PutsReplacement old new before behind plain name values left remaining =
     (name' : Sourced) (values' : List (List Sourced)) → IsTraced old name name' → AreValues old values values' →
     Puts new before behind (replacement plain name' values') left remaining
-
--- the value of a parameter: its words, or there is none
-abbrev pub IsValue : Origins → Option (List Traced) → Option (List Sourced) → Type 0
-IsValue origins None None = Unit {0}
-IsValue origins (Some value) (Some words) = AreTraced origins value words
-IsValue origins _ _ = ⊥

@@ -5,7 +5,7 @@
 ghost use Rattle.std.specs.Prelude.{◌≡◌, map, IfOk};
 ghost use Rattle.p10_direct.specs.Form.{plain_macro};
 ghost use Rattle.p10_direct.specs.Spelling.{Text};
-ghost use Rattle.p10_macros.specs.Places.{place_in, places_of, at_text, at_word};
+ghost use Rattle.p10_macros.specs.Places.{parameter_in, places_of, at_text, at_word};
 
 use p10_base::{Kind, Word};
 use p10_direct::Macro;
@@ -27,7 +27,7 @@ pub fn places_in(alloc: Global, made: &Macro<'_, '_>) -> Result<Vec<Option<usize
 
 /// The place of each parameter, by its text.
 fn by_text<'s>(alloc: Global, params: &[&'s [u8]]) -> Result<HashMap<&'s [u8], usize>, AllocError>
-    ensures { IfOk result (λ by_text. (text : Text) → at_text by_text text ≡ place_in (map (λ param. param.now) params.now) text) }
+    ensures { IfOk result (λ by_text. (text : Text) → at_text by_text text ≡ parameter_in (map (λ param. param.now) params.now) text) }
 {
     let mut by_text = HashMap::with_capacity(alloc, params.len())?;
     // From the last one to the first: of parameters with one text the first counts.

@@ -4,9 +4,8 @@ use Rattle.p10_macros.specs.declared.origin.Origins.{Origins}
 use Rattle.p10_macros.specs.Uses.{Sourced, value_of, texts_of}
 use Rattle.p10_macros.specs.Traces.{AreValues}
 use Rattle.p10_macros.specs.Places.{place_named}
-use Rattle.p10_macros.specs.Putting.{IsValue}
 use Rattle.p10_macros.proofs.Parameters.{is_value}
-use Rattle.p10_macros.proofs.Putting.{part_itself, part_itself_short, part_value, part_value_short, if_ok_both, if_ok_so, if_err_so, items_at}
+use Rattle.p10_macros.proofs.Putting.{IsValue, part_itself, part_itself_short, part_value, part_value_short, if_ok_both, if_ok_so, if_err_so, items_at}
 use Rattle.p10_macros.proofs.replacement.put_part.Goals as goal
 use Rattle.p10_macros.proofs.replacement.put_part.Goals.{In-None, In-Some}
 
