@@ -9,7 +9,7 @@ use Rattle.p10_direct.specs.Directives.{PlainMacro}
 use Rattle.p10_macros.specs.Table.{Entry, Table, macro_named, behind_first, last_first, without_macro}
 use Rattle.p10_macros.specs.Uses.{Sourced, written, plain_words, Arguments, opens, closes, separates, depth_behind, word_before, argument_before, arguments_in, fitting, Use, Stays, Wrong, Calls, fitted, called, unless_recursive, use_as, use_by, use_of, given, value_of, value_or, texts_of, replacement}
 use Rattle.p10_macros.specs.Endings.{Ending, Gives, Refused, TooMany, behind_word, behind_argument}
-use Rattle.p10_macros.specs.Ends.{Ends, EndsAll, Follows, place_in, no_words, word_stays, use_refused, use_replaced, no_arguments, argument_given, argument_refused, argument_too_long, replacement_made, replacement_too_long, values_refused, values_too_long}
+use Rattle.p10_macros.specs.Ends.{Ends, EndsAll, Follows, place_of_use, no_words, word_stays, use_refused, use_replaced, no_arguments, argument_given, argument_refused, argument_too_long, replacement_made, replacement_too_long, values_refused, values_too_long}
 
 -- ## Lists
 
@@ -245,7 +245,7 @@ module _ (kept : Kept) where
   OuterHolds None = Unit {0}
   OuterHolds (Some at) = kept.IsPlace at
 
-  place_holds : (outer : Option Span) (name : Sourced) → OuterHolds outer → kept.IsPlace name.word.at → kept.IsPlace (place_in outer name)
+  place_holds : (outer : Option Span) (name : Sourced) → OuterHolds outer → kept.IsPlace name.word.at → kept.IsPlace (place_of_use outer name)
   place_holds None name p q = q
   place_holds (Some at) name p q = p
 

@@ -6,7 +6,7 @@ use Rattle.p10_direct.specs.Directives.{PlainMacro}
 use Rattle.p10_macros.specs.Table.{Table, macro_named}
 use Rattle.p10_macros.specs.Uses.{Sourced, Arguments, Stays, Wrong, Calls, use_of, use_by, use_as, called, fitted, fitting, arguments_in, argument_before, word_before, opens, closes, separates, depth_behind, given, replacement}
 use Rattle.p10_macros.specs.Endings.{Ending, Gives, Refused, TooMany, behind_word, behind_argument}
-use Rattle.p10_macros.specs.Ends.{Ends, EndsAll, Follows, place_in, no_words, word_stays, use_refused, use_replaced, no_arguments, argument_given, argument_refused, argument_too_long, replacement_made, replacement_too_long, values_refused, values_too_long}
+use Rattle.p10_macros.specs.Ends.{Ends, EndsAll, Follows, place_of_use, no_words, word_stays, use_refused, use_replaced, no_arguments, argument_given, argument_refused, argument_too_long, replacement_made, replacement_too_long, values_refused, values_too_long}
 use Rattle.p10_macros.specs.Fronts.{StandsBehind, FrontsGive}
 
 -- ## Refusals inside a use are at its place
@@ -16,11 +16,11 @@ IsAt None ending = Unit {0}
 IsAt (Some outer) (Refused number at) = at ≡ outer
 IsAt (Some outer) _ = Unit {0}
 
-at_place : (A : Type 0) (outer : Option Span) (number : ℕ) (name : Sourced) → IsAt {A = A} outer (Refused number (place_in outer name))
+at_place : (A : Type 0) (outer : Option Span) (number : ℕ) (name : Sourced) → IsAt {A = A} outer (Refused number (place_of_use outer name))
 at_place A None number name = tt
 at_place A (Some outer) number name = refl
 
-same_outer : (A B : Type 0) (outer : Option Span) (name : Sourced) (number : ℕ) (at : Span) → IsAt {A = A} (Some (place_in outer name)) (Refused number at) → IsAt {A = B} outer (Refused number at)
+same_outer : (A B : Type 0) (outer : Option Span) (name : Sourced) (number : ℕ) (at : Span) → IsAt {A = A} (Some (place_of_use outer name)) (Refused number at) → IsAt {A = B} outer (Refused number at)
 same_outer A B None name number at is = tt
 same_outer A B (Some outer) name number at is = is
 
@@ -63,7 +63,7 @@ mutual
   arguments_at {outer = outer} (argument_too_long first) = no_place _ outer
 
   follows_at : {table : Table} {outer : Option Span} {plain : PlainMacro} {name : Sourced} {rest : List Sourced} {values : Ending (List (List Sourced))} {ending : Ending (List Sourced)} →
-      Follows table outer plain name rest values ending → IsAt (Some (place_in outer name)) values → IsAt outer ending
+      Follows table outer plain name rest values ending → IsAt (Some (place_of_use outer name)) values → IsAt outer ending
   follows_at (replacement_made costs ends) is = words_at ends
   follows_at {outer = outer} (replacement_too_long less) is = no_place _ outer
   follows_at {outer = outer} {name = name} (values_refused {number = number} {at = at}) is = same_outer (List (List Sourced)) _ outer name number at is
@@ -348,9 +348,9 @@ mutual
   fronts {table} (word_stays {word = word} {words = words} {left = left} {behind = behind} is ends gives) none =
       subst (λ (e : Ending (List Sourced)). RefusesAt table (word ∷ words) left e) (sym gives) (word_in_front table word words left behind is (fronts ends none))
   fronts {table} (use_refused {outer = outer} {word = word} {words = words} {left = left} {number = number} is refused) none =
-      subst (λ (e : Ending (List Sourced)). RefusesAt table (word ∷ words) left e) (sym refused) (at_once table word words left number (place_in outer word) (ap (λ (o : Option Span). place_in o word) (sym none)))
+      subst (λ (e : Ending (List Sourced)). RefusesAt table (word ∷ words) left e) (sym refused) (at_once table word words left number (place_of_use outer word) (ap (λ (o : Option Span). place_of_use o word) (sym none)))
   fronts {table} (use_replaced {outer = outer} {word = word} {words = words} {left = left} {ending = ending} {plain = plain} {arguments = arguments} {rest = rest} {values = values} is all follows) none =
-      let all' : EndsAll table (Some word.word.at) arguments left values = subst (λ (o : Option Span). EndsAll table (Some (place_in o word)) arguments left values) none all in
+      let all' : EndsAll table (Some word.word.at) arguments left values = subst (λ (o : Option Span). EndsAll table (Some (place_of_use o word)) arguments left values) none all in
       use_in_front table word words left plain arguments rest values ending is all' (fronts_behind follows none (arguments_at all'))
 
   fronts_behind : {table : Table} {outer : Option Span} {plain : PlainMacro} {name : Sourced} {rest : List Sourced} {values : Ending (List (List Sourced))} {ending : Ending (List Sourced)} →

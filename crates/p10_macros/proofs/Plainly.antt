@@ -12,7 +12,7 @@ use Rattle.p10_macros.specs.declared.table.Definition.TheVariants.{New, Same, Ot
 use Rattle.p10_macros.specs.Table.{Entry, Table, macro_named, same_word, same_words, same_parameters, same_macro, without_macro, own_of}
 use Rattle.p10_macros.specs.Uses.{Sourced, written, plain_words, Arguments, opens, closes, separates, depth_behind, word_before, argument_before, arguments_in, fitting, Use, Stays, Wrong, Calls, fitted, called, unless_recursive, use_as, use_by, use_of, given, value_of, value_or, texts_of, replacement}
 use Rattle.p10_macros.specs.Endings.{Ending, Gives, Refused, TooMany, after, behind_word, behind_argument}
-use Rattle.p10_macros.specs.Ends.{place_in, Ends, EndsAll, Follows, no_words, word_stays, use_refused, use_replaced, no_arguments, argument_given, argument_refused, argument_too_long, replacement_made, replacement_too_long, values_refused, values_too_long}
+use Rattle.p10_macros.specs.Ends.{place_of_use, Ends, EndsAll, Follows, no_words, word_stays, use_refused, use_replaced, no_arguments, argument_given, argument_refused, argument_too_long, replacement_made, replacement_too_long, values_refused, values_too_long}
 use Rattle.p10_macros.specs.Answers.{Defines}
 use Rattle.p10_macros.proofs.LastFirst.{last_mapped}
 
@@ -204,7 +204,7 @@ argument_behind argument (Gives made left) = refl
 argument_behind argument (Refused number at) = refl
 argument_behind argument TooMany = refl
 
-place_bare : (outer : Option Span) (name : Sourced) → place_in outer name ≡ place_in outer (bare_sourced name)
+place_bare : (outer : Option Span) (name : Sourced) → place_of_use outer name ≡ place_of_use outer (bare_sourced name)
 place_bare None name = refl
 place_bare (Some outermost) name = refl
 

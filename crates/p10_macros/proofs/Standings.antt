@@ -6,7 +6,7 @@ use Rattle.p10_macros.specs.declared.pending.Traced.{Traced}
 use Rattle.p10_macros.specs.declared.pending.Pending.{Pending}
 use Rattle.p10_macros.specs.declared.pending.Open.{Open}
 use Rattle.p10_macros.specs.Uses.{Sourced, next_opens, opens, closes, depth_behind}
-use Rattle.p10_macros.specs.Ends.{place_in}
+use Rattle.p10_macros.specs.Ends.{place_of_use}
 use Rattle.p10_macros.specs.Running.{OpenUse, outer_of}
 use Rattle.p10_macros.specs.Origins.{Extends}
 use Rattle.p10_macros.specs.Traces.{IsTraced}
@@ -217,7 +217,7 @@ same_place origins [] stop (open' ∷ those) todo uses stands = absurd stands
 same_place origins (pending ∷ items) stop those todo uses stands =
     same_place_by origins items (λ stop' those' todo' uses' stands'. same_place origins items stop' those' todo' uses' stands') pending (role_of items stop pending.traced.word) stop those todo uses stands
 
-place_by : (those : List Open) (uses : List OpenUse) (name : Traced) (word : Sourced) → name.word ≡ word.word → SamePlace those uses → place_among those name ≡ place_in (outer_of uses) word
+place_by : (those : List Open) (uses : List OpenUse) (name : Traced) (word : Sourced) → name.word ≡ word.word → SamePlace those uses → place_among those name ≡ place_of_use (outer_of uses) word
 place_by [] [] name word is same = ap (λ (w : Word). w.at) is
 place_by [] (use' ∷ uses) name word is same = absurd same
 place_by (open' ∷ those) [] name word is same = absurd same
@@ -225,5 +225,5 @@ place_by (open' ∷ those) (use' ∷ uses) name word is same = same
 
 -- the place of a refusal is that of the outermost use
 pub place_is : (origins : Origins) (items : List Pending) (stop : ℕ) (those : List Open) (todo : List Sourced) (uses : List OpenUse) (name : Traced) (word : Sourced) → Stands origins items stop those todo uses →
-    IsTraced origins name word → place_among those name ≡ place_in (outer_of uses) word
+    IsTraced origins name word → place_among those name ≡ place_of_use (outer_of uses) word
 place_is origins items stop those todo uses name word stands is = place_by those uses name word is.word (same_place origins items stop those todo uses stands)

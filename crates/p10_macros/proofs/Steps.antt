@@ -5,7 +5,7 @@ use Rattle.p10_direct.specs.Directives.{PlainMacro}
 use Rattle.p10_macros.specs.Table.{Table}
 use Rattle.p10_macros.specs.Uses.{Sourced, use_of, Stays, Wrong, Calls, replacement}
 use Rattle.p10_macros.specs.Endings.{Ending, Gives, Refused, TooMany, after, behind_word, behind_argument}
-use Rattle.p10_macros.specs.Ends.{Ends, EndsAll, place_in, no_words, word_stays, use_refused, use_replaced, no_arguments, argument_given, argument_refused, argument_too_long, replacement_made, replacement_too_long, values_refused, values_too_long}
+use Rattle.p10_macros.specs.Ends.{Ends, EndsAll, place_of_use, no_words, word_stays, use_refused, use_replaced, no_arguments, argument_given, argument_refused, argument_too_long, replacement_made, replacement_too_long, values_refused, values_too_long}
 use Rattle.p10_macros.specs.Running.{OpenUse, outer_of, behind_words, Replaces, Returns, Closes, Comes}
 
 closes_refused : (table : Table) (uses : List OpenUse) (number : ℕ) (at : Span) → Closes table uses (Refused number at) (Refused number at)
@@ -40,8 +40,8 @@ step_given table word words left is level (last, ends, closes) =
 
 -- a use is refused
 pub step_refused : (table : Table) (uses : List OpenUse) (word : Sourced) (words done : List Sourced) (left number : ℕ) → use_of table word words ≡ Wrong number →
-    Comes table uses (word ∷ words) done left (Refused number (place_in (outer_of uses) word))
-step_refused table uses word words done left number is = (Refused number (place_in (outer_of uses) word), use_refused is refl, closes_refused table uses number _)
+    Comes table uses (word ∷ words) done left (Refused number (place_of_use (outer_of uses) word))
+step_refused table uses word words done left number is = (Refused number (place_of_use (outer_of uses) word), use_refused is refl, closes_refused table uses number _)
 
 -- a use without arguments is replaced
 pub step_replaced : (table : Table) (uses : List OpenUse) (word : Sourced) (words done : List Sourced) (left remaining : ℕ) (plain : PlainMacro) (rest : List Sourced) →
@@ -58,11 +58,11 @@ step_too_long table uses word words done left plain rest is less =
 -- the use that is opened for a word
 abbrev pub opened : Option Span → PlainMacro → Sourced → List Sourced → List (List Sourced) → List Sourced → OpenUse
 opened outer plain word done others rest =
-    record { plain = plain; name = word; place = place_in outer word; before = done; values = []; waiting = others; rest = rest }
+    record { plain = plain; name = word; place = place_of_use outer word; before = done; values = []; waiting = others; rest = rest }
 
 module _ (table : Table) (uses : List OpenUse) (word : Sourced) (words done : List Sourced) (plain : PlainMacro) (first : List Sourced) (others : List (List Sourced)) (rest : List Sourced)
     (is : use_of table word words ≡ Calls plain (first ∷ others) rest) where
-  opened_made : (left : ℕ) (values : Ending (List (List Sourced))) → EndsAll table (Some (place_in (outer_of uses) word)) (first ∷ others) left values →
+  opened_made : (left : ℕ) (values : Ending (List (List Sourced))) → EndsAll table (Some (place_of_use (outer_of uses) word)) (first ∷ others) left values →
       (ending : Ending (List Sourced)) → Replaces (Comes table uses) (opened (outer_of uses) plain word done others rest) values ending → Comes table uses (word ∷ words) done left ending
   opened_made left (Gives values left') ends ending (inl (less, e)) =
       (TooMany, use_replaced is ends (replacement_too_long less), subst (λ (l : Ending (List Sourced)). Closes table uses TooMany l) (sym e) (closes_too_many table uses))
@@ -72,7 +72,7 @@ module _ (table : Table) (uses : List OpenUse) (word : Sourced) (words done : Li
   opened_made left TooMany ends ending e =
       (TooMany, use_replaced is ends values_too_long, subst (λ (l : Ending (List Sourced)). Closes table uses TooMany l) (sym e) (closes_too_many table uses))
 
-  opened_returns : (left : ℕ) (value : Ending (List Sourced)) → Ends table (Some (place_in (outer_of uses) word)) first left value →
+  opened_returns : (left : ℕ) (value : Ending (List Sourced)) → Ends table (Some (place_of_use (outer_of uses) word)) first left value →
       (ending : Ending (List Sourced)) → Returns table (Comes table uses) (opened (outer_of uses) plain word done others rest) value ending → Comes table uses (word ∷ words) done left ending
   opened_returns left (Gives value left') ends ending (values, ends', replaces) =
       opened_made left (behind_argument value values) (argument_given ends ends' refl) ending replaces

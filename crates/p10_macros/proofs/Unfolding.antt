@@ -4,14 +4,14 @@ use Rattle.p10_base.specs.declared.span.Span.{Span}
 use Rattle.p10_macros.specs.Table.{Table}
 use Rattle.p10_macros.specs.Uses.{Sourced, Use, use_of, Stays, Wrong, Calls}
 use Rattle.p10_macros.specs.Endings.{Ending, Refused, behind_word}
-use Rattle.p10_macros.specs.Ends.{Ends, EndsAll, Follows, place_in, word_stays, use_refused, use_replaced}
+use Rattle.p10_macros.specs.Ends.{Ends, EndsAll, Follows, place_of_use, word_stays, use_refused, use_replaced}
 
 -- what comes of a word that begins this, and of the words behind it
 abbrev pub Unfolds : Table → Option Span → Sourced → List Sourced → ℕ → Ending (List Sourced) → Use → Type 0
 Unfolds table outer word words left ending Stays = (behind : Ending (List Sourced)) × Ends table outer words left behind × (ending ≡ behind_word word behind)
-Unfolds table outer word words left ending (Wrong number) = ending ≡ Refused number (place_in outer word)
+Unfolds table outer word words left ending (Wrong number) = ending ≡ Refused number (place_of_use outer word)
 Unfolds table outer word words left ending (Calls plain arguments rest) =
-    (values : Ending (List (List Sourced))) × EndsAll table (Some (place_in outer word)) arguments left values × Follows table outer plain word rest values ending
+    (values : Ending (List (List Sourced))) × EndsAll table (Some (place_of_use outer word)) arguments left values × Follows table outer plain word rest values ending
 
 unfolds_by_use : (table : Table) (outer : Option Span) (word : Sourced) (words : List Sourced) (left : ℕ) (ending : Ending (List Sourced)) →
     Ends table outer (word ∷ words) left ending → Unfolds table outer word words left ending (use_of table word words)

@@ -7,9 +7,9 @@ use Rattle.p10_macros.specs.Uses.{Sourced, use_of, Stays, Wrong, Calls, replacem
 use Rattle.p10_macros.specs.Endings.{Ending, Gives, Refused, TooMany, behind_word, behind_argument}
 
 -- the place of a use: its name, or the name of the outermost use where it stands in an argument of that one
-abbrev pub place_in : Option Span → Sourced → Span
-place_in None name = name.word.at
-place_in (Some outermost) name = outermost
+abbrev pub place_of_use : Option Span → Sourced → Span
+place_of_use None name = name.word.at
+place_of_use (Some outermost) name = outermost
 
 mutual
   -- what comes of words, where so many words of replacements may still be made; the place is that of the outermost use where
@@ -20,11 +20,11 @@ mutual
     word_stays : {outer : Option Span} {word : Sourced} {words : List Sourced} {left : ℕ} {behind ending : Ending (List Sourced)} →
         use_of table word words ≡ Stays → Ends table outer words left behind → ending ≡ behind_word word behind → Ends table outer (word ∷ words) left ending
     use_refused : {outer : Option Span} {word : Sourced} {words : List Sourced} {left number : ℕ} {ending : Ending (List Sourced)} →
-        use_of table word words ≡ Wrong number → ending ≡ Refused number (place_in outer word) → Ends table outer (word ∷ words) left ending
+        use_of table word words ≡ Wrong number → ending ≡ Refused number (place_of_use outer word) → Ends table outer (word ∷ words) left ending
     -- the arguments of a use are replaced first, each as if it were all that there is; then the use is
     use_replaced : {outer : Option Span} {word : Sourced} {words : List Sourced} {left : ℕ} {ending : Ending (List Sourced)}
         {plain : PlainMacro} {arguments : List (List Sourced)} {rest : List Sourced} {values : Ending (List (List Sourced))} →
-        use_of table word words ≡ Calls plain arguments rest → EndsAll table (Some (place_in outer word)) arguments left values →
+        use_of table word words ≡ Calls plain arguments rest → EndsAll table (Some (place_of_use outer word)) arguments left values →
         Follows table outer plain word rest values ending → Ends table outer (word ∷ words) left ending
 
   -- what comes of arguments, from left to right

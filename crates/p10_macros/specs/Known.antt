@@ -17,6 +17,7 @@ AreNamed entries = All (λ (entry : Bor (List ℕ) × Known). entry.0.now ≡ en
 abbrev pub own_among : List (Bor (List ℕ) × Known) → ℕ
 own_among entries = count_by (λ (entry : Bor (List ℕ) × Known). not entry.1.builtin) entries
 
+-- how many one macro is of those that no built-in header defined
 abbrev pub own_if : Bool → ℕ
 own_if true = 0
 own_if false = 1

@@ -3,8 +3,8 @@ use Rattle.std.specs.Prelude.{◌≡◌, ℕ, ◌<◌, ◌≤◌, ◌+◌, ◌/�
 use Rattle.std.specs.Int.{bit_at}
 use Rattle.p10_macros.specs.declared.sets.Part.{Part}
 
--- whether a number is in a set by its first part: the bits tell it for the numbers of the part's block. Of lower numbers it is
--- known whether they are below, and there are no higher ones
+-- whether a number is in a set by its first part: for the numbers of its block the bits tell it, for those of lower blocks
+-- `below`, which is whether the set under it has them, and those of higher blocks are not
 abbrev pub in_part : ℕ → ℕ → Bool → ℕ → Bool
 in_part block bits below number = if number / 64 == block then bit_at bits (number % 64) == 1 else nat_lt (number / 64) block && below
 

@@ -29,6 +29,7 @@ abbrev pub place_among : List Open → Traced → Span
 place_among [] name = name.word.at
 place_among (open' ∷ those) name = open'.place
 
+-- an open use of the code stands for one of the definitions
 pub record IsOpen (origins : Origins) (open' : Open) (use' : OpenUse) : Type 0 where
   pub plain : plain_known open'.known.now ≡ use'.plain
   pub name : IsTraced origins open'.name use'.name
@@ -49,6 +50,7 @@ pub data Role : Type 0 where
 abbrev pub role_of : List Pending → ℕ → Word → Role
 role_of items stop word = if stop == length items + 1 then if closes word then EndsCall else EndsArgument else NextWord
 
+-- a pending word with this role stands for what comes next, and `Stands` says that those behind it do
 abbrev pub StandsBy : Origins → (ℕ → List Open → List Sourced → List OpenUse → Type 0) → Pending → Role → ℕ → List Open → List Sourced → List OpenUse → Type 0
 StandsBy origins Stands pending NextWord stop those (word ∷ todo) uses = IsTraced origins pending.traced word × Stands stop those todo uses
 StandsBy origins Stands pending EndsArgument stop (open' ∷ those) [] (use' ∷ uses) =
@@ -91,6 +93,7 @@ pub record Keeps (origins : Origins) (words : List Word) (those : List Traced) (
   pub outside : NoneOutside state.uses state.done
   pub left : remaining ≡ state.left
 
+-- the same of a replacement
 abbrev pub KeepsFor : Run → State → Type 0
 KeepsFor run state = Keeps run.origins run.words.items run.done.items run.left state
 
@@ -124,9 +127,11 @@ FaultComes table state (fault.Refused refusal) = (refusal.family ≡ D) × Comes
 FaultComes table state fault.TooMany = ComesOf table state TooMany
 FaultComes table state fault.Memory = Unit {0}
 
+-- a fault comes of the next word
 abbrev pub Fails : Table → Run → Pending → ReplaceFault → Type 0
 Fails table old next fault' = (state : State) → Represents old (next ∷ reverse old.pending.words.items) state → FaultComes table state fault'
 
+-- the same, where the next word plays a role
 abbrev pub FailsBy : Table → Run → Pending → Role → ReplaceFault → Type 0
 FailsBy table old next role fault' = (state : State) → Plays old next role state → FaultComes table state fault'
 

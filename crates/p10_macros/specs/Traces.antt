@@ -12,11 +12,13 @@ pub record IsTraced (origins : Origins) (traced : Traced) (sourced : Sourced) : 
   pub known : traced.from ≤ count_of origins
   pub from : (name : Text) → has_macro origins traced.from name ≡ sourced.from name
 
+-- kept words, one after the other
 abbrev pub AreTraced : Origins → List Traced → List Sourced → Type 0
 AreTraced origins [] [] = Unit {0}
 AreTraced origins (traced ∷ those) (sourced ∷ these) = IsTraced origins traced sourced × AreTraced origins those these
 AreTraced origins _ _ = ⊥
 
+-- kept values of arguments, one after the other
 abbrev pub AreValues : Origins → List (List Traced) → List (List Sourced) → Type 0
 AreValues origins [] [] = Unit {0}
 AreValues origins (traced ∷ those) (sourced ∷ these) = AreTraced origins traced sourced × AreValues origins those these

@@ -24,14 +24,14 @@ impl<'w, 's> Known<'w, 's> {
     ghost use Rattle.p10_macros.specs.Places.{place_named};
     ghost use Rattle.p10_macros.specs.Uses.{texts_of};
 
-    /// The place of the parameter that a word of the replacement list names, where the word stands at `at`.
-    pub fn parameter(&self, at: usize) -> Option<usize>
-        requires { at < length (plain_known self.now).body }
-        ensures { (none : BodyWord) → result ≡ place_named (texts_of (plain_known self.now).parameters) (get_or (plain_known self.now).body at none) }
+    /// The place of the parameter that a word of the replacement list names, where the word stands at `place`.
+    pub fn parameter(&self, place: usize) -> Option<usize>
+        requires { place < length (plain_known self.now).body }
+        ensures { (none : BodyWord) → result ≡ place_named (texts_of (plain_known self.now).parameters) (get_or (plain_known self.now).body place none) }
     {
-        match self.places.get(at) {
+        match self.places.get(place) {
             None => None,
-            Some(place) => *place,
+            Some(parameter) => *parameter,
         }
     }
 }

@@ -197,12 +197,12 @@ fn join<'s>(
     if own == known.own {
         return Ok(known);
     }
-    let all = both(origins, name.from, from, own)?;
+    let all = joined_set(origins, name.from, from, own)?;
     Ok(Joined { own, all })
 }
 
 /// The number of the set of macros that a word of an argument comes from: those of the use, and its own.
-fn both<'s>(
+fn joined_set<'s>(
     origins: &mut Origins<'s>,
     name: usize,
     from: usize,

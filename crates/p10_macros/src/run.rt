@@ -1,6 +1,6 @@
 //! The steps of a replacement.
 
-ghost use Rattle.std.specs.Prelude.{◌≡◌, ◌+◌, ◌<◌, ◌≤◌, [], ◌∷◌, map, reverse, option_map, option_copied, OnOk, IfErr, None, Some, is_none, ◌||◌, ◌++◌};
+ghost use Rattle.std.specs.Prelude.{◌≡◌, ◌≤◌, [], ◌∷◌, map, reverse, option_map, option_copied, OnOk, IfErr, None, Some, is_none, ◌||◌, ◌++◌};
 ghost use Rattle.p10_direct.specs.Form.{plain_macro};
 ghost use Rattle.p10_macros.specs.Table.{Table};
 ghost use Rattle.p10_macros.specs.Known.{plain_known};

@@ -131,7 +131,8 @@ fn part_at(parts: &[Part], set: usize) -> Option<Part>
     })
 }
 
-/// The set with this number if it is older than the part over it, as it always is, or the empty set.
+/// The set with this number if it is older than the part over it, as it always is, or the empty set. To look here spares
+/// the proof that it always is.
 fn older(lower: usize, set: usize) -> usize
     ensures within { lower < set → result ≡ lower }
     ensures beyond { set ≤ lower → result ≡ 0 }

@@ -6,4 +6,4 @@ returns-then-own-known-clause-joined c = λ base grown joins. joins_known base c
 
 pub returns-clause-joined : goal.returns-clause-joined
 returns-clause-joined c = λ base grown joins.
-    joins_both base c.args.origins.now c.both.new.origins c.args.name c.args.from c.args.own c.in_ok-all.all grown c.in_ok-all.ensures.joined
+    joins_both base c.args.origins.now c.joined_set.new.origins c.args.name c.args.from c.args.own c.in_ok-all.all grown c.in_ok-all.ensures.joined

@@ -1,6 +1,6 @@
 use Rattle.std.proofs.Common.{arith}
 use Rattle.p10_macros.proofs.Putting.{joined_none, joined_same, joined_both, if_ok_so}
-use Rattle.p10_macros.proofs.replacement.both.Goals as goal
+use Rattle.p10_macros.proofs.replacement.joined_set.Goals as goal
 
 pub returns-then-own-eq0-clause-joined : goal.returns-then-own-eq0-clause-joined
 returns-then-own-eq0-clause-joined c = λ macro' name' known less is. joined_none _ c.args.name _ c.args.own macro' name' (omega arith) is
