@@ -13,8 +13,8 @@ use Rattle.p10_direct.specs.declared.keyword.Keyword.{Keyword}
 use Rattle.p10_direct.specs.declared.keyword.Keyword.TheVariants as keyword
 use Rattle.p10_direct.specs.Spelling.{Text, is_name, is_name_kind, is_punctuator}
 use Rattle.p10_direct.specs.Keywords.{keyword_of}
-use Rattle.p10_direct.specs.Directives.{PlainDirective, Null, Include, Define, Undef, If, Elif, Ifdef, Ifndef, Else, Endif, Once, InitDone, TaskLoop, OtherPragma, One, IsNamed, is_string_kind, enclosed, IsOther, IsOwn, SpellsNamed, SpellsBehind, Spells, place_of, IsBadNamed, IsBadBehind, Outcome, Read, BadForm, BadDefinition, IsOutcome, refusal_of, OneOutcome}
-use Rattle.p10_direct.specs.Form.{plain, BeginsWithHash, IsFaultOf, Tells}
+use Rattle.p10_direct.specs.Directives.{PlainDirective, Null, Include, Define, Undef, If, Elif, Ifdef, Ifndef, Else, Endif, Once, InitDone, TaskLoop, OtherPragma, One, IsNamed, is_string_kind, enclosed, IsOther, IsOwn, SpellsNamed, SpellsBehind, Spells, place_of, IsBadNamed, IsBadBehind, IsFunctionLikeBehind, Outcome, Read, BadForm, BadDefinition, IsOutcome, refusal_of, OneOutcome}
+use Rattle.p10_direct.specs.Form.{plain, BeginsWithHash, IsFaultOf, TellsUnless}
 use Rattle.p10_direct.specs.Reading.{inside, quoted_or_wrong, include_between, include_of, read_or_wrong, of_name, alone, own_of, is_nil, pragma_of, named_outcome, outcome_behind, definition_of}
 use Rattle.p10_direct.proofs.Definitions.{other_name, and_false, Judges, define_takes, good_again, bad_again}
 
@@ -300,15 +300,15 @@ pub hash_some : (line : List Word) → BeginsWithHash line → 1 ≤ length line
 hash_some (hash ∷ words) is = omega arith
 hash_some [] is = absurd is
 
-pub read_spells : (line behind : List Word) (whole : Span) (answer : Result Directive DirectFault) → BeginsWithHash line → whole ≡ place_of line → behind ≡ drop 1 line → Tells whole (outcome_behind whole behind) answer → IfOk answer (λ found. Spells (plain found) line)
+pub read_spells : (line behind : List Word) (whole : Span) (answer : Result Directive DirectFault) → BeginsWithHash line → whole ≡ place_of line → behind ≡ drop 1 line → TellsUnless (IsFunctionLikeBehind behind) whole (outcome_behind whole behind) answer → IfOk answer (λ found. Spells (plain found) line)
 read_spells (hash ∷ words) behind whole (Ok directive) is at same e =
     hash_outcome hash words (Read (plain directive)) is (ap (λ w. outcome_behind w words) (sym at) ∙ ap (outcome_behind whole) (sym same) ∙ e)
 read_spells (hash ∷ words) behind whole (Err fault) is at same e = tt
 read_spells [] behind whole answer is at same e = absurd is
 
-pub read_refuses : (line behind : List Word) (whole : Span) (answer : Result Directive DirectFault) → BeginsWithHash line → whole ≡ place_of line → behind ≡ drop 1 line → Tells whole (outcome_behind whole behind) answer → IfErr answer (IsFaultOf line)
+pub read_refuses : (line behind : List Word) (whole : Span) (answer : Result Directive DirectFault) → BeginsWithHash line → whole ≡ place_of line → behind ≡ drop 1 line → TellsUnless (IsFunctionLikeBehind behind) whole (outcome_behind whole behind) answer → IfErr answer (IsFaultOf line)
 read_refuses (hash ∷ words) behind whole (Ok directive) is at same e = tt
-read_refuses (hash ∷ words) behind whole (Err Memory) is at same e = tt
+read_refuses (hash ∷ words) behind whole (Err Memory) is at same e = (is, subst IsFunctionLikeBehind same e)
 read_refuses (hash ∷ words) behind whole (Err (Refused refusal)) is at same e =
     let same_outcome : outcome_behind whole behind ≡ outcome_behind (place_of (hash ∷ words)) words = ap (λ w. outcome_behind w behind) at ∙ ap (outcome_behind (place_of (hash ∷ words))) same in
     record {

@@ -4,6 +4,7 @@ use Rattle.std.proofs.Math.ListN.{get_or-map}
 use Rattle.std.proofs.lemmas.List.{map-append, length-map, drop-map}
 use Rattle.std.proofs.lemmas.Bool.{both_ways}
 use Rattle.std.specs.List.{list_any}
+use Rattle.std.specs.Option.{option_map_or}
 use Rattle.p10_base.specs.declared.span.Span.{Span}
 use Rattle.p10_base.specs.declared.word.Word.{Word}
 use Rattle.p10_direct.specs.declared.keyword.Keyword.{Keyword}
@@ -12,7 +13,7 @@ use Rattle.p10_direct.specs.Spelling.{Text, is_name, is_name_kind, is_punctuator
 use Rattle.p10_direct.specs.Keywords.{keyword_of}
 use Rattle.p10_direct.specs.Lines.{Piece, DirectiveLine, TextRun, words_of, NonePasses, FollowedBy, begins_directive, IsPiece, AreCut}
 use Rattle.p10_direct.specs.Balance.{mark_of, first_unbalanced, first_break_of}
-use Rattle.p10_direct.specs.Directives.{PlainMacro, PlainDirective, Define, Undef, If, Elif, Ifdef, Ifndef, Else, Endif, Once, OtherPragma, is_string_kind, is_ellipsis, is_refused, has_repeated, is_bad_macro, Definition, texts_of, has_ellipsis, is_bad, macro_of, place_of, Outcome, Read, BadForm, BadDefinition, IsOutcome}
+use Rattle.p10_direct.specs.Directives.{PlainMacro, PlainDirective, Define, Undef, If, Elif, Ifdef, Ifndef, Else, Endif, Once, OtherPragma, is_string_kind, is_ellipsis, is_refused, has_repeated_text, repeats_a_parameter, has_bad_word, Definition, texts_of, has_ellipsis, is_bad, macro_of, place_of, Outcome, Read, BadForm, BadDefinition, IsOutcome}
 use Rattle.p10_direct.specs.Reading.{Parameters, Wrong, Listed, behind_parameters, parameters_of, listed, judged, judged_or_wrong, has_list, defined_of, definition_of, inside, quoted_or_wrong, include_between, include_of, only_name_of, read_or_wrong, of_name, alone, own_of, is_nil, pragma_of, named_outcome, outcome_behind}
 use Rattle.p10_direct.specs.Tokens.{tokens_of, token_of}
 use Rattle.p10_direct.specs.Conditions.{HasTruth}
@@ -152,13 +153,19 @@ ellipsis_bare (Some parameters) = any_map is_ellipsis bare (λ word. refl) param
 macro_bare : (d : Definition) → macro_of (bare_definition d) ≡ bare_macro (macro_of d)
 macro_bare d = ap (λ ps. let m : PlainMacro = record { name = d.name.text.now; parameters = ps; body = bare_words d.body } in m) (listed_texts_bare d.parameters)
 
-bad_bare : (plain : PlainMacro) → is_bad_macro (bare_macro plain) ≡ is_bad_macro plain
-bad_bare plain = ap (λ b. bytes_eq plain.name (codes "defined") || has_repeated plain.parameters || b) (any_map is_refused bare (λ word. refl) plain.body)
+repeated_bare : (parameters : Option (List Word)) → option_map_or (λ words. has_repeated_text (texts_of words)) (option_map bare_words parameters) false ≡ option_map_or (λ words. has_repeated_text (texts_of words)) parameters false
+repeated_bare None = refl
+repeated_bare (Some parameters) = ap has_repeated_text (texts_bare parameters)
+
+bad_word_bare : (d : Definition) → has_bad_word (bare_definition d) ≡ has_bad_word d
+bad_word_bare d =
+    ap (λ b. b || bytes_eq d.name.text.now (codes "defined") || list_any is_refused (bare_words d.body)) (ellipsis_bare d.parameters)
+    ∙ ap (λ b. has_ellipsis d.parameters || bytes_eq d.name.text.now (codes "defined") || b) (any_map is_refused bare (λ word. refl) d.body)
 
 is_bad_bare : (d : Definition) → is_bad (bare_definition d) ≡ is_bad d
 is_bad_bare d =
-    ap (λ b. b || is_bad_macro (macro_of (bare_definition d))) (ellipsis_bare d.parameters)
-    ∙ ap (λ b. has_ellipsis d.parameters || b) (ap is_bad_macro (macro_bare d) ∙ bad_bare (macro_of d))
+    ap (λ b. b || repeats_a_parameter (bare_definition d)) (bad_word_bare d)
+    ∙ ap (λ b. has_bad_word d || b) (repeated_bare d.parameters)
 
 judged_bare : (d : Definition) → judged (bare_definition d) ≡ bare_outcome (judged d)
 judged_bare d =

@@ -5,7 +5,7 @@ use Rattle.std.proofs.lemmas.Bool.{or_from, or_left, or_right}
 use Rattle.std.proofs.lemmas.List.{drop-drop, drop_more}
 use Rattle.p10_base.specs.declared.word.Word.{Word}
 use Rattle.p10_direct.specs.Spelling.{Text, is_name_kind, is_punctuator}
-use Rattle.p10_direct.specs.Directives.{has_repeat, is_ellipsis, texts_of}
+use Rattle.p10_direct.specs.Directives.{has_repeated_text, is_ellipsis, texts_of}
 use Rattle.p10_direct.specs.Reading.{Parameters, Wrong, Listed, Parameter, No, Last, Further, parameter_of, behind_parameters}
 use Rattle.p10_direct.proofs.Cuts.{rest_from}
 
@@ -46,23 +46,23 @@ one_more words place d old new some inside behind added = record {
 
 -- whether a text stands twice, where a set has the texts behind the first
 by_keys : (words : List Word) (place : ℕ) (d : Word) (keys : Keys) → 0 < place → place ≤ length words → HaveTexts keys (drop place words)
-    → has_repeat (texts_of (drop (place - 1) words)) ≡ (is_key keys (get_or words (place - 1) d).text.now || has_repeat (texts_of (drop place words)))
+    → has_repeated_text (texts_of (drop (place - 1) words)) ≡ (is_key keys (get_or words (place - 1) d).text.now || has_repeated_text (texts_of (drop place words)))
 by_keys words place d keys some inside behind =
-    ap has_repeat (from_before words place d some inside)
-    ∙ ap (λ b. b || has_repeat (texts_of (drop place words))) (sym (behind.same (get_or words (place - 1) d).text))
+    ap has_repeated_text (from_before words place d some inside)
+    ∙ ap (λ b. b || has_repeated_text (texts_of (drop place words))) (sym (behind.same (get_or words (place - 1) d).text))
 
 pub still_none : (words : List Word) (place : ℕ) (d : Word) (keys : Keys) → 0 < place → place ≤ length words → HaveTexts keys (drop place words)
-    → is_key keys (get_or words (place - 1) d).text.now ≡ false → has_repeat (texts_of (drop place words)) ≡ false → has_repeat (texts_of (drop (place - 1) words)) ≡ false
+    → is_key keys (get_or words (place - 1) d).text.now ≡ false → has_repeated_text (texts_of (drop place words)) ≡ false → has_repeated_text (texts_of (drop (place - 1) words)) ≡ false
 still_none words place d keys some inside behind fresh none = by_keys words place d keys some inside behind ∙ or_from _ _ fresh none
 
 -- what stands twice from a place on does so in all the words
-twice_in_all : (words : List Word) (place : ℕ) → has_repeat (texts_of (drop place words)) ≡ true → has_repeat (texts_of words) ≡ true
+twice_in_all : (words : List Word) (place : ℕ) → has_repeated_text (texts_of (drop place words)) ≡ true → has_repeated_text (texts_of words) ≡ true
 twice_in_all words zero twice = twice
 twice_in_all [] (suc place) twice = twice
 twice_in_all (word ∷ words) (suc place) twice = or_right _ _ (twice_in_all words place twice)
 
 pub stands_twice : (words : List Word) (place : ℕ) (d : Word) (keys : Keys) → 0 < place → place ≤ length words → HaveTexts keys (drop place words)
-    → is_key keys (get_or words (place - 1) d).text.now ≡ true → true ≡ has_repeat (texts_of words)
+    → is_key keys (get_or words (place - 1) d).text.now ≡ true → true ≡ has_repeated_text (texts_of words)
 stands_twice words place d keys some inside behind known =
     sym (twice_in_all words (place - 1) (by_keys words place d keys some inside behind ∙ or_left _ _ known))
 

@@ -1,6 +1,7 @@
 -- The directives, and the words that spell them (C99 6.10).
 use Rattle.std.specs.Prelude.{◌≡◌, ◌↔◌, ℕ, ◌==◌, List, [], ◌∷◌, ◌++◌, length, map, Bool, true, false, ◌&&◌, ◌||◌, Option, Some, None, option_map, bytes_eq, codes, slice_index_or, ◌-◌, ◌⊎◌}
 use Rattle.std.specs.List.{list_any}
+use Rattle.std.specs.Option.{option_map_or}
 use Rattle.p10_base.specs.declared.span.Span.{Span}
 use Rattle.p10_base.specs.declared.word.Kind.{Kind}
 use Rattle.p10_base.specs.declared.word.Kind.TheVariants.{Str}
@@ -86,6 +87,11 @@ abbrev pub Defines : Definition → List Word → Type 0
 Defines definition [] = ⊥
 Defines definition (name ∷ words) = (name ≡ definition.name) × (is_name_kind name.kind ≡ true) × DefinesBehind name definition.parameters definition.body words
 
+-- the words behind `define` begin the definition of a function-like macro: `NAME(` (C99 6.10.3p10)
+abbrev pub IsFunctionLike : List Word → Type 0
+IsFunctionLike (name ∷ paren ∷ words) = (is_name_kind name.kind ≡ true) × (opens_list name paren ≡ true)
+IsFunctionLike _ = ⊥
+
 -- the one definition that the words behind `define` are, or none
 abbrev pub IsDefinition : List Word → Option Definition → Type 0
 IsDefinition words found = (definition : Definition) → Defines definition words ↔ (found ≡ Some definition)
@@ -95,33 +101,34 @@ abbrev pub texts_of : List Word → List Text
 texts_of words = map (λ (word : Word). word.text.now) words
 
 -- a text stands in the list twice
-abbrev pub has_repeat : List Text → Bool
-has_repeat [] = false
-has_repeat (text ∷ texts) = list_any (λ other. bytes_eq other text) texts || has_repeat texts
+abbrev pub has_repeated_text : List Text → Bool
+has_repeated_text [] = false
+has_repeated_text (text ∷ texts) = list_any (λ other. bytes_eq other text) texts || has_repeated_text texts
+
+-- a parameter of the definition stands twice
+abbrev pub repeats_a_parameter : Definition → Bool
+repeats_a_parameter definition = option_map_or (λ parameters. has_repeated_text (texts_of parameters)) definition.parameters false
 
 -- a word that no replacement list may have here: `#`, which C99 allows in those of object-like macros, `##` (C99 6.10.3.2,
 -- 6.10.3.3) and `...`
 abbrev pub is_refused : Word → Bool
 is_refused word = is_punctuator (codes "#") word || is_punctuator (codes "##") word || is_ellipsis word
 
-abbrev pub has_repeated : Option (List Text) → Bool
-has_repeated None = false
-has_repeated (Some parameters) = has_repeat parameters
-
--- a macro that is refused: its name is `defined`, a parameter stands twice, or the replacement list has a refused word
-abbrev pub is_bad_macro : PlainMacro → Bool
-is_bad_macro plain = bytes_eq plain.name (codes "defined") || has_repeated plain.parameters || list_any is_refused plain.body
-
-abbrev pub macro_of : Definition → PlainMacro
-macro_of definition = record { name = definition.name.text.now; parameters = option_map texts_of definition.parameters; body = definition.body }
-
 abbrev pub has_ellipsis : Option (List Word) → Bool
 has_ellipsis None = false
 has_ellipsis (Some parameters) = list_any is_ellipsis parameters
 
--- a definition that is refused: one with `...` among its parameters, or of a macro that is refused
+-- one word makes the definition a bad one: `...` among its parameters, the name `defined`, or a refused word in its
+-- replacement list
+abbrev pub has_bad_word : Definition → Bool
+has_bad_word definition = has_ellipsis definition.parameters || bytes_eq definition.name.text.now (codes "defined") || list_any is_refused definition.body
+
+-- a definition that is refused: one word makes it a bad one, or a parameter stands twice
 abbrev pub is_bad : Definition → Bool
-is_bad definition = has_ellipsis definition.parameters || is_bad_macro (macro_of definition)
+is_bad definition = has_bad_word definition || repeats_a_parameter definition
+
+abbrev pub macro_of : Definition → PlainMacro
+macro_of definition = record { name = definition.name.text.now; parameters = option_map texts_of definition.parameters; body = definition.body }
 
 -- ## The words of a directive
 
@@ -205,6 +212,21 @@ IsBadBehind whole at (word ∷ words) = IsBadNamed whole at (keyword_of word) wo
 abbrev pub IsBadDefinition : Span → List Word → Type 0
 IsBadDefinition at [] = ⊥
 IsBadDefinition at (hash ∷ words) = (is_punctuator (codes "#") hash ≡ true) × IsBadBehind (place_of (hash ∷ words)) at words
+
+-- ## Function-like macros
+
+abbrev pub IsFunctionLikeNamed : Option Keyword → List Word → Type 0
+IsFunctionLikeNamed (Some keyword.Define) words = IsFunctionLike words
+IsFunctionLikeNamed _ words = ⊥
+
+abbrev pub IsFunctionLikeBehind : List Word → Type 0
+IsFunctionLikeBehind [] = ⊥
+IsFunctionLikeBehind (word ∷ words) = IsFunctionLikeNamed (keyword_of word) words
+
+-- the line begins the definition of a function-like macro: `#define NAME(`
+abbrev pub DefinesFunctionLike : List Word → Type 0
+DefinesFunctionLike [] = ⊥
+DefinesFunctionLike (hash ∷ words) = (is_punctuator (codes "#") hash ≡ true) × IsFunctionLikeBehind words
 
 -- ## What comes of a line
 

@@ -10,7 +10,7 @@ use Rattle.p10_direct.specs.declared.form.Definition.{Definition as Borrowed}
 use Rattle.p10_direct.specs.declared.form.DirectFault.{DirectFault}
 use Rattle.p10_direct.specs.declared.form.DirectFault.TheVariants.{Refused, Memory}
 use Rattle.p10_direct.specs.Spelling.{is_punctuator}
-use Rattle.p10_direct.specs.Directives.{Definition, PlainMacro, PlainDirective, Null, Include, Define, Undef, If, Elif, Ifdef, Ifndef, Else, Endif, Once, InitDone, TaskLoop, OtherPragma, Outcome, Read, refusal_of, IsRefused}
+use Rattle.p10_direct.specs.Directives.{Definition, PlainMacro, PlainDirective, Null, Include, Define, Undef, If, Elif, Ifdef, Ifndef, Else, Endif, Once, InitDone, TaskLoop, OtherPragma, Outcome, Read, refusal_of, IsRefused, DefinesFunctionLike}
 
 abbrev pub plain_macro : Macro → PlainMacro
 plain_macro m = record { name = m.name.now; parameters = option_map (map (λ text. text.now)) m.params; body = m.body.now }
@@ -40,17 +40,21 @@ abbrev pub BeginsWithHash : List Word → Type 0
 BeginsWithHash [] = ⊥
 BeginsWithHash (hash ∷ words) = is_punctuator (codes "#") hash ≡ true
 
--- a fault tells how the line is refused
+-- a fault tells how the line is refused, or that memory is wanting, which it may be only for a function-like macro
 abbrev pub IsFaultOf : List Word → DirectFault → Type 0
 IsFaultOf line (Refused refusal) = IsRefused line refusal
-IsFaultOf line Memory = Unit {0}
+IsFaultOf line Memory = DefinesFunctionLike line
 
 -- the fault with this number among the refusals of directives, at this place
 abbrev pub fault_of : ℕ → Span → DirectFault
 fault_of number at = Refused (record { family = D; number = number; span = at })
 
--- an answer is this outcome of a line with this place, unless memory was wanting
+-- an answer is this outcome of a line with this place, unless memory is wanting, which it may be only under this condition
+abbrev pub TellsUnless : Type 0 → Span → Outcome → Result Directive DirectFault → Type 0
+TellsUnless condition whole outcome (Ok directive) = outcome ≡ Read (plain directive)
+TellsUnless condition whole outcome (Err (Refused refusal)) = refusal_of whole outcome ≡ Some refusal
+TellsUnless condition whole outcome (Err Memory) = condition
+
+-- an answer is this outcome of a line with this place
 abbrev pub Tells : Span → Outcome → Result Directive DirectFault → Type 0
-Tells whole outcome (Ok directive) = outcome ≡ Read (plain directive)
-Tells whole outcome (Err (Refused refusal)) = refusal_of whole outcome ≡ Some refusal
-Tells whole outcome (Err Memory) = Unit {0}
+Tells = TellsUnless ⊥

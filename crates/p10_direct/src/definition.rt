@@ -1,9 +1,9 @@
 //! Reads the definition of a macro (C99 6.10.3).
 
-ghost use Rattle.std.specs.Prelude.{◌≡◌, ◌≤◌, [], map, length, option_map, IfOk};
+ghost use Rattle.std.specs.Prelude.{◌≡◌, ◌≤◌, [], map, length, true, option_map, IsSome, IfOk, OnErr, IsTrue};
 ghost use Rattle.std.specs.List.{list_any};
-ghost use Rattle.p10_direct.specs.Directives.{IsDefinition, is_refused, has_repeat, has_repeated, has_ellipsis, is_ellipsis, is_bad, is_bad_macro, macro_of, texts_of};
-ghost use Rattle.p10_direct.specs.Form.{Tells, fault_of, plain_definition};
+ghost use Rattle.p10_direct.specs.Directives.{IsDefinition, IsFunctionLike, is_refused, has_repeated_text, repeats_a_parameter, has_ellipsis, is_ellipsis, has_bad_word, is_bad, texts_of};
+ghost use Rattle.p10_direct.specs.Form.{TellsUnless, fault_of, plain_definition};
 ghost use Rattle.p10_direct.specs.Reading.{definition_of, definition_read, defined_of, judged, parameters_of, behind_parameters, parameter_of, has_list};
 ghost use Rattle.p10_direct.specs.Listed.{parameters_read, parameter_read};
 
@@ -40,7 +40,7 @@ pub fn define<'w, 's>(
     whole: Span,
     words: &'w [Word<'s>],
 ) -> Result<Directive<'w, 's>, DirectFault>
-    ensures { Tells whole (definition_of whole words.now) result }
+    ensures { TellsUnless (IsFunctionLike words.now) whole (definition_of whole words.now) result }
 {
     match words {
         [name, others @ ..] if matches!(name.kind, Kind::Name) => {
@@ -97,7 +97,8 @@ fn read_behind_name<'w, 's>(
     name: &Word<'s>,
     words: &'w [Word<'s>],
 ) -> Result<Option<Definition<'w, 's>>, AllocError>
-    ensures { IfOk result (λ found. option_map plain_definition found ≡ defined_of name.now words.now) }
+    ensures read { IfOk result (λ found. option_map plain_definition found ≡ defined_of name.now words.now) }
+    ensures memory { OnErr result (IsTrue (has_list name.now words.now)) }
 {
     if !begins_list(name, words) {
         return Ok(Some(Definition {
@@ -133,7 +134,8 @@ fn judge<'w, 's>(
     whole: Span,
     found: Definition<'w, 's>,
 ) -> Result<Directive<'w, 's>, DirectFault>
-    ensures { Tells whole (judged (plain_definition found.entry)) result }
+    ensures told { TellsUnless (IsSome found.entry.parameters) whole (judged (plain_definition found.entry)) result }
+    ensures sure { IsTrue (has_bad_word (plain_definition found.entry)) → result ≡ Err (fault_of 4 found.entry.name.at) }
 {
     match is_bad_definition(alloc, &found) {
         Ok(true) => Err(bad_definition(found.name.at)),
@@ -149,12 +151,24 @@ fn judge<'w, 's>(
     }
 }
 
-/// Whether the definition is refused.
+/// Whether the definition is refused. Where one word makes it a bad one, the answer wants no memory.
 fn is_bad_definition(alloc: Global, found: &Definition<'_, '_>) -> Result<bool, AllocError>
-    ensures { IfOk result (λ bad. bad ≡ is_bad (plain_definition found.now)) }
+    ensures exact { IfOk result (λ bad. bad ≡ is_bad (plain_definition found.now)) }
+    ensures sure { IsTrue (has_bad_word (plain_definition found.now)) → result ≡ Ok true }
+    ensures memory { OnErr result (IsSome found.now.parameters) }
 {
-    let bad = is_bad_macro_of(alloc, found)?;
-    Ok(is_variadic(found) || bad)
+    if has_bad_word(found) {
+        Ok(true)
+    } else {
+        repeats_a_parameter(alloc, found)
+    }
+}
+
+/// Whether one word makes the definition a bad one.
+fn has_bad_word(found: &Definition<'_, '_>) -> bool
+    ensures { result ≡ has_bad_word (plain_definition found.now) }
+{
+    is_variadic(found) || found.name.text == b"defined".as_slice() || has_pasting(found.body)
 }
 
 /// Whether `...` is among the parameters.
@@ -174,28 +188,21 @@ fn has_ellipsis_among(words: &[Word<'_>]) -> bool
     words.iter().any(|word| punctuates(word, b"..."))
 }
 
-/// Whether the macro of the definition is refused.
-fn is_bad_macro_of(alloc: Global, found: &Definition<'_, '_>) -> Result<bool, AllocError>
-    ensures { IfOk result (λ bad. bad ≡ is_bad_macro (macro_of (plain_definition found.now))) }
-{
-    let repeats = repeats_parameter(alloc, found)?;
-    Ok(found.name.text == b"defined".as_slice() || repeats || has_pasting(found.body))
-}
-
 /// Whether a parameter stands twice.
-fn repeats_parameter(alloc: Global, found: &Definition<'_, '_>) -> Result<bool, AllocError>
-    ensures { IfOk result (λ repeats. repeats ≡ has_repeated (macro_of (plain_definition found.now)).parameters) }
+fn repeats_a_parameter(alloc: Global, found: &Definition<'_, '_>) -> Result<bool, AllocError>
+    ensures exact { IfOk result (λ repeats. repeats ≡ repeats_a_parameter (plain_definition found.now)) }
+    ensures memory { OnErr result (IsSome found.now.parameters) }
 {
     match &found.parameters {
         None => Ok(false),
-        Some(parameters) => repeats(alloc, parameters.as_slice()),
+        Some(parameters) => has_repeated_text(alloc, parameters.as_slice()),
     }
 }
 
 /// Whether a text stands twice. Each text is looked for in a set of those behind it and not among the words, since
 /// a macro may have very many parameters.
-fn repeats(alloc: Global, words: &[Word<'_>]) -> Result<bool, AllocError>
-    ensures { IfOk result (λ repeats. repeats ≡ has_repeat (texts_of words.now)) }
+fn has_repeated_text(alloc: Global, words: &[Word<'_>]) -> Result<bool, AllocError>
+    ensures { IfOk result (λ repeated. repeated ≡ has_repeated_text (texts_of words.now)) }
 {
     let mut behind = HashSet::new(alloc);
     let mut place = words.len();
@@ -222,7 +229,8 @@ fn parameter_names<'s>(
     alloc: Global,
     parameters: &Option<ListBuf<Word<'s>>>,
 ) -> Result<Option<ListBuf<&'s [u8]>>, AllocError>
-    ensures { IfOk result (λ names. option_map (map (λ name. name.now)) names ≡ option_map texts_of parameters.now) }
+    ensures exact { IfOk result (λ names. option_map (map (λ name. name.now)) names ≡ option_map texts_of parameters.now) }
+    ensures memory { OnErr result (IsSome parameters.now) }
 {
     match parameters {
         None => Ok(None),

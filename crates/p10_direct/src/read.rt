@@ -1,8 +1,8 @@
 //! Reads one directive line.
 
 ghost use Rattle.std.specs.Prelude.{◌≡◌, ◌<◌, length, option_copied, IfOk, IfErr};
-ghost use Rattle.p10_direct.specs.Directives.{Spells, place_of, Undef, Ifdef, Ifndef, Else, Endif, LinesHaveOneOutcome};
-ghost use Rattle.p10_direct.specs.Form.{plain, BeginsWithHash, IsFaultOf, Tells, fault_of};
+ghost use Rattle.p10_direct.specs.Directives.{Spells, IsFunctionLikeNamed, IsFunctionLikeBehind, place_of, Undef, Ifdef, Ifndef, Else, Endif, LinesHaveOneOutcome};
+ghost use Rattle.p10_direct.specs.Form.{plain, BeginsWithHash, IsFaultOf, Tells, TellsUnless, fault_of};
 ghost use Rattle.p10_direct.specs.Reading.{inside, include_of, of_name, only_name_of, alone, own_of, pragma_of, named_outcome, outcome_behind};
 
 use crate::definition::define;
@@ -14,7 +14,8 @@ use std::alloc::Global;
 /// The directive that a line spells, or its refusal: D1 at the directive for an unknown one or one
 /// of another form; D4 for a bad definition, at the defined name, or at the directive where it has none.
 ///
-/// The first word of `line` is `#`. A name that is defined with another list isn't told here.
+/// The first word of `line` is `#`. A name that is defined with another list isn't told here. Memory
+/// may be wanting only where the line defines a function-like macro.
 pub fn directive<'w, 's>(
     alloc: Global,
     line: &'w [Word<'s>],
@@ -60,7 +61,7 @@ fn read_behind<'w, 's>(
     whole: Span,
     words: &'w [Word<'s>],
 ) -> Result<Directive<'w, 's>, DirectFault>
-    ensures { Tells whole (outcome_behind whole words.now) result }
+    ensures { TellsUnless (IsFunctionLikeBehind words.now) whole (outcome_behind whole words.now) result }
 {
     match words {
         [] => Ok(Directive::Null),
@@ -75,7 +76,7 @@ fn read_named<'w, 's>(
     name: Option<Keyword>,
     words: &'w [Word<'s>],
 ) -> Result<Directive<'w, 's>, DirectFault>
-    ensures { Tells whole (named_outcome whole name words.now) result }
+    ensures { TellsUnless (IsFunctionLikeNamed name words.now) whole (named_outcome whole name words.now) result }
 {
     match name {
         None => Err(bad_form(whole)),

@@ -1,7 +1,7 @@
 use Rattle.std.proofs.Common.{arith, sym, ◌∙◌}
 use Rattle.std.proofs.lemmas.Bool.{not-true, not-false}
 use Rattle.p10_direct.proofs.Repeats.{one_more, still_none, stands_twice}
-use Rattle.p10_direct.proofs.definition.repeats.Goals as goal
+use Rattle.p10_direct.proofs.definition.has_repeated_text.Goals as goal
 
 pub returns-then-not-branch : goal.returns-then-not-branch
 returns-then-not-branch c =
