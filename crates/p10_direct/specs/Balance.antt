@@ -10,6 +10,8 @@ use Rattle.p10_direct.specs.declared.mark.Mark.TheVariants.{Opens, Elif, Else, C
 use Rattle.p10_direct.specs.Keywords.{keyword_of}
 use Rattle.p10_direct.specs.Lines.{Piece, DirectiveLine}
 
+-- the part that a directive with this name has in a conditional: it opens one, is an `#elif` or `#else`, closes
+-- one, or has none (C99 6.10.1)
 abbrev pub mark_of_keyword : Option Keyword → Mark
 mark_of_keyword (Some If) = Opens
 mark_of_keyword (Some Ifdef) = Opens
@@ -19,6 +21,7 @@ mark_of_keyword (Some named.Else) = Else
 mark_of_keyword (Some Endif) = Closes
 mark_of_keyword _ = Plain
 
+-- the part of the directive that a word names
 abbrev pub mark_of_word : Word → Mark
 mark_of_word word = mark_of_keyword (keyword_of word)
 

@@ -65,6 +65,7 @@ depth_of (Chosen test first second) = suc (max (depth_of test) (max (depth_of fi
 
 -- ## Value and truth
 
+-- the value of a condition, by the values of its parts (C99 6.10.1p4)
 abbrev pub value_of : Condition → Value
 value_of (Single token constant) = constant_value constant
 value_of (Grouped inner) = value_of inner

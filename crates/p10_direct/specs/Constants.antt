@@ -15,6 +15,7 @@ pub record Constant : Type 0 where
 
 -- ## Digits
 
+-- the base as a number
 abbrev pub radix_of : Base → ℕ
 radix_of Octal = 8
 radix_of Decimal = 10
@@ -28,14 +29,16 @@ digit_of byte =
     else if nat_le 65 byte && nat_le byte 70 then byte - 55
     else 16
 
+-- whether a byte is a digit of the base
 abbrev pub is_digit_of : Base → ℕ → Bool
 is_digit_of base byte = nat_lt (digit_of byte) (radix_of base)
 
--- the digits with which a text begins, and what stands behind them
+-- the digits with which a text begins
 abbrev pub digits_of : Base → Text → Text
 digits_of base [] = []
 digits_of base (byte ∷ text) = if is_digit_of base byte then byte ∷ digits_of base text else []
 
+-- what stands behind the digits with which a text begins
 abbrev pub behind_digits : Base → Text → Text
 behind_digits base [] = []
 behind_digits base (byte ∷ text) = if is_digit_of base byte then behind_digits base text else byte ∷ text
@@ -45,10 +48,11 @@ abbrev pub digits_value : Base → ℕ → Text → ℕ
 digits_value base value [] = value
 digits_value base value (byte ∷ digits) = digits_value base (radix_of base * value + digit_of byte) digits
 
--- the greatest value of 64 bits, with and without a sign
+-- the greatest value of 64 bits without a sign
 abbrev pub greatest_unsigned : ℕ
 greatest_unsigned = 18446744073709551615
 
+-- the greatest value of 64 bits with a sign
 abbrev pub greatest_signed : ℕ
 greatest_signed = 9223372036854775807
 
@@ -63,13 +67,16 @@ small_value base (byte ∷ digits) = if nat_le (digits_value base 0 (byte ∷ di
 
 -- ## Integer constants
 
+-- whether a byte is the `u` of a suffix, in either case (C99 6.4.4.1p1)
 abbrev pub is_u : ℕ → Bool
 is_u byte = (byte == 117) || (byte == 85)
 
+-- whether a byte is an `l` of a suffix, in either case (C99 6.4.4.1p1)
 abbrev pub is_l : ℕ → Bool
 is_l byte = (byte == 108) || (byte == 76)
 
--- whether a suffix makes the type unsigned; None where it is none of `u`, `l` and `ll`, in either case and order
+-- whether a suffix makes the type unsigned: `u`, `l`, `ll`, `u` with one of the last two in either order, each in either
+-- case, or no suffix; None for any other text (C99 6.4.4.1p1)
 unfoldable pub suffix_of : Text → Option Bool
 suffix_of [] = Some false
 suffix_of (a ∷ []) = if is_u a then Some true else if is_l a then Some false else None
@@ -89,6 +96,7 @@ abbrev pub integer_in : Base → Text → Option Constant
 integer_in base text =
     option_and_then (λ u. option_map (integer_of u) (small_value base (digits_of base text))) (suffix_of (behind_digits base text))
 
+-- whether a byte is the `x` of the prefix `0x`, in either case (C99 6.4.4.1p1)
 abbrev pub is_x : ℕ → Bool
 is_x byte = (byte == 120) || (byte == 88)
 
@@ -120,6 +128,7 @@ simple_escape byte =
 abbrev pub byte_or_none : ℕ → Option ℕ
 byte_or_none value = if nat_le value 255 then Some value else None
 
+-- whether a text has no bytes
 abbrev pub is_empty : Text → Bool
 is_empty [] = true
 is_empty _ = false
@@ -128,11 +137,13 @@ is_empty _ = false
 unfoldable pub byte_in : Base → Text → Option ℕ
 byte_in base text = if is_empty (behind_digits base text) then option_and_then byte_or_none (small_value base text) else None
 
+-- the first value, or the other one where there is no first
 abbrev pub or_else : Option ℕ → Option ℕ → Option ℕ
 or_else (Some value) other = Some value
 or_else None other = other
 
--- the character of an escape, by what stands behind its backslash: a simple one, `x` and hexadecimal digits, or one to three octal digits
+-- the character of an escape, by what stands behind its backslash: a simple one, `x` and hexadecimal digits, or one to
+-- three octal digits
 unfoldable pub escape_of : Text → Option ℕ
 escape_of [] = None
 escape_of (byte ∷ []) = or_else (simple_escape byte) (byte_in Octal (byte ∷ []))
@@ -159,6 +170,7 @@ character_constant text = option_map char_constant (option_and_then character_of
 abbrev pub name_constant : Constant
 name_constant = record { value = pos 0; unsigned = false }
 
+-- the constant that a word of this kind and spelling is: a number, a character, or a name, which is 0; no other word is one
 abbrev pub constant_of_kind : Kind → Text → Option Constant
 constant_of_kind kind.Number text = integer_constant text
 constant_of_kind kind.Char text = character_constant text

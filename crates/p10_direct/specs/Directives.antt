@@ -51,6 +51,7 @@ pub record Definition : Type 0 where
 abbrev pub opens_list : Word → Word → Bool
 opens_list name word = is_punctuator (codes "(") word && (name.at.end == word.at.start)
 
+-- whether a word is `...`, which stands for variable arguments (C99 6.10.3p12)
 abbrev pub is_ellipsis : Word → Bool
 is_ellipsis word = is_punctuator (codes "...") word
 
@@ -77,6 +78,8 @@ abbrev pub HasNoList : Word → List Word → Type 0
 HasNoList name [] = Unit {0}
 HasNoList name (word ∷ words) = opens_list name word ≡ false
 
+-- the words behind the name of a macro give it these parameters, if it is function-like, and this
+-- replacement list (C99 6.10.3p9, p10)
 abbrev pub DefinesBehind : Word → Option (List Word) → List Word → List Word → Type 0
 DefinesBehind name None body words = HasNoList name words × (words ≡ body)
 DefinesBehind name (Some parameters) body (paren ∷ words) = (opens_list name paren ≡ true) × AreParameters parameters × IsList parameters words body
@@ -114,6 +117,7 @@ repeats_a_parameter definition = option_map_or (λ parameters. has_repeated_text
 abbrev pub is_refused : Word → Bool
 is_refused word = is_punctuator (codes "#") word || is_punctuator (codes "##") word || is_ellipsis word
 
+-- whether `...` is among the parameters; an object-like macro has none
 abbrev pub has_ellipsis : Option (List Word) → Bool
 has_ellipsis None = false
 has_ellipsis (Some parameters) = list_any is_ellipsis parameters
@@ -127,6 +131,7 @@ has_bad_word definition = has_ellipsis definition.parameters || bytes_eq definit
 abbrev pub is_bad : Definition → Bool
 is_bad definition = has_bad_word definition || repeats_a_parameter definition
 
+-- the macro that a definition defines, with its name and parameters as texts
 abbrev pub macro_of : Definition → PlainMacro
 macro_of definition = record { name = definition.name.text.now; parameters = option_map texts_of definition.parameters; body = definition.body }
 
@@ -141,6 +146,7 @@ One P _ = ⊥
 abbrev pub IsNamed : Text → Word → Type 0
 IsNamed name word = (is_name_kind word.kind ≡ true) × (word.text.now ≡ name)
 
+-- whether a word is a string literal or an include name between angle brackets, by its kind
 abbrev pub is_string_kind : Kind → Bool
 is_string_kind Str = true
 is_string_kind _ = false
@@ -178,6 +184,7 @@ SpellsNamed TaskLoop (Some keyword.Pragma) words = IsOwn (codes "task_loop") wor
 SpellsNamed OtherPragma (Some keyword.Pragma) words = IsOther words
 SpellsNamed _ _ words = ⊥
 
+-- the words behind `#` spell a directive: no words the null directive (C99 6.10.7), others one that the first names
 abbrev pub SpellsBehind : PlainDirective → List Word → Type 0
 SpellsBehind Null words = words ≡ []
 SpellsBehind directive (word ∷ words) = SpellsNamed directive (keyword_of word) words
@@ -200,10 +207,13 @@ abbrev pub DefinesBadly : Span → Span → List Word → Type 0
 DefinesBadly whole at [] = at ≡ whole
 DefinesBadly whole at (name ∷ words) = ((is_name_kind name.kind ≡ false) × (at ≡ whole)) ⊎ ((definition : Definition) × Defines definition (name ∷ words) × (is_bad definition ≡ true) × (at ≡ definition.name.at))
 
+-- the words behind the name of a directive are a bad definition; it is refused at `at`, where the
+-- directive has the place `whole`
 abbrev pub IsBadNamed : Span → Span → Option Keyword → List Word → Type 0
 IsBadNamed whole at (Some keyword.Define) words = DefinesBadly whole at words
 IsBadNamed whole at _ words = ⊥
 
+-- the words behind `#` are a bad definition; it is refused at `at`, where the directive has the place `whole`
 abbrev pub IsBadBehind : Span → Span → List Word → Type 0
 IsBadBehind whole at [] = ⊥
 IsBadBehind whole at (word ∷ words) = IsBadNamed whole at (keyword_of word) words
@@ -215,10 +225,12 @@ IsBadDefinition at (hash ∷ words) = (is_punctuator (codes "#") hash ≡ true) 
 
 -- ## Function-like macros
 
+-- the words behind the name of a directive begin the definition of a function-like macro
 abbrev pub IsFunctionLikeNamed : Option Keyword → List Word → Type 0
 IsFunctionLikeNamed (Some keyword.Define) words = IsFunctionLike words
 IsFunctionLikeNamed _ words = ⊥
 
+-- the words behind `#` begin the definition of a function-like macro
 abbrev pub IsFunctionLikeBehind : List Word → Type 0
 IsFunctionLikeBehind [] = ⊥
 IsFunctionLikeBehind (word ∷ words) = IsFunctionLikeNamed (keyword_of word) words
@@ -230,13 +242,16 @@ DefinesFunctionLike (hash ∷ words) = (is_punctuator (codes "#") hash ≡ true)
 
 -- ## What comes of a line
 
+-- what a directive line is: a directive, or refused in one of two ways
 pub data Outcome : Type 0 where
+  -- the directive that it spells
   Read : PlainDirective → Outcome
   -- an unknown directive, or one of another form
   BadForm : Outcome
   -- a bad definition, refused at this place
   BadDefinition : Span → Outcome
 
+-- the line has this outcome: it spells the directive, is a bad definition, or is neither
 abbrev pub IsOutcome : List Word → Outcome → Type 0
 IsOutcome line (Read directive) = Spells directive line
 IsOutcome line (BadDefinition at) = IsBadDefinition at line
@@ -254,11 +269,12 @@ pub record IsRefused (line : List Word) (refusal : Refusal) : Type 0 where
   pub is_outcome : IsOutcome line outcome
   pub refused : refusal_of (place_of line) outcome ≡ Some refusal
 
--- each line has one outcome
+-- the line has one outcome, and no other
 pub record OneOutcome (line : List Word) : Type 0 where
   pub outcome : Outcome
   pub is_outcome : IsOutcome line outcome
   pub only : (other : Outcome) → IsOutcome line other → other ≡ outcome
 
+-- each line has one outcome
 abbrev pub LinesHaveOneOutcome : Type 0
 LinesHaveOneOutcome = (line : List Word) → OneOutcome line

@@ -12,9 +12,11 @@ use Rattle.p10_direct.specs.declared.form.DirectFault.TheVariants.{Refused, Memo
 use Rattle.p10_direct.specs.Spelling.{is_punctuator}
 use Rattle.p10_direct.specs.Directives.{Definition, PlainMacro, PlainDirective, Null, Include, Define, Undef, If, Elif, Ifdef, Ifndef, Else, Endif, Once, InitDone, TaskLoop, OtherPragma, Outcome, Read, refusal_of, IsRefused, DefinesFunctionLike}
 
+-- a macro as a plain value
 abbrev pub plain_macro : Macro → PlainMacro
 plain_macro m = record { name = m.name.now; parameters = option_map (map (λ text. text.now)) m.params; body = m.body.now }
 
+-- the words of a definition as a plain value
 abbrev pub plain_definition : Borrowed → Definition
 plain_definition d = record { name = d.name; parameters = d.parameters; body = d.body.now }
 

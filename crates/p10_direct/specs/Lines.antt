@@ -15,6 +15,7 @@ abbrev pub piece_of : Line → Piece
 piece_of (Directive words) = DirectiveLine words.now
 piece_of (Text words) = TextRun words.now
 
+-- the words of a piece
 abbrev pub words_of : Piece → List Word
 words_of (DirectiveLine words) = words
 words_of (TextRun words) = words

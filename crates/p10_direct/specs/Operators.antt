@@ -66,6 +66,7 @@ sign_of token =
     else if is_mark (codes "!") token then Some Not
     else None
 
+-- the logical or bitwise operator that a word is between two operands (C99 6.5.10 to 6.5.14)
 unfoldable pub logical_of : Token → Option Binary
 logical_of token =
     if is_mark (codes "||") token then Some OrElse
@@ -75,6 +76,7 @@ logical_of token =
     else if is_mark (codes "&") token then Some (Apply And)
     else None
 
+-- the relational or equality operator that it is (C99 6.5.8, 6.5.9)
 unfoldable pub comparison_of : Token → Option Binary
 comparison_of token =
     if is_mark (codes "==") token then Some (Apply Eq)
@@ -85,6 +87,7 @@ comparison_of token =
     else if is_mark (codes ">=") token then Some (Apply Ge)
     else None
 
+-- the shift, additive or multiplicative operator that it is (C99 6.5.5 to 6.5.7)
 unfoldable pub arithmetical_of : Token → Option Binary
 arithmetical_of token =
     if is_mark (codes "<<") token then Some (Apply Shl)
@@ -96,6 +99,7 @@ arithmetical_of token =
     else if is_mark (codes "%") token then Some (Apply Rem)
     else None
 
+-- the first operator, or the other one where there is no first
 abbrev pub or_other : Option Binary → Option Binary → Option Binary
 or_other (Some op) other = Some op
 or_other None other = other

@@ -13,9 +13,11 @@ use Rattle.p10_direct.specs.Climbing.{Found, Start, Group, Sign, Lone, Nothing}
 unfoldable pub from : ℕ → List Word → List Token
 from place words = tokens_of (drop place words)
 
+-- a part that the code has read of these words: its value, its depth, and the words behind it
 abbrev pub found_of : List Word → Part → Found Value
 found_of words part = record { what = value_read part.value; depth = part.depth; rest = from part.place words }
 
+-- how an operand begins, as the code tells it
 abbrev pub start_read : Coded → Start
 start_read coded.Group = Group
 start_read (coded.Sign op) = Sign op

@@ -22,6 +22,7 @@ pub data Parameter : Type 0 where
   Last : Word → Parameter
   Further : Word → Parameter
 
+-- the parameter with which the words begin, by the word behind it; `...` may stand only before `)` (C99 6.10p1)
 abbrev pub parameter_of : List Word → Parameter
 parameter_of (word ∷ separator ∷ words) =
     if is_punctuator (codes ")") separator then (if is_name_kind word.kind || is_ellipsis word then Last word else No)
@@ -37,14 +38,17 @@ behind_parameters before (word ∷ separator ∷ words) =
     else Wrong
 behind_parameters before _ = Wrong
 
+-- the parameter list that goes on with these words behind its `(`
 abbrev pub parameters_of : List Word → Parameters
 parameters_of [] = Wrong
 parameters_of (word ∷ words) = if is_punctuator (codes ")") word then Listed [] words else behind_parameters [] (word ∷ words)
 
+-- whether the words behind the name of a macro begin with the `(` of a parameter list
 abbrev pub has_list : Word → List Word → Bool
 has_list name [] = false
 has_list name (word ∷ words) = opens_list name word
 
+-- the function-like definition with this name and parameter list; none where the list is wrong
 abbrev pub listed : Word → Parameters → Option Definition
 listed name Wrong = None
 listed name (Listed parameters body) = Some (record { name = name; parameters = Some parameters; body = body })
@@ -58,13 +62,17 @@ abbrev pub definition_read : List Word → Option Definition
 definition_read [] = None
 definition_read (name ∷ words) = if is_name_kind name.kind then defined_of name words else None
 
+-- what comes of a definition: its macro, or the refusal D4 at its name where it is a bad one
 abbrev pub judged : Definition → Outcome
 judged definition = if is_bad definition then BadDefinition definition.name.at else Read (Define (macro_of definition))
 
+-- what comes of a definition, or of words that are none, which are a bad form
 abbrev pub judged_or_wrong : Option Definition → Outcome
 judged_or_wrong None = BadForm
 judged_or_wrong (Some definition) = judged definition
 
+-- what comes of the words behind `define` in a directive with the place `whole`, at which it is refused
+-- if they begin with no name
 abbrev pub definition_of : Span → List Word → Outcome
 definition_of whole [] = BadDefinition whole
 definition_of whole (name ∷ words) = if is_name_kind name.kind then judged_or_wrong (defined_of name words) else BadDefinition whole
@@ -78,14 +86,17 @@ inside opening closing text =
     then Some (take (length text - 1 - 1) (drop 1 text))
     else None
 
+-- the include of this name between quotes, if there is one; else a bad form
 abbrev pub quoted_or_wrong : Option Text → Outcome
 quoted_or_wrong (Some name) = Read (Include name false)
 quoted_or_wrong None = BadForm
 
+-- the include of this name between angle brackets, if there is one, else of the name between quotes in the text
 abbrev pub include_between : Option Text → Text → Outcome
 include_between (Some name) text = Read (Include name true)
 include_between None text = quoted_or_wrong (inside 34 34 text)
 
+-- what comes of the words behind `include`: a name between angle brackets or quotes, and nothing more (C99 6.10.2p2, p3)
 abbrev pub include_of : List Word → Outcome
 include_of (word ∷ []) = if is_string_kind word.kind then include_between (inside 60 62 word.text.now) word.text.now else BadForm
 include_of _ = BadForm
@@ -95,6 +106,7 @@ abbrev pub only_name_of : List Word → Option Text
 only_name_of (word ∷ []) = if is_name_kind word.kind then Some word.text.now else None
 only_name_of _ = None
 
+-- the directive of this name, if there is one; else a bad form
 abbrev pub read_or_wrong : (Text → PlainDirective) → Option Text → Outcome
 read_or_wrong directive (Some name) = Read (directive name)
 read_or_wrong directive None = BadForm
@@ -103,18 +115,22 @@ read_or_wrong directive None = BadForm
 abbrev pub of_name : (Text → PlainDirective) → List Word → Outcome
 of_name directive words = read_or_wrong directive (only_name_of words)
 
+-- this directive, if no words stand behind its name; else a bad form
 abbrev pub alone : PlainDirective → List Word → Outcome
 alone directive [] = Read directive
 alone directive _ = BadForm
 
+-- what comes of the words behind `pragma p10`: `init_done` or `task_loop`, and nothing more
 abbrev pub own_of : List Word → Outcome
 own_of (word ∷ []) = if is_name (codes "init_done") word then Read InitDone else if is_name (codes "task_loop") word then Read TaskLoop else BadForm
 own_of _ = BadForm
 
+-- whether there are no words
 abbrev pub is_nil : List Word → Bool
 is_nil [] = true
 is_nil _ = false
 
+-- what comes of the words behind `pragma` (C99 6.10.6): a pragma of `p10`, `once` and nothing more, or any other pragma
 abbrev pub pragma_of : List Word → Outcome
 pragma_of [] = Read OtherPragma
 pragma_of (word ∷ words) =
@@ -122,6 +138,8 @@ pragma_of (word ∷ words) =
     else if is_name (codes "once") word && is_nil words then Read Once
     else Read OtherPragma
 
+-- what comes of the words behind the name of a directive with the place `whole`; a word that names
+-- none is refused (C99 6.10)
 abbrev pub named_outcome : Span → Option Keyword → List Word → Outcome
 named_outcome whole None words = BadForm
 named_outcome whole (Some keyword.Include) words = include_of words

@@ -8,10 +8,12 @@ use Rattle.p10_base.specs.declared.word.Word.{Word}
 abbrev pub Text : Type 0
 Text = List ℕ
 
+-- whether a word is an identifier or a keyword, by its kind (C99 6.4.1, 6.4.2)
 abbrev pub is_name_kind : Kind → Bool
 is_name_kind Name = true
 is_name_kind _ = false
 
+-- whether a word is a punctuator, by its kind (C99 6.4.6)
 abbrev pub is_punctuator_kind : Kind → Bool
 is_punctuator_kind Punct = true
 is_punctuator_kind _ = false

@@ -10,9 +10,11 @@ pub record Token : Type 0 where
   pub kind : Kind
   pub text : Text
 
+-- a word without its place
 abbrev pub token_of : Word → Token
 token_of word = record { kind = word.kind; text = word.text.now }
 
+-- words without their places
 abbrev pub tokens_of : List Word → List Token
 tokens_of words = map token_of words
 

@@ -24,6 +24,7 @@ abbrev pub type_of : Bool → IntType
 type_of false = LLong
 type_of true = ULLong
 
+-- the number that an operator gives, or None where it stops
 abbrev pub as_option : Result ℤ Stop → Option ℤ
 as_option (Ok z) = Some z
 as_option (Err stop) = None
@@ -34,6 +35,7 @@ constant_value c = record { unsigned = c.unsigned; value = Some c.value }
 
 -- ## Operators before their operand
 
+-- whether the operator is `!`
 abbrev pub is_not : UnOp → Bool
 is_not Not = true
 is_not _ = false
@@ -47,11 +49,13 @@ applied op v = record {
 
 -- ## Operators between two operands
 
+-- whether the operator is `<<` or `>>` (C99 6.5.7)
 abbrev pub is_shift : BinOp → Bool
 is_shift Shl = true
 is_shift Shr = true
 is_shift _ = false
 
+-- whether the operator is `<`, `>`, `<=`, `>=`, `==` or `!=` (C99 6.5.8, 6.5.9)
 abbrev pub is_comparison : BinOp → Bool
 is_comparison Lt = true
 is_comparison Gt = true
@@ -70,6 +74,8 @@ is_done_unsigned op left right = left || (not (is_shift op) && right)
 abbrev pub right_operand : BinOp → IntType → ℤ → ℤ
 right_operand op t y = if is_shift op then y else converted t y
 
+-- what an operator makes of two numbers in a type, to which they are converted first, but for the count of a
+-- shift; None where it stops
 abbrev pub operated : BinOp → IntType → ℤ → ℤ → Option ℤ
 operated op t x y = as_option (operate op t (converted t x) (right_operand op t y))
 
@@ -80,6 +86,7 @@ calculated op a b = record {
   value = option_and_then (λ x. option_and_then (operated op (type_of (is_done_unsigned op a.unsigned b.unsigned)) x) b.value) a.value;
 }
 
+-- whether a number is 0
 abbrev pub is_zero : ℤ → Bool
 is_zero z = int_eq z (pos 0)
 
@@ -97,6 +104,7 @@ abbrev pub or_value : Option ℤ → Option ℤ → Option ℤ
 or_value None right = None
 or_value (Some x) right = if is_zero x then option_map truth_value right else Some (pos 1)
 
+-- what an operator makes of the values on its sides; `&&` and `||` give a signed 0 or 1 (C99 6.5.13p3, 6.5.14p3)
 abbrev pub joined : Binary → Value → Value → Value
 joined (Apply op) a b = calculated op a b
 joined AndAlso a b = record { unsigned = false; value = and_value a.value b.value }
@@ -109,6 +117,7 @@ abbrev pub chosen_value : IntType → Option ℤ → Option ℤ → Option ℤ �
 chosen_value t None first second = None
 chosen_value t (Some x) first second = option_map (converted t) (if is_zero x then second else first)
 
+-- the value of `?:`, which is unsigned where one of its branches is (C99 6.5.15p5)
 abbrev pub chosen : Value → Value → Value → Value
 chosen test first second = record {
   unsigned = first.unsigned || second.unsigned;

@@ -11,8 +11,11 @@ use crate::{Line, Lines};
 use p10_base::{ListBuf, Word};
 use std::alloc::{AllocError, Global};
 
-/// The lines of a file with these words: directive lines, and runs of text between them. A line
-/// begins at the first word, and at each word that has `first` set.
+/// The lines of a file: directive lines, and runs of text between them; and the first place where its
+/// conditionals are unbalanced.
+///
+/// `words` are all words of the file, in their order. A line begins at the first word, and at each word
+/// that has `first` set. It fails only where memory is wanting.
 pub fn lines<'w, 's>(alloc: Global, words: &'w [Word<'s>]) -> Result<Lines<'w, 's>, AllocError>
     ensures cut { IfOk result (λ found. AreCut words.now (map piece_of found.lines)) }
     ensures unbalanced { IfOk result (λ found. found.unbalanced ≡ first_unbalanced (map piece_of found.lines)) }
@@ -48,7 +51,8 @@ fn first_line<'w, 's>(words: &'w [Word<'s>]) -> (Line<'w, 's>, &'w [Word<'s>])
     }
 }
 
-/// The words before the second line, and those from there on.
+/// The words of the first line, and those from the second line on. There is one word at least, with which
+/// the first line begins; the second begins at the next word that has `first` set.
 pub fn split_line<'w, 's>(words: &'w [Word<'s>]) -> (&'w [Word<'s>], &'w [Word<'s>])
     requires { 0 < length words.now }
     ensures value { (result.0.now, result.1.now) ≡ split (λ word. word.first) words.now }

@@ -34,7 +34,7 @@ enum Parameter<'s> {
     Further(Word<'s>),
 }
 
-/// Reads the words behind `#define` as a directive.
+/// Reads the words behind `#define` as a directive; `whole` is the place of its line.
 pub fn define<'w, 's>(
     alloc: Global,
     whole: Span,
@@ -56,6 +56,9 @@ pub fn define<'w, 's>(
 
 /// The definition that these words behind `#define` are, also one that is refused: a name, or a name
 /// with a parameter list directly behind it, and a replacement list (C99 6.10p1).
+///
+/// `words` go to the end of the line. `None` where they begin with no name, or with a parameter list of
+/// another form. It fails only where memory is wanting, which only a parameter list takes.
 pub fn read_definition<'w, 's>(
     alloc: Global,
     words: &'w [Word<'s>],

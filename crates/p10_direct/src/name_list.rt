@@ -32,7 +32,8 @@ impl<'s> Names<'s> {
         }
     }
 
-    /// Puts a name behind the others, unless it is there, and tells its place.
+    /// Puts a name behind the others, unless it is there, and tells its place, counted from 0. Where memory
+    /// is wanting nothing is put.
     pub fn add(&mut self, name: &'s [u8]) -> Result<usize, AllocError>
         ensures ok { OnOk result (self.new ≡ with_name self.old name.now) }
         ensures place { IfOk result (λ place. place_in self.new name.now ≡ Some place) }
@@ -56,7 +57,7 @@ impl<'s> Names<'s> {
         self.set.contains(name)
     }
 
-    /// The place of the name, counted from 0.
+    /// The place of the name, counted from 0; `None` where it isn't there.
     pub fn place(&self, name: &[u8]) -> Option<usize>
         ensures { result ≡ place_in self.now name.now }
     {

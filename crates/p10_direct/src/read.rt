@@ -14,8 +14,8 @@ use std::alloc::Global;
 /// The directive that a line spells, or its refusal: D1 at the directive for an unknown one or one
 /// of another form; D4 for a bad definition, at the defined name, or at the directive where it has none.
 ///
-/// The first word of `line` is `#`. A name that is defined with another list isn't told here. Memory
-/// may be wanting only where the line defines a function-like macro.
+/// `line` has the words of one directive line, from its `#` on. A name that is defined with another list
+/// isn't told here. Memory may be wanting only where the line defines a function-like macro.
 pub fn directive<'w, 's>(
     alloc: Global,
     line: &'w [Word<'s>],
@@ -32,7 +32,7 @@ pub fn one_outcome()
     ensures { LinesHaveOneOutcome }
 {}
 
-/// The place of a directive.
+/// The place of a directive: from its `#`, the first word of `line`, to the end of the last one.
 pub fn whole(line: &[Word<'_>]) -> Span
     requires { 0 < length line.now }
     ensures { result ≡ place_of line.now }
@@ -44,7 +44,7 @@ pub fn whole(line: &[Word<'_>]) -> Span
     }
 }
 
-/// The refusal of a directive that is unknown or of another form.
+/// The refusal of a directive with the place `whole` that is unknown or of another form.
 pub fn bad_form(whole: Span) -> DirectFault
     ensures { result ≡ fault_of 1 whole }
 {
@@ -93,7 +93,8 @@ fn read_named<'w, 's>(
     }
 }
 
-/// The text between two bytes that begin and end it.
+/// The text between its first byte and its last, where these are `opening` and `closing`; `None` where
+/// they are others, or the text has fewer than two bytes.
 pub fn between(text: &[u8], opening: u8, closing: u8) -> Option<&[u8]>
     ensures { option_copied result ≡ inside opening closing text.now }
 {
