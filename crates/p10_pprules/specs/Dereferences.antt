@@ -9,9 +9,11 @@ use Rattle.p10_pprules.specs.Units.{is_number_kind}
 abbrev pub ends_operand : Word → Bool
 ends_operand word = is_name_kind word.kind || is_number_kind word.kind || is_punctuator (codes ")") word || is_punctuator (codes "]") word
 
+-- whether a word is `*`, which may multiply or dereference (C99 6.5.5, 6.5.3.2)
 abbrev pub is_star : Word → Bool
 is_star word = is_punctuator (codes "*") word
 
+-- whether a word is `->`, which dereferences what stands before it (C99 6.5.2.3)
 abbrev pub is_arrow : Word → Bool
 is_arrow word = is_punctuator (codes "->") word
 

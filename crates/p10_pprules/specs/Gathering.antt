@@ -19,6 +19,7 @@ pub record GathersWords (words : List Word) (old new : List Definition) : Type 0
   pub is : IsDefinition words found
   pub grown : new ≡ old ++ option_to_list found
 
+-- whether a directive defines a macro, by its name, if it has one
 abbrev pub is_define : Option Keyword → Bool
 is_define (Some Define) = true
 is_define _ = false

@@ -5,22 +5,27 @@ use Rattle.p10_direct.specs.Spelling.{Text, is_punctuator}
 use Rattle.p10_pprules.specs.declared.bracket.Bracket.{Bracket}
 use Rattle.p10_pprules.specs.declared.bracket.Bracket.TheVariants.{Round, Square, Curly}
 
+-- the spelling of the bracket that begins a group
 abbrev pub opening_text : Bracket → Text
 opening_text Round = codes "("
 opening_text Square = codes "["
 opening_text Curly = codes "{"
 
+-- the spelling of the bracket that ends it
 abbrev pub closing_text : Bracket → Text
 closing_text Round = codes ")"
 closing_text Square = codes "]"
 closing_text Curly = codes "}"
 
+-- whether a word begins a group in these brackets
 abbrev pub opens : Bracket → Word → Bool
 opens bracket word = is_punctuator (opening_text bracket) word
 
+-- whether a word ends a group in these brackets
 abbrev pub closes : Bracket → Word → Bool
 closes bracket word = is_punctuator (closing_text bracket) word
 
+-- whether a word is a bracket of any kind
 abbrev pub is_bracket : Word → Bool
 is_bracket word = opens Round word || opens Square word || opens Curly word || closes Round word || closes Square word || closes Curly word
 

@@ -20,6 +20,8 @@ violation_if sub holds at = if holds then record { sub = sub; span = at } ∷ []
 
 -- ## Lines
 
+-- the violations by one obeyed directive, at its place: of 8.1, if it begins a conditional that is no include guard, and
+-- of 8.5, if it isn't allowed
 abbrev pub line_violations : Obeyed → List Violation
 line_violations line =
     violation_if (row 8 1) (begins_conditional (name_of line.words) && not line.guard) line.span
@@ -39,6 +41,7 @@ used_places names definition = filter_map (used_by names (texts_of (parameters_o
 abbrev pub has_number : List ℕ → ℕ → List ℕ → Bool
 has_number numbers number places = list_any (λ place. slice_index numbers place == number) places
 
+-- whether one of the places has the number of the macro at the place `own`, if there is one
 abbrev pub returns_from : List ℕ → List ℕ → Option ℕ → Bool
 returns_from numbers places None = false
 returns_from numbers places (Some own) = has_number numbers (slice_index numbers own) places
@@ -49,6 +52,8 @@ returns_to names numbers definition = returns_from numbers (used_places names de
 
 -- ## Definitions
 
+-- the violations of 8.2, 8.3, 8.4 and 9.2 by one definition, at its name; the macros have these names, and
+-- their components these numbers
 abbrev pub definition_violations : List Text → List ℕ → Definition → List Violation
 definition_violations names numbers definition =
     violation_if (row 8 2) (pastes definition) definition.name.at

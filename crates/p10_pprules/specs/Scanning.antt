@@ -12,6 +12,7 @@ use Rattle.p10_pprules.specs.Dereferences.{ends_operand, is_star, is_arrow}
 
 -- ## Groups
 
+-- what a word is to groups in brackets: it begins one, ends one, or neither
 abbrev pub side_of : Word → Side
 side_of word =
     if opens Round word then Opening Round
@@ -22,12 +23,14 @@ side_of word =
     else if closes Curly word then Closing Curly
     else Neither
 
+-- whether two brackets are of one kind
 abbrev pub is_same : Bracket → Bracket → Bool
 is_same Round Round = true
 is_same Square Square = true
 is_same Curly Curly = true
 is_same _ _ = false
 
+-- the open groups behind a bracket that ends one, the innermost first; None where it doesn't end the innermost one
 abbrev pub closed_by : Bracket → List Bracket → Option (List Bracket)
 closed_by bracket [] = None
 closed_by bracket (innermost ∷ pending) = if is_same bracket innermost then Some pending else None
@@ -55,29 +58,36 @@ behind_group bracket (word ∷ words) = if opens bracket word then behind_open (
 
 -- ## Unit forms
 
+-- whether a group was read, and no words stand behind it
 abbrev pub is_end : Option (List Word) → Bool
 is_end (Some []) = true
 is_end _ = false
 
+-- whether the words are one group in these brackets
 abbrev pub is_one_group : Bracket → List Word → Bool
 is_one_group bracket words = is_end (behind_group bracket words)
 
+-- whether the words are `-` and a number
 abbrev pub is_negative : List Word → Bool
 is_negative (minus ∷ number ∷ []) = is_punctuator (codes "-") minus && is_number_kind number.kind
 is_negative _ = false
 
+-- whether the words are a name and one group in `( )`, as a call is (C99 6.5.2.2)
 abbrev pub is_call : List Word → Bool
 is_call (name ∷ words) = is_name_kind name.kind && is_one_group Round words
 is_call [] = false
 
+-- whether a group was read, and the words behind it are `while (0)`
 abbrev pub then_while_zero : Option (List Word) → Bool
 then_while_zero (Some words) = is_while_zero words
 then_while_zero None = false
 
+-- whether the words are `do`, a group in `{ }` and `while (0)` (C99 6.8.5.2)
 abbrev pub is_do_while : List Word → Bool
 is_do_while (keyword ∷ words) = is_name (codes "do") keyword && then_while_zero (behind_group Curly words)
 is_do_while [] = false
 
+-- whether there is at most one word
 abbrev pub is_short : List Word → Bool
 is_short [] = true
 is_short (word ∷ []) = true
@@ -87,6 +97,7 @@ is_short _ = false
 abbrev pub is_long_unit : List Word → Bool
 is_long_unit words = is_one_group Round words || is_one_group Curly words || is_call words || is_do_while words
 
+-- whether the words are a complete unit
 abbrev pub is_unit : List Word → Bool
 is_unit words = is_short words || is_negative words || is_long_unit words
 

@@ -7,6 +7,7 @@ use Rattle.p10_direct.specs.Spelling.{Text, is_name, is_name_kind, is_punctuator
 use Rattle.p10_pprules.specs.declared.bracket.Bracket.TheVariants.{Round, Curly}
 use Rattle.p10_pprules.specs.Groups.{IsGroup}
 
+-- whether a word is an integer constant, by its kind (C99 6.4.4.1)
 abbrev pub is_number_kind : Kind → Bool
 is_number_kind Number = true
 is_number_kind _ = false

@@ -10,6 +10,7 @@ use Rattle.p10_pprules.specs.Units.{IsUnit}
 use Rattle.p10_pprules.specs.Recursion.{IsRecursive}
 use Rattle.p10_pprules.specs.Dereferences.{Dereferences}
 
+-- a row of a rule, by the number of the rule and its own in it: `row 8 4` is 8.4
 abbrev pub row : ℕ → ℕ → Sub
 row rule sub = record { rule = rule; sub = sub }
 
