@@ -23,6 +23,7 @@ abbrev pub directories_of : Option (List ℕ) → List (List ℕ)
 directories_of None = []
 directories_of (Some word) = directories_in word
 
+-- the names in a command that the code has read
 abbrev pub names_of : Verify → Names
 names_of v = record { directories = directories_of (option_map (λ word. word.now) v.include); certificate = v.certificate.now; sources = map string_bytes v.sources.now }
 
@@ -31,6 +32,7 @@ abbrev pub IncludeWords : List (List ℕ) → List (List ℕ) → Type 0
 IncludeWords [] option = option ≡ []
 IncludeWords directories option = (word : List ℕ) × (option ≡ codes "--include" ∷ word ∷ []) × (directories_in word ≡ directories)
 
+-- whether a list isn't empty
 abbrev pub has_some : {A : Type 0} → List A → Bool
 has_some [] = false
 has_some (x ∷ xs) = true
@@ -55,9 +57,11 @@ rest_of directories (option ∷ certificate ∷ sources) =
     then Some (record { directories = directories; certificate = certificate; sources = sources }) else None
 rest_of directories _ = None
 
+-- the names of a command with these directories, if each is a file name; `words` stand behind the option that gives them
 abbrev pub with_directories : List (List ℕ) → List (List ℕ) → Option Names
 with_directories directories words = if list_all is_file_name directories then rest_of directories words else None
 
+-- the names of a command by the words behind `verify`: `--include` and its directories may come first
 unfoldable pub options_of : List (List ℕ) → Option Names
 options_of (option ∷ word ∷ words) = if bytes_eq option (codes "--include") then with_directories (directories_in word) words else rest_of [] (option ∷ word ∷ words)
 options_of words = rest_of [] words

@@ -34,6 +34,7 @@ status_of NoMemory = 7
 abbrev pub beginning : Span
 beginning = record { file = 0; start = 0; end = 0 }
 
+-- the refusal S0 of sources that are no program that can be verified yet
 abbrev pub not_built : Refusal
 not_built = record { family = S; number = 0; span = beginning }
 
@@ -110,13 +111,15 @@ pub record Stopped (words : List (List ℕ)) (seen : Seen) (out_old out_new err_
   pub may : MaySay words seen saying
   pub taken : BothTakeFronts out_old out_new err_old err_new saying.out saying.err
 
--- the same, where the words are `verify` with these names
+-- the status and both texts of a right answer to `verify` with these names were given, and nothing else
 pub record ToldFor (names : Names) (seen : Seen) (out_old out_new err_old err_new : Option (List ℕ)) (status : ℕ) : Type 0 where
   pub saying : Saying
   pub may : SaysRight names seen saying
   pub status_is : status ≡ saying.status
   pub taken : BothTake out_old out_new err_old err_new saying.out saying.err
 
+-- an output failed while what is said for a right answer to `verify` with these names was written: each has
+-- taken a front of its text
 pub record StoppedFor (names : Names) (seen : Seen) (out_old out_new err_old err_new : Option (List ℕ)) : Type 0 where
   pub saying : Saying
   pub may : SaysRight names seen saying

@@ -68,7 +68,8 @@ fn names_directories(word: &str) -> bool
     names_file(rest)
 }
 
-/// The directories in which included files are looked for.
+/// The directories in which included files are looked for, in their order. `include` is the word behind the
+/// option `--include`, if that is given. It fails only where memory is wanting.
 pub fn directories(alloc: Global, include: Option<&str>) -> Result<Vec<String>, AllocError>
     ensures { IfOk result (λ found. map string_bytes found.items ≡ directories_of (option_map (λ word. word.now) include.entry)) }
 {

@@ -22,6 +22,9 @@ pub struct Decision {
 }
 
 /// The answer to `verify`.
+///
+/// # Errors
+/// A read failed, only where the count of faults of `files` rose; or memory is wanting.
 pub fn decide<F: Files>(
     alloc: Global,
     verify: &Verify<'_>,
