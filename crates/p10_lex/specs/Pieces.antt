@@ -63,8 +63,8 @@ pub record IsStray (after_include : Bool) (text rest : List ℕ) : Type 0 where
   pub not_splice : splice_length (byte ∷ rest) ≡ 0
   pub no_word : (kind : Kind) (word after : List ℕ) → byte ∷ rest ≡ word ++ after → IsLexeme after_include kind word → ⊥
 
--- What a piece is, where `rest` stands after its text. A word is the longest lexeme where no comment begins. `after_include` says that its line begins with `#`
--- and `include` and has no other word yet.
+-- What a piece is, where `rest` stands after its text. A word is the longest lexeme where no comment begins.
+-- `after_include` says that its line begins with `#` and `include` and has no other word yet.
 abbrev pub IsPiece : Bool → Piece → List ℕ → List ℕ → Type 0
 IsPiece after_include Blank text rest = (c : ℕ) × (text ≡ c ∷ []) × (is_blank c ≡ true)
 IsPiece after_include Splices text rest = AreSplices text × (splice_length rest ≡ 0)
