@@ -1,9 +1,11 @@
 //! The lines in which `p10` tells what it found.
 //!
-//! Entry points: [`put_refusal`], [`put_accepted`], [`put_failing`] and [`put_limit`] write one line
-//! each to a sink, without memory. Invariant: what a sink took of a line is always the line's front,
-//! and all of it at `Ok`. A line is written in several pieces, so the `wrote` of a fault counts bytes of
-//! the last piece alone. Which line is told, and to which sink, is left to the crates above.
+//! Entry points, each of which writes one line to a sink, without memory: [`put_refusal`],
+//! [`put_accepted`], [`put_failing`] and [`put_limit`] tell what was found in the sources; [`put_usage`],
+//! [`put_absent`], [`put_bad_certificate`], [`put_read_fault`] and [`put_out_of_memory`] tell why there is
+//! nothing to tell of them. Invariant: what a sink took of a line is always the line's front, and all of
+//! it at `Ok`. A line is written in several pieces, so the `wrote` of a fault counts bytes of the last
+//! piece alone. Which line is told, and to which sink, is left to the crates above.
 #![tactic(auto)]
 
 ghost use Rattle.std.specs.Prelude.{◌≤◌, OnErr, OnOk};
@@ -25,7 +27,8 @@ mod pieces;
 #[cfg(test)]
 mod tests;
 
-/// Writes the line of a refused source, `FILE:LINE:COLUMN: refused CODE: TEXT`.
+/// Writes the line of a refused source, `FILE:LINE:COLUMN: refused CODE: TEXT`. The place of the refusal
+/// `r` lies in the sources `s`, and its code is X1 to X6, D1 to D8, G1, or S0 to S30.
 ///
 /// The sink took the whole line at `Ok`.
 ///
@@ -45,7 +48,8 @@ pub fn put_refusal<O: Sink>(out: &mut O, s: &Sources, r: &Refusal) -> Result<(),
     put_reason(out, r.family, r.number)
 }
 
-/// Writes the line of an accepted program, `accepted: prefix P turn K calls C bytes B`.
+/// Writes the line of an accepted program, `accepted: prefix P turn K calls C bytes B`: its bounds `b` in
+/// steps, calls and bytes.
 ///
 /// The sink took the whole line at `Ok`.
 ///
@@ -64,7 +68,7 @@ pub fn put_accepted<O: Sink>(out: &mut O, b: &Bounds) -> Result<(), SinkFault>
 }
 
 /// Writes the line of a condition of the certificate that does not hold,
-/// `refused: KN FILE:LINE:COLUMN`, where `condition` is N.
+/// `refused: KN FILE:LINE:COLUMN`, where `condition` is N, and `at` is its place in the sources `s`.
 ///
 /// The sink took the whole line at `Ok`.
 ///
@@ -87,7 +91,7 @@ pub fn put_failing<O: Sink>(
     put_at(out, s, at)
 }
 
-/// Writes the line of a passed limit, `p10: limit MN`.
+/// Writes the line of a passed limit, `p10: limit MN`, where N is the limit's number.
 ///
 /// The sink took the whole line at `Ok`.
 ///

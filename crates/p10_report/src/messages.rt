@@ -9,7 +9,7 @@ ghost use Rattle.p10_report.specs.Stops.{StopsWithin};
 use crate::pieces::{put_bytes, put_labelled};
 use p10_world::{Sink, SinkFault};
 
-/// Writes the line of a command line of no command.
+/// Writes the line of a command line of no command, `p10: usage: ..`.
 ///
 /// # Errors
 ///
@@ -27,7 +27,7 @@ pub fn put_usage<O: Sink>(out: &mut O) -> Result<(), SinkFault>
     )
 }
 
-/// Writes the line of a file that isn't there, `p10: absent: NAME`.
+/// Writes the line of a file that isn't there, `p10: absent: NAME`, with the name by which it was asked for.
 ///
 /// # Errors
 ///
@@ -44,7 +44,8 @@ pub fn put_absent<O: Sink>(out: &mut O, name: &str) -> Result<(), SinkFault>
     put_bytes(out, b"\n")
 }
 
-/// Writes the line of a text that is no certificate's, `p10: certificate refused at line N`.
+/// Writes the line of a text that is no certificate's, `p10: certificate refused at line N`, where `line`,
+/// counted from 1, is N.
 ///
 /// # Errors
 ///
@@ -60,7 +61,7 @@ pub fn put_bad_certificate<O: Sink>(out: &mut O, line: u64) -> Result<(), SinkFa
     put_bytes(out, b"\n")
 }
 
-/// Writes the line of a read that failed.
+/// Writes the line of a read that failed, `p10: read fault`.
 ///
 /// # Errors
 ///
@@ -75,7 +76,7 @@ pub fn put_read_fault<O: Sink>(out: &mut O) -> Result<(), SinkFault>
     put_bytes(out, b"p10: read fault\n")
 }
 
-/// Writes the line of want of memory.
+/// Writes the line of want of memory, `p10: out of memory`.
 ///
 /// # Errors
 ///
