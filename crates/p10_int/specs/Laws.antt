@@ -25,21 +25,24 @@ pub record IsReduction (t : IntType) (z r : ℤ) : Type 0 where
   pub turns : ℤ
   pub congruent : z ≡ r +ℤ turns *ℤ pos (modulus_of t)
 
+-- reducing a number to a type gives such a value (C99 6.3.1.3)
 abbrev pub ReducesToRange : Type 0
 ReducesToRange = (t : IntType) (z : ℤ) → IsReduction t z (reduced t z)
 
--- conversion gives values of the type, and keeps those that it holds
+-- conversion gives values of the type (C99 6.3.1.2, 6.3.1.3)
 abbrev pub ConvertsToRange : Type 0
 ConvertsToRange = (t : IntType) (z : ℤ) → InRange t (converted t z)
 
+-- conversion keeps each value that the type has (C99 6.3.1.2, 6.3.1.3p1)
 abbrev pub ConversionKeepsValues : Type 0
 ConversionKeepsValues = (t : IntType) (z : ℤ) → InRange t z → converted t z ≡ z
 
--- what an operator gives is a value of the type
+-- what a binary operator gives is a value of the type
 abbrev pub ResultsAreInRange : Type 0
 ResultsAreInRange =
     (op : BinOp) (t : IntType) (a b r : ℤ) → InRange t a → IsRightOperand op t b → operate op t a b ≡ Ok r → InRange t r
 
+-- what a unary operator gives is a value of the type
 abbrev pub UnaryResultsAreInRange : Type 0
 UnaryResultsAreInRange = (op : UnOp) (t : IntType) (a r : ℤ) → InRange t a → operate_unary op t a ≡ Ok r → InRange t r
 
@@ -54,6 +57,7 @@ pub record IsRemainder (a b r : ℤ) : Type 0 where
   pub not_negative : pos 0 ≤ℤ a → pos 0 ≤ℤ r
   pub not_positive : a ≤ℤ pos 0 → r ≤ℤ pos 0
 
+-- what `%` gives at a type is such a remainder
 abbrev pub RemaindersAreSmall : Type 0
 RemaindersAreSmall = (t : IntType) (a b r : ℤ) → operate Rem t a b ≡ Ok r → IsRemainder a b r
 
@@ -72,10 +76,11 @@ pub record IsTruthValue (r : ℤ) : Type 0 where
   pub either : (r ≡ pos 1) ⊎ (r ≡ pos 0)
   pub of_int : InRange Int r
 
--- comparisons give truth values at every type of their operands, and so does `!`
+-- comparisons give truth values at every type of their operands (C99 6.5.8p6, 6.5.9p3)
 abbrev pub ComparisonsGiveTruthValues : Type 0
 ComparisonsGiveTruthValues = (op : BinOp) (t : IntType) (a b r : ℤ) → is_comparison op ≡ true → operate op t a b ≡ Ok r → IsTruthValue r
 
+-- `!` gives truth values at every type of its operand (C99 6.5.3.3p5)
 abbrev pub NegationGivesTruthValues : Type 0
 NegationGivesTruthValues = (t : IntType) (a r : ℤ) → operate_unary Not t a ≡ Ok r → IsTruthValue r
 
@@ -83,13 +88,15 @@ NegationGivesTruthValues = (t : IntType) (a r : ℤ) → operate_unary Not t a �
 abbrev pub IsSet : IntType → ℤ → ℕ → Type 0
 IsSet t z i = bit_at (pattern_of t z) i ≡ 1
 
--- the bits of the results (C99 6.5.10, 6.5.12, 6.5.11, 6.5.3.3): set where both are, where one or both are, where just one is, where the bit isn't
+-- the bits of the results of `&`, `|`, `^` and `~` (C99 6.5.10, 6.5.12, 6.5.11, 6.5.3.3): set where both are, where one or
+-- both are, where just one is, where the bit isn't
 pub record BitwiseByBits (t : IntType) (a b : ℤ) (i : ℕ) : Type 0 where
   pub and_bits : IsSet t (bitwise bit_and t a b) i ↔ (IsSet t a i × IsSet t b i)
   pub or_bits : IsSet t (bitwise bit_or t a b) i ↔ (IsSet t a i ⊎ IsSet t b i)
   pub xor_bits : IsSet t (bitwise bit_xor t a b) i ↔ ((IsSet t a i × ¬ IsSet t b i) ⊎ (¬ IsSet t a i × IsSet t b i))
   pub complement_bits : IsSet t (complement t a) i ↔ (¬ IsSet t a i)
 
+-- the results have these bits, for each bit of each type
 abbrev pub OperatesOnBits : Type 0
 OperatesOnBits = (t : IntType) (a b : ℤ) (i : ℕ) → i < width_of t → BitwiseByBits t a b i
 
