@@ -77,7 +77,7 @@ impl Sources {
         self.roots.len() as u32
     }
 
-    /// The name of the file, as it was given or as an include line made it.
+    /// The name of the file with this number, as it was given or as an include line made it.
     pub fn name(&self, file: u32) -> &str
         requires { file < count_of self.now }
         ensures { result.now ≡ name_of self.now file }
@@ -85,7 +85,7 @@ impl Sources {
         self.files[file as usize].name.as_str()
     }
 
-    /// The bytes of the file.
+    /// The bytes of the file with this number.
     pub fn text(&self, file: u32) -> &[u8]
         requires { file < count_of self.now }
         ensures { result.now ≡ text_of self.now file }
@@ -93,7 +93,7 @@ impl Sources {
         self.files[file as usize].text.as_slice()
     }
 
-    /// The file of root `i`.
+    /// The number of the file that is root `i`, counted from 0.
     pub fn root(&self, i: u32) -> u32
         requires { i < root_count self.now }
         ensures value { result ≡ root_of self.now i }
