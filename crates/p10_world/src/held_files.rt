@@ -32,7 +32,11 @@ impl HeldFiles {
         }
     }
 
-    /// Adds a file.
+    /// Adds a file, which stands before an older one of its name.
+    ///
+    /// # Errors
+    ///
+    /// Want of memory; the files are then as before.
     pub fn add(&mut self, name: String, bytes: Vec<u8>) -> Result<(), AllocError>
         ensures added { OnOk result (files_of self.new ≡ record { name = string_bytes name; bytes = bytes.items } ∷ files_of self.old) }
         ensures refused { OnErr result (files_of self.new ≡ files_of self.old) }

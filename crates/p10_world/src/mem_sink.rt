@@ -21,8 +21,12 @@ pub struct MemSink {
 impl MemSink {
     ghost use Rattle.p10_world.specs.MemSink.{faults_of, room_for, room_of, taken_of};
 
-    /// Nothing taken yet, and room for `capacity` bytes; with `fail_after` it fails after so many
-    /// bytes.
+    /// A sink that has taken nothing, with memory for `capacity` bytes. It takes that many bytes
+    /// at most, or `fail_after` where that is given and less; the put that brings more fails.
+    ///
+    /// # Errors
+    ///
+    /// Want of memory for `capacity` bytes.
     pub fn new(
         alloc: Global,
         capacity: usize,
