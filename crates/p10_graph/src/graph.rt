@@ -28,7 +28,7 @@ impl Graph {
     ghost use Rattle.std.specs.List.{All, Contains};
     ghost use Rattle.p10_graph.specs.Graphs.{Edge, IsGraph};
 
-    /// So many nodes, and no edges.
+    /// The graph of `count` nodes without edges. It fails only where memory is wanting.
     pub fn new(alloc: Global, count: u32) -> Result<Graph, AllocError>
         ensures { IfOk result (λ graph. graph ≡ replicate count []) }
     {
@@ -39,7 +39,8 @@ impl Graph {
         Ok(Graph { successors })
     }
 
-    /// The graph of so many nodes with these edges, each from its first node to its second.
+    /// The graph of `count` nodes with these edges, each from its first node to its second. It fails only
+    /// where memory is wanting.
     pub fn of(alloc: Global, count: u32, edges: &[(u32, u32)]) -> Result<Graph, AllocError>
         requires { All (λ edge. (edge.0 < count) × (edge.1 < count)) edges.now }
         ensures count { IfOk result (λ graph. length graph ≡ count) }
