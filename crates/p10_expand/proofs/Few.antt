@@ -34,7 +34,7 @@ use Rattle.p10_expand.specs.Headers.{header_of, stdint, stdbool, stddef, stdio, 
 use Rattle.p10_expand.specs.Skips.{is_obeyed}
 use Rattle.p10_expand.specs.Conditionals.{Judged, Judges, answered}
 use Rattle.p10_expand.specs.Items.{lines_of, onto_line, ends_line, item_name, is_among, new_words}
-use Rattle.p10_expand.specs.Obeying.{State, Ended, Goes, Refuses, Passes, Next, On, Enter, End, File, limit, refuse, words_before, begins_at, given_by, TextEnds, TextGives, RunGives, included, is_header, is_some_text, defined_as, DefinitionGives, DefineGives, judged_next, ConditionGives, mark_word, Does, Acts, breaks_at, listed, passed, ObeyedGives, LineGives}
+use Rattle.p10_expand.specs.Obeying.{State, Ended, Goes, Refuses, Passes, Next, On, Enter, End, File, limit, refuse, words_before, begins_at, TextEnds, TextGives, RunGives, included, is_header, is_some_text, defined_as, DefinitionGives, DefineGives, judged_next, ConditionGives, mark_word, Does, Acts, breaks_at, listed, passed, ObeyedGives, LineGives}
 use Rattle.p10_expand.specs.Expands.{Layout, Includes, GoesOn, Follows, LinesGive, counted, CountedGives, IncludeGives, Expansion, RootEnds, RootsGive, Expands, IsLaidOut, fresh, no_words, words_at}
 use Rattle.p10_expand.specs.Steps.{IsExpansion, expansion_of}
 use Rattle.p10_expand.proofs.Keeping.{each_front, each_back}
@@ -207,18 +207,13 @@ module _ (g : Gathered) where
   before_few at [] = omega arith
   before_few at (word ∷ words) = omega (arith, before_if (begins_at at word) (word ∷ words_before at words), before_few at words)
 
-  given_few : (count before : ℕ) (ending : Ending (List Sourced)) → Few count before ending → length (given_by ending) ≤ count
-  given_few count before (Gives made left) p = omega (arith, p.0, made_few made)
-  given_few count before (Refused number at) p = omega arith
-  given_few count before TooMany p = omega arith
-
   text_ends_few : (count : ℕ) (whole : List Word) (s : State) (words : List Word) (ending : Ending (List Sourced)) (next : Next) → length words ≤ length whole →
       StateFew count s → Few (length words + s.left) s.left ending → TextEnds s words ending next → NextFew count whole next
   text_ends_few count whole s words (Gives made left) next w h e is =
       subst (NextFew count whole) (sym is) (omega (arith, w, h, e.0, e.1, made_few made, length-append s.words (plain_words made)))
-  text_ends_few count whole s words (Refused number at) next w h e (before, ends, is) =
-      let out : length (given_by before) ≤ length (words_before at words) + s.left = given_few (length (words_before at words) + s.left) s.left before (run_few s.macros (words_before at words) s.left before ends) in
-      subst (NextFew count whole) (sym is) (omega (arith, w, h, out, before_few at words, length-append s.words (given_by before)))
+  text_ends_few count whole s words (Refused number at) next w h e (made, left, ends, is) =
+      let out = run_few s.macros (words_before at words) s.left (Gives made left) ends in
+      subst (NextFew count whole) (sym is) (omega (arith, w, h, out.0, made_few made, before_few at words, length-append s.words (plain_words made)))
   text_ends_few count whole s words TooMany next w h e is = subst (NextFew count whole) (sym is) tt
 
   text_few : (count : ℕ) (whole : List Word) (s : State) (words : List Word) (next : Next) → length words ≤ length whole → StateFew count s → TextGives s words next → NextFew count whole next

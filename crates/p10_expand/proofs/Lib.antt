@@ -32,4 +32,5 @@ pub mod PlainlyObeying
 pub mod Plainly
 pub mod Numbers
 pub mod PlainAnswers
+pub mod InOrder
 pub mod Before

@@ -58,7 +58,7 @@ match_both false p q both = q both
 
 text_ends_numbered : (s : State) (words : List Word) (ending : Ending (List Sourced)) (next : Next) → TextEnds s words ending next → EndNumbered ending → NextNumbered next
 text_ends_numbered s words (Gives made left) next is numbered = subst NextNumbered (sym is) tt
-text_ends_numbered s words (Refused number at) next (before, runs, is) numbered = subst NextNumbered (sym is) (refl, omega (arith, numbered), numbered.1)
+text_ends_numbered s words (Refused number at) next (made, left, runs, is) numbered = subst NextNumbered (sym is) (refl, omega (arith, numbered), numbered.1)
 text_ends_numbered s words TooMany next is numbered = subst NextNumbered (sym is) (inr (inl refl))
 
 text_numbered : (s : State) (words : List Word) (next : Next) → TextGives s words next → NextNumbered next

@@ -11,7 +11,7 @@ use Rattle.p10_direct.specs.Directives.{PlainMacro, PlainDirective, Null, Includ
 use Rattle.p10_macros.specs.declared.table.Definition.{Definition}
 use Rattle.p10_macros.specs.declared.table.Definition.TheVariants.{New, Same, Other}
 use Rattle.p10_macros.specs.Table.{Table, macro_named, same_macro}
-use Rattle.p10_macros.specs.Uses.{Sourced}
+use Rattle.p10_macros.specs.Uses.{Sourced, plain_words}
 use Rattle.p10_macros.specs.Endings.{Ending, Gives, Refused, TooMany}
 use Rattle.p10_macros.specs.Ends.{WordsEndInOneWay}
 use Rattle.p10_macros.specs.Answers.{Defines}
@@ -23,7 +23,7 @@ use Rattle.p10_expand.specs.Conditionals.{Judged, Judges, RunEnds}
 use Rattle.p10_direct.specs.Balance.{mark_of}
 use Rattle.p10_expand.specs.Skips.{is_obeyed}
 use Rattle.p10_expand.specs.Items.{is_among}
-use Rattle.p10_expand.specs.Obeying.{State, Ended, Goes, Refuses, Passes, Next, On, Enter, End, File, refuse, listed, passed, with_words, given_by, judged_next, TextEnds, TextGives, RunGives, DefinitionGives, DefineGives, ConditionGives, Does, Acts, ObeyedGives, DirectiveGives, LineGives, breaks_at}
+use Rattle.p10_expand.specs.Obeying.{State, Ended, Goes, Refuses, Passes, Next, On, Enter, End, File, refuse, listed, passed, words_before, with_words, judged_next, TextEnds, TextGives, RunGives, DefinitionGives, DefineGives, ConditionGives, Does, Acts, ObeyedGives, DirectiveGives, LineGives, breaks_at}
 use Rattle.p10_expand.specs.Expands.{Layout, Includes, GoesOn, Follows, LinesGive, CountedGives, FileGives, IncludeGives, Expansion, RootEnds, RootsGive, fresh, ExpansionsAreUnique}
 
 -- ## Tools
@@ -90,14 +90,18 @@ module _ (conditions : ConditionsAreUnique) where
   judges_once whole (Refused number at) this that p q = both p q
   judges_once whole TooMany this that p q = both p q
 
+same_given : {this that : List Sourced} {left remaining : ℕ} → Gives this left ≡ Gives that remaining → this ≡ that
+same_given e = cc
+
 module _ (ends : WordsEndInOneWay) where
   run_once : (macros : Table) (words : List Word) (left : ℕ) (this that : Ending (List Sourced)) → RunEnds macros words left this → RunEnds macros words left that → this ≡ that
   run_once macros words left this that p q = ends macros None _ left this that p q
 
   text_ends_once : (s : State) (words : List Word) (ending : Ending (List Sourced)) (this that : Next) → TextEnds s words ending this → TextEnds s words ending that → this ≡ that
   text_ends_once s words (Gives made left) this that p q = both p q
-  text_ends_once s words (Refused number at) this that p q =
-      given_once _ (λ before next. next ≡ refuse (with_words s (given_by before)) number at) (run_once _ _ _) (λ before x y. both) this that p q
+  text_ends_once s words (Refused number at) this that (made, left, ends, this_is) (other, remaining, others, that_is) =
+      let same : made ≡ other = same_given (run_once s.macros (words_before at words) s.left (Gives made left) (Gives other remaining) ends others) in
+      this_is ∙ ap (λ words. refuse (with_words s (plain_words words)) number at) same ∙ sym that_is
   text_ends_once s words TooMany this that p q = both p q
 
   text_once : (s : State) (words : List Word) (this that : Next) → TextGives s words this → TextGives s words that → this ≡ that

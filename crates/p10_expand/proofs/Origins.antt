@@ -29,7 +29,7 @@ use Rattle.p10_expand.specs.declared.expansion.stand.Stand.TheVariants.{Obeyed, 
 use Rattle.p10_expand.specs.Skips.{is_obeyed}
 use Rattle.p10_expand.specs.Conditionals.{Judged, Holds as Truth, Fails, Exceeds, Judges, answered, answered_at, asked_at}
 use Rattle.p10_expand.specs.Items.{lines_of, onto_line, ends_line, item_name, is_among, new_words}
-use Rattle.p10_expand.specs.Obeying.{State, Ended, Goes, Refuses, Passes, Next, On, Enter, End, File, limit, refuse, words_before, begins_at, given_by, with_words, TextEnds, TextGives, RunGives, operand_place, included, is_header, defined_as, DefinitionGives, DefineGives, judged_next, ConditionGives, mark_word, Does, Acts, breaks_at, listed, passed, ObeyedGives, LineGives}
+use Rattle.p10_expand.specs.Obeying.{State, Ended, Goes, Refuses, Passes, Next, On, Enter, End, File, limit, refuse, words_before, begins_at, with_words, TextEnds, TextGives, RunGives, operand_place, included, is_header, defined_as, DefinitionGives, DefineGives, judged_next, ConditionGives, mark_word, Does, Acts, breaks_at, listed, passed, ObeyedGives, LineGives}
 use Rattle.p10_expand.specs.Expands.{Layout, Includes, GoesOn, Follows, LinesGive, counted, CountedGives, IncludeGives, Expansion, RootEnds, RootsGive, Expands, IsLaidOut, fresh, no_words, words_at}
 use Rattle.p10_expand.specs.declared.expanded.Expanded.{Expanded}
 use Rattle.p10_expand.specs.declared.expansion.fault.ExpandFault.{ExpandFault}
@@ -195,11 +195,6 @@ module _ (g : Gathered) where
   given_come : (made : List Sourced) → EndingHolds kept (Gives made 0) → AllByRecursion Coming (plain_words made)
   given_come made p = each_weaker (Holds kept) Coming comes (plain_words made) (made_holds kept made p)
 
-  given_holds : (ending : Ending (List Sourced)) → EndingHolds kept ending → AllByRecursion Coming (given_by ending)
-  given_holds (Gives made left) p = given_come made p
-  given_holds (Refused number at) p = tt
-  given_holds TooMany p = tt
-
   more_words : (s : State) (words : List Word) (left : ℕ) → StateHolds s → AllByRecursion Coming words → StateHolds (record s { words = s.words ++ words; left = left })
   more_words s words left h p = record { macros = h.macros; words = each_joined Coming s.words words h.words p; obeyed = h.obeyed }
 
@@ -208,9 +203,9 @@ module _ (g : Gathered) where
 
   text_ends_hold : (s : State) (words : List Word) (ending : Ending (List Sourced)) (next : Next) → StateHolds s → AllByRecursion InText words → EndingHolds kept ending → TextEnds s words ending next → NextHolds next
   text_ends_hold s words (Gives made left) next h p e is = subst NextHolds (sym is) (more_words s (plain_words made) left h (given_come made e))
-  text_ends_hold s words (Refused number at) next h p e (before, ends, is) =
-      let out = given_holds before (run_holds kept s.macros (words_before at words) s.left before ends h.macros (before_hold at words p)) in
-      subst NextHolds (sym is) (with_holds s (given_by before) h out, use_lies at e)
+  text_ends_hold s words (Refused number at) next h p e (made, left, ends, is) =
+      let out = given_come made (run_holds kept s.macros (words_before at words) s.left (Gives made left) ends h.macros (before_hold at words p)) in
+      subst NextHolds (sym is) (with_holds s (plain_words made) h out, use_lies at e)
   text_ends_hold s words TooMany next h p e is = subst NextHolds (sym is) tt
 
   text_holds : (s : State) (words : List Word) (next : Next) → StateHolds s → AllByRecursion InText words → TextGives s words next → NextHolds next

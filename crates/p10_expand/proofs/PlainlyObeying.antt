@@ -18,7 +18,7 @@ use Rattle.p10_macros.specs.Table.{Table, macro_named, own_of}
 use Rattle.p10_macros.specs.Uses.{Sourced, plain_words}
 use Rattle.p10_macros.specs.Endings.{Ending, Gives, Refused, TooMany}
 use Rattle.p10_macros.specs.Ends.{Ends}
-use Rattle.p10_macros.proofs.Plainly.{bare_table, bare_ending, named_bare, without_bare, own_bare, defines_bare, plain_bare, written_bare, ends_bare}
+use Rattle.p10_macros.proofs.Plainly.{bare_table, bare_all, bare_ending, named_bare, without_bare, own_bare, defines_bare, plain_bare, written_bare, ends_bare}
 use Rattle.p10_expand.specs.declared.expanded.Obeyed.{Obeyed as ObeyedLine}
 use Rattle.p10_expand.specs.declared.expansion.digits.Digits.{Digits}
 use Rattle.p10_expand.specs.declared.expansion.stand.Stand.{Stand}
@@ -27,7 +27,7 @@ use Rattle.p10_expand.specs.Guards.{guarded_name, defines_as_nothing, closes_las
 use Rattle.p10_expand.specs.Skips.{is_obeyed, stand_behind, stand_of_group}
 use Rattle.p10_expand.specs.Conditionals.{is_defined, RunEnds, asked_inside, asked, asked_at, digit_at, answered_at, answered, Judged, Holds, Fails, Exceeds, Judges, JudgesCondition}
 use Rattle.p10_expand.specs.Items.{ends_line, onto_line, lines_of, item_name, is_among, given_after, new_words}
-use Rattle.p10_expand.specs.Obeying.{State, Ended, Goes, Refuses, Passes, Next, On, Enter, End, File, limit, refuse, begins_at, words_before, given_by, with_words, TextEnds, TextGives, ItemsGive, RunGives, operand_place, is_header, included, defined_as, DefinitionGives, DefineGives, judged_next, ConditionGives, mark_word, Does, Acts, is_place, breaks_at, begins_guard, listed, passed, ObeyedGives, DirectiveGives, LineGives}
+use Rattle.p10_expand.specs.Obeying.{State, Ended, Goes, Refuses, Passes, Next, On, Enter, End, File, limit, refuse, begins_at, words_before, with_words, TextEnds, TextGives, ItemsGive, RunGives, operand_place, is_header, included, defined_as, DefinitionGives, DefineGives, judged_next, ConditionGives, mark_word, Does, Acts, is_place, breaks_at, begins_guard, listed, passed, ObeyedGives, DirectiveGives, LineGives}
 
 -- ## What is known between two lines
 
@@ -134,21 +134,17 @@ before_bare : (at : Span) (words : List Word) → words_before at (bare_words wo
 before_bare at [] = refl
 before_bare at (word ∷ words) = cond_map bare_words (begins_at at word) _ _ _ _ refl (ap (λ others. bare word ∷ others) (before_bare at words))
 
-given_bare : (ending : Ending (List Sourced)) → bare_words (given_by ending) ≡ given_by (bare_ending ending)
-given_bare (Gives made left) = sym (plain_bare made)
-given_bare (Refused number at) = refl
-given_bare TooMany = refl
-
 with_bare : (s : State) (words : List Word) → bare_state (with_words s words) ≡ with_words (bare_state s) (bare_words words)
 with_bare s words = ap (λ (all : List Word). let new : State = record (bare_state s) { words = all } in new) (map-append bare s.words words)
 
 text_ends_bare : (s : State) (words : List Word) (ending : Ending (List Sourced)) (next : Next) → TextEnds s words ending next → TextEnds (bare_state s) (bare_words words) (bare_ending ending) (bare_next next)
 text_ends_bare s words (Gives made left) next is =
     ap bare_next is ∙ ap (λ (all : List Word). On Obeyed (record (bare_state s) { words = all; left = left })) (map-append bare s.words (plain_words made) ∙ ap (λ all. bare_words s.words ++ all) (sym (plain_bare made)))
-text_ends_bare s words (Refused number at) next (before, runs, is) = (
-  bare_ending before,
-  subst (λ (all : List Word). RunEnds (bare_table s.macros) all s.left (bare_ending before)) (sym (before_bare at words)) (run_bare s.macros _ s.left before runs),
-  ap bare_next is ∙ ap (λ state. refuse state number at) (with_bare s (given_by before) ∙ ap (with_words (bare_state s)) (given_bare before)),
+text_ends_bare s words (Refused number at) next (made, left, runs, is) = (
+  bare_all made,
+  left,
+  subst (λ (all : List Word). RunEnds (bare_table s.macros) all s.left (bare_ending (Gives made left))) (sym (before_bare at words)) (run_bare s.macros _ s.left (Gives made left) runs),
+  ap bare_next is ∙ ap (λ state. refuse state number at) (with_bare s (plain_words made) ∙ ap (with_words (bare_state s)) (sym (plain_bare made))),
 )
 text_ends_bare s words TooMany next is = ap bare_next is
 

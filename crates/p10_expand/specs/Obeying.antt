@@ -83,18 +83,14 @@ abbrev pub words_before : Span → List Word → List Word
 words_before at [] = []
 words_before at (word ∷ words) = if begins_at at word then [] else word ∷ words_before at words
 
-abbrev pub given_by : Ending (List Sourced) → List Word
-given_by (Gives made left) = plain_words made
-given_by _ = []
-
 abbrev pub with_words : State → List Word → State
 with_words s words = record s { words = s.words ++ words }
 
--- what comes of a run of text with this expansion; a refused one stands for the expansion of the words before the refused use
+-- what comes of a run of text with this expansion; a refused one stands for the replacement of the words before the refused use
 abbrev pub TextEnds : State → List Word → Ending (List Sourced) → Next → Type 0
 TextEnds s words (Gives made left) next = next ≡ On Obeyed (record s { words = s.words ++ plain_words made; left = left })
 TextEnds s words (Refused number at) next =
-    (before : Ending (List Sourced)) × RunEnds s.macros (words_before at words) s.left before × (next ≡ refuse (with_words s (given_by before)) number at)
+    (made : List Sourced) × (left : ℕ) × RunEnds s.macros (words_before at words) s.left (Gives made left) × (next ≡ refuse (with_words s (plain_words made)) number at)
 TextEnds s words TooMany next = next ≡ End (Passes (limit 4))
 
 -- a run of text stands for its expansion (C99 6.10.3)

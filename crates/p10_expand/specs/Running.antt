@@ -1,18 +1,18 @@
 -- What the functions on runs of text answer.
 use Rattle.std.specs.Prelude.{◌≡◌, ℕ, ◌≤◌, List, ◌∷◌, ◌++◌, length}
 use Rattle.p10_base.specs.declared.word.Word.{Word}
-use Rattle.p10_macros.specs.Uses.{Sourced}
-use Rattle.p10_macros.specs.Endings.{Ending}
+use Rattle.p10_macros.specs.Uses.{Sourced, plain_words}
+use Rattle.p10_macros.specs.Endings.{Gives}
 use Rattle.p10_direct.specs.Spelling.{Text}
 use Rattle.p10_macros.specs.Table.{Table}
 use Rattle.p10_expand.specs.declared.expansion.digits.Digits.{Digits}
 use Rattle.p10_expand.specs.Conditionals.{RunEnds, answered}
 use Rattle.p10_expand.specs.Items.{given_after, new_words}
-use Rattle.p10_expand.specs.Obeying.{State, given_by, with_words}
+use Rattle.p10_expand.specs.Obeying.{State, with_words}
 
--- the words before a refused use were expanded
+-- the words before a refused use were replaced, if they have a replacement
 abbrev pub GivesBefore : State → List Word → State → Type 0
-GivesBefore old before new = (ending : Ending (List Sourced)) × RunEnds old.macros before old.left ending × (new ≡ with_words old (given_by ending))
+GivesBefore old before new = (made : List Sourced) (left : ℕ) → RunEnds old.macros before old.left (Gives made left) → new ≡ with_words old (plain_words made)
 
 -- a line was put behind the words, unless its item was given before: whatever lines follow
 pub record PutsItem (out : List Word) (given : List Text) (line : List Word) (new : List Word) (new_given : List Text) : Type 0 where

@@ -10,7 +10,8 @@ pub fn expands_to_once()
     ensures { ExpandsToOnce }
 {}
 
-/// Where a run of a file's words is refused for a use of a macro, the words before that use have a replacement.
+/// Where a run of words, which come in order as those of a file do, is refused for a use of a macro, the words before that
+/// use have a replacement.
 pub fn words_before_give()
     ensures { WordsBeforeGive }
 {

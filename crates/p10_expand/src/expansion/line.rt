@@ -2,12 +2,13 @@
 
 ghost use Rattle.std.specs.Prelude.{◌≡◌, ◌+◌, ◌<◌, ◌≤◌, ◌^◌, OnOk, IfOk};
 ghost use Rattle.p10_base.specs.Gathered.{count_of};
-ghost use Rattle.p10_direct.specs.Lines.{piece_of, DirectiveLine};
+ghost use Rattle.p10_direct.specs.Lines.{piece_of, words_of, DirectiveLine};
 ghost use Rattle.p10_direct.specs.Balance.{mark_of};
 ghost use Rattle.p10_direct.specs.Form.{BeginsWithHash};
 ghost use Rattle.p10_expand.specs.Includes.{Begins};
 ghost use Rattle.p10_expand.specs.Skips.{is_obeyed, stand_behind};
 ghost use Rattle.p10_expand.specs.Obeying.{LineGives, DirectiveGives, ObeyedGives, listed, breaks_at};
+ghost use Rattle.p10_expand.specs.Before.{ComeInOrder};
 ghost use Rattle.p10_expand.specs.Steps.{Steps, state_of, file_of, KnowsBalance, EntersBelow, inner_of, inner_behind};
 
 use crate::expanded::Obeyed;
@@ -41,7 +42,7 @@ pub fn expand_line<'w, 's>(
     requires begins { Begins line.now }
     requires few { inner_of stand ≤ place }
     requires room { place + 1 < 2 ^ 64 }
-    ensures gives { Steps (LineGives sources.now digits.entry (file_of file.now) stand place (piece_of line.now) (state_of state.old)) result state.new }
+    ensures gives { ComeInOrder 0 (words_of (piece_of line.now)) → Steps (LineGives sources.now digits.entry (file_of file.now) stand place (piece_of line.now) (state_of state.old)) result state.new }
     ensures few { IfOk result (λ step. inner_behind step ≤ place + 1) }
     ensures entered { IfOk result (EntersBelow (count_of sources.now)) }
 {

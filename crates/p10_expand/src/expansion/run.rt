@@ -3,6 +3,7 @@
 ghost use Rattle.std.specs.Prelude.{◌≡◌, ◌++◌, ◌≤◌, length, take, OnOk, IfOk};
 ghost use Rattle.p10_expand.specs.Obeying.{words_before, RunGives, TextGives};
 ghost use Rattle.p10_expand.specs.Steps.{Steps, Stays, state_of};
+ghost use Rattle.p10_expand.specs.Before.{ComeInOrder};
 ghost use Rattle.p10_expand.specs.Running.{GivesBefore};
 
 use crate::expansion::fault::ExpandFault;
@@ -14,14 +15,14 @@ use p10_base::{Limit, Span, Word};
 use p10_macros::{ReplaceFault, Replaced, replace};
 use std::alloc::{AllocError, Global};
 
-/// Expands a run of text of a file, or of a built-in header.
+/// Expands a run of text of a file, or of a built-in header. Its words come in the order of their places.
 pub fn expand_run<'w, 's>(
     alloc: Global,
     built_in: bool,
     state: &mut State<'w, 's>,
     words: &[Word<'s>],
 ) -> Result<Step, ExpandFault>
-    ensures gives { Steps (RunGives built_in (state_of state.old) words.now) result state.new }
+    ensures gives { ComeInOrder 0 words.now → Steps (RunGives built_in (state_of state.old) words.now) result state.new }
     ensures stays { IfOk result Stays }
 {
     if built_in {
@@ -32,13 +33,13 @@ pub fn expand_run<'w, 's>(
     }
 }
 
-/// Expands words.
+/// Expands words that come in the order of their places.
 fn expand_text<'w, 's>(
     alloc: Global,
     state: &mut State<'w, 's>,
     words: &[Word<'s>],
 ) -> Result<Step, ExpandFault>
-    ensures gives { Steps (TextGives (state_of state.old) words.now) result state.new }
+    ensures gives { ComeInOrder 0 words.now → Steps (TextGives (state_of state.old) words.now) result state.new }
     ensures stays { IfOk result Stays }
 {
     match replace(alloc, &state.macros, words, state.left) {
@@ -57,7 +58,7 @@ fn expand_text<'w, 's>(
     }
 }
 
-/// Expands the words before a refused use at this place.
+/// Expands the words before a refused use at this place, if they have a replacement.
 fn expand_before<'w, 's>(
     alloc: Global,
     state: &mut State<'w, 's>,
@@ -73,7 +74,7 @@ fn expand_before<'w, 's>(
             Ok(())
         }
         Err(ReplaceFault::Memory) => Err(AllocError),
-        // These words have a replacement (the law `words_before_give`), so no other answer comes.
+        // Words that have a replacement end in no other way.
         Err(ReplaceFault::Refused(_)) => Ok(()),
         Err(ReplaceFault::TooMany) => Ok(()),
     }

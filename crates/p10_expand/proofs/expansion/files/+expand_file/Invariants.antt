@@ -3,6 +3,7 @@ use Rattle.p10_direct.specs.Lines.{piece_of}
 use Rattle.p10_expand.specs.Obeying.{Ended}
 use Rattle.p10_expand.specs.Expands.{LinesGive, FileGives, IncludeGives}
 use Rattle.p10_expand.specs.Steps.{layout_of, state_of, file_of, inner_of}
+use Rattle.p10_expand.proofs.InOrder.{PiecesInOrder}
 use Rattle.p10_expand.proofs.expansion.files.+expand_file.Given as goal
 
 abbrev pub decreases-expand_file : goal.decreases-expand_file
@@ -15,6 +16,7 @@ invariant-loop-place l =
     let includes = IncludeGives g (layout_of l.texts) l.nested in
     record {
       few : inner_of l.stand ≤ l.place;
+      ordered : PiecesInOrder (map piece_of (drop l.place l.line-items));
       leads : (ended : Ended) → LinesGive g (layout_of l.texts) includes (file_of l.file) l.stand l.place (map piece_of (drop l.place l.line-items)) (state_of l.state) ended
           → FileGives g (layout_of l.texts) includes l.number l.built_in (state_of l.fn.state) ended;
     }
