@@ -29,6 +29,7 @@ use crate::expansion::digits::Digits;
 use crate::expansion::files::expand_file;
 use crate::expansion::state::State;
 use crate::expansion::texts::Texts;
+use crate::includes::MOST_NESTED;
 pub use fault::ExpandFault;
 pub use laws::{expands_to_once, words_before_give};
 use p10_base::{ListBuf, Refusal, Sources, Word};
@@ -39,9 +40,6 @@ use std::alloc::{AllocError, Global};
 
 /// The most words of files and of replacements (M4).
 const MOST_WORDS: u64 = 1_048_576;
-
-/// The most nested includes (M3).
-const MOST_NESTED: u32 = 64;
 
 /// Expands a program: obeys its directives and replaces its macros (C99 6.10).
 ///

@@ -12,15 +12,12 @@ ghost use Rattle.p10_expand.specs.Standing.{FailsFirst, FindsFirst, Follows, Gro
 use crate::candidates::candidates;
 use crate::fault::{GatherFault, Trouble};
 use crate::gathering::Gathering;
+use crate::includes::MOST_NESTED;
 use crate::load::locate;
 use crate::place::Place;
 use p10_base::{Sources, TextBuf};
 use p10_world::Files;
 use std::alloc::{AllocError, Global};
-
-/// The longest chain of includes at whose end the include lines are followed; the file at the end of
-/// one more is gathered.
-const LONGEST_CHAIN: u32 = 64;
 
 /// The source files of a program with these roots: the roots in their order, and then, for each gathered
 /// file in order, the files for which its include lines stand, also those of skipped groups.
@@ -124,7 +121,7 @@ fn follow<F: Files>(
     ensures held { F.held files.new ≡ F.held files.old }
 {
     let known = state.known_of(file);
-    if known.depth > LONGEST_CHAIN {
+    if known.depth > MOST_NESTED {
         return Ok(());
     }
     let depth = known.depth + 1;
