@@ -19,8 +19,8 @@ use Rattle.p10_direct.specs.declared.keyword.Keyword.TheVariants as keyword
 use Rattle.p10_direct.specs.Balance.{mark_of}
 use Rattle.p10_direct.specs.Lines.{Piece, DirectiveLine, TextRun, IsPiece, AreCut, words_of}
 use Rattle.p10_direct.specs.Directives.{PlainMacro, PlainDirective, Null, Include, Define, Undef, If, Elif, Ifdef, Ifndef, Else, Endif, Once, InitDone, TaskLoop, OtherPragma, Outcome, Read, BadForm, BadDefinition, IsOutcome, place_of, enclosed, SpellsNamed, Spells}
-use Rattle.p10_macros.specs.declared.table.Definition.{Definition}
-use Rattle.p10_macros.specs.declared.table.Definition.TheVariants.{New, Same, Other}
+use Rattle.p10_macros.specs.declared.table.Effect.{Effect}
+use Rattle.p10_macros.specs.declared.table.Effect.TheVariants.{New, Same, Other}
 use Rattle.p10_macros.specs.Table.{Table}
 use Rattle.p10_macros.specs.Uses.{Sourced, plain_words}
 use Rattle.p10_macros.specs.Endings.{Ending, Gives, Refused, TooMany}
@@ -288,7 +288,7 @@ module _ (g : Gathered) where
   mark_few [] = omega arith
   mark_few (hash ∷ words) = omega arith
 
-  defined_few : (count : ℕ) (line : List Word) (s : State) (answer : Definition) (macros : Table) → StateFew count s → NextFew count line (defined_as line s answer macros)
+  defined_few : (count : ℕ) (line : List Word) (s : State) (answer : Effect) (macros : Table) → StateFew count s → NextFew count line (defined_as line s answer macros)
   defined_few count line s New macros h = next_if count line _ (End (Passes (limit 6))) (On Obeyed (record s { macros = macros })) tt (omega (arith, h))
   defined_few count line s Same macros h = omega (arith, h)
   defined_few count line s Other macros h = omega (arith, h)

@@ -11,8 +11,8 @@ use Rattle.p10_direct.specs.Spelling.{Text}
 use Rattle.p10_direct.specs.Lines.{Piece, DirectiveLine, TextRun}
 use Rattle.p10_direct.specs.Balance.{mark_of}
 use Rattle.p10_direct.specs.Directives.{PlainMacro, PlainDirective, Include, Define, If, Elif, Outcome, Read, BadForm, BadDefinition, place_of}
-use Rattle.p10_macros.specs.declared.table.Definition.{Definition}
-use Rattle.p10_macros.specs.declared.table.Definition.TheVariants.{New, Same, Other}
+use Rattle.p10_macros.specs.declared.table.Effect.{Effect}
+use Rattle.p10_macros.specs.declared.table.Effect.TheVariants.{New, Same, Other}
 use Rattle.p10_macros.specs.Table.{Table, own_of}
 use Rattle.p10_macros.specs.Uses.{Sourced}
 use Rattle.p10_macros.specs.Endings.{Ending, Gives, Refused, TooMany}
@@ -93,7 +93,7 @@ included_numbered : (g : Gathered) (line : List Word) (name : Text) (s : State) 
 included_numbered g line name s None = (refl, omega arith, omega arith)
 included_numbered g line name s (Some number) = next_if (is_among s.once (name_of g number)) (On Obeyed s) (Enter number (is_header g number name) s) tt tt
 
-defined_numbered : (line : List Word) (s : State) (answer : Definition) (macros : Table) → NextNumbered (defined_as line s answer macros)
+defined_numbered : (line : List Word) (s : State) (answer : Effect) (macros : Table) → NextNumbered (defined_as line s answer macros)
 defined_numbered line s New macros = next_if (nat_lt 8192 (own_of macros)) (End (Passes (limit 6))) (On Obeyed (record s { macros = macros })) (inr (inr refl)) tt
 defined_numbered line s Same macros = tt
 defined_numbered line s Other macros = (refl, omega arith, omega arith)

@@ -8,8 +8,8 @@ use Rattle.p10_direct.specs.Values.{is_zero}
 use Rattle.p10_direct.specs.Conditions.{Condition, HasTruth, ConditionsAreUnique, value_of}
 use Rattle.p10_direct.specs.Lines.{Piece, DirectiveLine, TextRun, LinesAreUnique}
 use Rattle.p10_direct.specs.Directives.{PlainMacro, PlainDirective, Null, Include, Define, Undef, If, Elif, Ifdef, Ifndef, Else, Endif, Once, InitDone, TaskLoop, OtherPragma, Outcome, Read, BadForm, BadDefinition, IsOutcome, LinesHaveOneOutcome}
-use Rattle.p10_macros.specs.declared.table.Definition.{Definition}
-use Rattle.p10_macros.specs.declared.table.Definition.TheVariants.{New, Same, Other}
+use Rattle.p10_macros.specs.declared.table.Effect.{Effect}
+use Rattle.p10_macros.specs.declared.table.Effect.TheVariants.{New, Same, Other}
 use Rattle.p10_macros.specs.Table.{Table, macro_named, same_macro}
 use Rattle.p10_macros.specs.Uses.{Sourced, plain_words}
 use Rattle.p10_macros.specs.Endings.{Ending, Gives, Refused, TooMany}
@@ -49,7 +49,7 @@ none_is_some : {A : Type 0} (known : Option A) (P : A → Type 0) → known ≡ 
 none_is_some None P e p = p
 none_is_some (Some x) P e p = cc
 
-pub defines_once : (old : Table) (made : PlainMacro) (built_in : Bool) (this that : Definition) (one other : Table) → Defines old made built_in this one → Defines old made built_in that other → (this ≡ that) × (one ≡ other)
+pub defines_once : (old : Table) (made : PlainMacro) (built_in : Bool) (this that : Effect) (one other : Table) → Defines old made built_in this one → Defines old made built_in that other → (this ≡ that) × (one ≡ other)
 defines_once old made built_in New New one other p q = (refl, both p.1 q.1)
 defines_once old made built_in New Same one other p q = absurd (none_is_some (macro_named made.name old) _ p.0 q.0)
 defines_once old made built_in New Other one other p q = absurd (none_is_some (macro_named made.name old) _ p.0 q.0)

@@ -15,9 +15,9 @@ use Rattle.p10_direct.specs.declared.keyword.Keyword.{Keyword}
 use Rattle.p10_direct.specs.declared.keyword.Keyword.TheVariants as keyword
 use Rattle.p10_direct.specs.Balance.{mark_of}
 use Rattle.p10_direct.specs.Lines.{Piece, DirectiveLine, TextRun, IsPiece, AreCut, words_of}
-use Rattle.p10_direct.specs.Directives.{PlainMacro, PlainDirective, Null, Include, Define, Undef, If, Elif, Ifdef, Ifndef, Else, Endif, Once, InitDone, TaskLoop, OtherPragma, Outcome, Read, BadForm, BadDefinition, IsOutcome, place_of, Definition as Defined, Continues, IsList, DefinesBehind, Defines as DefinesWords, SpellsNamed, SpellsBehind, Spells, IsBadNamed, IsBadBehind, IsBadDefinition}
-use Rattle.p10_macros.specs.declared.table.Definition.{Definition}
-use Rattle.p10_macros.specs.declared.table.Definition.TheVariants.{New, Same, Other}
+use Rattle.p10_direct.specs.Directives.{PlainMacro, PlainDirective, Null, Include, Define, Undef, If, Elif, Ifdef, Ifndef, Else, Endif, Once, InitDone, TaskLoop, OtherPragma, Outcome, Read, BadForm, BadDefinition, IsOutcome, place_of, Definition, Continues, IsList, DefinesBehind, Defines as DefinesWords, SpellsNamed, SpellsBehind, Spells, IsBadNamed, IsBadBehind, IsBadDefinition}
+use Rattle.p10_macros.specs.declared.table.Effect.{Effect}
+use Rattle.p10_macros.specs.declared.table.Effect.TheVariants.{New, Same, Other}
 use Rattle.p10_macros.specs.Table.{Entry, Table}
 use Rattle.p10_macros.specs.Uses.{Sourced, plain_words}
 use Rattle.p10_macros.specs.Endings.{Ending, Gives, Refused, TooMany}
@@ -332,7 +332,7 @@ module _ (g : Gathered) where
   body_holds name (Some parameters) body [] d p = absurd d
   body_holds name (Some parameters) body (paren ∷ words) d p = list_holds parameters words body d.2 p.1
 
-  definition_holds : (definition : Defined) (words : List Word) → DefinesWords definition words → AllByRecursion Written words → AllByRecursion Written definition.body
+  definition_holds : (definition : Definition) (words : List Word) → DefinesWords definition words → AllByRecursion Written words → AllByRecursion Written definition.body
   definition_holds definition [] d p = absurd d
   definition_holds definition (name ∷ words) d p = body_holds name definition.parameters definition.body words d.2 p.1
 
@@ -381,7 +381,7 @@ module _ (g : Gathered) where
   bad_lies at [] l is = absurd l
   bad_lies at (hash ∷ words) l is = bad_behind_lies (place_of (hash ∷ words)) at words (place_lies (hash ∷ words) l) l.1 is.1
 
-  table_holds : (old new : Table) (made : PlainMacro) (built_in : Bool) (answer : Definition) → TableHolds kept old → MacroHolds kept made → Defines old made built_in answer new → TableHolds kept new
+  table_holds : (old new : Table) (made : PlainMacro) (built_in : Bool) (answer : Effect) → TableHolds kept old → MacroHolds kept made → Defines old made built_in answer new → TableHolds kept new
   table_holds old new made built_in New t b d =
       subst (TableHolds kept) (sym d.1) (each_joined (λ (entry : Entry). MacroHolds kept entry.made) old (record { made = made; builtin = built_in } ∷ []) t (b, tt))
   table_holds old new made built_in Same t b d = subst (TableHolds kept) (sym d.1) t
@@ -390,7 +390,7 @@ module _ (g : Gathered) where
   with_macros : (s : State) (macros : Table) → StateHolds s → TableHolds kept macros → StateHolds (record s { macros = macros })
   with_macros s macros h t = record { macros = t; words = h.words; obeyed = h.obeyed }
 
-  defined_holds : (line : List Word) (s : State) (answer : Definition) (macros : Table) → StateHolds s → LineHolds line → TableHolds kept macros → NextHolds (defined_as line s answer macros)
+  defined_holds : (line : List Word) (s : State) (answer : Effect) (macros : Table) → StateHolds s → LineHolds line → TableHolds kept macros → NextHolds (defined_as line s answer macros)
   defined_holds line s New macros h l t = next_if _ (End (Passes (limit 6))) (On Obeyed (record s { macros = macros })) tt (with_macros s macros h t)
   defined_holds line s Same macros h l t = with_macros s macros h t
   defined_holds line s Other macros h l t = (h, operand_lies line l)

@@ -12,8 +12,8 @@ use Rattle.p10_direct.specs.Balance.{mark_of}
 use Rattle.p10_direct.specs.Directives.{PlainMacro, PlainDirective, Null, Include, Define, Undef, If, Elif, Ifdef, Ifndef, Else, Endif, Once, InitDone, TaskLoop, OtherPragma, Outcome, Read, BadForm, BadDefinition, place_of, texts_of}
 use Rattle.p10_direct.specs.Conditions.{HasTruth}
 use Rattle.p10_direct.proofs.Plainly.{bare, bare_words, bare_piece, bare_macro, bare_directive, bare_outcome, cond_map, mark_bare, marks_bare, unbalanced_bare, place_bare, outcome_bare, truth_bare, truth_of_bare}
-use Rattle.p10_macros.specs.declared.table.Definition.{Definition}
-use Rattle.p10_macros.specs.declared.table.Definition.TheVariants.{New, Same, Other}
+use Rattle.p10_macros.specs.declared.table.Effect.{Effect}
+use Rattle.p10_macros.specs.declared.table.Effect.TheVariants.{New, Same, Other}
 use Rattle.p10_macros.specs.Table.{Table, macro_named, own_of}
 use Rattle.p10_macros.specs.Uses.{Sourced, plain_words}
 use Rattle.p10_macros.specs.Endings.{Ending, Gives, Refused, TooMany}
@@ -211,7 +211,7 @@ included_bare g line name s (Some number) = sym (cond_map bare_next (is_among s.
 
 -- ## Definitions
 
-defined_as_bare : (line : List Word) (s : State) (answer : Definition) (macros : Table) → bare_next (defined_as line s answer macros) ≡ defined_as (bare_words line) (bare_state s) answer (bare_table macros)
+defined_as_bare : (line : List Word) (s : State) (answer : Effect) (macros : Table) → bare_next (defined_as line s answer macros) ≡ defined_as (bare_words line) (bare_state s) answer (bare_table macros)
 defined_as_bare line s New macros =
     sym (ap (λ n. cond (nat_lt 8192 n) (End (Passes (limit 6))) (On Obeyed (record (bare_state s) { macros = bare_table macros }))) (own_bare macros)
     ∙ cond_map bare_next (nat_lt 8192 (own_of macros)) (End (Passes (limit 6))) (On Obeyed (record s { macros = macros })) _ _ refl refl)

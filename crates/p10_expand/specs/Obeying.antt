@@ -11,8 +11,8 @@ use Rattle.p10_direct.specs.Lines.{Piece, DirectiveLine, TextRun}
 use Rattle.p10_direct.specs.Balance.{mark_of, first_unbalanced}
 use Rattle.p10_direct.specs.Directives.{PlainMacro, PlainDirective, Null, Include, Define, Undef, If, Elif, Ifdef, Ifndef, Else, Endif, Once, InitDone, TaskLoop, OtherPragma, Outcome, Read, BadForm, BadDefinition, IsOutcome, place_of}
 use Rattle.p10_direct.specs.Reading.{inside}
-use Rattle.p10_macros.specs.declared.table.Definition.{Definition}
-use Rattle.p10_macros.specs.declared.table.Definition.TheVariants.{New, Same, Other}
+use Rattle.p10_macros.specs.declared.table.Effect.{Effect}
+use Rattle.p10_macros.specs.declared.table.Effect.TheVariants.{New, Same, Other}
 use Rattle.p10_macros.specs.Table.{Table, without_macro, own_of}
 use Rattle.p10_macros.specs.Uses.{Sourced, plain_words}
 use Rattle.p10_macros.specs.Endings.{Ending, Gives, Refused, TooMany}
@@ -132,14 +132,14 @@ included g line name s (Some number) =
 
 -- what comes of a definition with this effect on the macros (C99 6.10.3p2): none where the name has the same definition; it is
 -- refused where the name has another one
-abbrev pub defined_as : List Word → State → Definition → Table → Next
+abbrev pub defined_as : List Word → State → Effect → Table → Next
 defined_as line s New macros = if nat_lt 8192 (own_of macros) then End (Passes (limit 6)) else On Obeyed (record s { macros = macros })
 defined_as line s Same macros = On Obeyed (record s { macros = macros })
 defined_as line s Other macros = refuse s 4 (operand_place line)
 
 abbrev pub DefinitionGives : Bool → List Word → PlainMacro → State → Next → Type 0
 DefinitionGives built_in line made s next =
-    (answer : Definition) × (macros : Table) × Defines s.macros made built_in answer macros × (next ≡ defined_as line s answer macros)
+    (effect : Effect) × (macros : Table) × Defines s.macros made built_in effect macros × (next ≡ defined_as line s effect macros)
 
 -- a definition of a built-in header is an item, which is given once
 abbrev pub ItemGives : List Word → PlainMacro → State → Next → Type 0

@@ -314,9 +314,9 @@ module _ (slice old new : List Part) (set number set' : ℕ) (read : slice ≡ o
         part : IsPart new set' block (bit_or bits own) lower
         part = put top less
 
-    pub one_below : (middle : List Part) (next : ℕ) → number / 64 < block → Grows old middle → Grows middle new → (lower ≤ length old → HasOneMore old lower number middle next) →
+    pub one_below : (middle : List Part) (next : ℕ) → number / 64 < block → Grows old middle → Grows middle new → HasOneMore old lower number middle next →
         (IsPart middle set block bits lower → next ≤ length middle → IsPart new set' block bits next) → HasOneMore old set number new set'
-    one_below middle next less grown grown' under put = record {
+    one_below middle next less grown grown' has_it put = record {
       known = part.known;
       one = λ other.
           part.holds other
@@ -325,9 +325,6 @@ module _ (slice old new : List Part) (set number set' : ℕ) (read : slice ≡ o
           ∙ ap (λ (b : Bool). b || other == number) (sym (top.holds other));
     }
       where
-        has_it : HasOneMore old lower number middle next
-        has_it = under (omega (arith, top.known, top.older))
-
         part : IsPart new set' block bits next
         part = put (part_more old middle grown set block bits lower top) has_it.known
 

@@ -5,8 +5,14 @@ pub mod Steps
 pub mod SetsOfMacros
 pub mod Links
 pub mod Parts
+pub mod Results
+pub mod Growing
+pub mod Uniting
 pub mod Putting
-pub mod Parameters
+pub mod ByParameter
+pub mod PlacesThat
+pub mod Chosen
+pub mod Replacing
 pub mod Standings
 pub mod Calling
 pub mod Lookups

@@ -24,7 +24,7 @@ use Rattle.p10_macros.specs.Traces.{IsTraced, AreTraced, AreValues}
 use Rattle.p10_macros.specs.Standing.{IsOpen, Stands, StandsBy, Role, NextWord, EndsArgument, EndsCall, role_of, place_among, State, Represents, Plays, NoneOutside, KeepsFor, given_with, done_with, LeadsTo, AdvancesBy, FaultComes, FailsBy, IsReplacedIn, IsTooLong, IsOpenedIn}
 use Rattle.p10_macros.specs.Putting.{Puts}
 use Rattle.p10_macros.specs.Looking.{macro_used, refusal_at}
-use Rattle.p10_macros.proofs.Putting.{all_traced_more}
+use Rattle.p10_macros.proofs.Growing.{all_traced_more}
 use Rattle.p10_macros.proofs.Steps.{behind_one_more, step_given, step_stays, step_refused, step_replaced, step_too_long, step_opened, step_next, step_closed, step_closed_too_long, opened}
 use Rattle.p10_macros.proofs.Standings.{stop_within, at_stop, stands_more, stands_put, has_next, HasNext, next_opens_is, place_is, SamePlace, same_place}
 use Rattle.p10_macros.proofs.Lookups.{stays_where}

@@ -7,8 +7,8 @@ use Rattle.p10_base.specs.declared.word.Word.{Word}
 use Rattle.p10_direct.specs.Spelling.{Text, is_name, is_name_kind}
 use Rattle.p10_direct.specs.Directives.{PlainMacro}
 use Rattle.p10_direct.proofs.Plainly.{bare, bare_words, bare_macro, cond_map}
-use Rattle.p10_macros.specs.declared.table.Definition.{Definition}
-use Rattle.p10_macros.specs.declared.table.Definition.TheVariants.{New, Same, Other}
+use Rattle.p10_macros.specs.declared.table.Effect.{Effect}
+use Rattle.p10_macros.specs.declared.table.Effect.TheVariants.{New, Same, Other}
 use Rattle.p10_macros.specs.Table.{Entry, Table, macro_named, same_word, same_words, same_parameters, same_macro, without_macro, own_of}
 use Rattle.p10_macros.specs.Uses.{Sourced, written, plain_words, Arguments, opens, closes, separates, depth_behind, word_before, argument_before, arguments_in, fitting, Use, Stays, Wrong, Calls, fitted, called, unless_recursive, use_as, use_by, use_of, given, value_of, value_or, texts_of, replacement}
 use Rattle.p10_macros.specs.Endings.{Ending, Gives, Refused, TooMany, after, behind_word, behind_argument}
@@ -63,7 +63,7 @@ held_bare : (old : Table) (made : PlainMacro) (b : Bool) → IsSomeAnd (macro_na
 held_bare old made b is = subst (λ known. IsSomeAnd known (λ other. same_macro other (bare_macro made) ≡ b)) (sym (named_bare made.name old)) (known_bare (macro_named made.name old) made b is)
 
 -- a definition has the same effect
-pub defines_bare : (old : Table) (made : PlainMacro) (builtin : Bool) (answer : Definition) (new : Table) → Defines old made builtin answer new → Defines (bare_table old) (bare_macro made) builtin answer (bare_table new)
+pub defines_bare : (old : Table) (made : PlainMacro) (builtin : Bool) (answer : Effect) (new : Table) → Defines old made builtin answer new → Defines (bare_table old) (bare_macro made) builtin answer (bare_table new)
 defines_bare old made builtin New new (none, more) = (named_bare made.name old ∙ ap (option_map bare_macro) none, ap bare_table more ∙ map-append bare_entry old _)
 defines_bare old made builtin Same new (some, as_before) = (held_bare old made true some, ap bare_table as_before)
 defines_bare old made builtin Other new (some, as_before) = (held_bare old made false some, ap bare_table as_before)

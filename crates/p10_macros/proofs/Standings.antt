@@ -16,7 +16,7 @@ use Rattle.p10_macros.specs.Putting.{ArePut}
 use Rattle.p10_macros.specs.Looking.{opens_on_top}
 use Rattle.std.proofs.lemmas.Bool.Decides.{nat_tests}
 use Rattle.p10_macros.proofs.Links.{closes_only, separates_only, call_at_most}
-use Rattle.p10_macros.proofs.Putting.{traced_more, all_traced_more, values_more}
+use Rattle.p10_macros.proofs.Growing.{traced_more, all_traced_more, values_more}
 
 -- ## More origins
 

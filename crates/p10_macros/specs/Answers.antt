@@ -5,8 +5,8 @@ use Rattle.p10_base.specs.declared.report.Family.TheVariants.{D}
 use Rattle.p10_direct.specs.Form.{plain_macro}
 use Rattle.p10_macros.specs.declared.table.Macros.{Macros}
 use Rattle.p10_macros.specs.declared.known.Known.{Known}
-use Rattle.p10_macros.specs.declared.table.Definition.{Definition}
-use Rattle.p10_macros.specs.declared.table.Definition.TheVariants.{New, Same, Other}
+use Rattle.p10_macros.specs.declared.table.Effect.{Effect}
+use Rattle.p10_macros.specs.declared.table.Effect.TheVariants.{New, Same, Other}
 use Rattle.p10_macros.specs.declared.replaced.Replaced.{Replaced}
 use Rattle.p10_macros.specs.declared.replaced.ReplaceFault.{ReplaceFault}
 use Rattle.p10_macros.specs.declared.replaced.ReplaceFault.TheVariants as fault
@@ -16,6 +16,7 @@ use Rattle.p10_macros.specs.Uses.{Sourced, written, plain_words}
 use Rattle.p10_macros.specs.Endings.{Gives, Refused, TooMany}
 use Rattle.p10_macros.specs.Ends.{Ends}
 
+-- an entry of the table, as it is kept
 abbrev pub entry_of : Known → Entry
 entry_of known = record { made = plain_macro known.made; builtin = known.builtin }
 
@@ -24,7 +25,7 @@ abbrev pub table_of : Macros → Table
 table_of macros = map (λ pair. entry_of pair.1) macros.known.entries
 
 -- the answer to a definition, and the table behind it
-abbrev pub Defines : Table → PlainMacro → Bool → Definition → Table → Type 0
+abbrev pub Defines : Table → PlainMacro → Bool → Effect → Table → Type 0
 Defines old made builtin New new = (macro_named made.name old ≡ None) × (new ≡ with_macro old made builtin)
 Defines old made builtin Same new = IsSomeAnd (macro_named made.name old) (λ known. same_macro known made ≡ true) × (new ≡ old)
 Defines old made builtin Other new = IsSomeAnd (macro_named made.name old) (λ known. same_macro known made ≡ false) × (new ≡ old)

@@ -12,6 +12,7 @@ pub data Ending (A : Type 0) : Type 0 where
   -- more words of replacements than may be made
   TooMany : Ending A
 
+-- the same ending, with what is made of what it gives
 abbrev pub after : {A B : Type 0} → (A → B) → Ending A → Ending B
 after change (Gives made left) = Gives (change made) left
 after change (Refused number at) = Refused number at

@@ -15,6 +15,7 @@ pub record NamesObject (table : Table) (sourced : Sourced) : Type 0 where
   pub defined : macro_named sourced.word.text.now table ≡ Some plain
   pub object_like : plain.parameters ≡ None
 
+-- no word is the name of an object-like macro of the table
 abbrev pub NoneNamesObject : Table → List Sourced → Type 0
 NoneNamesObject table [] = Unit {0}
 NoneNamesObject table (word ∷ words) = (NamesObject table word → ⊥) × NoneNamesObject table words

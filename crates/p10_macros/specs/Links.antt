@@ -30,6 +30,7 @@ pub record HasExits (exits : Exits) (items : List Pending) : Type 0 where
   pub argument : exits.argument ≡ argument_end 0 items
   pub call : exits.call ≡ call_end 0 items
 
+-- no end stands behind the words
 abbrev pub nowhere : Exits
 nowhere = record { argument = 0; call = 0 }
 

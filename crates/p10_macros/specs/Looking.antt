@@ -16,6 +16,7 @@ abbrev pub opens_on_top : List Pending → Bool
 opens_on_top [] = false
 opens_on_top (pending ∷ items) = opens pending.traced.word
 
+-- the macro, where its name is a use
 abbrev pub used_where : Bool → Option PlainMacro → Option PlainMacro
 used_where open' None = None
 used_where open' (Some plain) = if is_none plain.parameters || open' then Some plain else None
@@ -24,5 +25,6 @@ used_where open' (Some plain) = if is_none plain.parameters || open' then Some p
 abbrev pub macro_used : Table → List Pending → Word → Option PlainMacro
 macro_used table items word = if is_name_kind word.kind then used_where (opens_on_top items) (macro_named word.text.now table) else None
 
+-- the refusal with this number among those of uses, at this place
 abbrev pub refusal_at : ℕ → Span → ReplaceFault
 refusal_at number at = fault.Refused (record { family = D; number = number; span = at })

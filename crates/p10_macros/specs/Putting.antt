@@ -1,6 +1,5 @@
 -- How the words of a replacement are put on top of the pending words.
-use Rattle.std.specs.Prelude.{◌≡◌, ℕ, ◌+◌, ◌≤◌, List, [], ◌∷◌, ◌++◌, length, map, reverse, ◌||◌, bytes_eq, Option}
-use Rattle.std.specs.List.{flat_map}
+use Rattle.std.specs.Prelude.{◌≡◌, ℕ, ◌+◌, ◌≤◌, List, [], ◌∷◌, ◌++◌, length, map, reverse, ◌||◌, bytes_eq, Option, Some, None}
 use Rattle.p10_base.specs.declared.span.Span.{Span}
 use Rattle.p10_base.specs.declared.word.Word.{Word}
 use Rattle.p10_direct.specs.Spelling.{Text}
@@ -10,7 +9,8 @@ use Rattle.p10_macros.specs.declared.pending.Traced.{Traced}
 use Rattle.p10_macros.specs.declared.pending.Pending.{Pending}
 use Rattle.p10_macros.specs.declared.replaced.ReplaceFault.{ReplaceFault}
 use Rattle.p10_macros.specs.declared.replaced.ReplaceFault.TheVariants as fault
-use Rattle.p10_macros.specs.Uses.{Sourced, given, replacement, value_or, value_of, texts_of}
+use Rattle.p10_macros.specs.Uses.{Sourced, given, replacement, texts_of}
+use Rattle.p10_macros.specs.Places.{at_place, place_named}
 use Rattle.p10_macros.specs.Origins.{count_of, has_macro}
 use Rattle.p10_macros.specs.Traces.{IsTraced, AreTraced, AreValues}
 
@@ -37,6 +37,13 @@ pub record Puts (origins : Origins) (before behind : List Pending) (words : List
   pub put : ArePut origins items words
   pub costs : left ≡ length words + remaining
 
+-- the same, where the words are told as they are kept
+pub record PutsTraced (before behind : List Pending) (words : List Traced) (left remaining : ℕ) : Type 0 where
+  pub items : List Pending
+  pub pending : reverse behind ≡ items ++ reverse before
+  pub put : map (λ (pending : Pending). pending.traced) items ≡ words
+  pub costs : left ≡ length words + remaining
+
 -- the set with this number has a macro, and those that the name of its use comes from
 pub record IsBase (origins : Origins) (from : ℕ) (macro' : Text) (name : Sourced) : Type 0 where
   pub known : from ≤ count_of origins
@@ -47,37 +54,32 @@ pub record IsJoined (old : Origins) (own : ℕ) (macro' : Text) (name : Sourced)
   pub known : all ≤ count_of new
   pub both : (other : Text) → has_macro new all other ≡ ((bytes_eq other macro' || name.from other) || has_macro old own other)
 
--- the same, for a use with this name, and for sets that were there before its argument was put
-abbrev pub Joins : Origins → Origins → Traced → ℕ → ℕ → ℕ → Type 0
-Joins base now name from own all = (macro' : Text) (name' : Sourced) → IsTraced base name name' → IsBase base from macro' name' → own ≤ count_of base → IsJoined base own macro' name' now all
-
 -- a fault that is no refusal: where words were wanting, this holds
 abbrev pub Short : ReplaceFault → Type 0 → Type 0
 Short (fault.Refused refusal) P = ⊥
 Short fault.TooMany P = P
 Short fault.Memory P = Unit {0}
 
--- what is put for an argument
-abbrev pub PutsValue : Origins → Origins → List Pending → List Pending → Traced → ℕ → List Traced → ℕ → ℕ → Type 0
-PutsValue old new before behind name from value left remaining =
-    (plain : PlainMacro) (name' : Sourced) (words : List Sourced) → IsTraced old name name' → IsBase old from plain.name name' → AreTraced old value words →
-    Puts new before behind (map (given plain name') words) left remaining
+-- words of an argument were made those of a use with this name, where `from` is the number of the set of its macro and of those
+-- that the name comes from
+abbrev pub IsGiven : Origins → Origins → Traced → ℕ → List Traced → List Traced → Type 0
+IsGiven old new name from value value' =
+    (plain : PlainMacro) (name' : Sourced) (words : List Sourced) → IsTraced old name name' → IsBase old from plain.name name' → AreTraced old value words → AreTraced new value' (map (given plain name') words)
 
--- what stands for a word of the replacement list of a macro with these parameters
-abbrev pub part_of : Option (List Text) → List (List Sourced) → Word → List Sourced
-part_of parameters values word = value_or (value_of (texts_of parameters) values word) word
+-- those of all arguments were
+abbrev pub AreGiven : Origins → Origins → Traced → ℕ → List (List Traced) → List (List Traced) → Type 0
+AreGiven old new name from values values' =
+    (plain : PlainMacro) (name' : Sourced) (words : List (List Sourced)) → IsTraced old name name' → IsBase old from plain.name name' → AreValues old values words →
+    AreValues new values' (map (λ (value : List Sourced). map (given plain name') value) words)
 
--- what is put for a word of the replacement list
-abbrev pub PutsPart : Origins → Origins → List Pending → List Pending → PlainMacro → Traced → List (List Traced) → ℕ → Word → ℕ → ℕ → Type 0
-PutsPart old new before behind plain name values from word left remaining =
-    (name' : Sourced) (values' : List (List Sourced)) → IsTraced old name name' → IsBase old from plain.name name' → AreValues old values values' →
-    Puts new before behind (map (given plain name') (part_of plain.parameters values' word)) left remaining
+-- the value of a parameter, or the word itself
+abbrev pub value_or_word : Option (List Traced) → Traced → List Traced
+value_or_word None traced = traced ∷ []
+value_or_word (Some value) traced = value
 
--- what is put for words of the replacement list
-abbrev pub PutsList : Origins → Origins → List Pending → List Pending → PlainMacro → Traced → List (List Traced) → ℕ → List Word → ℕ → ℕ → Type 0
-PutsList old new before behind plain name values from words left remaining =
-    (name' : Sourced) (values' : List (List Sourced)) → IsTraced old name name' → IsBase old from plain.name name' → AreValues old values values' →
-    Puts new before behind (map (given plain name') (flat_map (part_of plain.parameters values') words)) left remaining
+-- what stands for a word of the replacement list, where the arguments were made those of the use
+abbrev pub part_of : PlainMacro → List (List Traced) → Span → ℕ → Word → List Traced
+part_of plain values at from word = value_or_word (at_place (place_named (texts_of plain.parameters) word) values) (fresh word at from)
 
 -- what is put for a use
 abbrev pub PutsReplacement : Origins → Origins → List Pending → List Pending → PlainMacro → Traced → List (List Traced) → ℕ → ℕ → Type 0

@@ -26,6 +26,7 @@ abbrev pub outer_of : List OpenUse → Option Span
 outer_of [] = None
 outer_of (use' ∷ uses) = Some use'.place
 
+-- the same ending, where these words stand in front of those that it gives
 abbrev pub behind_words : List Sourced → Ending (List Sourced) → Ending (List Sourced)
 behind_words done ending = after (λ words. done ++ words) ending
 

@@ -24,6 +24,7 @@ macro_named name (entry ∷ table) = if bytes_eq name entry.made.name then Some 
 
 -- ## Definitions of one name
 
+-- whether two words are of one kind
 abbrev pub same_kind : Kind → Kind → Bool
 same_kind Name Name = true
 same_kind Number Number = true
@@ -33,6 +34,7 @@ same_kind Punct Punct = true
 same_kind Mark Mark = true
 same_kind _ _ = false
 
+-- whether two words have one kind and one spelling
 abbrev pub same_word : Word → Word → Bool
 same_word this that = same_kind this.kind that.kind && bytes_eq this.text.now that.text.now
 
@@ -44,6 +46,7 @@ same_lists same these those = (length these == length those) && list_all (λ pai
 abbrev pub same_words : List Word → List Word → Bool
 same_words these those = same_lists same_word these those
 
+-- whether two lists have the same texts in one order
 abbrev pub same_texts : List Text → List Text → Bool
 same_texts these those = same_lists bytes_eq these those
 

@@ -1,5 +1,6 @@
 -- Words that are kept with numbers of sets of macros.
-use Rattle.std.specs.Prelude.{◌≡◌, ◌≤◌, List, [], ◌∷◌}
+use Rattle.std.specs.Prelude.{◌≡◌, ◌≤◌, List, [], ◌∷◌, map, Vec}
+use Rattle.std.specs.Global.{Global}
 use Rattle.p10_direct.specs.Spelling.{Text}
 use Rattle.p10_macros.specs.declared.origin.Origins.{Origins}
 use Rattle.p10_macros.specs.declared.pending.Traced.{Traced}
@@ -23,3 +24,7 @@ abbrev pub AreValues : Origins → List (List Traced) → List (List Sourced) �
 AreValues origins [] [] = Unit {0}
 AreValues origins (traced ∷ those) (sourced ∷ these) = AreTraced origins traced sourced × AreValues origins those these
 AreValues origins _ _ = ⊥
+
+-- values of parameters, as they are kept, as lists
+abbrev pub lists_of : List (Vec Traced Global) → List (List Traced)
+lists_of values = map (λ (value : Vec Traced Global). value.items) values

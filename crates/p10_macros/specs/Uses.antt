@@ -15,6 +15,7 @@ pub record Sourced : Type 0 where
 abbrev pub written : Word → Sourced
 written word = record { word = word; from = λ name. false }
 
+-- the words, without what they come from
 abbrev pub plain_words : List Sourced → List Word
 plain_words words = map (λ (sourced : Sourced). sourced.word) words
 
@@ -26,12 +27,15 @@ pub record Arguments : Type 0 where
   pub others : List (List Sourced)
   pub rest : List Sourced
 
+-- whether a word is the `(` of arguments
 abbrev pub opens : Word → Bool
 opens word = is_punctuator (codes "(") word
 
+-- whether a word is the `)` of arguments
 abbrev pub closes : Word → Bool
 closes word = is_punctuator (codes ")") word
 
+-- whether a word is the comma between arguments
 abbrev pub separates : Word → Bool
 separates word = is_punctuator (codes ",") word
 
@@ -80,10 +84,12 @@ pub data Use : Type 0 where
   -- a use of a macro with these arguments, and the words behind it
   Calls : PlainMacro → List (List Sourced) → List Sourced → Use
 
+-- a use with these arguments, if there are as many as parameters, and the words behind it
 abbrev pub fitted : PlainMacro → List Sourced → Option (List (List Sourced)) → Use
 fitted plain rest None = Wrong 7
 fitted plain rest (Some arguments) = Calls plain arguments rest
 
+-- a use with the arguments that were found, if they end
 abbrev pub called : PlainMacro → ℕ → Option Arguments → Use
 called plain parameters None = Wrong 8
 called plain parameters (Some found) = fitted plain found.rest (fitting parameters (found.first ∷ found.others))
@@ -99,6 +105,7 @@ use_as plain (Some parameters) name [] = Stays
 use_as plain (Some parameters) name (word ∷ words) =
     if opens word.word then unless_recursive plain name (called plain (length parameters) (arguments_in 0 words)) else Stays
 
+-- what a name begins by the macro that it names, if there is one
 abbrev pub use_by : Option PlainMacro → Sourced → List Sourced → Use
 use_by None name words = Stays
 use_by (Some plain) name words = use_as plain plain.parameters name words
@@ -120,6 +127,7 @@ abbrev pub value_of : List Text → List (List Sourced) → Word → Option (Lis
 value_of (parameter ∷ parameters) (value ∷ values) word = if is_name parameter word then Some value else value_of parameters values word
 value_of _ _ word = None
 
+-- the value of the parameter that a word names, or the word itself where it names none
 abbrev pub value_or : Option (List Sourced) → Word → List Sourced
 value_or None word = written word ∷ []
 value_or (Some value) word = value

@@ -29,15 +29,9 @@ pub fn replace<'s>(
     ensures replaced { IfOk result (IsReplaced (table_of macros.now) words.now left) }
     ensures refused { IfErr result (IsFault (table_of macros.now) words.now left) }
 {
-    let mut run = match run_of(alloc, words, left) {
-        Ok(run) => run,
-        Err(_) => return Err(ReplaceFault::Memory),
-    };
+    let mut run = run_of(alloc, words, left)?;
     while let Some(next) = run.pending.pop() {
-        match step(&mut run, macros, next) {
-            Ok(()) => {}
-            Err(fault) => return Err(fault),
-        }
+        step(&mut run, macros, next)?;
     }
     Ok(Replaced {
         words: run.words,

@@ -1,10 +1,14 @@
 //! An entry of the table.
 
-ghost use Rattle.std.specs.Prelude.{◌≡◌};
+ghost use Rattle.std.specs.Prelude.{◌≡◌, length};
 ghost use Rattle.p10_direct.specs.Form.{plain_macro};
 ghost use Rattle.p10_macros.specs.Places.{places_of};
+ghost use Rattle.p10_macros.specs.Uses.{texts_of};
 
+use crate::pending::Traced;
+use crate::places::Places;
 use p10_direct::Macro;
+use std::alloc::{AllocError, Global};
 
 /// A macro that is defined.
 #[derive(Drop)]
@@ -12,16 +16,20 @@ pub struct Known<'w, 's> {
     pub made: Macro<'w, 's>,
     /// Whether a built-in header defined it.
     pub builtin: bool,
-    /// For each word of the replacement list the place of the parameter that it names; none for an object-like macro.
-    pub places: Vec<Option<usize>>,
-    ghost placed: { places.items ≡ places_of (plain_macro made).parameters (plain_macro made).body },
+    /// Where the words of the replacement list name parameters.
+    pub places: Places,
+    ghost placed: { places.all.items ≡ places_of (plain_macro made).parameters (plain_macro made).body },
+    ghost counted: { length places.named.items ≡ length (texts_of (plain_macro made).parameters) },
 }
 
 impl<'w, 's> Known<'w, 's> {
-    ghost use Rattle.std.specs.Prelude.{◌≡◌, ◌<◌, length, get_or};
+    ghost use Rattle.std.specs.Prelude.{◌≡◌, ◌<◌, [], List, length, get_or, false, IfOk, IfSome};
+    ghost use Rattle.std.specs.List.{All, flat_map};
     ghost use Rattle.p10_base.specs.declared.word.Word.{Word as BodyWord};
+    ghost use Rattle.p10_macros.specs.declared.pending.Traced.{Traced as TracedWord};
     ghost use Rattle.p10_macros.specs.Known.{plain_known};
-    ghost use Rattle.p10_macros.specs.Places.{place_named};
+    ghost use Rattle.p10_macros.specs.Places.{place_named, at_place, gives, chosen_parts};
+    ghost use Rattle.p10_macros.specs.Traces.{lists_of};
     ghost use Rattle.p10_macros.specs.Uses.{texts_of};
 
     /// The place of the parameter that a word of the replacement list names, where the word stands at `place`.
@@ -29,9 +37,29 @@ impl<'w, 's> Known<'w, 's> {
         requires { place < length (plain_known self.now).body }
         ensures { (none : BodyWord) → result ≡ place_named (texts_of (plain_known self.now).parameters) (get_or (plain_known self.now).body place none) }
     {
-        match self.places.get(place) {
+        match self.places.all.get(place) {
             None => None,
             Some(parameter) => *parameter,
         }
+    }
+
+    /// The places, in order, of the words of the replacement list for which a use puts something, where the parameters
+    /// have these values: all but those of parameters whose values have no words. None stands for all of them.
+    pub fn chosen(
+        &self,
+        alloc: Global,
+        values: &[Vec<Traced<'_>>],
+    ) -> Result<Option<Vec<usize>>, AllocError>
+        ensures within { IfOk result (λ chosen. IfSome chosen (λ places. All (λ place. place < length (plain_known self.now).body) places.items)) }
+        ensures whole { IfOk result (λ chosen. (part : BodyWord → List TracedWord) → ((word : BodyWord) → gives (at_place (place_named (texts_of (plain_known self.now).parameters) word) (lists_of values.now)) ≡ false → part word ≡ []) → chosen_parts part (plain_known self.now).body chosen ≡ flat_map part (plain_known self.now).body) }
+    {
+        if self.places.named.is_empty() {
+            return Ok(None);
+        }
+        if !values.iter().any(|value| value.is_empty()) {
+            return Ok(None);
+        }
+        let chosen = self.places.chosen(alloc, values)?;
+        Ok(Some(chosen))
     }
 }

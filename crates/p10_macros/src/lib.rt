@@ -8,9 +8,11 @@
 
 mod ahead;
 mod expansion;
+mod giving;
 mod known;
 mod origin;
 mod own;
+mod parameters;
 mod pending;
 mod places;
 mod replaced;
@@ -19,10 +21,11 @@ mod run;
 mod same;
 mod sets;
 mod table;
+mod values;
 
 pub use expansion::{front_gives, no_object_left, one_ending, replace};
 pub use replaced::{ReplaceFault, Replaced};
-pub use table::{Definition, Macros, undefines_one};
+pub use table::{Effect, Macros, undefines_one};
 
 #[cfg(test)]
 mod tests;

@@ -49,7 +49,7 @@ impl<'s> Origins<'s> {
     /// The set that has the macro with this name, and those of another set.
     pub fn with_macro(&mut self, set: usize, name: &'s [u8]) -> Result<usize, AllocError>
         ensures grown { Extends self.old self.new }
-        ensures one { IfOk result (λ set'. set ≤ count_of self.old → HasOne self.old name.entry.now set self.new set') }
+        ensures one { IfOk result (HasOne self.old name.entry.now set self.new) }
     {
         let number = self.names.add(name)?;
         with_number(&mut self.sets, set, number)

@@ -13,6 +13,26 @@ pub struct Traced<'s> {
     pub from: usize,
 }
 
+impl<'s> Traced<'s> {
+    ghost use Rattle.std.specs.Prelude.{◌≡◌};
+    ghost use Rattle.p10_macros.specs.Putting.{fresh};
+
+    /// The word at the place of a use, where it comes from the set of macros with the number `from`.
+    pub fn at_use(word: Word<'s>, at: Span, from: usize) -> Traced<'s>
+        ensures { result ≡ fresh word.entry at from }
+    {
+        Traced {
+            word: Word {
+                kind: word.kind,
+                text: word.text,
+                at,
+                first: word.first,
+            },
+            from,
+        }
+    }
+}
+
 /// The ends of the argument and of the call in which pending words stand. A place is the number of pending words from the
 /// last one up to that place, and 0 is none.
 #[derive(Clone, Copy)]

@@ -1,6 +1,7 @@
 //! What comes of the replacement of macros.
 
 use p10_base::{Refusal, Word};
+use std::alloc::{AllocError, AllocFailed};
 
 /// The words of a run after every use of a macro was replaced.
 #[derive(Drop)]
@@ -20,4 +21,26 @@ pub enum ReplaceFault {
     TooMany,
     /// Memory is wanting.
     Memory,
+}
+
+impl From<AllocError> for ReplaceFault {
+    ghost use Rattle.std.specs.Prelude.{◌≡◌};
+    ghost use Rattle.p10_macros.specs.declared.replaced.ReplaceFault.TheVariants.{Memory};
+
+    ghost from_gives = { λ _ fault. fault ≡ Memory };
+
+    fn from(_error: AllocError) -> ReplaceFault {
+        ReplaceFault::Memory
+    }
+}
+
+impl<T: Drop> From<AllocFailed<T>> for ReplaceFault {
+    ghost use Rattle.std.specs.Prelude.{◌≡◌};
+    ghost use Rattle.p10_macros.specs.declared.replaced.ReplaceFault.TheVariants.{Memory};
+
+    ghost from_gives = { λ _ fault. fault ≡ Memory };
+
+    fn from(_error: AllocFailed<T>) -> ReplaceFault {
+        ReplaceFault::Memory
+    }
 }

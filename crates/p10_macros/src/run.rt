@@ -1,6 +1,6 @@
 //! The steps of a replacement.
 
-ghost use Rattle.std.specs.Prelude.{◌≡◌, ◌≤◌, [], ◌∷◌, map, reverse, option_map, option_copied, OnOk, IfErr, None, Some, is_none, ◌||◌, ◌++◌};
+ghost use Rattle.std.specs.Prelude.{◌≡◌, ◌≤◌, [], ◌∷◌, reverse, option_map, option_copied, OnOk, IfErr, None, Some, is_none, ◌||◌, ◌++◌};
 ghost use Rattle.p10_direct.specs.Form.{plain_macro};
 ghost use Rattle.p10_macros.specs.Table.{Table};
 ghost use Rattle.p10_macros.specs.Known.{plain_known};
@@ -8,6 +8,7 @@ ghost use Rattle.p10_macros.specs.Answers.{table_of};
 ghost use Rattle.p10_macros.specs.Standing as roles;
 ghost use Rattle.p10_macros.specs.Standing.{given_with, done_with, State, Advances, AdvancesBy, Fails, FailsBy, FaultComes, LeadsTo, AtUse, AtCall, IsReplacedIn, IsTooLong, IsOpenedIn, place_among, weight};
 ghost use Rattle.p10_macros.specs.Links.{HasExits};
+ghost use Rattle.p10_macros.specs.Traces.{lists_of};
 ghost use Rattle.p10_macros.specs.Looking.{macro_used, opens_on_top, refusal_at};
 ghost use Rattle.p10_macros.specs.declared.replaced.ReplaceFault.TheVariants as faults;
 ghost use Rattle.p10_macros.specs.declared.pending.Pending.{Pending as Next};
@@ -71,15 +72,10 @@ fn put_done<'s>(run: &mut Run<'_, '_, 's>, word: Traced<'s>) -> Result<(), Repla
     ensures err { IfErr result (λ fault. fault ≡ faults.Memory) }
 {
     match run.open.as_slice() {
-        [] => match run.words.push(word.word) {
-            Ok(()) => Ok(()),
-            Err(_) => Err(ReplaceFault::Memory),
-        },
-        [.., _] => match run.done.push(word) {
-            Ok(()) => Ok(()),
-            Err(_) => Err(ReplaceFault::Memory),
-        },
+        [] => run.words.push(word.word)?,
+        [.., _] => run.done.push(word)?,
     }
+    Ok(())
 }
 
 /// The macro that the word uses, where these words are pending behind it.
@@ -181,10 +177,8 @@ fn open_use<'m, 'w, 's>(
         before,
         values: Vec::new(run.alloc),
     };
-    match put_open(&mut run.open, open) {
-        Ok(()) => Ok(()),
-        Err(_) => Err(ReplaceFault::Memory),
-    }
+    put_open(&mut run.open, open)?;
+    Ok(())
 }
 
 /// Puts a use on top of the open ones.
@@ -220,13 +214,11 @@ fn end_argument<'m, 'w, 's>(run: &mut Run<'m, 'w, 's>, stop: usize) -> Result<()
     match run.open.pop() {
         // An argument ends in an open use alone, so this doesn't come.
         None => Ok(()),
-        Some(mut open) => match put_argument(&mut open.values, value) {
-            Ok(()) => match put_open(&mut run.open, open) {
-                Ok(()) => Ok(()),
-                Err(_) => Err(ReplaceFault::Memory),
-            },
-            Err(_) => Err(ReplaceFault::Memory),
-        },
+        Some(mut open) => {
+            put_argument(&mut open.values, value)?;
+            put_open(&mut run.open, open)?;
+            Ok(())
+        }
     }
 }
 
@@ -251,10 +243,8 @@ fn end_call<'m, 'w, 's>(run: &mut Run<'m, 'w, 's>) -> Result<(), ReplaceFault>
             let mut values = values;
             run.stop = stop;
             let value = mem::replace(&mut run.done, before);
-            match put_argument(&mut values, value) {
-                Ok(()) => replace_use(run, known, name, values),
-                Err(_) => Err(ReplaceFault::Memory),
-            }
+            put_argument(&mut values, value)?;
+            replace_use(run, known, name, values)
         }
     }
 }
@@ -266,24 +256,21 @@ fn replace_use<'m, 'w, 's>(
     name: Traced<'s>,
     values: Vec<Vec<Traced<'s>>>,
 ) -> Result<(), ReplaceFault>
-    ensures ok { OnOk result (IsReplacedIn run.old run.new (plain_known known.entry.now) name.entry (map (λ value. value.items) values.entry.items)) }
-    ensures err { IfErr result (IsTooLong run.old (plain_known known.entry.now) name.entry (map (λ value. value.items) values.entry.items)) }
+    ensures ok { OnOk result (IsReplacedIn run.old run.new (plain_known known.entry.now) name.entry (lists_of values.entry.items)) }
+    ensures err { IfErr result (IsTooLong run.old (plain_known known.entry.now) name.entry (lists_of values.entry.items)) }
     ensures lighter { OnOk result (weight run.new ≤ weight run.old) }
 {
-    match put_replacement(
+    let mut values = values;
+    run.left = put_replacement(
+        run.alloc,
         &mut run.pending,
         &mut run.origins,
         known,
         name,
-        values.as_slice(),
+        values.as_mut_slice(),
         run.left,
-    ) {
-        Ok(remaining) => {
-            run.left = remaining;
-            Ok(())
-        }
-        Err(fault) => Err(fault),
-    }
+    )?;
+    Ok(())
 }
 
 /// A refusal of the use with this name.

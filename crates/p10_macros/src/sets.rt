@@ -39,7 +39,7 @@ pub fn contains(parts: &[Part], set: usize, number: usize) -> bool
 /// The set that has one more number.
 pub fn with_number(parts: &mut Vec<Part>, set: usize, number: usize) -> Result<usize, AllocError>
     ensures grown { Grows parts.old.items parts.new.items }
-    ensures one { IfOk result (λ set'. set ≤ length parts.old.items → HasOneMore parts.old.items set number parts.new.items set') }
+    ensures one { IfOk result (HasOneMore parts.old.items set number parts.new.items) }
     ensures below { (bound : ℕ) → AreBelow bound parts.old.items → number < bound → AreBelow bound parts.new.items }
 {
     let block = number / 64;

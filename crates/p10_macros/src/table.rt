@@ -6,7 +6,7 @@ ghost use Rattle.p10_macros.specs.Undefining.{TakesOneName, TakesOneOwn, StaysNa
 
 use crate::known::Known;
 use crate::own::{own_if, own_in};
-use crate::places::places_in;
+use crate::places::Places;
 use crate::same::same_macro;
 use indexmap::IndexMap;
 use p10_direct::Macro;
@@ -14,7 +14,7 @@ use std::alloc::{AllocError, Global};
 
 /// What a definition does to the table.
 #[derive(Clone, Copy, Debug, PartialEq, Eq)]
-pub enum Definition {
+pub enum Effect {
     /// The name was not defined, and is now.
     New,
     /// The name was defined in the same way: nothing is changed.
@@ -75,19 +75,19 @@ impl<'w, 's> Macros<'w, 's> {
 
     /// Defines a macro behind the others, unless its name is defined. `builtin` says that a built-in header
     /// defines it.
-    pub fn define(&mut self, made: Macro<'w, 's>, builtin: bool) -> Result<Definition, AllocError>
+    pub fn define(&mut self, made: Macro<'w, 's>, builtin: bool) -> Result<Effect, AllocError>
         ensures ok { IfOk result (λ answer. Defines (table_of self.old) (plain_macro made.entry) builtin answer (table_of self.new)) }
         ensures err { OnErr result (table_of self.new ≡ table_of self.old) }
     {
         match self.get(made.name) {
             None => {
                 self.add(made, builtin)?;
-                Ok(Definition::New)
+                Ok(Effect::New)
             }
             Some(known) => Ok(if same_macro(known, &made) {
-                Definition::Same
+                Effect::Same
             } else {
-                Definition::Other
+                Effect::Other
             }),
         }
     }
@@ -110,7 +110,7 @@ impl<'w, 's> Macros<'w, 's> {
         // As the number of macros fits its type, so does that of some of them.
         let count = self.known.len();
         let own = own_if(builtin);
-        let places = places_in(*self.known.allocator(), &made)?;
+        let places = Places::of(*self.known.allocator(), &made)?;
         let known = Known {
             made,
             builtin,

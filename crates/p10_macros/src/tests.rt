@@ -1,6 +1,6 @@
 //! Replacements at their edges. Where C99 gives an answer too, the expected words are those of `gcc -E`.
 
-use crate::{Definition, Macros, ReplaceFault, Replaced, replace};
+use crate::{Effect, Macros, ReplaceFault, Replaced, replace};
 use p10_base::{Kind, Span, Word};
 use p10_direct::{Directive, Line, Macro, directive, lines, punctuates};
 use std::alloc::{AllocError, Global};
@@ -15,7 +15,7 @@ struct Row {
     expected: &'static str,
 }
 
-static ROWS: [Row; 43] = [
+static ROWS: [Row; 48] = [
     Row {
         source: "# define A 1 2 ; A x A",
         expected: "1 2 x 1 2",
@@ -59,6 +59,26 @@ static ROWS: [Row; 43] = [
     Row {
         source: "# define F $ ( x , y ) x + y - x ; F ( , 3 )",
         expected: "+ 3 -",
+    },
+    Row {
+        source: "# define F $ ( x ) x x ; [ F ( ) ]",
+        expected: "[ ]",
+    },
+    Row {
+        source: "# define F $ ( x , y , z ) 1 x 2 y 3 z x 4 ; F ( , a b , )",
+        expected: "1 2 a b 3 4",
+    },
+    Row {
+        source: "# define F $ ( x , y , z ) z y x 9 x y z ; F ( 1 , , 3 )",
+        expected: "3 1 9 1 3",
+    },
+    Row {
+        source: "# define E ; # define F $ ( x , y ) y x y + x ; F ( E E , 3 ) F ( E , E )",
+        expected: "3 3 + +",
+    },
+    Row {
+        source: "# define A 1 ; # define F $ ( x , y , z ) x z x ; # define G $ ( x ) F ( x , , A x ) ; G ( A 2 )",
+        expected: "1 2 1 1 2 1 2",
     },
     Row {
         source: "# define F $ ( x , y , z ) z x z ; F ( 1 , 2 3 , 4 )",
@@ -406,12 +426,12 @@ fn a_name_is_defined_in_one_way(rt: HostRuntime) -> Result<(), Fail> {
         }
     }
     let expected = [
-        Definition::New,
-        Definition::Same,
-        Definition::Other,
-        Definition::New,
-        Definition::Other,
-        Definition::Other,
+        Effect::New,
+        Effect::Same,
+        Effect::Other,
+        Effect::New,
+        Effect::Other,
+        Effect::Other,
     ];
     assert!(rt; answers.as_slice() == expected.as_slice());
     assert_eq!(rt; macros.own(), 2);

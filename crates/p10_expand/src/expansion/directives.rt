@@ -21,7 +21,7 @@ use crate::expansion::texts::File;
 use crate::headers::built_in;
 use p10_base::{Kind, Limit, Sources, Span, Word};
 use p10_direct::{Directive, Macro, between, whole};
-use p10_macros::Definition;
+use p10_macros::Effect;
 use std::alloc::{AllocError, Global};
 
 /// The most macros that are defined at once, without those of built-in headers (M6).
@@ -230,15 +230,15 @@ fn define_macro<'w, 's>(
     ensures gives { Steps (DefinitionGives built_in line.now (plain_macro made.entry) (state_of state.old)) result state.new }
 {
     match state.macros.define(made, built_in)? {
-        Definition::New => {
+        Effect::New => {
             if MOST_MACROS < state.macros.own() {
                 Err(ExpandFault::Over(Limit { number: 6 }))
             } else {
                 Ok(Step::On(Stand::Obeyed))
             }
         }
-        Definition::Same => Ok(Step::On(Stand::Obeyed)),
-        Definition::Other => Ok(Step::Refused(refusal(4, operand(line)))),
+        Effect::Same => Ok(Step::On(Stand::Obeyed)),
+        Effect::Other => Ok(Step::Refused(refusal(4, operand(line)))),
     }
 }
 

@@ -4,7 +4,8 @@ use Rattle.p10_macros.specs.declared.pending.Traced.{Traced}
 use Rattle.p10_macros.specs.declared.replaced.ReplaceFault.{ReplaceFault}
 use Rattle.p10_macros.specs.Standing.{FaultComes, IsReplacedIn, IsTooLong}
 use Rattle.p10_macros.proofs.Beginnings.{call_none, call_none_too_long, call_open, call_wrong, call_right}
-use Rattle.p10_macros.proofs.Putting.{on_ok_so, if_err_so, items_at}
+use Rattle.p10_macros.proofs.Results.{on_ok_so, if_err_so}
+use Rattle.p10_macros.specs.Traces.{lists_of}
 use Rattle.p10_macros.proofs.run.begin_call.Goals as goal
 use Rattle.p10_macros.proofs.run.begin_call.Goals.{else-params-eq0-via-then-params-eq0+else-exits-count, else-params-eq0-via-else-params-eq0}
 
@@ -18,14 +19,14 @@ returns-then-exits-count-clause-ok c =
     on_ok_so c.replace_use.result c.replace_use.ensures.ok (λ replaced. λ table state at.
     call_none table c.args.run.now (plain_known c.args.known.now) c.args.params c.args.name state at c.args.exits c.requires (omega (arith, c.if-exits-run.false)) c.if-params-eq0.true
     (c.if-exits-count.true ∙ c.count.ensures) c.skip.new.self c.skip.ensures.taken c.replace_use.new.run
-    (subst (λ (l : List (Vec Traced Global)). IsReplacedIn (record c.args.run.now { pending = c.skip.new.self }) c.replace_use.new.run (plain_known c.args.known.now) c.args.name (items_at l)) c.new.ensures.items replaced))
+    (subst (λ (l : List (Vec Traced Global)). IsReplacedIn (record c.args.run.now { pending = c.skip.new.self }) c.replace_use.new.run (plain_known c.args.known.now) c.args.name (lists_of l)) c.new.ensures.items replaced))
 
 pub returns-then-exits-count-clause-err : goal.returns-then-exits-count-clause-err
 returns-then-exits-count-clause-err c =
     if_err_so c.replace_use.result c.replace_use.ensures.err (λ f short. λ table state at.
     call_none_too_long table c.args.run.now (plain_known c.args.known.now) c.args.params c.args.name state at c.args.exits c.requires (omega (arith, c.if-exits-run.false)) c.if-params-eq0.true
     (c.if-exits-count.true ∙ c.count.ensures) c.skip.new.self c.skip.ensures.taken f
-    (subst (λ (l : List (Vec Traced Global)). IsTooLong (record c.args.run.now { pending = c.skip.new.self }) (plain_known c.args.known.now) c.args.name (items_at l) f) c.new.ensures.items short))
+    (subst (λ (l : List (Vec Traced Global)). IsTooLong (record c.args.run.now { pending = c.skip.new.self }) (plain_known c.args.known.now) c.args.name (lists_of l) f) c.new.ensures.items short))
 
 pub returns-then-params-arguments-clause-ok : goal.returns-then-params-arguments-clause-ok
 returns-then-params-arguments-clause-ok c =

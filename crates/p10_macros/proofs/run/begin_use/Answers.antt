@@ -8,7 +8,9 @@ use Rattle.p10_macros.specs.declared.pending.Traced.{Traced}
 use Rattle.p10_macros.specs.Table.{Table}
 use Rattle.p10_macros.specs.Standing.{FaultComes, IsReplacedIn, IsTooLong, AtUse, AtCall, State}
 use Rattle.p10_macros.proofs.Beginnings.{use_recursive, use_object, use_object_too_long, at_call}
-use Rattle.p10_macros.proofs.Putting.{on_ok_so, if_err_so, texts_at, items_at}
+use Rattle.p10_macros.proofs.Results.{on_ok_so, if_err_so}
+use Rattle.p10_macros.proofs.Putting.{texts_at}
+use Rattle.p10_macros.specs.Traces.{lists_of}
 use Rattle.p10_macros.proofs.run.begin_use.Goals as goal
 use Rattle.p10_macros.proofs.run.begin_use.Goals.{After-begin_call}
 
@@ -23,14 +25,14 @@ returns-in-None-clause-ok c =
     on_ok_so c.replace_use.result c.replace_use.ensures.ok (λ replaced. λ table state at.
     use_object table c.args.run.now (plain_known c.args.known.now) c.args.name state at (ap (λ (o : Option (List (Bor Text))). option_map texts_at o) c.in-None.is)
     (sym c.has.ensures ∙ c.if-has.false) c.replace_use.new.run
-    (subst (λ (l : List (Vec Traced Global)). IsReplacedIn c.args.run.now c.replace_use.new.run (plain_known c.args.known.now) c.args.name (items_at l)) c.new.ensures.items replaced))
+    (subst (λ (l : List (Vec Traced Global)). IsReplacedIn c.args.run.now c.replace_use.new.run (plain_known c.args.known.now) c.args.name (lists_of l)) c.new.ensures.items replaced))
 
 pub returns-in-None-clause-err : goal.returns-in-None-clause-err
 returns-in-None-clause-err c =
     if_err_so c.replace_use.result c.replace_use.ensures.err (λ f short. λ table state at.
     use_object_too_long table c.args.run.now (plain_known c.args.known.now) c.args.name state at (ap (λ (o : Option (List (Bor Text))). option_map texts_at o) c.in-None.is)
     (sym c.has.ensures ∙ c.if-has.false) f
-    (subst (λ (l : List (Vec Traced Global)). IsTooLong c.args.run.now (plain_known c.args.known.now) c.args.name (items_at l) f) c.new.ensures.items short))
+    (subst (λ (l : List (Vec Traced Global)). IsTooLong c.args.run.now (plain_known c.args.known.now) c.args.name (lists_of l) f) c.new.ensures.items short))
 
 -- the use of a function-like macro is at its call
 call_of : (c : After-begin_call) (table : Table) (state : State) → AtUse table c.args.run.now (plain_known c.args.known.now) c.args.name state →

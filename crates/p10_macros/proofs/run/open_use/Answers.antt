@@ -5,10 +5,10 @@ use Rattle.p10_macros.specs.declared.pending.Traced.{Traced}
 use Rattle.p10_macros.specs.Standing.{place_among}
 use Rattle.p10_macros.proofs.run.open_use.Goals as goal
 
-pub returns-in-Ok-clause-ok : goal.returns-in-Ok-clause-ok
-returns-in-Ok-clause-ok c = record {
+pub returns-clause-ok : goal.returns-clause-ok
+returns-clause-ok c = record {
   opened = _;
-  opens = c.in-Ok.ensures;
+  opens = c.in_ok-put_open.ensures;
   the_macro = refl;
   the_name = refl;
   the_place = c.place_of-place.ensures ∙ ap (λ (l : List Open). place_among (reverse l) c.args.name) c.as_slice.ensures.value;

@@ -1,6 +1,6 @@
 use Rattle.std.proofs.Common.{refl, sym, ◌∙◌, true, false, arith}
 use Rattle.p10_macros.specs.Answers.{table_of}
-use Rattle.p10_macros.proofs.Putting.{on_ok_so, if_err_so}
+use Rattle.p10_macros.proofs.Results.{on_ok_so, if_err_so}
 use Rattle.p10_macros.proofs.Moves.{at_end}
 use Rattle.p10_macros.proofs.run.step.Goals as goal
 

@@ -1,5 +1,5 @@
 use Rattle.p10_macros.proofs.Blocks.{all_over_second, all_over_first, all_over_both, all_is_second, bits_of_both, bits_of_part, bits_in}
-use Rattle.p10_macros.proofs.Putting.{if_ok_so}
+use Rattle.p10_macros.proofs.Results.{if_ok_so}
 use Rattle.p10_macros.proofs.sets.+unite.Goals as goal
 
 pub returns-then-that-this-clause-both : goal.returns-then-that-this-clause-both

@@ -1,6 +1,6 @@
 use Rattle.std.proofs.Common.{refl}
 use Rattle.p10_macros.proofs.SetsOfMacros.{has_both}
-use Rattle.p10_macros.proofs.Putting.{if_ok_so}
+use Rattle.p10_macros.proofs.Results.{if_ok_so}
 use Rattle.p10_macros.proofs.origin.Origins.unite.Goals as goal
 
 pub invariant_of-self : goal.invariant_of-self

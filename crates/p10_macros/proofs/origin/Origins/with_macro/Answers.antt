@@ -1,6 +1,6 @@
 use Rattle.p10_direct.proofs.Naming.{place_before}
 use Rattle.p10_macros.proofs.SetsOfMacros.{below_more, continues_with, has_one}
-use Rattle.p10_macros.proofs.Putting.{if_ok_so}
+use Rattle.p10_macros.proofs.Results.{if_ok_so}
 use Rattle.p10_macros.proofs.origin.Origins.with_macro.Goals as goal
 
 pub invariant_of-self-2 : goal.invariant_of-self-2
@@ -12,5 +12,5 @@ invariant_of-self-2 c = record {
 
 pub returns-clause-one : goal.returns-clause-one
 returns-clause-one c =
-    if_ok_so c.with_number.result c.with_number.ensures.one (λ set' more. λ known.
-    has_one c.args.self.now _ c.args.name.now c.in_ok-number.number c.args.set set' c.in_ok-number.ensures.ok c.in_ok-number.ensures.place (more known))
+    if_ok_so c.with_number.result c.with_number.ensures.one (λ set' more.
+    has_one c.args.self.now _ c.args.name.now c.in_ok-number.number c.args.set set' c.in_ok-number.ensures.ok c.in_ok-number.ensures.place more)

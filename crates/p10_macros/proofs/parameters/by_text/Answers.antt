@@ -1,6 +1,6 @@
 use Rattle.std.proofs.Common.{arith}
-use Rattle.p10_macros.proofs.Parameters.{has_more}
-use Rattle.p10_macros.proofs.places.by_text.Goals as goal
+use Rattle.p10_macros.proofs.ByParameter.{has_more}
+use Rattle.p10_macros.proofs.parameters.by_text.Goals as goal
 
 pub loop-place-preserved : goal.loop-place-preserved
 loop-place-preserved c = record {

@@ -1,7 +1,7 @@
 use Rattle.std.proofs.Common.{◌≤◌, length}
-use Rattle.p10_macros.proofs.Parameters.{HasPlaces}
+use Rattle.p10_macros.proofs.ByParameter.{HasPlaces}
 use Rattle.p10_macros.proofs.Putting.{texts_at}
-use Rattle.p10_macros.proofs.places.by_text.Given as goal
+use Rattle.p10_macros.proofs.parameters.by_text.Given as goal
 
 -- the map has the places of the parameters that were put
 abbrev pub invariant-loop-place : goal.invariant-loop-place

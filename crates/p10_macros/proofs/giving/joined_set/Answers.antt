@@ -1,9 +1,10 @@
 use Rattle.std.proofs.Common.{arith}
-use Rattle.p10_macros.proofs.Putting.{joined_none, joined_same, joined_both, if_ok_so}
-use Rattle.p10_macros.proofs.replacement.joined_set.Goals as goal
+use Rattle.p10_macros.proofs.Results.{if_ok_so}
+use Rattle.p10_macros.proofs.Uniting.{joined_none, joined_same, joined_both}
+use Rattle.p10_macros.proofs.giving.joined_set.Goals as goal
 
 pub returns-then-own-eq0-clause-joined : goal.returns-then-own-eq0-clause-joined
-returns-then-own-eq0-clause-joined c = λ macro' name' known less is. joined_none _ c.args.name _ c.args.own macro' name' (omega arith) is
+returns-then-own-eq0-clause-joined c = λ macro' name' known less is. joined_none _ _ c.args.own macro' name' (omega arith) is
 
 pub returns-then-own-name-clause-joined : goal.returns-then-own-name-clause-joined
 returns-then-own-name-clause-joined c = λ macro' name' known less is. joined_same _ c.args.name _ c.args.own macro' name' (omega arith) known is

@@ -1,6 +1,6 @@
 use Rattle.std.proofs.Common.{◌≡◌, map, take}
 use Rattle.p10_macros.specs.Places.{at_word}
-use Rattle.p10_macros.proofs.places.places_by_text.Given as goal
+use Rattle.p10_macros.proofs.parameters.places_by_text.Given as goal
 
 abbrev pub invariant-loop-word : goal.invariant-loop-word
 invariant-loop-word l = l.places.items ≡ map (at_word l.by_text) (take l.word-index l.words)

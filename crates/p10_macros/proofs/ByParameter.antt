@@ -1,21 +1,43 @@
 -- The places of parameters, and the values there.
-use Rattle.std.proofs.Common.{◌≡◌, ℕ, zero, suc, ◌+◌, ◌-◌, ◌<◌, ◌≤◌, List, [], ◌∷◌, length, drop, slice_index_or, Bool, true, false, ◌&&◌, cond, bytes_eq, Option, Some, None, option_map, Bor, refl, sym, subst, ap, ◌∙◌, arith, drop-cons}
-use Rattle.std.specs.List.{slice_get}
+use Rattle.std.proofs.Common.{◌≡◌, ℕ, zero, suc, ◌+◌, ◌-◌, ◌<◌, ◌≤◌, List, [], ◌∷◌, length, map, drop, slice_index_or, Bool, true, false, ◌&&◌, cond, not, ltb, bytes_eq, Option, Some, None, option_map, Bor, refl, sym, subst, ap, ◌∙◌, arith, drop-cons}
+use Rattle.std.specs.List.{All, slice_get, position, position_or_len}
 use Rattle.std.specs.Map.{lookup}
 use Rattle.std.specs.HashMap.{HashMap, IsEmpty, Updates}
 use Rattle.std.proofs.lemmas.List.{drop_all, length-map, get_or-map}
+use Rattle.std.proofs.lemmas.List.Elements.{All-nil, All-cons}
+use Rattle.std.proofs.lemmas.List.Quantifiers.{position-Some}
 use Rattle.std.proofs.lemmas.Map.Text.{hash_map_updates_str}
+use Rattle.std.proofs.lemmas.Bool.Decides.{nat_tests}
 use Rattle.std.proofs.lemmas.Slice.Eq.{bytes_eq-Decides}
 use Rattle.p10_base.specs.declared.word.Word.{Word}
+use Rattle.p10_direct.specs.Names.{place_in}
 use Rattle.p10_direct.specs.Spelling.{Text, is_name_kind}
 use Rattle.p10_macros.specs.declared.origin.Origins.{Origins}
 use Rattle.p10_macros.specs.declared.pending.Traced.{Traced}
-use Rattle.p10_macros.specs.Uses.{Sourced, value_of}
+use Rattle.p10_macros.specs.Uses.{Sourced, value_of, texts_of}
 use Rattle.p10_macros.specs.Traces.{AreValues}
 use Rattle.p10_macros.proofs.Putting.{IsValue, texts_at}
-use Rattle.p10_macros.specs.Places.{parameter_in, place_named, at_place, at_text}
+use Rattle.p10_macros.specs.Places.{place_named, at_place, at_text, IsBelow, places_of}
 
 -- ## Places by texts
+
+-- the first place of a list is that of its head, or stands behind it
+position-cons : {A : Type 0} (test : A → Bool) (item : A) (items : List A) → position test (item ∷ items) ≡ cond (test item) (Some 0) (option_map suc (position test items))
+position-cons test item items = go (test item)
+  where
+    go : (b : Bool) → cond (ltb (cond (not b) (1 + position_or_len test items) 0) (length (item ∷ items))) (Some (cond (not b) (1 + position_or_len test items) 0)) None
+        ≡ cond b (Some 0) (option_map suc (cond (ltb (position_or_len test items) (length items)) (Some (position_or_len test items)) None))
+    go true = grind (arith, nat_tests)
+    go false = behind (ltb (1 + position_or_len test items) (length (item ∷ items))) (ltb (position_or_len test items) (length items)) (grind (arith, nat_tests))
+      where
+        behind : (a b : Bool) → a ≡ b → cond a (Some (1 + position_or_len test items)) None ≡ option_map suc (cond b (Some (position_or_len test items)) None)
+        behind true true same = ap (λ (n : ℕ). Some n) (omega arith)
+        behind false false same = refl
+        behind true false same = cc
+        behind false true same = cc
+
+place_in-cons : (name text : Text) (names : List Text) → place_in (name ∷ names) text ≡ cond (bytes_eq text name) (Some 0) (option_map suc (place_in names text))
+place_in-cons name text names = position-cons (bytes_eq text) name names
 
 -- a place among the parameters from one of them on is a place among all
 abbrev pub behind : ℕ → Option ℕ → Option ℕ
@@ -23,7 +45,7 @@ behind place found = option_map (λ n. n + place) found
 
 -- a map has the places of the parameters from one of them on
 abbrev pub HasPlaces : {S : Type 0} → HashMap (Bor Text) ℕ S → List Text → ℕ → Type 0
-HasPlaces by_text texts place = (text : Text) → at_text by_text text ≡ behind place (parameter_in (drop place texts) text)
+HasPlaces by_text texts place = (text : Text) → at_text by_text text ≡ behind place (place_in (drop place texts) text)
 
 same_text : (this that : Text) → bytes_eq this that ≡ bytes_eq that this
 same_text this that = go (bytes_eq this that) (bytes_eq that this) (bytes_eq-Decides this that) (bytes_eq-Decides that this)
@@ -35,11 +57,12 @@ same_text this that = go (bytes_eq this that) (bytes_eq that this) (bytes_eq-Dec
 
 pub has_none : {S : Type 0} (by_text : HashMap (Bor Text) ℕ S) (texts : List Text) (place : ℕ) → IsEmpty by_text → length texts ≤ place → HasPlaces by_text texts place
 has_none by_text texts place empty whole text =
-    ap (λ (entries : List (Bor Text × ℕ)). lookup (λ (key : Bor Text). bytes_eq text key.now) entries) empty ∙ sym (ap (λ (l : List Text). behind place (parameter_in l text)) (drop_all place texts whole))
+    ap (λ (entries : List (Bor Text × ℕ)). lookup (λ (key : Bor Text). bytes_eq text key.now) entries) empty ∙ sym (ap (λ (l : List Text). behind place (place_in l text)) (drop_all place texts whole))
 
 -- the place of one more parameter, in front of the others
-one_more : (parameter text : Text) (rest : List Text) (place : ℕ) → 0 < place → cond (bytes_eq parameter text) (Some (place - 1)) (behind place (parameter_in rest text)) ≡ behind (place - 1) (parameter_in (parameter ∷ rest) text)
-one_more parameter text rest place more = go (bytes_eq parameter text) (bytes_eq text parameter) (same_text parameter text) (parameter_in rest text)
+one_more : (parameter text : Text) (rest : List Text) (place : ℕ) → 0 < place → cond (bytes_eq parameter text) (Some (place - 1)) (behind place (place_in rest text)) ≡ behind (place - 1) (place_in (parameter ∷ rest) text)
+one_more parameter text rest place more =
+    go (bytes_eq parameter text) (bytes_eq text parameter) (same_text parameter text) (place_in rest text) ∙ ap (behind (place - 1)) (sym (place_in-cons parameter text rest))
   where
     go : (a b : Bool) → a ≡ b → (found : Option ℕ) → cond a (Some (place - 1)) (behind place found) ≡ behind (place - 1) (cond b (Some 0) (option_map suc found))
     go true true e found = ap (λ (n : ℕ). Some n) (omega arith)
@@ -61,16 +84,32 @@ has_more old new params place none more less has updates text =
     hash_map_updates_str parameter old new (Some (place - 1)) updates text
     ∙ ap (λ (o : Option ℕ). cond (bytes_eq parameter text) (Some (place - 1)) o) (has text)
     ∙ one_more parameter text rest place more
-    ∙ ap (λ (l : List Text). behind (place - 1) (parameter_in l text)) (sym front)
+    ∙ ap (λ (l : List Text). behind (place - 1) (place_in l text)) (sym front)
 
-pub has_all : {S : Type 0} (by_text : HashMap (Bor Text) ℕ S) (texts : List Text) (place : ℕ) → place ≤ 0 → HasPlaces by_text texts place → (text : Text) → at_text by_text text ≡ parameter_in texts text
+pub has_all : {S : Type 0} (by_text : HashMap (Bor Text) ℕ S) (texts : List Text) (place : ℕ) → place ≤ 0 → HasPlaces by_text texts place → (text : Text) → at_text by_text text ≡ place_in texts text
 has_all by_text texts place none has text =
     let e : place ≡ 0 = omega arith in
-    has text ∙ ap (λ (n : ℕ). behind n (parameter_in (drop n texts) text)) e ∙ all (parameter_in texts text)
+    has text ∙ ap (λ (n : ℕ). behind n (place_in (drop n texts) text)) e ∙ all (place_in texts text)
   where
     all : (found : Option ℕ) → behind 0 found ≡ found
     all None = refl
     all (Some n) = ap (λ (m : ℕ). Some m) (omega arith)
+
+-- the place of a name is below the number of names
+place_below : (texts : List Text) (text : Text) → IsBelow (length texts) (place_in texts text)
+place_below texts text place found = (position-Some (bytes_eq text) texts place [] found).0
+
+named_below : (texts : List Text) (word : Word) → IsBelow (length texts) (place_named texts word)
+named_below texts word = go (is_name_kind word.kind)
+  where
+    go : (b : Bool) → IsBelow (length texts) (cond b (place_in texts word.text.now) None)
+    go true = place_below texts word.text.now
+    go false = λ place found. cc
+
+pub all_below : (parameters : Option (List Text)) (words : List Word) → All (IsBelow (length (texts_of parameters))) (places_of parameters words)
+all_below None words = All-nil (IsBelow 0)
+all_below (Some texts) [] = All-nil (IsBelow (length texts))
+all_below (Some texts) (word ∷ words) = All-cons (IsBelow (length texts)) (place_named texts word) (map (place_named texts) words) (named_below texts word) (all_below (Some texts) words)
 
 -- ## Values at places
 
@@ -78,13 +117,14 @@ nothing : (found : Option ℕ) → None ≡ at_place {A = List Sourced} found []
 nothing None = refl
 nothing (Some place) = refl
 
-named_value : (word : Word) → is_name_kind word.kind ≡ true → (texts : List Text) (values : List (List Sourced)) → value_of texts values word ≡ at_place (parameter_in texts word.text.now) values
+named_value : (word : Word) → is_name_kind word.kind ≡ true → (texts : List Text) (values : List (List Sourced)) → value_of texts values word ≡ at_place (place_in texts word.text.now) values
 named_value word kind [] [] = refl
 named_value word kind [] (value ∷ values) = refl
-named_value word kind (parameter ∷ texts) [] = nothing (cond (bytes_eq word.text.now parameter) (Some 0) (option_map suc (parameter_in texts word.text.now)))
+named_value word kind (parameter ∷ texts) [] = nothing (place_in (parameter ∷ texts) word.text.now)
 named_value word kind (parameter ∷ texts) (value ∷ values) =
     ap (λ (b : Bool). cond (b && bytes_eq word.text.now parameter) (Some value) (value_of texts values word)) kind
-    ∙ go (bytes_eq word.text.now parameter) (parameter_in texts word.text.now) (named_value word kind texts values)
+    ∙ go (bytes_eq word.text.now parameter) (place_in texts word.text.now) (named_value word kind texts values)
+    ∙ ap (λ (found : Option ℕ). at_place found (value ∷ values)) (sym (place_in-cons parameter word.text.now texts))
   where
     go : (b : Bool) (found : Option ℕ) → value_of texts values word ≡ at_place found values →
         cond b (Some value) (value_of texts values word) ≡ at_place (cond b (Some 0) (option_map suc found)) (value ∷ values)
@@ -104,7 +144,7 @@ other_value word kind (parameter ∷ texts) (value ∷ values) =
 pub value_at : (texts : List Text) (values : List (List Sourced)) (word : Word) → value_of texts values word ≡ at_place (place_named texts word) values
 value_at texts values word = go (is_name_kind word.kind) refl
   where
-    go : (b : Bool) → is_name_kind word.kind ≡ b → value_of texts values word ≡ at_place (cond b (parameter_in texts word.text.now) None) values
+    go : (b : Bool) → is_name_kind word.kind ≡ b → value_of texts values word ≡ at_place (cond b (place_in texts word.text.now) None) values
     go true kind = named_value word kind texts values
     go false kind = other_value word kind texts values
 
