@@ -6,6 +6,7 @@ use Rattle.p10_expand.specs.declared.place.Include.{Include}
 use Rattle.p10_expand.specs.declared.place.Place.{Place}
 use Rattle.p10_expand.specs.declared.place.Place.TheVariants.{File, Header}
 
+-- whether a byte is `/`
 abbrev pub is_slash : ℕ → Bool
 is_slash byte = byte == 47
 
@@ -22,6 +23,7 @@ abbrev pub is_no_name : List ℕ → Bool
 is_no_name [] = true
 is_no_name name = list_any (λ byte. byte == 0) name || not (is_utf8 name)
 
+-- whether a name begins with `/`
 abbrev pub is_absolute : List ℕ → Bool
 is_absolute [] = false
 is_absolute (byte ∷ bytes) = is_slash byte

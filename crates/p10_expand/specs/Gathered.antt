@@ -18,6 +18,7 @@ pub record AreRoots (s : Setting) (g : Gathered) : Type 0 where
   pub many : root_count g ≡ length s.roots
   pub named : (place : ℕ) → place < length s.roots → name_of g (root_of g place) ≡ slice_index_or s.roots place []
 
+-- the roots of what is gathered have their names
 abbrev pub RootsAreNamed : Type 0
 RootsAreNamed = (s : Setting) (g : Gathered) → Gathers s g → AreRoots s g
 
@@ -29,6 +30,7 @@ pub record IsGathered (held : Option (List Named)) (number : ℕ) (known : Known
   pub text : HasText held known.place file.text
   pub lexed : HasIncludes number file.text known.includes
 
+-- each file is gathered, with what is known of it
 abbrev pub AreGathered : Option (List Named) → List Known → Gathered → Type 0
 AreGathered held known g = (number : ℕ) → number < count_of g → IsGathered held number (known_at known number) (file_of g number)
 

@@ -56,6 +56,7 @@ pub record Moment : Type 0 where
   pub sources : Gathered
   pub ahead : List Request
 
+-- the moment before the first request: nothing is gathered, and the roots are asked for
 abbrev pub beginning : Setting → Moment
 beginning s = record { known = []; sources = nothing_gathered; ahead = map Root s.roots }
 
@@ -76,6 +77,7 @@ pub record IsAt (known : List Known) (place : Place) (number : ℕ) : Type 0 whe
 abbrev pub IsNew : List Known → Place → Type 0
 IsNew known place = (number : ℕ) → IsAt known place number → ⊥
 
+-- whether a place is that of a file, not of a built-in header
 abbrev pub is_file : Place → Bool
 is_file (File name) = true
 is_file (Header name) = false
@@ -151,6 +153,7 @@ pub record Adds (s : Setting) (before after : Moment) : Type 0 where
   pub lexed : HasIncludes (count_of before.sources) text includes
   pub becomes : after ≡ added request rest (found request place includes) text before
 
+-- the next request was answered: it met a file that is gathered, found none, or added one
 abbrev pub Answered : Setting → Moment → Moment → Type 0
 Answered s before after = Passes s before after ⊎ Meets s before after ⊎ Adds s before after
 

@@ -7,9 +7,11 @@ use Rattle.p10_direct.specs.Spelling.{Text, is_name, is_name_kind, is_punctuator
 use Rattle.p10_direct.specs.Lines.{Piece, DirectiveLine}
 use Rattle.p10_direct.specs.Balance.{mark_of}
 
+-- the name in `ifndef X`, if these are its words
 abbrev pub guarded_by_ifndef : Word → Word → Option Text
 guarded_by_ifndef word name = if is_name (codes "ifndef") word && is_name_kind name.kind then Some name.text.now else None
 
+-- the name in `if !defined(X)`, if these are its words
 abbrev pub guarded_by_if : Word → Word → Word → Word → Word → Word → Option Text
 guarded_by_if word bang asks opening name closing =
     if is_name (codes "if") word && is_punctuator (codes "!") bang && is_name (codes "defined") asks && is_punctuator (codes "(") opening && is_name_kind name.kind && is_punctuator (codes ")") closing
@@ -43,6 +45,7 @@ abbrev pub is_lone_endif : Piece → Bool
 is_lone_endif (DirectiveLine (hash ∷ word ∷ [])) = is_name (codes "endif") word
 is_lone_endif _ = false
 
+-- whether there is a line, and it is `#endif` alone
 abbrev pub is_endif_there : Option Piece → Bool
 is_endif_there None = false
 is_endif_there (Some piece) = is_lone_endif piece
@@ -51,6 +54,8 @@ is_endif_there (Some piece) = is_lone_endif piece
 abbrev pub ends_with_endif : List Piece → Bool
 ends_with_endif pieces = is_endif_there (slice_get pieces (length pieces - 1))
 
+-- whether a file guards this name: its second line defines it with an empty list, and its last line is `#endif` alone and ends
+-- the conditional that its first line begins, which has no `#elif` and no `#else`; `pieces` are the lines behind those two
 abbrev pub guards : Option Text → List Word → List Piece → Bool
 guards None define pieces = false
 guards (Some name) define pieces = defines_as_nothing name define && ends_with_endif pieces && closes_last 0 (map mark_of pieces)

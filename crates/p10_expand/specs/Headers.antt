@@ -81,12 +81,14 @@ exact_types = SChar ∷ Short ∷ Int ∷ Long ∷ []
 abbrev pub with_width : List ℕ → IntType → List ℕ → List ℕ
 with_width front t back = front ++ decimal (width_of t) ++ back
 
+-- the limits of a type with a sign and an exact width, and of that without one (C99 7.18.2.1)
 abbrev pub exact_limits : IntType → List ℕ
 exact_limits t =
     define_line (with_width (codes "INT") t (codes "_MIN")) (least_text t)
     ++ define_line (with_width (codes "INT") t (codes "_MAX")) (greatest_text t)
     ++ define_line (with_width (codes "UINT") t (codes "_MAX")) (greatest_text (unsigned_of t))
 
+-- the types with an exact width, and their limits
 unfoldable pub stdint : List ℕ
 stdint =
     flat_map (λ t. typedef_line (type_text t) (with_width (codes "int") t (codes "_t"))) exact_types
@@ -95,19 +97,23 @@ stdint =
 
 -- ## `<limits.h>` (C99 5.2.4.2.1)
 
--- the limits of a type whose name begins with this text there
+-- the line that defines the least value of a type whose name begins with this text there
 abbrev pub least_line : List ℕ × IntType → List ℕ
 least_line (name, t) = define_line (name ++ codes "_MIN") (least_text t)
 
+-- the line that defines the greatest value of a type whose name begins with this text there
 abbrev pub greatest_line : List ℕ × IntType → List ℕ
 greatest_line (name, t) = define_line (name ++ codes "_MAX") (greatest_text t)
 
+-- the types with a least and a greatest value there
 abbrev pub signed_limits : List (List ℕ × IntType)
 signed_limits = (codes "SCHAR", SChar) ∷ (codes "CHAR", Char) ∷ (codes "SHRT", Short) ∷ (codes "INT", Int) ∷ (codes "LONG", Long) ∷ (codes "LLONG", LLong) ∷ []
 
+-- the types with a greatest value alone
 abbrev pub unsigned_limits : List (List ℕ × IntType)
 unsigned_limits = (codes "UCHAR", UChar) ∷ (codes "USHRT", UShort) ∷ (codes "UINT", UInt) ∷ (codes "ULONG", ULong) ∷ (codes "ULLONG", ULLong) ∷ []
 
+-- the bits of a byte, and the limits of the types
 unfoldable pub limits : List ℕ
 limits = define_line (codes "CHAR_BIT") (decimal (width_of Char)) ++ flat_map (λ row. least_line row ++ greatest_line row) signed_limits ++ flat_map greatest_line unsigned_limits
 

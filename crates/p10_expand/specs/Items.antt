@@ -24,8 +24,9 @@ lines_of (word ∷ words) = if ends_line words then (word ∷ []) ∷ lines_of w
 abbrev pub item_name : List Word → Text
 item_name line = slice_index_or (texts_of line) (length line - 2) []
 
+-- whether the name is one of these
 abbrev pub is_among : List Text → Text → Bool
-is_among names name = list_any (λ other. bytes_eq other name) names
+is_among names name = list_any (bytes_eq name) names
 
 -- the names of the items that were given, after these lines too
 abbrev pub given_after : List Text → List (List Word) → List Text

@@ -12,6 +12,7 @@ use Rattle.p10_expand.specs.Conditionals.{Judged, Holds, Fails, Exceeds}
 abbrev pub as_asked : Option (Bor Text × ℕ) → Option (Text × ℕ)
 as_asked found = option_map (λ (name, behind). (name.now, behind)) found
 
+-- what the code has judged, as a plain value
 abbrev pub judged_by : Verdict → Judged
 judged_by (verdict.Holds truth left) = Holds truth left
 judged_by (verdict.Fails refusal) = Fails refusal

@@ -11,6 +11,7 @@ use Rattle.p10_direct.specs.Lines.{Piece, DirectiveLine, TextRun}
 use Rattle.p10_direct.specs.Balance.{mark_of, first_unbalanced}
 use Rattle.p10_direct.specs.Directives.{PlainMacro, PlainDirective, Null, Include, Define, Undef, If, Elif, Ifdef, Ifndef, Else, Endif, Once, InitDone, TaskLoop, OtherPragma, Outcome, Read, BadForm, BadDefinition, IsOutcome, place_of}
 use Rattle.p10_direct.specs.Reading.{inside}
+use Rattle.p10_direct.specs.Names.{with_name}
 use Rattle.p10_macros.specs.declared.table.Effect.{Effect}
 use Rattle.p10_macros.specs.declared.table.Effect.TheVariants.{New, Same, Other}
 use Rattle.p10_macros.specs.Table.{Table, without_macro, own_of}
@@ -29,6 +30,7 @@ use Rattle.p10_expand.specs.Items.{lines_of, is_among, given_after, new_words}
 
 -- ## What is known between two lines
 
+-- the state between two lines of a root
 pub record State : Type 0 where
   -- the macros that are defined
   pub macros : Table
@@ -67,14 +69,17 @@ pub record File : Type 0 where
   pub built_in : Bool
   pub pieces : List Piece
 
+-- the limit with this number
 abbrev pub limit : ℕ → Limit
 limit number = record { number = number }
 
+-- the program is refused here, by the refusal with this number at this place
 abbrev pub refuse : State → ℕ → Span → Next
 refuse s number at = End (Refuses s (refusal_of number at))
 
 -- ## Text
 
+-- whether a word begins where this place does
 abbrev pub begins_at : Span → Word → Bool
 begins_at at word = word.at.file == at.file && word.at.start == at.start
 
@@ -83,6 +88,7 @@ abbrev pub words_before : Span → List Word → List Word
 words_before at [] = []
 words_before at (word ∷ words) = if begins_at at word then [] else word ∷ words_before at words
 
+-- the state with these words behind those of the root
 abbrev pub with_words : State → List Word → State
 with_words s words = record s { words = s.words ++ words }
 
@@ -101,6 +107,7 @@ TextGives s words next = (ending : Ending (List Sourced)) × RunEnds s.macros wo
 abbrev pub ItemsGive : State → List (List Word) → Next → Type 0
 ItemsGive s items next = TextGives (record s { given = given_after s.given items }) (new_words s.given items) next
 
+-- what comes of a run of text of a file, or of a built-in header
 abbrev pub RunGives : Bool → State → List Word → Next → Type 0
 RunGives true s words next = ItemsGive s (lines_of words) next
 RunGives false s words next = TextGives s words next
@@ -112,6 +119,7 @@ abbrev pub operand_place : List Word → Span
 operand_place (hash ∷ name ∷ operand ∷ words) = operand.at
 operand_place line = place_of line
 
+-- whether there is a text, and it is this name
 abbrev pub is_some_text : Text → Option Text → Bool
 is_some_text name None = false
 is_some_text name (Some text) = bytes_eq text name
@@ -137,6 +145,7 @@ defined_as line s New macros = if nat_lt 8192 (own_of macros) then End (Passes (
 defined_as line s Same macros = On Obeyed (record s { macros = macros })
 defined_as line s Other macros = refuse s 4 (operand_place line)
 
+-- what comes of a definition, in a built-in header or not
 abbrev pub DefinitionGives : Bool → List Word → PlainMacro → State → Next → Type 0
 DefinitionGives built_in line made s next =
     (effect : Effect) × (macros : Table) × Defines s.macros made built_in effect macros × (next ≡ defined_as line s effect macros)
@@ -146,12 +155,14 @@ abbrev pub ItemGives : List Word → PlainMacro → State → Next → Type 0
 ItemGives line made s next =
     MatchBool (is_among s.given made.name) (next ≡ On Obeyed s) (DefinitionGives true line made (record s { given = s.given ++ made.name ∷ [] }) next)
 
+-- what comes of a definition, which is an item in a built-in header
 abbrev pub DefineGives : Bool → List Word → PlainMacro → State → Next → Type 0
 DefineGives true line made s next = ItemGives line made s next
 DefineGives false line made s next = DefinitionGives false line made s next
 
 -- ## Directives
 
+-- what comes of a line whose condition was judged
 abbrev pub judged_next : State → Judged → Next
 judged_next s (Holds truth left) = On (stand_of_group truth) (record s { left = left })
 judged_next s (Fails refusal) = End (Refuses s refusal)
@@ -179,7 +190,7 @@ Does g digits file stand line (Ifdef name) s next = next ≡ On (stand_of_group 
 Does g digits file stand line (Ifndef name) s next = next ≡ On (stand_of_group (not (is_defined s.macros name))) s
 Does g digits file stand line Else s next = next ≡ On (stand_of_else stand) s
 Does g digits file stand line Endif s next = next ≡ On Obeyed s
-Does g digits file stand line Once s next = next ≡ On Obeyed (record s { once = s.once ++ name_of g file.number ∷ [] })
+Does g digits file stand line Once s next = next ≡ On Obeyed (record s { once = with_name s.once (name_of g file.number) })
 Does g digits file stand line InitDone s next = next ≡ On Obeyed (with_words s (mark_word line))
 Does g digits file stand line TaskLoop s next = next ≡ On Obeyed (with_words s (mark_word line))
 Does g digits file stand line OtherPragma s next = next ≡ On Obeyed s
@@ -194,6 +205,7 @@ Acts g digits file stand breaks line (Read directive) s next =
 
 -- ## Lines
 
+-- whether there is a place, and it is this one
 abbrev pub is_place : ℕ → Option ℕ → Bool
 is_place place None = false
 is_place place (Some other) = place == other
@@ -202,6 +214,7 @@ is_place place (Some other) = place == other
 abbrev pub breaks_at : File → ℕ → Bool
 breaks_at file place = is_place place (first_unbalanced file.pieces)
 
+-- the line at this place begins the include guard of its file
 abbrev pub begins_guard : File → ℕ → Bool
 begins_guard file place = (place == 0) && is_guarded file.pieces
 
@@ -222,6 +235,7 @@ abbrev pub ObeyedGives : Gathered → Digits → File → Stand → ℕ → List
 ObeyedGives g digits file stand place line s next =
     (outcome : Outcome) × IsOutcome line outcome × Acts g digits file stand (breaks_at file place) line outcome s next
 
+-- what comes of a directive line that stands there, at this place among the lines of its file: one that is obeyed is listed
 abbrev pub DirectiveGives : Gathered → Digits → File → Stand → ℕ → List Word → State → Next → Type 0
 DirectiveGives g digits file stand place line s next =
     MatchBool (is_obeyed stand (mark_of (DirectiveLine line)))

@@ -14,6 +14,7 @@ pub record PlainObeyed : Type 0 where
   pub span : Span
   pub guard : Bool
 
+-- an obeyed line, where its words have no places in memory
 abbrev pub plain_obeyed : ObeyedLine → PlainObeyed
 plain_obeyed line = record { words = map seen line.words; span = line.span; guard = line.guard }
 
@@ -31,6 +32,7 @@ plain_expansion expansion = record {
   refusal = expansion.refusal;
 }
 
+-- an answer, where its words have no places in memory
 abbrev pub plain_answer : Result Expansion Limit → Result PlainExpansion Limit
 plain_answer (Ok expansion) = Ok (plain_expansion expansion)
 plain_answer (Err limit) = Err limit

@@ -109,6 +109,7 @@ pub record Links (old new : Gathering) (from : ℕ) (include : Include) (to : �
 
 -- ## The code's steps as those of the definition
 
+-- the files that are held, the names of the roots and the directories
 abbrev pub setting : Option (List Named) → List (List ℕ) → List (List ℕ) → Setting
 setting held roots dirs = record { held = held; roots = roots; dirs = dirs }
 
@@ -137,6 +138,7 @@ StopsAt s m g (Over limit) = PassesLimit s m limit ⊎ IsOneTooMany s m limit
 StopsAt s m g Read = Unit {0}
 StopsAt s m g Memory = Unit {0}
 
+-- the gathering stops at this request, whatever its roots are and whatever is asked for behind it
 abbrev pub Stops : Option (List Named) → List (List ℕ) → Gathering → Gathering → Request → Trouble → Type 0
 Stops held dirs old new request trouble =
     (roots : List (List ℕ)) (rest : List Request) → StopsAt (setting held roots dirs) (moment old (request ∷ rest)) new.sources trouble

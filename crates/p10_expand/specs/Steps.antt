@@ -29,22 +29,26 @@ use Rattle.p10_expand.specs.Expands.{Layout, Expansion, IsLaidOut, Expands}
 abbrev pub texts_in : List (Bor Text) → List Text
 texts_in names = map (λ name. name.now) names
 
+-- the state that the code keeps, as a plain value
 abbrev pub state_of : CodedState → State
 state_of s = record {
   macros = table_of s.macros;
-  once = texts_in s.once.items;
+  once = s.once;
   given = texts_in s.given.items;
   words = s.words.items;
   obeyed = s.obeyed;
   left = s.left;
 }
 
+-- the lines and runs of text of a file that was cut
 abbrev pub pieces_of : Lines → List Piece
 pieces_of cut = map piece_of cut.lines
 
+-- a file that the code expands, as a plain value
 abbrev pub file_of : CodedFile → File
 file_of file = record { number = file.number; built_in = file.built_in; pieces = pieces_of file.cut.now }
 
+-- the words of all files, as the code has them
 abbrev pub layout_of : Texts → Layout
 layout_of texts = record { words = map (λ words. words.items) texts.words.now; digits = texts.digits }
 
@@ -52,9 +56,11 @@ layout_of texts = record { words = map (λ words. words.items) texts.words.now; 
 abbrev pub lists_of : List (Vec Word Global) → List (List Word)
 lists_of all = map (λ words. words.items) all
 
+-- the same of a vector of vectors
 abbrev pub lists_in : Vec (Vec Word Global) Global → List (List Word)
 lists_in all = lists_of all.items
 
+-- what the code gives, as a plain value
 abbrev pub expansion_of : Expanded → Expansion
 expansion_of expanded = record { roots = lists_of expanded.roots; obeyed = expanded.obeyed; refusal = expanded.refusal }
 
@@ -84,6 +90,7 @@ abbrev pub inner_of : Stand → ℕ
 inner_of Obeyed = 0
 inner_of (Skipped chosen inner) = inner
 
+-- how many conditionals are open in a skipped group behind a line
 abbrev pub inner_behind : Step → ℕ
 inner_behind (step.On stand) = inner_of stand
 inner_behind _ = 0
@@ -107,6 +114,7 @@ Lies _ = ⊥
 
 -- ## Answers
 
+-- what comes of a line, as the code tells it, with this state behind it
 abbrev pub next_of : Step → CodedState → Next
 next_of (step.On stand) s = On stand (state_of s)
 next_of (step.Enter number built_in) s = Enter number built_in (state_of s)
@@ -135,6 +143,7 @@ Reaches gives (Err Memory) s = Unit {0}
 abbrev pub IsExpansion : Gathered → Expanded → Type 0
 IsExpansion g expanded = (layout : Layout) × IsLaidOut g layout × Expands g layout (Ok (expansion_of expanded))
 
+-- why a program isn't expanded: it passes this limit, or memory is wanting
 abbrev pub IsFault : Gathered → ExpandFault → Type 0
 IsFault g (Over limit) = (layout : Layout) × IsLaidOut g layout × Expands g layout (Err limit)
 IsFault g Memory = Unit {0}

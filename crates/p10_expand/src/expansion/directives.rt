@@ -63,7 +63,7 @@ pub fn obey<'w, 's>(
         Directive::Ifndef(name) => Ok(Step::On(group(!defines(&state.macros, name)))),
         Directive::Else => Ok(Step::On(otherwise(stand))),
         Directive::Once => {
-            state.once.push(sources.name(file.number).as_bytes())?;
+            let _ = state.once.add(sources.name(file.number).as_bytes())?;
             Ok(Step::On(Stand::Obeyed))
         }
         Directive::InitDone | Directive::TaskLoop => {
@@ -147,7 +147,7 @@ fn include<'w, 's>(
     match sources.candidate(from, name, angle) {
         None => Step::Refused(refusal(5, operand(line))),
         Some(number) => {
-            if among(&state.once, sources.name(number).as_bytes()) {
+            if state.once.contains(sources.name(number).as_bytes()) {
                 Step::On(Stand::Obeyed)
             } else {
                 Step::Enter {

@@ -50,7 +50,7 @@ pub fn among(names: &[&[u8]], name: &[u8]) -> bool
     ensures { result ≡ is_among (texts_in names.now) name.now }
 {
     for other in names {
-        if *other == name {
+        if name == *other {
             return true;
         }
     }

@@ -2,6 +2,7 @@
 
 use crate::expanded::Obeyed;
 use p10_base::{ListBuf, Word};
+use p10_direct::Names;
 use p10_macros::Macros;
 use std::alloc::Global;
 
@@ -11,7 +12,7 @@ pub struct State<'w, 's> {
     /// The macros that are defined.
     pub macros: Macros<'w, 's>,
     /// The names of the files that are included once only.
-    pub once: Vec<&'s [u8]>,
+    pub once: Names<'s>,
     /// The names of the items of built-in headers that were given.
     pub given: Vec<&'s [u8]>,
     /// The words of the root so far.
@@ -33,7 +34,7 @@ impl<'w, 's> State<'w, 's> {
     {
         State {
             macros: Macros::new(alloc),
-            once: Vec::new(alloc),
+            once: Names::new(alloc),
             given: Vec::new(alloc),
             words: Vec::new(alloc),
             obeyed,
