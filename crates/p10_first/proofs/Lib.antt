@@ -5,6 +5,7 @@ pub mod Spelling
 pub mod Taking
 pub mod Again
 pub mod Spells
+pub mod Unmarked
 pub mod CertificateSteps
 pub mod CertificateNumbers
 pub mod CertificateLines

@@ -9,6 +9,8 @@ use Rattle.p10_first.specs.declared.program.Item.TheVariants.{Declare, Initialis
 use Rattle.p10_first.specs.declared.program.Program.{Program}
 use Rattle.p10_int.specs.declared.types.IntType.TheVariants.{Int}
 use Rattle.p10_int.specs.Types.{greatest_of}
+use Rattle.p10_base.specs.declared.word.Kind.{Kind}
+use Rattle.p10_base.specs.declared.word.Kind.TheVariants.{Mark}
 use Rattle.p10_base.specs.declared.word.Word.{Word}
 use Rattle.p10_first.specs.Names.{is_name, is_reserved}
 
@@ -109,6 +111,13 @@ pub record Spells (words : List Text) (p : Program) : Type 0 where
   pub is_program : IsProgram names p
   pub words_are : words ≡ program_words names p
 
--- the texts of words
+-- ## What words spell
+
+-- a word spells its text, but a mark nothing: it has the text of its directive, and no word of a program is empty
+abbrev pub spelling : Kind → Text → Text
+spelling Mark text = []
+spelling kind text = text
+
+-- the texts that words spell
 abbrev pub texts : List Word → List Text
-texts words = map (λ (word : Word). word.text.now) words
+texts words = map (λ (word : Word). spelling word.kind word.text.now) words

@@ -1,7 +1,7 @@
 //! What holds of the definitions of the first form: each function does nothing, and its contract is
 //! the law.
 
-ghost use Rattle.p10_first.specs.Laws.{CostIsExact, CostIsEnough, AcceptedIsWithin, SpellsOneProgram, FailsOnce, ReturnsItsNumber, RangesFollowRuns, ReturnIsReached, ReturnsAsClaimed, StepsChangeNoValue, StepsChangeNoStop, EndsAreThree, RunsByHand, FailsOrAccepts, TextTellsClaims, HasOneWrongLine, CertificateHasNoWrongLine};
+ghost use Rattle.p10_first.specs.Laws.{CostIsExact, CostIsEnough, AcceptedIsWithin, SpellsOneProgram, HasNoMark, FailsOnce, ReturnsItsNumber, RangesFollowRuns, ReturnIsReached, ReturnsAsClaimed, StepsChangeNoValue, StepsChangeNoStop, EndsAreThree, RunsByHand, FailsOrAccepts, TextTellsClaims, HasOneWrongLine, CertificateHasNoWrongLine};
 
 /// A call of `main` that returns took just the steps that the program costs.
 pub fn cost_is_exact()
@@ -21,6 +21,11 @@ pub fn accepted_is_within()
 /// Words spell one program at most.
 pub fn words_spell_one_program()
     ensures { SpellsOneProgram }
+{}
+
+/// No word of a program is a mark, which a pragma leaves.
+pub fn a_program_has_no_mark()
+    ensures { HasNoMark }
 {}
 
 /// Only one condition is the first that doesn't hold.

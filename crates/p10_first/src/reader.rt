@@ -3,14 +3,14 @@
 
 ghost use Rattle.std.specs.Prelude.{◌≡◌, ◌&&◌, ◌||◌, bytes_eq, map, IfOk, Some, None, IfSome, IfNone, option_map, OnOk};
 ghost use Rattle.std.specs.List.{list_any, position_from};
-ghost use Rattle.p10_first.specs.Form.{is_variable_name, texts, Spells};
+ghost use Rattle.p10_first.specs.Form.{is_variable_name, spelling, texts, Spells};
 ghost use Rattle.p10_first.specs.Names.{is_reserved};
 ghost use Rattle.p10_first.specs.Reading.{numeral, number_of, atom_of, is_head, after_head, body_of};
 
 use crate::bytes::is_name;
 use crate::numerals::numeral;
 use crate::{Atom, Item, Program, Sum};
-use p10_base::{ListBuf, Word};
+use p10_base::{Kind, ListBuf, Word};
 use std::alloc::{AllocError, Global};
 use std::mem;
 
@@ -323,6 +323,16 @@ impl<'s> Reader<'s> {
     }
 }
 
+/// The text that a word spells; a mark has that of its directive, and spells nothing.
+fn spelling<'s>(word: &Word<'s>) -> &'s [u8]
+    ensures { result.now ≡ spelling word.now.kind word.now.text.now }
+{
+    match word.kind {
+        Kind::Name | Kind::Number | Kind::Char | Kind::Str | Kind::Punct => word.text,
+        Kind::Mark => &[],
+    }
+}
+
 /// Whether six words are `int main ( void ) {`.
 fn begins_main(
     int: &[u8],
@@ -351,12 +361,12 @@ fn after_head<'w, 's>(words: &'w [Word<'s>]) -> Option<&'w [Word<'s>]>
         return None;
     };
     if begins_main(
-        int.text,
-        main.text,
-        opening.text,
-        void.text,
-        closing.text,
-        brace.text,
+        spelling(int),
+        spelling(main),
+        spelling(opening),
+        spelling(void),
+        spelling(closing),
+        spelling(brace),
     ) {
         Some(body)
     } else {
@@ -370,7 +380,7 @@ fn read_body(alloc: Global, words: &[Word<'_>]) -> Result<Option<Program>, Alloc
 {
     let mut reader = Reader::new(alloc);
     for word in words {
-        if !reader.take(word.text)? {
+        if !reader.take(spelling(word))? {
             return Ok(None);
         }
     }

@@ -8,7 +8,7 @@ use Rattle.p10_lex.specs.Pieces.{LexedWord, seen}
 use Rattle.p10_first.specs.declared.program.Program.{Program}
 use Rattle.p10_first.specs.declared.conditions.Condition.{Condition}
 use Rattle.p10_first.specs.declared.conditions.Condition.TheVariants.{K1, K5, K11, K12, K14}
-use Rattle.p10_first.specs.Form.{Text, Spells, texts, program_words, items_words, return_words, head_words}
+use Rattle.p10_first.specs.Form.{Text, spelling, Spells, texts, program_words, items_words, return_words, head_words}
 use Rattle.p10_top.specs.declared.answer.Answer.{Answer}
 use Rattle.p10_top.specs.declared.answer.Answer.TheVariants.{AbsentSource, Refused, SourcesOver, AbsentCertificate, Unexpanded, ExpansionOver, NotBuilt, CertificateTooLong, BadCertificate, Failing, Accepted, ReadFault, NoMemory}
 use Rattle.p10_base.specs.declared.report.Family.{Family}
@@ -27,7 +27,7 @@ use Rattle.p10_top.specs.Judging.{IsWeighed, AreJudged, IsJudged, JudgedPlace}
 
 pub texts_seen : (words : List Word) → texts_of (map seen words) ≡ texts words
 texts_seen [] = refl
-texts_seen (word ∷ words) = ap (λ (ts : List Text). word.text.now ∷ ts) (texts_seen words)
+texts_seen (word ∷ words) = ap (λ (ts : List Text). spelling word.kind word.text.now ∷ ts) (texts_seen words)
 
 spells_seen : (words : List Word) (p : Program) → Spells (texts words) p → Spells (texts_of (map seen words)) p
 spells_seen words p spell = subst (λ (ts : List Text). Spells ts p) (sym (texts_seen words)) spell

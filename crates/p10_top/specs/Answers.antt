@@ -13,7 +13,7 @@ use Rattle.p10_expand.specs.Plain.{PlainObeyed, ExpandsTo}
 use Rattle.p10_first.specs.declared.program.Program.{Program}
 use Rattle.p10_first.specs.declared.conditions.Condition.{Condition}
 use Rattle.p10_first.specs.declared.conditions.Condition.TheVariants.{K1, K5, K11, K12, K14}
-use Rattle.p10_first.specs.Form.{Text, Spells}
+use Rattle.p10_first.specs.Form.{Text, spelling, Spells}
 use Rattle.p10_first.specs.Certificate.{Claims, certificate_text, IsCertificate, IsFirstWrongLine}
 use Rattle.p10_first.specs.Conditions.{Accepts, IsFirstFailure}
 use Rattle.p10_top.specs.declared.answer.Answer.{Answer}
@@ -38,9 +38,9 @@ pub record RootWords (g : Gathered) (words : List LexedWord) : Type 0 where
   pub obeyed : List PlainObeyed
   pub expands : ExpandsTo g (Ok (record { roots = words ∷ []; obeyed = obeyed; refusal = None }))
 
--- the texts of words
+-- the texts that words spell
 abbrev pub texts_of : List LexedWord → List Text
-texts_of words = map (λ (word : LexedWord). word.text) words
+texts_of words = map (λ (word : LexedWord). spelling word.kind word.text) words
 
 -- words spell no program
 abbrev pub SpellsNone : List LexedWord → Type 0

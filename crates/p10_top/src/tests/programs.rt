@@ -146,7 +146,7 @@ static NO_BODIES: [&str; 41] = [
 ];
 
 /// Sources that are no programs of the first form.
-static NO_PROGRAMS: [&str; 19] = [
+static NO_PROGRAMS: [&str; 23] = [
     "",
     "\n",
     "int main(void) { return 2147483648; }\n",
@@ -166,6 +166,11 @@ static NO_PROGRAMS: [&str; 19] = [
     "int Main(void) { return 0; }\n",
     "void main(void) { return 0; }\n",
     "int x; int main(void) { return 0; }\n",
+    // a mark, whose text is `init_done` or `task_loop`, in the place of a name, between items and behind all words
+    "int main(void) { int init_done;\n#pragma p10 init_done\n = 7; return 0; }\n",
+    "int main(void) { int task_loop; task_loop =\n#pragma p10 task_loop\n; return 0; }\n",
+    "int main(void) { int x;\n#pragma p10 init_done\nx = 1; return 0; }\n",
+    "int main(void) { return 0; }\n#pragma p10 task_loop\n",
 ];
 
 /// A source that is refused, whatever the certificate says.
