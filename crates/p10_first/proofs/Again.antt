@@ -1,6 +1,6 @@
 -- The words of a program are read as that program.
-use Rattle.std.proofs.Common.{◌≡◌, ℕ, ◌+◌, ◌<◌, ◌≤◌, zero, suc, List, [], ◌∷◌, ◌++◌, Bool, true, false, cond, bytes_eq, length, get_or, take, refl, sym, ◌∙◌, ap, subst, arith, append_assoc, append-nil, codes, Option, Some, None, option_map, option_and_then, decimal, All, is_none, nat_le}
-use Rattle.std.specs.List.{position_from, list_all}
+use Rattle.std.proofs.Common.{◌≡◌, ℕ, ◌+◌, ◌<◌, ◌≤◌, List, [], ◌∷◌, ◌++◌, true, false, cond, bytes_eq, length, take, refl, sym, ◌∙◌, ap, subst, arith, append_assoc, append-nil, codes, Option, Some, None, option_map, option_and_then, decimal, All, is_none, nat_le}
+use Rattle.std.specs.List.{list_all}
 use Rattle.std.specs.Char.{is_ascii_digit}
 use Rattle.std.proofs.lemmas.Bool.{cond_both, both_ways, and_parts, and_from, not-true, le-leb, leb-true, lt-ltb}
 use Rattle.std.proofs.lemmas.Bool.Decides.{nat_tests}
@@ -18,10 +18,12 @@ use Rattle.p10_first.specs.declared.reader.Expecting.{Expecting}
 use Rattle.p10_first.specs.declared.reader.Expecting.TheVariants.{AnItem, NewName, Declared, Assigned, FirstAtom, NextAtom, Joint, Value, End, Brace, Nothing}
 use Rattle.p10_first.specs.Names.{is_nondigit, is_word_byte, is_name, reserved_words, is_reserved}
 use Rattle.p10_first.specs.Form.{Text, name_of, atom_word, addend_words, sum_words, item_words, items_words, return_words, is_variable_name, AtomFits, SumFits, ItemFits, ItemsFit, declared_after, greatest_int, AreApart, IsProgram}
-use Rattle.p10_first.specs.Reading.{Reading, expect, if_int, numeral, number_of, number_or_variable, below, atom_of, readable, item_for, step, steps, start, whole_at, body_of}
+use Rattle.p10_first.specs.Reading.{Reading, expect, if_int, numeral, number_or_variable, below, atom_of, readable, item_for, step, steps, start, whole_at, body_of}
 use Rattle.p10_first.specs.Runs.{numeral_of}
 use Rattle.p10_first.proofs.DecimalNumbers.{numeral_of_takes, numeral_of_again}
-use Rattle.p10_first.proofs.Spelling.{same_text, other_text, fit_rises}
+use Rattle.p10_direct.specs.Names.{place_in}
+use Rattle.p10_first.proofs.Places.{first_place, no_place}
+use Rattle.p10_first.proofs.Spelling.{other_text, fit_rises}
 
 -- ## Numbers
 
@@ -56,44 +58,26 @@ numeral_none word name = none_of word (numeral_of word) name refl
 
 -- ## Names
 
-position_at : (p : Text → Bool) (names : List Text) (from v : ℕ) → v < length names → p (get_or names v []) ≡ true → ((u : ℕ) → u < v → p (get_or names u []) ≡ false) → position_from p from names ≡ Some (from + v)
-position_at p [] from v inside passes others = absurd (omega (arith, inside))
-position_at p (name ∷ names) from zero inside passes others = ap (λ b. cond b (Some from) (position_from p (from + 1) names)) passes ∙ ap Some (omega arith)
-position_at p (name ∷ names) from (suc v) inside passes others =
-    ap (λ b. cond b (Some from) (position_from p (from + 1) names)) (others 0 (omega arith))
-    ∙ position_at p names (from + 1) v (omega (arith, inside)) passes (λ u below. others (suc u) (omega (arith, below)))
-    ∙ ap Some (omega arith)
-
-position_none : (p : Text → Bool) (names : List Text) (from : ℕ) → ((u : ℕ) → u < length names → p (get_or names u []) ≡ false) → position_from p from names ≡ None
-position_none p [] from fails = refl
-position_none p (name ∷ names) from fails =
-    ap (λ b. cond b (Some from) (position_from p (from + 1) names)) (fails 0 (omega arith))
-    ∙ position_none p names (from + 1) (λ u inside. fails (suc u) (omega (arith, inside)))
-
 -- the variables of which the first `m` are declared so far
 record AreNames (names : List Text) : Type 0 where
   each : All (λ name. is_variable_name name ≡ true) names
   apart : AreApart names
 
 -- another variable has another name
-differs : (names : List Text) → AreNames names → (u v : ℕ) → u < length names → v < length names → (u ≡ v → ⊥) → bytes_eq (name_of names u) (name_of names v) ≡ false
-differs names are u v u_in v_in apart = other_text _ _ (λ same. apart (are.apart u v u_in v_in same))
+differs : (names : List Text) → AreNames names → (u v : ℕ) → u < length names → v < length names → (u ≡ v → ⊥) → bytes_eq (name_of names v) (name_of names u) ≡ false
+differs names are u v u_in v_in apart = other_text _ _ (λ same. apart (are.apart u v u_in v_in (sym same)))
 
-known : (names : List Text) → AreNames names → (m v : ℕ) → m ≤ length names → v < m → number_of (take m names) (name_of names v) ≡ Some v
-unfolding number_of
+known : (names : List Text) → AreNames names → (m v : ℕ) → m ≤ length names → v < m → place_in (take m names) (name_of names v) ≡ Some v
 known names are m v within below_m =
     let count : length (take m names) ≡ m = length-take-le m names within in
-    position_at (λ name. bytes_eq name (name_of names v)) (take m names) 0 v (omega (arith, count, below_m))
-    (same_text _ _ (get_or-take m names v [] below_m))
-    (λ u below. ap (λ name. bytes_eq name (name_of names v)) (get_or-take m names u [] (omega (arith, below, below_m))) ∙ differs names are u v (omega (arith, below, below_m, within)) (omega (arith, below_m, within)) (omega (arith, below)))
-    ∙ ap Some (omega arith)
+    first_place (take m names) (name_of names v) v (omega (arith, count, below_m)) (get_or-take m names v [] below_m)
+    (λ u below. ap (bytes_eq (name_of names v)) (get_or-take m names u [] (omega (arith, below, below_m))) ∙ differs names are u v (omega (arith, below, below_m, within)) (omega (arith, below_m, within)) (omega (arith, below)))
 
-unknown : (names : List Text) → AreNames names → (m : ℕ) → m < length names → number_of (take m names) (name_of names m) ≡ None
-unfolding number_of
+unknown : (names : List Text) → AreNames names → (m : ℕ) → m < length names → place_in (take m names) (name_of names m) ≡ None
 unknown names are m within =
     let count : length (take m names) ≡ m = length-take-le m names (omega (arith, within)) in
-    position_none (λ name. bytes_eq name (name_of names m)) (take m names) 0
-    (λ u inside. ap (λ name. bytes_eq name (name_of names m)) (get_or-take m names u [] (omega (arith, inside, count))) ∙ differs names are u m (omega (arith, inside, count, within)) within (omega (arith, inside, count)))
+    no_place (take m names) (name_of names m)
+    (λ u inside. ap (bytes_eq (name_of names m)) (get_or-take m names u [] (omega (arith, inside, count))) ∙ differs names are u m (omega (arith, inside, count, within)) within (omega (arith, inside, count)))
 
 variable_name : (names : List Text) → AreNames names → (v : ℕ) → v < length names → is_variable_name (name_of names v) ≡ true
 variable_name names are v inside = All-get_or (λ name. is_variable_name name ≡ true) names v [] inside are.each
@@ -125,9 +109,9 @@ go word words r next e = ap (λ o. option_and_then (steps words) o) e
 atom_again : (names : List Text) → AreNames names → (declared m : ℕ) → declared ≤ m → m ≤ length names → (a : Atom) → AtomFits declared a → atom_of declared (take m names) (atom_word names a) ≡ Some a
 unfolding atom_of
 atom_again names are declared m in_m within (Number n) fits =
-    ap (λ o. number_or_variable o (option_and_then (below declared) (number_of (take m names) (decimal n)))) (numeral_again n fits)
+    ap (λ o. number_or_variable o (option_and_then (below declared) (place_in (take m names) (decimal n)))) (numeral_again n fits)
 atom_again names are declared m in_m within (Variable v) fits =
-    ap (λ o. number_or_variable o (option_and_then (below declared) (number_of (take m names) (name_of names v)))) (numeral_none (name_of names v) (and_parts _ _ (variable_name names are v (omega (arith, fits, in_m, within)))).0)
+    ap (λ o. number_or_variable o (option_and_then (below declared) (place_in (take m names) (name_of names v)))) (numeral_none (name_of names v) (and_parts _ _ (variable_name names are v (omega (arith, fits, in_m, within)))).0)
     ∙ ap (λ o. option_map Variable (option_and_then (below declared) o)) (known names are m v within (omega (arith, fits, in_m)))
     ∙ ap (λ b. option_map Variable (cond b (Some v) None)) (lt-ltb v declared fits)
 
@@ -197,8 +181,8 @@ assigns names are m v within below_m items =
     let r = between names m items in
     let word = name_of names v in
     let name = variable_name names are v (omega (arith, within, below_m)) in
-    ap (λ b. cond b (Some (expect NewName r)) (cond (bytes_eq word (codes "return")) (Some (expect Value r)) (option_map (λ v. expect (Assigned v) r) (number_of (take m names) word)))) (not_reserved word (codes "int") name int_is_reserved)
-    ∙ ap (λ b. cond b (Some (expect Value r)) (option_map (λ v. expect (Assigned v) r) (number_of (take m names) word))) (not_reserved word (codes "return") name return_is_reserved)
+    ap (λ b. cond b (Some (expect NewName r)) (cond (bytes_eq word (codes "return")) (Some (expect Value r)) (option_map (λ v. expect (Assigned v) r) (place_in (take m names) word)))) (not_reserved word (codes "int") name int_is_reserved)
+    ∙ ap (λ b. cond b (Some (expect Value r)) (option_map (λ v. expect (Assigned v) r) (place_in (take m names) word))) (not_reserved word (codes "return") name return_is_reserved)
     ∙ ap (λ o. option_map (λ v. expect (Assigned v) r) o) (known names are m v within below_m)
 
 item_again : (names : List Text) → AreNames names → (m : ℕ) (items : List Item) (i : Item) → ItemFits m i → declared_after m i ≤ length names → (rest : List Text)

@@ -1,8 +1,7 @@
 -- Words, and the atoms, sums and items that they spell.
-use Rattle.std.proofs.Common.{◌≡◌, ℕ, ◌+◌, ◌<◌, ◌≤◌, zero, suc, List, [], ◌∷◌, ◌++◌, Bool, true, false, cond, bytes_eq, length, get_or, refl, sym, ◌∙◌, ap, subst, arith, append_assoc, append-nil, codes, Option, Some, None, option_map, option_and_then, decimal, All, nat_le}
-use Rattle.std.specs.List.{position_from}
+use Rattle.std.proofs.Common.{◌≡◌, ℕ, ◌<◌, ◌≤◌, List, [], ◌∷◌, ◌++◌, Bool, true, false, cond, bytes_eq, length, refl, sym, ◌∙◌, ap, subst, arith, append_assoc, append-nil, codes, Option, Some, None, option_map, option_and_then, decimal, All, nat_le}
 use Rattle.std.proofs.lemmas.Slice.Eq.{bytes_eq-Decides}
-use Rattle.std.proofs.lemmas.Bool.{both_ways, leb-true, ltb-true}
+use Rattle.std.proofs.lemmas.Bool.{leb-true, ltb-true}
 use Rattle.std.proofs.lemmas.Option.{cond_some, option_and_then_some, none-some, same_Some}
 use Rattle.std.proofs.lemmas.List.{get_or_append_left}
 use Rattle.std.proofs.lemmas.List.Elements.{All-head, All-tail}
@@ -12,8 +11,10 @@ use Rattle.p10_first.specs.declared.program.Sum.{Sum}
 use Rattle.p10_first.specs.declared.program.Item.{Item}
 use Rattle.p10_first.specs.declared.program.Item.TheVariants.{Declare, Initialise, Assign}
 use Rattle.p10_first.specs.Form.{Text, name_of, atom_word, addend_words, sum_words, item_words, items_words, AtomFits, SumFits, ItemFits, ItemsFit, declared_after, greatest_int}
-use Rattle.p10_first.specs.Reading.{numeral, number_of, atom_of, below, if_int, number_or_variable}
+use Rattle.p10_first.specs.Reading.{numeral, atom_of, below, if_int, number_or_variable}
 use Rattle.p10_first.specs.Runs.{numeral_of}
+use Rattle.p10_direct.specs.Names.{place_in}
+use Rattle.p10_first.proofs.Places.{place_takes}
 use Rattle.p10_first.proofs.DecimalNumbers.{numeral_of_takes}
 
 pub is_text : (a b : List ℕ) → bytes_eq a b ≡ true → a ≡ b
@@ -34,42 +35,6 @@ pub map_some : {A B P : Type 0} (f : A → B) (o : Option A) (y : B) → option_
 map_some f None y e go = absurd (none-some y e)
 map_some f (Some x) y e go = go x refl (same_Some (f x) y e)
 
--- ## A name by its number
-
-record FoundAt (p : Text → Bool) (names : List Text) (from : ℕ) (at : ℕ) : Type 0 where
-  place : ℕ
-  at_is : at ≡ from + place
-  inside : place < length names
-  passes : p (get_or names place []) ≡ true
-
-found_at : (p : Text → Bool) (names : List Text) (from at : ℕ) → position_from p from names ≡ Some at → FoundAt p names from at
-found_at p [] from at e = absurd (none-some at e)
-found_at p (name ∷ names) from at e =
-    cond_cases (p name) from (position_from p (from + 1) names) at e
-    (λ yes same. record { place = 0; at_is = omega (arith, same); inside = omega arith; passes = yes })
-    (λ no later. let f = found_at p names (from + 1) at later in record { place = suc f.place; at_is = omega (arith, f.at_is); inside = omega (arith, f.inside); passes = f.passes })
-
-pub number_of_takes : (names : List Text) (word : Text) (v : ℕ) → number_of names word ≡ Some v → (v < length names) × (name_of names v ≡ word)
-unfolding number_of
-number_of_takes names word v e =
-    let f = found_at (λ name. bytes_eq name word) names 0 v e in
-    let same : f.place ≡ v = omega (arith, f.at_is) in
-    (omega (arith, f.at_is, f.inside), is_text _ _ (subst (λ n. bytes_eq (name_of names n) word ≡ true) same f.passes))
-
-none_here : (p : Text → Bool) (name : Text) (names : List Text) → p name ≡ false → ((at : ℕ) → at < length names → p (get_or names at []) ≡ false) → (at : ℕ) → at < length (name ∷ names) → p (get_or (name ∷ names) at []) ≡ false
-none_here p name names fails others zero inside = fails
-none_here p name names fails others (suc at) inside = others at (omega (arith, inside))
-
-none_at : (p : Text → Bool) (names : List Text) (from : ℕ) → position_from p from names ≡ None → (at : ℕ) → at < length names → p (get_or names at []) ≡ false
-none_at p [] from e at inside = absurd (omega (arith, inside))
-none_at p (name ∷ names) from e at inside =
-    elim (p name) as (λ t. p name ≡ t → cond t (Some from) (position_from p (from + 1) names) ≡ None → p (get_or (name ∷ names) at []) ≡ false)
-    [ true ↦ λ yes gone. absurd (none-some from (sym gone)) | false ↦ λ no later. none_here p name names no (λ at inside. none_at p names (from + 1) later at inside) at inside ] refl e
-
-pub number_of_none : (names : List Text) (word : Text) → number_of names word ≡ None → (v : ℕ) → v < length names → name_of names v ≡ word → ⊥
-unfolding number_of
-number_of_none names word e v inside same = both_ways _ (none_at (λ name. bytes_eq name word) names 0 e v inside) (same_text _ _ same)
-
 -- ## Atoms
 
 pub numeral_takes : (word : Text) (n : ℕ) → numeral word ≡ Some n → (decimal n ≡ word) × (n ≤ greatest_int)
@@ -85,13 +50,13 @@ atom_of_takes declared names word a e = by_number (numeral word) refl e
     Goal : Atom → Type 0
     Goal a = (atom_word names a ≡ word) × AtomFits declared a
 
-    by_variable : option_map Variable (option_and_then (below declared) (number_of names word)) ≡ Some a → (atom_word names a ≡ word) × AtomFits declared a
+    by_variable : option_map Variable (option_and_then (below declared) (place_in names word)) ≡ Some a → (atom_word names a ≡ word) × AtomFits declared a
     by_variable e = map_some Variable _ a e (λ v found same. option_and_then_some (below declared) _ v found (λ u known low.
         let parts = cond_some _ _ _ low in
-        let takes = number_of_takes names word u known in
+        let takes = place_takes names word u known in
         subst (λ (a : Atom). (atom_word names a ≡ word) × AtomFits declared a) (ap Variable parts.1 ∙ same) (takes.1, ltb-true _ _ parts.0)))
 
-    by_number : (o : Option ℕ) → numeral word ≡ o → number_or_variable o (option_and_then (below declared) (number_of names word)) ≡ Some a → (atom_word names a ≡ word) × AtomFits declared a
+    by_number : (o : Option ℕ) → numeral word ≡ o → number_or_variable o (option_and_then (below declared) (place_in names word)) ≡ Some a → (atom_word names a ≡ word) × AtomFits declared a
     by_number (Some n) is e = subst (λ (a : Atom). (atom_word names a ≡ word) × AtomFits declared a) (same_Some _ _ e) (numeral_takes word n is)
     by_number None is e = by_variable e
 

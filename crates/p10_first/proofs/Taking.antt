@@ -16,7 +16,8 @@ use Rattle.p10_first.specs.declared.reader.Expecting.{Expecting}
 use Rattle.p10_first.specs.declared.reader.Expecting.TheVariants.{AnItem, NewName, Declared, Assigned, FirstAtom, NextAtom, Joint, Value, End, Brace, Nothing}
 use Rattle.p10_first.specs.Form.{Text, name_of, atom_word, addend_words, sum_words, item_words, items_words, return_words, AtomFits, ItemFits, ItemsFit, declared_after, greatest_int, is_variable_name, AreApart, IsProgram}
 use Rattle.p10_first.specs.Reading.{Reading, expect, add_item, clear_others, atom_of, readable, item_for, step_at, step, steps, start, whole_at, body_of, operand_of, item_step, new_name_step, declared_step, word_step, first_atom_step, next_atom_step, joint_step, value_step}
-use Rattle.p10_first.proofs.Spelling.{is_text, cond_cases, map_some, number_of_takes, number_of_none, numeral_takes, atom_of_takes, name_grows, items_grow, addends_push, items_push, fit_push}
+use Rattle.p10_first.proofs.Places.{place_takes, place_none}
+use Rattle.p10_first.proofs.Spelling.{is_text, cond_cases, map_some, numeral_takes, atom_of_takes, name_grows, items_grow, addends_push, items_push, fit_push}
 
 -- ## The words so far
 
@@ -118,7 +119,7 @@ reads_item names items others word next s e =
     (λ no e. cond_cases _ _ _ next e
     (awaited r (codes "return") word _ next (λ is. moves r word Value s (ap (λ w. w ∷ []) is) s.state.0))
     (λ no e. map_some (λ v. expect (Assigned v) r) _ next e (λ v known same.
-    let found = number_of_takes names word v known in
+    let found = place_takes names word v known in
     to _ next same (moves r word (Assigned v) s (ap (λ w. w ∷ []) found.1) ((subst (λ n. v < n) s.state.0 found.0, s.state.0), s.state.1)))))
 
 reads_declared : (v : ℕ) (names : List Text) (items : List Item) (others : List Atom) (word : Text) (next : Reading) → IsSound (at names items others (Declared v)) → declared_step v word (at names items others (Declared v)) ≡ Some next → Reads (at names items others (Declared v)) word next
@@ -244,7 +245,7 @@ reads_new_name names items others word next s e =
       sound = record {
         declared = s.declared;
         each = All-push (λ name. is_variable_name name ≡ true) names word s.each tests.0;
-        apart = apart_push names word s.apart (number_of_none names word (none_is _ tests.1));
+        apart = apart_push names word s.apart (place_none names word (none_is _ tests.1));
         fit = s.fit;
         state = ((s.state.0, omega (arith, count, s.state.0)), s.state.1);
       };

@@ -1,10 +1,10 @@
 -- What the reader's fields say.
-use Rattle.std.specs.Prelude.{◌≡◌, Bool, Option, Some, None, MatchBool, map}
+use Rattle.std.specs.Prelude.{◌≡◌, Bool, Option, Some, None, MatchBool}
 use Rattle.p10_first.specs.declared.reader.Reader.{Reader}
 use Rattle.p10_first.specs.Reading.{Reading}
 
 abbrev pub reading_of : Reader → Reading
-reading_of r = record { names = map (λ name. name.now) r.names.items; items = r.items.items; others = r.others.items; expecting = r.expecting }
+reading_of r = record { names = r.names; items = r.items.items; others = r.others.items; expecting = r.expecting }
 
 -- a word fits, and the reader has taken it; or it doesn't
 abbrev pub Takes : (Reading → Option Reading) → Bool → Reader → Reader → Type 0

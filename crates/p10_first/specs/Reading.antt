@@ -1,6 +1,6 @@
 -- Reading the words of a body one by one: what the words so far say, and which word may come next.
 use Rattle.std.specs.Prelude.{ℕ, List, [], ◌∷◌, ◌++◌, codes, bytes_eq, length, Bool, nat_le, nat_lt, ◌&&◌, Option, Some, None, option_map, option_and_then, is_none, if◌then◌else◌}
-use Rattle.std.specs.List.{position_from}
+use Rattle.p10_direct.specs.Names.{place_in}
 use Rattle.p10_first.specs.declared.program.Atom.{Atom}
 use Rattle.p10_first.specs.declared.program.Atom.TheVariants.{Number, Variable}
 use Rattle.p10_first.specs.declared.program.Sum.{Sum}
@@ -39,10 +39,6 @@ if_int n = if nat_le n greatest_int then Some n else None
 unfoldable pub numeral : Text → Option ℕ
 numeral word = option_and_then if_int (numeral_of word)
 
--- the number of the variable with this name
-unfoldable pub number_of : List Text → Text → Option ℕ
-number_of names word = position_from (λ name. bytes_eq name word) 0 names
-
 -- the number of the variable, where it is one of the first `declared`
 abbrev pub below : ℕ → ℕ → Option ℕ
 below declared v = if nat_lt v declared then Some v else None
@@ -53,7 +49,7 @@ number_or_variable None v = option_map Variable v
 
 -- the operand that a word spells, where it may read the first `declared` variables
 unfoldable pub atom_of : ℕ → List Text → Text → Option Atom
-atom_of declared names word = number_or_variable (numeral word) (option_and_then (below declared) (number_of names word))
+atom_of declared names word = number_or_variable (numeral word) (option_and_then (below declared) (place_in names word))
 
 -- how many variables the sum may read
 abbrev pub readable : Target → List Text → ℕ
@@ -68,11 +64,11 @@ abbrev pub item_step : Text → Reading → Option Reading
 item_step word r =
     if bytes_eq word (codes "int") then Some (expect NewName r)
     else if bytes_eq word (codes "return") then Some (expect Value r)
-    else option_map (λ v. expect (Assigned v) r) (number_of r.names word)
+    else option_map (λ v. expect (Assigned v) r) (place_in r.names word)
 
 abbrev pub new_name_step : Text → Reading → Option Reading
 new_name_step word r =
-    if is_variable_name word && is_none (number_of r.names word)
+    if is_variable_name word && is_none (place_in r.names word)
     then Some (record r { names = r.names ++ word ∷ []; expecting = Declared (length r.names) })
     else None
 

@@ -1,16 +1,17 @@
 //! Reads words as a program of the first form: one pass, in which what stands so far says which
 //! word may come next.
 
-ghost use Rattle.std.specs.Prelude.{◌≡◌, ◌&&◌, ◌||◌, bytes_eq, map, IfOk, Some, None, IfSome, IfNone, option_map, OnOk};
-ghost use Rattle.std.specs.List.{list_any, position_from};
+ghost use Rattle.std.specs.Prelude.{◌≡◌, ◌&&◌, ◌||◌, bytes_eq, IfOk, Some, None, IfSome, IfNone, option_map, OnOk};
+ghost use Rattle.std.specs.List.{list_any};
 ghost use Rattle.p10_first.specs.Form.{is_variable_name, spelling, texts, Spells};
 ghost use Rattle.p10_first.specs.Names.{is_reserved};
-ghost use Rattle.p10_first.specs.Reading.{numeral, number_of, atom_of, is_head, after_head, body_of};
+ghost use Rattle.p10_first.specs.Reading.{numeral, atom_of, is_head, after_head, body_of};
 
 use crate::bytes::is_name;
 use crate::numerals::numeral;
 use crate::{Atom, Item, Program, Sum};
 use p10_base::{Kind, ListBuf, Word};
+use p10_direct::Names;
 use std::alloc::{AllocError, Global};
 use std::mem;
 
@@ -89,29 +90,15 @@ fn number(word: &[u8]) -> Option<u32>
     }
 }
 
-fn place_among(names: &[&[u8]], word: &[u8]) -> Option<usize>
-    ensures { result ≡ position_from (λ name. bytes_eq name.now word.now) 0 names.now }
-{
-    names.iter().position(|name| *name == word)
-}
-
-/// The number of the variable with this name.
-#[tactic(auto, using(crate::proofs::Places::number_of_places))]
-fn variable(names: &[&[u8]], word: &[u8]) -> Option<usize>
-    ensures { result ≡ number_of (map (λ name. name.now) names.now) word.now }
-{
-    place_among(names, word)
-}
-
 /// The operand that a word spells, where it may read the first `declared` variables.
 #[tactic(auto, unfolding(crate::specs::Reading::atom_of))]
-fn atom(declared: usize, names: &[&[u8]], word: &[u8]) -> Option<Atom>
-    ensures { result ≡ atom_of declared (map (λ name. name.now) names.now) word.now }
+fn atom(declared: usize, names: &Names<'_>, word: &[u8]) -> Option<Atom>
+    ensures { result ≡ atom_of declared names.now word.now }
 {
     if let Some(n) = number(word) {
         return Some(Atom::Number(n));
     }
-    match variable(names, word) {
+    match names.place(word) {
         Some(v) if v < declared => Some(Atom::Variable(v)),
         _ => None,
     }
@@ -122,7 +109,7 @@ fn atom(declared: usize, names: &[&[u8]], word: &[u8]) -> Option<Atom>
 struct Reader<'s> {
     alloc: Global,
     /// The names of the variables that are declared so far.
-    names: Vec<&'s [u8]>,
+    names: Names<'s>,
     items: Vec<Item>,
     /// The further atoms of the sum that is open.
     others: Vec<Atom>,
@@ -179,7 +166,7 @@ impl<'s> Reader<'s> {
             self.expecting = Expecting::Value;
             return true;
         }
-        match variable(&self.names, word) {
+        match self.names.place(word) {
             Some(v) => {
                 self.expecting = Expecting::Assigned(v);
                 true
@@ -188,14 +175,15 @@ impl<'s> Reader<'s> {
         }
     }
 
+    #[tactic(auto, using(crate::proofs::Places::name_added))]
     fn take_new_name(&mut self, word: &'s [u8]) -> Result<bool, AllocError>
         ensures { IfOk result (λ fits. Takes (new_name_step word.now) fits self.old self.new) }
     {
-        if !names_variable(word) || variable(&self.names, word).is_some() {
+        if !names_variable(word) || self.names.place(word).is_some() {
             return Ok(false);
         }
-        self.expecting = Expecting::Declared(self.names.len());
-        self.names.push(word)?;
+        self.expecting = Expecting::Declared(self.names.count());
+        self.names.add(word)?;
         Ok(true)
     }
 
@@ -277,7 +265,7 @@ impl<'s> Reader<'s> {
     {
         let declared = match target {
             Target::New(v) => v,
-            Target::Old(_) => self.names.len(),
+            Target::Old(_) => self.names.count(),
         };
         atom(declared, &self.names, word)
     }
@@ -301,7 +289,7 @@ impl<'s> Reader<'s> {
     {
         Reader {
             alloc,
-            names: Vec::new(alloc),
+            names: Names::new(alloc),
             items: Vec::new(alloc),
             others: Vec::new(alloc),
             expecting: Expecting::AnItem,
@@ -314,7 +302,7 @@ impl<'s> Reader<'s> {
     {
         match self.expecting {
             Expecting::Nothing(returned) => Some(Program {
-                variables: self.names.len(),
+                variables: self.names.count(),
                 items: ListBuf::of(self.items),
                 returned,
             }),
