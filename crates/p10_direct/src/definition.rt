@@ -58,7 +58,7 @@ pub fn define<'w, 's>(
 /// with a parameter list directly behind it, and a replacement list (C99 6.10p1).
 ///
 /// `words` go to the end of the line. `None` where they begin with no name, or with a parameter list of
-/// another form. It fails only where memory is wanting, which only a parameter list takes.
+/// another form. It fails only where memory is wanting.
 pub fn read_definition<'w, 's>(
     alloc: Global,
     words: &'w [Word<'s>],

@@ -32,7 +32,7 @@ claims_of c = record {
   total = c.total;
 }
 
--- ---- the text
+-- ## the text
 
 -- one text, and then another
 infixr 30 ◌then◌
@@ -56,7 +56,7 @@ certificate_text c =
     then codes " calls " then decimal c.total.calls then codes " bytes " then decimal c.total.bytes then codes "\n"
     then codes "end\n"
 
--- ---- which claims a certificate may make
+-- ## which claims a certificate may make
 
 -- the greatest number of steps, calls or bytes
 abbrev pub greatest_count : ℕ
@@ -86,7 +86,7 @@ pub record IsCertificate (c : Claims) : Type 0 where
   pub total_calls : c.total.calls ≤ greatest_count
   pub total_bytes : c.total.bytes ≤ greatest_count
 
--- ---- the first line that no certificate has
+-- ## the first line that no certificate has
 
 -- the first lines of a text, each with its LF, and at the end of the text what stands after its last LF
 unfoldable pub first_lines : List ℕ → ℕ → List ℕ

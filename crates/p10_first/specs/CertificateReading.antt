@@ -8,17 +8,18 @@ use Rattle.p10_first.specs.Names.{is_word_byte, is_name}
 use Rattle.p10_first.specs.Runs.{after_run, front_of, numeral_of}
 use Rattle.p10_first.specs.Certificate.{Claims, greatest_count, greatest_size}
 
+-- the second, of what the first gives
 infixl 10 ◌>>=◌
 abbrev pub ◌>>=◌ : {A B : Type 0} → Option A → (A → Option B) → Option B
 o >>= f = option_and_then f o
 
--- ---- fixed texts
+-- ## fixed texts
 
 -- what stands after a fixed text that the bytes begin with
 unfoldable pub after_front : List ℕ → List ℕ → Option (List ℕ)
 after_front front text = if bytes_eq (take (length front) text) front then Some (drop (length front) text) else None
 
--- ---- numbers
+-- ## numbers
 
 -- a number that is at most `most`
 unfoldable pub number_at : ℕ → List ℕ → Option (ℕ × List ℕ)
@@ -44,7 +45,7 @@ unfoldable pub signed_at : List ℕ → Option (ℤ × List ℕ)
 signed_at [] = positive_at []
 signed_at (first ∷ others) = if first == 45 then negative_at others else positive_at (first ∷ others)
 
--- ---- names
+-- ## names
 
 -- a name of C
 unfoldable pub name_at : List ℕ → Option (List ℕ × List ℕ)
@@ -53,7 +54,7 @@ name_at text =
     then Some (front_of text (after_run is_word_byte text), after_run is_word_byte text)
     else None
 
--- ---- the lines
+-- ## the lines
 
 -- what the line of the function claims
 pub record FunctionClaim : Type 0 where
@@ -112,7 +113,7 @@ total_at text =
     after_front (codes "\n") text >>= λ text.
     Some (record { prefix = prefix; turn = turn; calls = calls; bytes = bytes }, text)
 
--- ---- the whole text
+-- ## the whole text
 
 -- goes on with what was read, or is the number of the line that wasn't
 abbrev pub at_line : {A B : Type 0} → ℕ → Option A → (A → Result B ℕ) → Result B ℕ

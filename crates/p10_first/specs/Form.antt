@@ -24,6 +24,7 @@ Text = List ℕ
 abbrev pub name_of : List Text → ℕ → Text
 name_of names variable = slice_index_or names variable []
 
+-- the word of an operand
 abbrev pub atom_word : List Text → Atom → Text
 atom_word names (Number n) = decimal n
 atom_word names (Variable v) = name_of names v
@@ -33,22 +34,26 @@ abbrev pub addend_words : List Text → List Atom → List Text
 addend_words names [] = []
 addend_words names (a ∷ others) = codes "+" ∷ atom_word names a ∷ addend_words names others
 
+-- the words of a sum (C99 6.5.6)
 abbrev pub sum_words : List Text → Atom → List Atom → List Text
 sum_words names first others = atom_word names first ∷ addend_words names others
 
+-- the words of a declaration or an assignment (C99 6.7, 6.5.16)
 abbrev pub item_words : List Text → Item → List Text
 item_words names (Declare v) = codes "int" ∷ name_of names v ∷ codes ";" ∷ []
 item_words names (Initialise v s) = codes "int" ∷ name_of names v ∷ codes "=" ∷ sum_words names s.first s.others ++ codes ";" ∷ []
 item_words names (Assign v s) = name_of names v ∷ codes "=" ∷ sum_words names s.first s.others ++ codes ";" ∷ []
 
+-- the words of items, one after the other
 abbrev pub items_words : List Text → List Item → List Text
 items_words names [] = []
 items_words names (i ∷ items) = item_words names i ++ items_words names items
 
--- the words before the items, and those after them
+-- the words before the items
 abbrev pub head_words : List Text
 head_words = codes "int" ∷ codes "main" ∷ codes "(" ∷ codes "void" ∷ codes ")" ∷ codes "{" ∷ []
 
+-- the words behind the items (C99 6.8.6.4)
 abbrev pub return_words : ℕ → List Text
 return_words n = codes "return" ∷ decimal n ∷ codes ";" ∷ codes "}" ∷ []
 
@@ -71,6 +76,7 @@ abbrev pub AtomFits : ℕ → Atom → Type 0
 AtomFits declared (Number n) = n ≤ greatest_int
 AtomFits declared (Variable v) = v < declared
 
+-- each operand of a sum is a constant of type `int`, or one of the variables that are declared so far
 pub record SumFits (declared : ℕ) (sum : Sum) : Type 0 where
   pub first : AtomFits declared sum.first
   pub others : All (AtomFits declared) sum.others
@@ -113,7 +119,7 @@ pub record Spells (words : List Text) (p : Program) : Type 0 where
 
 -- ## What words spell
 
--- a word spells its text, but a mark nothing: it has the text of its directive, and no word of a program is empty
+-- a word spells its text, but a mark nothing: it has the text of its directive's last word, and no word of a program is empty
 abbrev pub spelling : Kind → Text → Text
 spelling Mark text = []
 spelling kind text = text

@@ -96,6 +96,7 @@ execute (Initialise v s) frame left =
 execute (Assign v s) frame left =
     take_step left (λ left. after (evaluate_sum frame s left) (λ z left. Gives (slice_set frame v (Some z)) left))
 
+-- what execution of items gives, one after the other
 abbrev pub execute_all : List Item → Frame → ℕ → Went Frame
 execute_all [] frame left = Gives frame left
 execute_all (i ∷ items) frame left = after (execute i frame left) (λ frame left. execute_all items frame left)
@@ -124,6 +125,7 @@ pub record Ran : Type 0 where
   pub bytes : ℕ
   pub allocations : ℕ
 
+-- how a call ends that gives a value, or ends without one
 abbrev pub outcome_of : Went ℤ → Outcome
 outcome_of (Gives z left) = Returned z
 outcome_of (Ends outcome) = outcome

@@ -78,6 +78,7 @@ ranges_after (Declare v) ranges = Some (slice_set ranges v int_range)
 ranges_after (Initialise v s) ranges = ranges_assigned v s (slice_set ranges v int_range)
 ranges_after (Assign v s) ranges = ranges_assigned v s ranges
 
+-- the ranges after items, one after the other
 abbrev pub ranges_after_all : List Item → Ranges → Option Ranges
 ranges_after_all [] ranges = Some ranges
 ranges_after_all (i ∷ items) ranges = option_and_then (λ ranges. ranges_after_all items ranges) (ranges_after i ranges)

@@ -3,6 +3,7 @@ use Rattle.std.specs.Prelude.{◌≡◌, Bool, Option, Some, None, MatchBool}
 use Rattle.p10_first.specs.declared.reader.Reader.{Reader}
 use Rattle.p10_first.specs.Reading.{Reading}
 
+-- what the reader has read, as a plain value
 abbrev pub reading_of : Reader → Reading
 reading_of r = record { names = r.names; items = r.items.items; others = r.others.items; expecting = r.expecting }
 

@@ -22,12 +22,15 @@ pub record Reading : Type 0 where
   pub others : List Atom
   pub expecting : Expecting
 
+-- this is expected next
 abbrev pub expect : Expecting → Reading → Reading
 expect expecting r = record r { expecting = expecting }
 
+-- one more item was read, and another one may follow
 abbrev pub add_item : Item → Reading → Reading
 add_item item r = record r { items = r.items ++ item ∷ []; expecting = AnItem }
 
+-- no sum is open
 abbrev pub clear_others : Reading → Reading
 clear_others r = record r { others = [] }
 
@@ -43,6 +46,7 @@ numeral word = option_and_then if_int (numeral_of word)
 abbrev pub below : ℕ → ℕ → Option ℕ
 below declared v = if nat_lt v declared then Some v else None
 
+-- the operand that is this number, or else this variable, if there is one
 abbrev pub number_or_variable : Option ℕ → Option ℕ → Option Atom
 number_or_variable (Some n) v = Some (Number n)
 number_or_variable None v = option_map Variable v
@@ -56,22 +60,26 @@ abbrev pub readable : Target → List Text → ℕ
 readable (New v) names = v
 readable (Old v) names = length names
 
+-- the item that gives this value to a new variable, or to an old one
 abbrev pub item_for : Target → Sum → Item
 item_for (New v) s = Initialise v s
 item_for (Old v) s = Assign v s
 
+-- the next word begins an item: `int`, or the name of a variable; or it is `return`
 abbrev pub item_step : Text → Reading → Option Reading
 item_step word r =
     if bytes_eq word (codes "int") then Some (expect NewName r)
     else if bytes_eq word (codes "return") then Some (expect Value r)
     else option_map (λ v. expect (Assigned v) r) (place_in r.names word)
 
+-- the next word is the name of a new variable
 abbrev pub new_name_step : Text → Reading → Option Reading
 new_name_step word r =
     if is_variable_name word && is_none (place_in r.names word)
     then Some (record r { names = r.names ++ word ∷ []; expecting = Declared (length r.names) })
     else None
 
+-- the next word ends the declaration of this variable, or is the `=` before its value
 abbrev pub declared_step : ℕ → Text → Reading → Option Reading
 declared_step v word r =
     if bytes_eq word (codes ";") then Some (add_item (Declare v) r)
@@ -86,22 +94,27 @@ word_step wanted expecting word r = if bytes_eq word wanted then Some (expect ex
 abbrev pub operand_of : Target → Text → Reading → Option Atom
 operand_of target word r = atom_of (readable target r.names) r.names word
 
+-- the next word is the first operand of the sum for this variable
 abbrev pub first_atom_step : Target → Text → Reading → Option Reading
 first_atom_step target word r = option_map (λ a. expect (Joint target a) r) (operand_of target word r)
 
+-- the next word is a further operand of the sum that begins with this one
 abbrev pub next_atom_step : Target → Atom → Text → Reading → Option Reading
 next_atom_step target first word r =
     option_map (λ a. record r { others = r.others ++ a ∷ []; expecting = Joint target first }) (operand_of target word r)
 
+-- the next word is the `+` before a further operand, or ends the item
 abbrev pub joint_step : Target → Atom → Text → Reading → Option Reading
 joint_step target first word r =
     if bytes_eq word (codes "+") then Some (expect (NextAtom target first) r)
     else if bytes_eq word (codes ";") then Some (add_item (item_for target (record { first = first; others = r.others })) (clear_others r))
     else None
 
+-- the next word is the value that is returned
 abbrev pub value_step : Text → Reading → Option Reading
 value_step word r = option_map (λ n. expect (End n) r) (numeral word)
 
+-- what the words say with one more, where this was expected; none where the word doesn't fit
 abbrev pub step_at : Expecting → Text → Reading → Option Reading
 step_at AnItem word r = item_step word r
 step_at NewName word r = new_name_step word r

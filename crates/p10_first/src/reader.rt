@@ -311,7 +311,7 @@ impl<'s> Reader<'s> {
     }
 }
 
-/// The text that a word spells; a mark has that of its directive, and spells nothing.
+/// The text that a word spells; a mark has that of its directive's last word, and spells nothing.
 fn spelling<'s>(word: &Word<'s>) -> &'s [u8]
     ensures { result.now ≡ spelling word.now.kind word.now.text.now }
 {

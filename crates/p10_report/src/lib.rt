@@ -1,9 +1,9 @@
 //! The lines in which `p10` tells what it found.
 //!
 //! Entry points, each of which writes one line to a sink, without memory: [`put_refusal`],
-//! [`put_accepted`], [`put_failing`] and [`put_limit`] tell what was found in the sources; [`put_usage`],
-//! [`put_absent`], [`put_bad_certificate`], [`put_read_fault`] and [`put_out_of_memory`] tell why there is
-//! nothing to tell of them. Invariant: what a sink took of a line is always the line's front, and all of
+//! [`put_accepted`], [`put_failing`] and [`put_limit`] tell what was found in the sources and the certificate;
+//! [`put_usage`], [`put_absent`], [`put_bad_certificate`], [`put_read_fault`] and [`put_out_of_memory`] tell
+//! why there is nothing to tell of them. Invariant: what a sink took of a line is always the line's front, and all of
 //! it at `Ok`. A line is written in several pieces, so the `wrote` of a fault counts bytes of the last
 //! piece alone. Which line is told, and to which sink, is left to the crates above.
 #![tactic(auto)]

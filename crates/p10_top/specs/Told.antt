@@ -105,7 +105,7 @@ pub record Told (words : List (List ℕ)) (seen : Seen) (out_old out_new err_old
   pub status_is : status ≡ saying.status
   pub taken : BothTake out_old out_new err_old err_new saying.out saying.err
 
--- an output failed while something that may be said was written: each has taken a front of its text
+-- each output has taken a front of something that may be said
 pub record Stopped (words : List (List ℕ)) (seen : Seen) (out_old out_new err_old err_new : Option (List ℕ)) : Type 0 where
   pub saying : Saying
   pub may : MaySay words seen saying
@@ -118,8 +118,7 @@ pub record ToldFor (names : Names) (seen : Seen) (out_old out_new err_old err_ne
   pub status_is : status ≡ saying.status
   pub taken : BothTake out_old out_new err_old err_new saying.out saying.err
 
--- an output failed while what is said for a right answer to `verify` with these names was written: each has
--- taken a front of its text
+-- each output has taken a front of what is said for a right answer to `verify` with these names
 pub record StoppedFor (names : Names) (seen : Seen) (out_old out_new err_old err_new : Option (List ℕ)) : Type 0 where
   pub saying : Saying
   pub may : SaysRight names seen saying

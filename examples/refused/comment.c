@@ -1,0 +1,4 @@
+int main(void) {
+    /* The demand of one channel.
+    return 0;
+}

@@ -1,0 +1,3 @@
+#include "sensor.h"
+
+int main(void) { return 0; }
