@@ -2,7 +2,7 @@
 use Rattle.std.proofs.Common.{◌≡◌, ℕ, zero, suc, ◌+◌, ◌-◌, ◌<◌, ◌≤◌, List, [], ◌∷◌, ◌++◌, length, map, drop, slice_index_or, Option, Some, None, Vec, Global, Bor, refl, sym, subst, ap, ◌∙◌, arith, append_assoc, length-append, drop-cons}
 use Rattle.std.specs.Prelude.{reverse, IfSome, All}
 use Rattle.std.specs.List.{flat_map, slice_get}
-use Rattle.std.proofs.lemmas.List.{reverse-append, map-append, drop_all}
+use Rattle.std.proofs.lemmas.List.{reverse-append, map-append}
 use Rattle.p10_base.specs.declared.span.Span.{Span}
 use Rattle.p10_base.specs.declared.word.Word.{Word}
 use Rattle.p10_direct.specs.Spelling.{Text}

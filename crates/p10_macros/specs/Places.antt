@@ -1,5 +1,5 @@
 -- The places of the parameters that the words of a replacement list name, and of the words that a use puts something for.
-use Rattle.std.specs.Prelude.{◌≡◌, ℕ, suc, ◌==◌, ◌<◌, List, [], ◌∷◌, ◌++◌, length, map, slice_index_or, Bool, true, false, Option, Some, None, if◌then◌else◌, bytes_eq, Vec}
+use Rattle.std.specs.Prelude.{◌≡◌, ℕ, suc, ◌==◌, ◌<◌, List, [], ◌∷◌, ◌++◌, length, map, slice_index_or, Bool, true, false, Option, Some, None, if◌then◌else◌, bytes_eq, Vec, All, ◌⊎◌}
 use Rattle.std.specs.Global.{Global}
 use Rattle.std.specs.Borrow.{Bor}
 use Rattle.std.specs.List.{flat_map, slice_get}
@@ -67,6 +67,10 @@ gives (Some (traced ∷ value)) = true
 -- the same, by the parameter that the word names
 abbrev pub is_put : List (List Traced) → Option ℕ → Bool
 is_put values found = gives (at_place found values)
+
+-- there are no parameters, or each has a value with words
+abbrev pub HaveWords : List Text → List (List Traced) → Type 0
+HaveWords parameters values = (length parameters ≡ 0) ⊎ All (λ (value : List Traced). 0 < length value) values
 
 -- what comes of a word, where there is one
 abbrev pub part_there : {W A : Type 0} → (W → List A) → Option W → List A

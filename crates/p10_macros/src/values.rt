@@ -1,6 +1,6 @@
 //! The values of the parameters of a use.
 
-ghost use Rattle.std.specs.Prelude.{◌≡◌, Some, option_copied};
+ghost use Rattle.std.specs.Prelude.{◌≡◌, ◌↔◌, ◌<◌, All, Some, length, option_copied, IsTrue};
 ghost use Rattle.p10_macros.specs.Places.{at_place, is_put};
 ghost use Rattle.p10_macros.specs.Traces.{lists_of};
 
@@ -20,6 +20,18 @@ pub fn value_at<'v, 's>(
             Some(value) => Some(value.as_slice()),
         },
     }
+}
+
+/// Whether each value has words.
+pub fn have_words(values: &[Vec<Traced<'_>>]) -> bool
+    ensures { IsTrue result ↔ All (λ value. 0 < length value) (lists_of values.now) }
+{
+    for value in values {
+        if value.is_empty() {
+            return false;
+        }
+    }
+    true
 }
 
 /// Whether something is put for the words that name the parameter at a place: its value has words, or is missing.
