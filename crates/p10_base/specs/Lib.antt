@@ -2,4 +2,5 @@
 pub mod Gathered
 pub mod Order
 pub mod Places
+pub mod Words
 pub mod formers
