@@ -21,7 +21,7 @@ pub is_link_of-own : (name : List ℕ) (angle : Bool) (to : ℕ) → is_link_of 
 is_link_of-own name angle to =
     ap (λ t. t && beq angle angle) ((bytes_eq-Decides name name).1 refl) ∙ (booleans_Decides angle angle).1 refl
 
--- one link in front of two lists of links
+-- one link before two lists of links
 front_own : (test : Bool) (link : Link) (found more : Option Link) (to : ℕ) → link_target (cond test (Some link) found) ≡ None →
     (link_target found ≡ None → link_target more ≡ Some to) → link_target (cond test (Some link) more) ≡ Some to
 front_own true link found more to none rest = cc
@@ -37,7 +37,7 @@ front_below : (test : Bool) (link : Link) (found : Option Link) (count : ℕ) �
 front_below true link found count below rest = below
 front_below false link found count below rest = rest
 
--- a link put behind links of other includes is found
+-- a link put after links of other includes is found
 pub target_of-append_own : (name : List ℕ) (angle : Bool) (to : ℕ) (links : List Link) → target_of name angle links ≡ None →
     target_of name angle (links ++ (record { name = name; angle = angle; to = to }) ∷ []) ≡ Some to
 target_of-append_own name angle to [] none =
@@ -45,7 +45,7 @@ target_of-append_own name angle to [] none =
 target_of-append_own name angle to (link ∷ links) none =
     front_own (is_link_of name angle link) link _ _ to none (target_of-append_own name angle to links)
 
--- a link of another include, put behind links, changes nothing
+-- a link of another include, put after links, changes nothing
 pub target_of-append_other : (name : List ℕ) (angle : Bool) (other : Link) (links : List Link) → is_link_of name angle other ≡ false →
     target_of name angle (links ++ other ∷ []) ≡ target_of name angle links
 target_of-append_other name angle other [] apart = ap (λ t. link_target (cond t (Some other) None)) apart
@@ -97,7 +97,7 @@ candidate_of-with_link_other g from name angle to held n a apart =
     target_of-append_other n a (record { name = name; angle = angle; to = to }) (file_of g from).links
     (is_link_of-other name n angle a to apart _ refl)
 
--- a file that was put behind the others has no links, and theirs stay
+-- a file that was put after the others has no links, and theirs stay
 pub candidate_of-with_file : (g : Gathered) (name text : List ℕ) (from : ℕ) (n : List ℕ) (a : Bool) →
     candidate_of (with_file g name text) from n a ≡ candidate_of g from n a
 candidate_of-with_file g name text from n a =

@@ -6,6 +6,7 @@ use Rattle.std.specs.Bool.{beq}
 use Rattle.p10_base.specs.declared.sources.Link.{Link}
 use Rattle.p10_base.specs.declared.sources.SourceFile.{SourceFile}
 use Rattle.p10_base.specs.declared.span.Span.{Span}
+use Rattle.p10_base.specs.Words.{Text}
 
 -- the source files of a program in the order of their numbers, and the numbers of its roots in order
 pub record Gathered : Type 0 where
@@ -33,11 +34,11 @@ abbrev pub file_of : Gathered → ℕ → SourceFile
 file_of g number = slice_index_or g.files number no_file
 
 -- the name of a file
-abbrev pub name_of : Gathered → ℕ → List ℕ
+abbrev pub name_of : Gathered → ℕ → Text
 name_of g number = (file_of g number).name
 
 -- the bytes of a file
-abbrev pub text_of : Gathered → ℕ → List ℕ
+abbrev pub text_of : Gathered → ℕ → Text
 text_of g number = (file_of g number).text
 
 -- a place lies in the files: its file is one of them, and it begins within that file's text
@@ -50,19 +51,19 @@ abbrev pub root_of : Gathered → ℕ → ℕ
 root_of g place = slice_index_or g.roots place 0
 
 -- whether a link is that of the include of a name between angle brackets, or between quotes
-abbrev pub is_link_of : List ℕ → Bool → Link → Bool
+abbrev pub is_link_of : Text → Bool → Link → Bool
 is_link_of name angle link = bytes_eq link.name name && beq link.angle angle
 
 -- the file to which an include is linked, among the links of a file
-abbrev pub target_of : List ℕ → Bool → List Link → Option ℕ
+abbrev pub target_of : Text → Bool → List Link → Option ℕ
 target_of name angle links = option_map (λ link. link.to) (find (is_link_of name angle) links)
 
 -- the gathered file for which an include in a file stands (C99 6.10.2), if it was linked
-abbrev pub candidate_of : Gathered → ℕ → List ℕ → Bool → Option ℕ
+abbrev pub candidate_of : Gathered → ℕ → Text → Bool → Option ℕ
 candidate_of g from name angle = target_of name angle (file_of g from).links
 
 -- the files with one more at the end, which has no links yet
-abbrev pub with_file : Gathered → List ℕ → List ℕ → Gathered
+abbrev pub with_file : Gathered → Text → Text → Gathered
 with_file g name text = record g { files = g.files ++ (record { name = name; text = text; links = [] }) ∷ [] }
 
 -- the files with one more root at the end
@@ -74,7 +75,7 @@ abbrev pub add_link : SourceFile → Link → SourceFile
 add_link file link = record file { links = file.links ++ link ∷ [] }
 
 -- the files where an include in a file is linked to a file
-abbrev pub with_link : Gathered → ℕ → List ℕ → Bool → ℕ → Gathered
+abbrev pub with_link : Gathered → ℕ → Text → Bool → ℕ → Gathered
 with_link g from name angle to =
     record g { files = slice_set g.files from (add_link (file_of g from) (record { name = name; angle = angle; to = to })) }
 

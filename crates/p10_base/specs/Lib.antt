@@ -1,5 +1,7 @@
 -- The definitions that the contracts of this crate cite.
+pub mod Codes
 pub mod Gathered
+pub mod Names
 pub mod Order
 pub mod Places
 pub mod Words

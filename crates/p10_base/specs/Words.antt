@@ -49,3 +49,7 @@ is_punctuator text word = is_punctuator_kind word.kind && bytes_eq word.text tex
 -- a run of bytes of a file
 abbrev pub span_of : ℕ → ℕ → ℕ → Span
 span_of file start end = record { file = file; start = start; end = end }
+
+-- the run from the first byte of one run to the end of another in the same file
+abbrev pub span_to : Span → Span → Span
+span_to first last = span_of first.file first.start last.end

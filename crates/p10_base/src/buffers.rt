@@ -40,7 +40,7 @@ impl<T> ListBuf<T> {
 }
 
 impl<T: Drop> ListBuf<T> {
-    /// Puts `item` at the end, or leaves the list as it was where memory is wanting.
+    /// Puts `item` at the end, or leaves the list as it was where it is out of memory.
     pub fn push(&mut self, item: T) -> Result<(), AllocError>
         ensures ok { OnOk result (self.new ≡ self.old ++ item ∷ []) }
         ensures err { OnErr result (self.new ≡ self.old) }
@@ -78,20 +78,5 @@ impl TextBuf {
         ensures { result.now ≡ self.now }
     {
         self.text.as_str()
-    }
-}
-
-#[cfg(test)]
-mod tests {
-    use super::*;
-    use std::test::Fail;
-
-    #[test]
-    fn push_puts_behind(rt: HostRuntime) -> Result<(), Fail> {
-        let mut numbers = ListBuf::of(Vec::from_slice(rt.alloc(), &[1u32])?);
-        assert!(rt; numbers.push(2) == Ok(()));
-        assert!(rt; numbers.push(0) == Ok(()));
-        assert!(rt; numbers.as_slice() == [1, 2, 0].as_slice());
-        Ok(())
     }
 }

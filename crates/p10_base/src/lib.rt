@@ -1,18 +1,26 @@
 //! What every layer of `p10` speaks of: places in files, words, violations, refusals, limits and
 //! bounds, and the gathered source files.
 //!
-//! Entry point: [`Sources`], the files of a program with their names, roots and include links.
+//! Entry points: [`Sources`], the files of a program with their names, roots and include links; [`Word`], which
+//! definitions see as a `PlainWord`, without where its text lies in memory; [`Refusal`] and [`Limit`], with a name for
+//! each code that is printed, as in `Refusal::word(WordCode::Trigraph, span)`, which is X5, and `Limit::FILES`, which is
+//! M7; and [`NameList`], names that are found by their spelling.
+//!
 //! Invariant: every number in a `Sources` names a file that it holds. Reading files, cutting them
 //! into words and printing are left to the crates above.
 #![tactic(auto)]
 
 mod buffers;
+mod codes;
+mod name_list;
 mod report;
 mod sources;
 mod span;
 mod word;
 
 pub use buffers::{ListBuf, TextBuf};
+pub use codes::{DirectiveCode, SubsetCode, WordCode};
+pub use name_list::NameList;
 pub use report::{Bounds, Family, Limit, Refusal, Sub, Violation};
 pub use sources::Sources;
 pub use span::Span;

@@ -123,8 +123,8 @@ impl Sources {
         target(file.links.as_slice(), name, angle)
     }
 
-    /// Puts a file behind the others, without links, and gives its number. Where memory is wanting
-    /// nothing is put.
+    /// Puts a file after the others, without links, and gives its number. Out of memory, nothing is
+    /// put.
     pub fn push(&mut self, name: String, text: Vec<u8>) -> Result<u32, AllocError>
         requires { count_of self.old + 1 < 2 ^ 32 }
         ensures number { IfOk result (λ number. number ≡ count_of self.old) }
@@ -140,7 +140,7 @@ impl Sources {
         Ok(number)
     }
 
-    /// Makes a file the next root. Where memory is wanting nothing is changed.
+    /// Makes a file the next root. Out of memory, nothing is changed.
     pub fn push_root(&mut self, file: u32) -> Result<(), AllocError>
         requires few { root_count self.old + 1 < 2 ^ 32 }
         requires held { file < count_of self.old }
@@ -152,7 +152,7 @@ impl Sources {
     }
 
     /// Links the include of `name` in the file `from`, between angle brackets or, where `angle` is
-    /// false, between quotes, to the file `to`. Where memory is wanting nothing is changed.
+    /// false, between quotes, to the file `to`. Out of memory, nothing is changed.
     pub fn link(&mut self, from: u32, name: &[u8], angle: bool, to: u32) -> Result<(), AllocError>
         requires from_held { from < count_of self.old }
         requires to_held { to < count_of self.old }
@@ -187,7 +187,7 @@ fn target(links: &[Link], name: &[u8], angle: bool) -> Option<u32>
     None
 }
 
-/// The line and the column of the place behind a text, both from 1.
+/// The line and the column of the place after a text, both from 1.
 fn place_after(before: &[u8]) -> (u64, u64)
     requires { length before.now < 2 ^ 32 }
     ensures line { result.0 ≡ line_of before.now (length before.now) }
@@ -204,86 +204,4 @@ fn place_after(before: &[u8]) -> (u64, u64)
         }
     }
     (line, column)
-}
-
-#[cfg(test)]
-mod tests {
-    use super::*;
-    use std::test::Fail;
-
-    fn gathered(alloc: Global) -> Result<Sources, AllocError> {
-        let mut sources = Sources::new(alloc);
-        let _ = sources.push(
-            String::from_str(alloc, "a.c")?,
-            Vec::from_slice(alloc, b"a\n\xc3\xa9b\n")?,
-        )?;
-        Ok(sources)
-    }
-
-    #[test]
-    fn places(rt: HostRuntime) -> Result<(), Fail> {
-        let sources = gathered(rt.alloc())?;
-        assert!(rt; sources.count() == 1);
-        assert!(rt; sources.text(0).len() == 6);
-        let rows: [(u32, u64, u64); 6] = [
-            (0, 1, 1),
-            (1, 1, 2),
-            (2, 2, 1),
-            (4, 2, 3),
-            (5, 2, 4),
-            (6, 3, 1),
-        ];
-        for (start, line, column) in rows {
-            let at = Span {
-                file: 0,
-                start,
-                end: start,
-            };
-            assert!(rt; start <= 6);
-            assert!(rt; sources.line_col(at) == (line, column), "at {start}");
-        }
-        Ok(())
-    }
-
-    // A header is linked twice: for its name between quotes in `a.c`, and between angle brackets in itself.
-    #[test]
-    fn files_roots_and_links(rt: HostRuntime) -> Result<(), Fail> {
-        let alloc = rt.alloc();
-        let mut sources = Sources::new(alloc);
-        let name = String::from_str(alloc, "a.c")?;
-        assert!(rt; sources.push(name, Vec::new(alloc)) == Ok(0));
-        assert!(rt; sources.count() == 1);
-        let name = String::from_str(alloc, "b.h")?;
-        assert!(rt; sources.push(name, Vec::from_slice(alloc, b"b")?) == Ok(1));
-        assert!(rt; sources.count() == 2);
-        assert!(rt; sources.name(1) == "b.h");
-        assert!(rt; sources.text(0) == b"".as_slice());
-        assert!(rt; sources.text(1) == b"b".as_slice());
-
-        assert!(rt; sources.roots() == 0);
-        assert!(rt; sources.push_root(1) == Ok(()));
-        assert!(rt; sources.roots() == 1);
-        assert!(rt; sources.root(0) == 1);
-
-        assert!(rt; sources.candidate(0, b"b.h", false).is_none());
-        assert!(rt; sources.link(0, b"b.h", false, 1) == Ok(()));
-        assert!(rt; sources.count() == 2);
-        assert!(rt; sources.candidate(1, b"b.h", true).is_none());
-        assert!(rt; sources.link(1, b"b.h", true, 1) == Ok(()));
-        let rows: [(u32, &[u8], bool, Option<u32>); 6] = [
-            (0, b"b.h", false, Some(1)),
-            (0, b"b.h", true, None),
-            (1, b"b.h", true, Some(1)),
-            (1, b"b.h", false, None),
-            (0, b"b", false, None),
-            (2, b"b.h", false, None),
-        ];
-        for (from, name, angle, to) in rows {
-            assert!(rt;
-                sources.candidate(from, name, angle) == to,
-                "in {from}, {angle}"
-            );
-        }
-        Ok(())
-    }
 }

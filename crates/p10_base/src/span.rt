@@ -10,3 +10,18 @@ pub struct Span {
     /// The byte past the last.
     pub end: u32,
 }
+
+impl Span {
+    ghost use Rattle.std.specs.Prelude.{◌≡◌};
+    ghost use Rattle.p10_base.specs.Words.{span_to};
+
+    /// The run from the first byte of this one to the end of `last`, in this one's file.
+    pub fn to(self, last: Span) -> Span
+        ensures { result ≡ span_to self last }
+    {
+        Span {
+            end: last.end,
+            ..self
+        }
+    }
+}

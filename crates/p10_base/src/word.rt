@@ -30,3 +30,22 @@ pub struct Word<'s> {
     /// Whether no word stands before it on its line.
     pub first: bool,
 }
+
+impl Word<'_> {
+    ghost use Rattle.std.specs.Prelude.{◌≡◌};
+    ghost use Rattle.p10_base.specs.Words.{is_name, is_punctuator, plain_word};
+
+    /// Whether the word is the identifier or keyword with this spelling.
+    pub fn is_name(&self, text: &[u8]) -> bool
+        ensures { result ≡ is_name text.now (plain_word self.now) }
+    {
+        matches!(self.kind, Kind::Name) && self.text == text
+    }
+
+    /// Whether the word is the punctuator with this spelling.
+    pub fn is_punctuator(&self, text: &[u8]) -> bool
+        ensures { result ≡ is_punctuator text.now (plain_word self.now) }
+    {
+        matches!(self.kind, Kind::Punct) && self.text == text
+    }
+}
