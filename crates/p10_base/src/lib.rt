@@ -10,6 +10,7 @@
 //! into words and printing are left to the crates above.
 #![tactic(auto)]
 
+mod at;
 mod buffers;
 mod codes;
 mod name_list;
@@ -18,6 +19,7 @@ mod sources;
 mod span;
 mod word;
 
+pub use at::At;
 pub use buffers::{ListBuf, TextBuf};
 pub use codes::{DirectiveCode, SubsetCode, WordCode};
 pub use name_list::NameList;
