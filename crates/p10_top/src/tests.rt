@@ -1,21 +1,17 @@
-//! The program over files, an input and outputs in memory: the status and every byte of both outputs.
+//! What no command can show, over files, an input and outputs in memory: each read and each byte of a write fails in turn,
+//! memory is wanting, and the reads are counted. All else that the program answers is shown by the cases in `tests/`.
+
+ghost use Rattle.std.specs.Prelude.{None};
 
 use super::p10_main;
-use p10_world::{Files, MemFiles, MemSink, MemSource};
+use p10_world::{FileFault, Files, MemFiles, MemSink, MemSource};
 use std::alloc::Global;
 use std::process::Abort;
 use std::test::Fail;
 
-mod answers;
-mod certificates;
-mod lexing;
-mod limits;
-mod memory;
-mod programs;
-mod sources;
-
-/// The words of the command that all tables use.
 const VERIFY: [&str; 4] = ["verify", "--cert", "a.p10", "a.c"];
+
+const TWICE: [&str; 5] = ["verify", "--cert", "a.p10", "a.c", "a.c"];
 
 /// `int main(void) { return 0; }` takes three steps: one each for the entry, the statement and the
 /// constant.
@@ -29,63 +25,134 @@ total prefix 3 turn 0 calls 1 bytes 0
 end
 ";
 
+const USAGE: &str = "p10: usage: p10 (check|derive|verify|run|gen) [options] FILE..\n";
+
 const ACCEPTED: &str = "accepted: prefix 3 turn 0 calls 1 bytes 0\n";
 
-const USAGE: &str = "p10: usage: p10 (check|derive|verify|run|gen) [options] FILE..\n";
+const TOO_FEW_STEPS: &str = "refused: K11 a.c:1:5\n";
+
+const NO_END: &str = "a.c:1:30: refused X2: comment without end\n";
+
+const RECURSION: &str = "a.c:3:25: refused D6: recursive macro\n";
+
+const NOT_FOUND: &str = "a.c:1:10: refused D5: include not found\n";
 
 const NOT_BUILT: &str = "a.c:1:1: refused S0: not built yet\n";
 
-/// After how many bytes the outputs fail.
+const BAD_LINE: &str = "p10: certificate refused at line 1\n";
+
+const READ_FAULT: &str = "p10: read fault\n";
+
+const OUT_OF_MEMORY: &str = "p10: out of memory\n";
+
+const NESTED: &str = "p10: limit M3\n";
+
+const ABSENT_SOURCE: &str = "p10: absent: a.c\n";
+
+const ABSENT_CLAIM: &str = "p10: absent: a.p10\n";
+
+/// The texts of `a.c` and `a.p10`, where these are there.
+type Held = (Option<&'static str>, Option<&'static str>);
+
+const BOTH: Held = (Some(SOURCE), Some(CERTIFICATE));
+
+const NEITHER: Held = (None, None);
+
+const SOURCE_ALONE: Held = (Some(SOURCE), None);
+
+const CLAIM_ALONE: Held = (None, Some(CERTIFICATE));
+
+const NO_CLAIM: Held = (Some(SOURCE), Some(""));
+
+const ONE_MORE: Held = (
+    Some("int main(void) { int x; return 0; }\n"),
+    Some(CERTIFICATE),
+);
+
+const OPEN: Held = (Some("int main(void) { return 0; } /*"), None);
+
+const WORD: Held = (Some("int"), None);
+
+const RECURSIVE: Held = (
+    Some("#define A B + 1\n#define B A\nint main(void) { return A; }\n"),
+    Some(CERTIFICATE),
+);
+
+const ITSELF: Held = (Some("#include \"a.c\"\n"), Some(""));
+
+const INCLUDES: Held = (Some("#include \"no.h\"\n"), Some(""));
+
+const INCLUDES_ALONE: Held = (Some("#include \"no.h\"\n"), None);
+
+/// The words of a command, the files, the numbers of the reads that fail, how many reads there are, the status, and the text,
+/// which stands on the output with the statuses 0 and 1, and else on the error output.
+type Row = (
+    &'static [&'static str],
+    Held,
+    &'static [u64],
+    u64,
+    u8,
+    &'static str,
+);
+
+static ROWS: [Row; 19] = [
+    (&[], BOTH, &[], 0, 2, USAGE),
+    (&["verify", "a.c"], BOTH, &[], 0, 2, USAGE),
+    (&VERIFY, BOTH, &[3], 2, 0, ACCEPTED),
+    (&VERIFY, ONE_MORE, &[], 2, 1, TOO_FEW_STEPS),
+    // What the source's words are is told before the certificate is asked for.
+    (&VERIFY, OPEN, &[2], 1, 3, NO_END),
+    (&VERIFY, RECURSIVE, &[], 2, 3, RECURSION),
+    // The second read asks for `no.h`.
+    (&VERIFY, INCLUDES, &[], 3, 3, NOT_FOUND),
+    (&VERIFY, INCLUDES_ALONE, &[], 3, 9, ABSENT_CLAIM),
+    // A source that is named or included again isn't read again.
+    (&TWICE, BOTH, &[3], 2, 3, NOT_BUILT),
+    (&VERIFY, ITSELF, &[3], 2, 8, NESTED),
+    (&VERIFY, NO_CLAIM, &[], 2, 4, BAD_LINE),
+    // An absent source is the last file that is asked for.
+    (&VERIFY, CLAIM_ALONE, &[2], 1, 9, ABSENT_SOURCE),
+    (&VERIFY, SOURCE_ALONE, &[], 2, 9, ABSENT_CLAIM),
+    (&VERIFY, BOTH, &[1], 1, 5, READ_FAULT),
+    (&VERIFY, BOTH, &[2], 2, 5, READ_FAULT),
+    (&VERIFY, NEITHER, &[1], 1, 5, READ_FAULT),
+    (&VERIFY, WORD, &[2], 2, 5, READ_FAULT),
+    (&VERIFY, INCLUDES, &[2], 2, 5, READ_FAULT),
+    (&VERIFY, INCLUDES, &[3], 3, 5, READ_FAULT),
+];
+
+/// The status and both texts of a run, and after how many bytes the outputs fail.
 #[derive(Clone, Copy)]
-struct Room {
-    out: Option<u64>,
-    err: Option<u64>,
-}
-
-const ENOUGH: Room = Room {
-    out: None,
-    err: None,
-};
-
-/// The status and both texts of a run.
-#[derive(Drop)]
-struct Want<'t> {
+struct Want {
     status: u8,
-    out: &'t str,
-    err: &'t str,
+    out: &'static str,
+    err: &'static str,
+    out_fails: Option<u64>,
+    err_fails: Option<u64>,
 }
 
-/// What is wanted where an output fails after `count` bytes.
-fn cut<'t>(want: &Want<'t>, count: usize) -> Want<'t> {
+/// What a row wants of outputs that don't fail.
+fn wanted(row: &Row) -> Want {
+    let (status, text) = (row.4, row.5);
+    let (out, err) = if status < 2 { (text, "") } else { ("", text) };
+    Want {
+        status,
+        out,
+        err,
+        out_fails: None,
+        err_fails: None,
+    }
+}
+
+/// What is wanted where both outputs fail after `count` bytes.
+fn cut(want: Want, count: usize) -> Want {
     Want {
         status: 6,
         out: want.out.get(..count).unwrap_or(want.out),
         err: want.err.get(..count).unwrap_or(want.err),
+        out_fails: Some(count as u64),
+        err_fails: Some(count as u64),
     }
-}
-
-/// Adds a file of that name, if there is a text.
-fn add(alloc: Global, files: &mut MemFiles, name: &str, text: Option<&[u8]>) -> Result<(), Fail> {
-    if let Some(text) = text {
-        files.add(
-            String::from_str(alloc, name)?,
-            Vec::from_slice(alloc, text)?,
-        )?;
-    }
-    Ok(())
-}
-
-/// A source and a certificate, where there are some; the reads with these numbers fail.
-fn files_of(
-    alloc: Global,
-    fails: &[u64],
-    source: Option<&[u8]>,
-    certificate: Option<&[u8]>,
-) -> Result<MemFiles, Fail> {
-    let mut files = MemFiles::new(alloc, Vec::from_slice(alloc, fails)?);
-    add(alloc, &mut files, "a.c", source)?;
-    add(alloc, &mut files, "a.p10", certificate)?;
-    Ok(files)
 }
 
 /// Runs the program on the words, and compares all that it answers.
@@ -94,16 +161,15 @@ fn check<F: Files>(
     alloc: Global,
     words: &[&str],
     files: &mut F,
-    room: Room,
-    want: &Want<'_>,
+    want: &Want,
 ) -> Result<(), Fail> {
     let mut given = Vec::new(alloc);
     for word in words {
         given.push(String::from_str(alloc, word)?)?;
     }
     let mut input = MemSource::new(Vec::from_slice(alloc, b"input")?, Vec::new(alloc));
-    let mut out = MemSink::new(alloc, 100, room.out)?;
-    let mut err = MemSink::new(alloc, 100, room.err)?;
+    let mut out = MemSink::new(alloc, 100, want.out_fails)?;
+    let mut err = MemSink::new(alloc, 100, want.err_fails)?;
     let status = p10_main(alloc, &given, files, &mut input, &mut out, &mut err);
     assert_eq!(rt; status, want.status, "{}{}", want.out, want.err);
     assert_eq!(rt; out.taken(), want.out.as_bytes(), "{}", want.out);
@@ -111,4 +177,69 @@ fn check<F: Files>(
     // This command takes nothing of the input.
     assert_eq!(rt; input.calls(), 0);
     Ok(())
+}
+
+/// Runs a row over its files, and counts the reads.
+fn check_row(rt: &impl Abort, alloc: Global, row: &Row, want: &Want) -> Result<(), Fail> {
+    let mut files = MemFiles::new(alloc, Vec::from_slice(alloc, row.2)?);
+    for (name, text) in [("a.c", row.1.0), ("a.p10", row.1.1)] {
+        if let Some(text) = text {
+            files.add(
+                String::from_str(alloc, name)?,
+                Vec::from_slice(alloc, text.as_bytes())?,
+            )?;
+        }
+    }
+    check(rt, alloc, row.0, &mut files, want)?;
+    assert_eq!(rt; files.calls(), row.3, "{}{}", want.out, want.err);
+    Ok(())
+}
+
+#[test]
+fn files_and_faults_of_reads(rt: HostRuntime) -> Result<(), Fail> {
+    for row in &ROWS {
+        check_row(&rt, rt.alloc(), row, &wanted(row))?;
+    }
+    Ok(())
+}
+
+// Each row says something on one output alone. The outputs fail after each count of bytes in turn.
+#[test]
+fn faults_of_writes(rt: HostRuntime) -> Result<(), Fail> {
+    for row in &ROWS {
+        for count in 0..row.5.len() {
+            check_row(&rt, rt.alloc(), row, &cut(wanted(row), count))?;
+        }
+        let mut want = wanted(row);
+        want.out_fails = Some(want.out.len() as u64);
+        want.err_fails = Some(want.err.len() as u64);
+        check_row(&rt, rt.alloc(), row, &want)?;
+    }
+    Ok(())
+}
+
+/// Files for which memory is wanting at every read.
+#[derive(Drop)]
+struct NoMemory;
+
+impl Files for NoMemory {
+    ghost held = { λ _. None };
+
+    ghost faults = { λ _. 0 };
+
+    fn read(
+        &mut self,
+        _alloc: Global,
+        _name: &str,
+        _limit: u64,
+        _into: &mut Vec<u8>,
+    ) -> Result<(), FileFault> {
+        Err(FileFault::Memory)
+    }
+}
+
+#[test]
+fn want_of_memory(rt: HostRuntime) -> Result<(), Fail> {
+    let row: Row = (&VERIFY, NEITHER, &[], 0, 7, OUT_OF_MEMORY);
+    check(&rt, rt.alloc(), row.0, &mut NoMemory, &wanted(&row))
 }
