@@ -84,6 +84,11 @@ const INCLUDES: Held = (Some("#include \"no.h\"\n"), Some(""));
 
 const INCLUDES_ALONE: Held = (Some("#include \"no.h\"\n"), None);
 
+const INCLUDES_AGAIN: Held = (
+    Some("#include \"no.h\"\n#include \"a.c\"\n#include \"no.h\"\n"),
+    Some(""),
+);
+
 /// The words of a command, the files, the numbers of the reads that fail, how many reads there are, the status, and the text,
 /// which stands on the output with the statuses 0 and 1, and else on the error output.
 type Row = (
@@ -95,7 +100,7 @@ type Row = (
     &'static str,
 );
 
-static ROWS: [Row; 19] = [
+static ROWS: [Row; 20] = [
     (&[], BOTH, &[], 0, 2, USAGE),
     (&["verify", "a.c"], BOTH, &[], 0, 2, USAGE),
     (&VERIFY, BOTH, &[3], 2, 0, ACCEPTED),
@@ -106,9 +111,10 @@ static ROWS: [Row; 19] = [
     // The second read asks for `no.h`.
     (&VERIFY, INCLUDES, &[], 3, 3, NOT_FOUND),
     (&VERIFY, INCLUDES_ALONE, &[], 3, 9, ABSENT_CLAIM),
-    // A source that is named or included again isn't read again.
+    // A source that is named or included again isn't read again, nor is an absent name asked for again.
     (&TWICE, BOTH, &[3], 2, 3, NOT_BUILT),
     (&VERIFY, ITSELF, &[3], 2, 8, NESTED),
+    (&VERIFY, INCLUDES_AGAIN, &[4], 3, 3, NOT_FOUND),
     (&VERIFY, NO_CLAIM, &[], 2, 4, BAD_LINE),
     // An absent source is the last file that is asked for.
     (&VERIFY, CLAIM_ALONE, &[2], 1, 9, ABSENT_SOURCE),
