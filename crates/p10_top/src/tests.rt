@@ -9,6 +9,8 @@ use std::alloc::Global;
 use std::process::Abort;
 use std::test::Fail;
 
+mod calls;
+
 const VERIFY: [&str; 4] = ["verify", "--cert", "a.p10", "a.c"];
 
 const TWICE: [&str; 5] = ["verify", "--cert", "a.p10", "a.c", "a.c"];
