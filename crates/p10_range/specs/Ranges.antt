@@ -1,5 +1,5 @@
 -- Intervals of whole numbers: their numbers, and which are parts of which.
-use Rattle.std.specs.Prelude.{◌≡◌, ◌&&◌, ◌↔◌, if◌then◌else◌, Bool as Flag, ℤ, ◌≤ℤ◌, int_le, Option, Some, None}
+use Rattle.std.specs.Prelude.{◌&&◌, if◌then◌else◌, Bool as Flag, ℤ, pos, ◌≤ℤ◌, int_le, Option, Some, None}
 use Rattle.std.specs.Int.{int_min, int_max}
 use Rattle.p10_range.specs.declared.ranges.Range.{Range}
 
@@ -40,6 +40,14 @@ inhabited_of r = if int_le r.low r.high then Some r else None
 -- the numbers from the least of both to the greatest of both
 abbrev pub hull_of : Interval → Interval → Interval
 hull_of r s = from_to (int_min r.low s.low) (int_max r.high s.high)
+
+-- the least interval that has two numbers
+abbrev pub between : ℤ → ℤ → Interval
+between p q = from_to (int_min p q) (int_max p q)
+
+-- the numbers that aren't negative
+abbrev pub not_negative : Interval → Option Interval
+not_negative r = inhabited_of (from_to (int_max r.low (pos 0)) r.high)
 
 -- the numbers of both
 abbrev pub meet_of : Interval → Interval → Option Interval

@@ -2,7 +2,7 @@
 
 ghost use Rattle.std.specs.Prelude.{◌≡◌, ◌↔◌, IsTrue};
 ghost use Rattle.std.specs.Option.{option_map};
-ghost use Rattle.p10_range.specs.Ranges.{interval_of, from_to, IsWithin, inhabited_of, hull_of, meet_of};
+ghost use Rattle.p10_range.specs.Ranges.{interval_of, from_to, IsWithin, inhabited_of, hull_of, meet_of, between as between_of, not_negative as not_negative_of};
 
 use crate::ranges::Range;
 
@@ -39,4 +39,21 @@ pub fn inhabited(lo: i128, hi: i128) -> Option<Range>
     } else {
         None
     }
+}
+
+/// The least range that has two numbers.
+pub fn between(p: i128, q: i128) -> Range
+    ensures { interval_of result ≡ between_of p q }
+{
+    Range {
+        lo: p.min(q),
+        hi: p.max(q),
+    }
+}
+
+/// The numbers of the range that aren't negative, or `None` where there is none.
+pub fn not_negative(a: Range) -> Option<Range>
+    ensures { option_map interval_of result ≡ not_negative_of (interval_of a) }
+{
+    inhabited(a.lo.max(0), a.hi)
 }
