@@ -1,0 +1,99 @@
+-- The types of C as definitions speak of them (C99 6.2.5), the structures that they name, and what leads from the code's.
+use Rattle.std.specs.Prelude.{ℕ, Bool, true, false, ◌||◌, List, [], map, Option, option_map, Some, None, slice_get}
+use Rattle.p10_int.specs.declared.types.IntType.{IntType}
+use Rattle.p10_base.specs.Words.{Text}
+use Rattle.p10_core.specs.declared.types.CType.{CType}
+use Rattle.p10_core.specs.declared.types.TypeForm.{TypeForm}
+use Rattle.p10_core.specs.declared.types.TypeForm.TheVariants.{Void, Int, Pointer', Array', Struct}
+use Rattle.p10_core.specs.declared.structures.Member.{Member}
+use Rattle.p10_core.specs.declared.structures.Body.{Body}
+use Rattle.p10_core.specs.declared.structures.Structure.{Structure}
+
+-- a type of C, each part with its mark for `const` first (C99 6.2.5, 6.7.3): `void`, an integer type, a pointer to a type,
+-- an array of a type with its length, and a structure by its number
+pub data PlainType : Type 0 where
+  void : Bool → PlainType
+  integer : Bool → IntType → PlainType
+  pointer : Bool → PlainType → PlainType
+  array : Bool → PlainType → ℕ → PlainType
+  structure : Bool → ℕ → PlainType
+
+abbrev pub plain_form_of_type : Bool → TypeForm → PlainType
+plain_form_of_type c Void = void c
+plain_form_of_type c (Int i) = integer c i
+plain_form_of_type c (Pointer' p d f) = pointer c (plain_form_of_type d f)
+plain_form_of_type c (Array' p d f n) = array c (plain_form_of_type d f) n
+plain_form_of_type c (Struct n) = structure c n
+
+-- what a type of the code is
+abbrev pub plain_type : CType → PlainType
+plain_type t = plain_form_of_type t.is_const t.form
+
+-- the type with one mark more: that of an array stands at its elements (C99 6.7.3p8)
+abbrev pub qualified : Bool → PlainType → PlainType
+qualified q (void c) = void (q || c)
+qualified q (integer c i) = integer (q || c) i
+qualified q (pointer c t) = pointer (q || c) t
+qualified q (array c t n) = array c (qualified q t) n
+qualified q (structure c n) = structure (q || c) n
+
+-- the type without its own mark, as a value has it (C99 6.3.2.1p2)
+abbrev pub unqualified : PlainType → PlainType
+unqualified (void c) = void false
+unqualified (integer c i) = integer false i
+unqualified (pointer c t) = pointer false t
+unqualified (array c t n) = array c t n
+unqualified (structure c n) = structure false n
+
+-- the type without any mark, in its parts neither: what objects and pointers are like where `const` is left aside
+abbrev pub bare : PlainType → PlainType
+bare (void c) = void false
+bare (integer c i) = integer false i
+bare (pointer c t) = pointer false (bare t)
+bare (array c t n) = array false (bare t) n
+bare (structure c n) = structure false n
+
+-- a member of a structure (C99 6.7.2.1)
+pub record PlainMember : Type 0 where
+  pub name : Text
+  pub type : PlainType
+
+-- the body of a complete structure: its members in order, its place among the bodies in the order in which they were
+-- completed, and the bytes of its size and of its alignment
+pub record PlainBody : Type 0 where
+  pub members : List PlainMember
+  pub order : ℕ
+  pub bytes : ℕ
+  pub alignment : ℕ
+
+-- a structure: its tag, if it has one, and its body, if it is complete (C99 6.2.5p22, 6.7.2.3)
+pub record PlainStructure : Type 0 where
+  pub tag : Option Text
+  pub body : Option PlainBody
+
+-- what a member of the code is
+abbrev pub plain_member : Member → PlainMember
+plain_member m = record { name = m.name.now; type = plain_type m.ty }
+
+abbrev pub plain_body : Body → PlainBody
+plain_body b = record { members = map plain_member b.members; order = b.order; bytes = b.bytes; alignment = b.alignment }
+
+-- what a structure of the code is
+abbrev pub plain_structure : Structure → PlainStructure
+plain_structure s = record { tag = option_map (λ t. t.now) s.tag; body = option_map plain_body s.body }
+
+-- the body of the structure with a number, if there is one and it is complete
+abbrev pub body_in : Option PlainStructure → Option PlainBody
+body_in None = None
+body_in (Some s) = s.body
+
+abbrev pub body_of : List PlainStructure → ℕ → Option PlainBody
+body_of structures n = body_in (slice_get structures n)
+
+abbrev pub members_in : Option PlainBody → List PlainMember
+members_in None = []
+members_in (Some b) = b.members
+
+-- the members of the structure with a number: none of one that isn't complete
+abbrev pub members_of : List PlainStructure → ℕ → List PlainMember
+members_of structures n = members_in (body_of structures n)
