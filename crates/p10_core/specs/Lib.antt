@@ -1,4 +1,5 @@
 -- The definitions that the contracts of this crate cite.
 pub mod Types
+pub mod Sizes
 pub mod Typed
 pub mod Views

@@ -45,42 +45,38 @@ unqualified (pointer c t) = pointer false t
 unqualified (array c t n) = array c t n
 unqualified (structure c n) = structure false n
 
--- the type without any mark, in its parts neither: what objects and pointers are like where `const` is left aside
-abbrev pub bare : PlainType → PlainType
-bare (void c) = void false
-bare (integer c i) = integer false i
-bare (pointer c t) = pointer false (bare t)
-bare (array c t n) = array false (bare t) n
-bare (structure c n) = structure false n
-
 -- a member of a structure (C99 6.7.2.1)
 pub record PlainMember : Type 0 where
   pub name : Text
   pub type : PlainType
 
 -- the body of a complete structure: its members in order, its place among the bodies in the order in which they were
--- completed, and the bytes of its size and of its alignment
+-- completed, the bytes of its size and of its alignment, how many scalars it has, and whether a part of it is `const`
 pub record PlainBody : Type 0 where
   pub members : List PlainMember
   pub order : ℕ
   pub bytes : ℕ
   pub alignment : ℕ
+  pub scalars : ℕ
+  pub constant : Bool
 
--- a structure: its tag, if it has one, and its body, if it is complete (C99 6.2.5p22, 6.7.2.3)
+-- a structure: its tag, if it has one; its body, if it is complete (C99 6.2.5p22, 6.7.2.3); and the number of the structure
+-- that stands for it and for those of other roots that are compatible with it (C99 6.2.7)
 pub record PlainStructure : Type 0 where
   pub tag : Option Text
   pub body : Option PlainBody
+  pub representative : ℕ
 
 -- what a member of the code is
 abbrev pub plain_member : Member → PlainMember
 plain_member m = record { name = m.name.now; type = plain_type m.ty }
 
 abbrev pub plain_body : Body → PlainBody
-plain_body b = record { members = map plain_member b.members; order = b.order; bytes = b.bytes; alignment = b.alignment }
+plain_body b = record { members = map plain_member b.members; order = b.order; bytes = b.bytes; alignment = b.alignment; scalars = b.scalars; constant = b.has_const }
 
 -- what a structure of the code is
 abbrev pub plain_structure : Structure → PlainStructure
-plain_structure s = record { tag = option_map (λ t. t.now) s.tag; body = option_map plain_body s.body }
+plain_structure s = record { tag = option_map (λ t. t.now) s.tag; body = option_map plain_body s.body; representative = s.representative }
 
 -- the body of the structure with a number, if there is one and it is complete
 abbrev pub body_in : Option PlainStructure → Option PlainBody
@@ -97,3 +93,20 @@ members_in (Some b) = b.members
 -- the members of the structure with a number: none of one that isn't complete
 abbrev pub members_of : List PlainStructure → ℕ → List PlainMember
 members_of structures n = members_in (body_of structures n)
+
+abbrev pub representative_in : ℕ → Option PlainStructure → ℕ
+representative_in n None = n
+representative_in n (Some s) = s.representative
+
+-- the number of the structure that stands for the one with a number
+abbrev pub representative_of : List PlainStructure → ℕ → ℕ
+representative_of structures n = representative_in n (slice_get structures n)
+
+-- the type without any mark, in its parts neither, and with the structures that stand for those it names: what objects and
+-- pointers are like where `const` is left aside. Two types are compatible (C99 6.2.7) where this is one type
+abbrev pub bare : List PlainStructure → PlainType → PlainType
+bare structures (void c) = void false
+bare structures (integer c i) = integer false i
+bare structures (pointer c t) = pointer false (bare structures t)
+bare structures (array c t n) = array false (bare structures t) n
+bare structures (structure c n) = structure false (representative_of structures n)

@@ -21,6 +21,10 @@ pub struct Body<'s> {
     pub bytes: u64,
     /// The alignment in bytes.
     pub alignment: u64,
+    /// How many scalars it has, its members' members included.
+    pub scalars: u64,
+    /// Whether a part of it is `const`, so that it can't be assigned (C99 6.3.2.1p1).
+    pub has_const: bool,
 }
 
 /// A structure, which is incomplete until its body was read (C99 6.2.5p22).
@@ -28,4 +32,7 @@ pub struct Body<'s> {
 pub struct Structure<'s> {
     pub tag: Option<&'s [u8]>,
     pub body: Option<Body<'s>>,
+    /// The number of the structure that stands for this one and for those of other roots that are compatible with it
+    /// (C99 6.2.7): its own where there are none.
+    pub representative: u32,
 }
