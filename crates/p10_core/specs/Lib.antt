@@ -3,3 +3,4 @@ pub mod Types
 pub mod Sizes
 pub mod Typed
 pub mod Views
+pub mod Rows
