@@ -4,3 +4,7 @@ pub mod Sizes
 pub mod Typed
 pub mod Views
 pub mod Rows
+pub mod Constants
+pub mod Addresses
+pub mod Whole
+pub mod WholePrograms
