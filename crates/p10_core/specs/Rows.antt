@@ -30,15 +30,6 @@ number_of ULLong = 11
 abbrev pub same_integer : IntType → IntType → Bool
 same_integer a b = nat_eq (number_of a) (number_of b)
 
--- whether two types are the same, their marks included
-abbrev pub same : PlainType → PlainType → Bool
-same (void c) (void d) = beq c d
-same (integer c i) (integer d j) = beq c d && same_integer i j
-same (pointer c s) (pointer d t) = beq c d && same s t
-same (array c s m) (array d t n) = beq c d && (nat_eq m n && same s t)
-same (structure c m) (structure d n) = beq c d && nat_eq m n
-same s t = false
-
 -- the type's own mark
 abbrev pub mark_of : PlainType → Bool
 mark_of (void c) = c
@@ -46,6 +37,19 @@ mark_of (integer c i) = c
 mark_of (pointer c t) = c
 mark_of (array c t n) = c
 mark_of (structure c n) = c
+
+-- whether two types are the same but for their own marks
+abbrev pub same_form : PlainType → PlainType → Bool
+same_form (void c) (void d) = true
+same_form (integer c i) (integer d j) = same_integer i j
+same_form (pointer c s) (pointer d t) = beq (mark_of s) (mark_of t) && same_form s t
+same_form (array c s m) (array d t n) = nat_eq m n && (beq (mark_of s) (mark_of t) && same_form s t)
+same_form (structure c m) (structure d n) = nat_eq m n
+same_form s t = false
+
+-- whether two types are the same, their marks included
+abbrev pub same : PlainType → PlainType → Bool
+same s t = beq (mark_of s) (mark_of t) && same_form s t
 
 abbrev pub is_void : PlainType → Bool
 is_void (void c) = true
@@ -212,7 +216,7 @@ unary_row Not t = negation_row t
 -- whether a pointer to one type may become one to another without a cast: `const` may be added to what it points to
 -- (C99 6.3.2.3p2)
 abbrev pub adds_const : PlainType → PlainType → Bool
-adds_const s t = same (unqualified s) (unqualified t) && (not (mark_of s) || mark_of t)
+adds_const s t = same_form s t && (not (mark_of s) || mark_of t)
 
 -- assignment, argument, `return`, initialiser of a scalar (C99 6.5.16.1): whether a value of one type, which may be a null
 -- constant, may become one of another

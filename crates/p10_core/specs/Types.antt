@@ -2,9 +2,9 @@
 use Rattle.std.specs.Prelude.{ℕ, Bool, true, false, ◌||◌, List, [], map, Option, option_map, Some, None, slice_get}
 use Rattle.p10_int.specs.declared.types.IntType.{IntType}
 use Rattle.p10_base.specs.Words.{Text}
-use Rattle.p10_core.specs.declared.types.CType.{CType}
-use Rattle.p10_core.specs.declared.types.TypeForm.{TypeForm}
-use Rattle.p10_core.specs.declared.types.TypeForm.TheVariants.{Void, Int, Pointer', Array', Struct}
+use Rattle.p10_core.specs.declared.c_type.CType.{CType}
+use Rattle.p10_core.specs.declared.c_type.TypeForm.{TypeForm}
+use Rattle.p10_core.specs.declared.c_type.TypeForm.TheVariants.{Void, Int, Pointer', Array', Struct}
 use Rattle.p10_core.specs.declared.structures.Member.{Member}
 use Rattle.p10_core.specs.declared.structures.Body.{Body}
 use Rattle.p10_core.specs.declared.structures.Structure.{Structure}

@@ -2,7 +2,8 @@
 use Rattle.std.specs.Prelude.{ℕ, List, [], ◌∷◌, map, Option, Some, None, option_map}
 use Rattle.p10_base.specs.declared.at.At.{At}
 use Rattle.p10_base.specs.declared.span.Span.{Span}
-use Rattle.p10_core.specs.declared.types.CType.{CType}
+use Rattle.p10_core.specs.declared.c_type.CType.{CType}
+use Rattle.p10_core.specs.declared.table.Types.{Types}
 use Rattle.p10_core.specs.declared.typed.Value.{Value}
 use Rattle.p10_core.specs.declared.typed.Place.{Place}
 use Rattle.p10_core.specs.declared.typed.ValueForm.{ValueForm}
@@ -22,10 +23,14 @@ use Rattle.p10_core.specs.declared.program.Func.{Func}
 use Rattle.p10_core.specs.declared.program.Global.{Global}
 use Rattle.p10_core.specs.declared.program.Literal.{Literal}
 use Rattle.p10_core.specs.declared.program.Program.{Program}
-use Rattle.p10_core.specs.Types.{plain_type, plain_structure}
+use Rattle.p10_core.specs.Types.{PlainStructure, plain_type, plain_structure}
 use Rattle.p10_core.specs.Typed.{PlainValue, value, PlainForm, constant, read, sense, address, decay, convert, cast, unary, binary, logic, conditional, call, built_in, PlainPlace, place, PlainPlaceForm, variable, global, literal, index, member, dereference, PlainValues, no_values, more_values}
 use Rattle.p10_core.specs.Typed.{PlainWritten, one_scalar, scalars_of_text, PlainItem, PlainInitializer, not_initialized, single, copied, listed, PlainLabels, PlainStatement, statement, PlainStatementForm, set, update, copy, evaluate, asserts, declare, declare_static, block, if_then, if_else, loop, switch, break, continue, return, empty, mark, PlainStatements, no_statements, more_statements}
 use Rattle.p10_core.specs.Typed.{PlainVariable, PlainFunction, PlainObject, PlainLiteral, PlainProgram}
+
+-- what the structures of the code are
+abbrev pub plain_types : Types → List PlainStructure
+plain_types t = map plain_structure t.structures.items
 
 abbrev pub value_from : At → CType → PlainForm → PlainValue
 value_from at t f = value at (plain_type t) f
@@ -161,7 +166,7 @@ plain_literal l = record { number = l.number; bytes = l.bytes }
 -- what a program of the code is
 abbrev pub plain_program : Program → PlainProgram
 plain_program p = record {
-  structures = map plain_structure p.types;
+  structures = plain_types p.types;
   objects = map plain_object p.globals;
   functions = map plain_function p.functions;
   literals = map plain_literal p.literals;

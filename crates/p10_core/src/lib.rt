@@ -1,17 +1,20 @@
 //! Typed programs of C.
 #![tactic(auto)]
 
+mod c_type;
 mod program;
 mod statements;
 mod structures;
+mod table;
 mod typed;
-mod types;
 
+pub use c_type::{CType, TypeForm};
 pub use program::{Extent, Func, Global, Literal, Program, Variable};
 pub use statements::{
     Initializer, Item, Label, Labels, LoopHead, LoopKeyword, MarkKind, Stmt, StmtForm, UpdateKind,
     Written,
 };
 pub use structures::{Body, Member, Structure};
+pub use table::Types;
 pub use typed::{Library, LogicOp, Place, PlaceForm, Value, ValueForm};
-pub use types::{CType, TypeForm};
+

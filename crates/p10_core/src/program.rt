@@ -1,8 +1,8 @@
 //! Typed programs: functions, variables and objects.
 
 use crate::statements::{Initializer, Stmt};
-use crate::structures::Structure;
-use crate::types::CType;
+use crate::table::Types;
+use crate::c_type::CType;
 use p10_base::{ListBuf, Span};
 
 /// A variable of a function: a parameter or an automatic variable.
@@ -72,7 +72,7 @@ pub struct Literal {
 /// A typed program.
 #[derive(Drop)]
 pub struct Program<'s> {
-    pub types: ListBuf<Structure<'s>>,
+    pub types: Types<'s>,
     pub globals: ListBuf<Global<'s>>,
     pub functions: ListBuf<Func<'s>>,
     /// The string literals in its trees, by rising numbers.

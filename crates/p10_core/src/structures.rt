@@ -1,6 +1,6 @@
 //! The structures of a program (C99 6.7.2.1).
 
-use crate::types::CType;
+use crate::c_type::CType;
 use p10_base::ListBuf;
 
 /// A member of a structure.

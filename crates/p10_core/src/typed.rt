@@ -1,6 +1,6 @@
 //! Typed values and places (C99 6.5).
 
-use crate::types::CType;
+use crate::c_type::CType;
 use p10_base::{At, ListBuf, Span};
 use p10_int::{BinOp, UnOp};
 
