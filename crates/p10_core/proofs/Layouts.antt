@@ -72,7 +72,7 @@ stable ss w (suc d) (suc e) n b is p q =
     let ms : members_of ss n ≡ b.members = ap members_in is in
     ap (layout_of_members (layout_by ss (structure_layout d ss))) ms
     ∙ members_same (layout_by ss (structure_layout d ss)) (layout_by ss (structure_layout e ss)) b.members
-        (members_agree ss b.order (structure_layout d ss) (structure_layout e ss) (λ m c es r. stable ss w d e m c es (omega (arith, p, r)) (omega (arith, q, r))) b.members whole.members)
+    (members_agree ss b.order (structure_layout d ss) (structure_layout e ss) (λ m c es r. stable ss w d e m c es (omega (arith, p, r)) (omega (arith, q, r))) b.members whole.members)
     ∙ sym (ap (layout_of_members (layout_by ss (structure_layout e ss))) ms)
 
 -- how a structure that is complete lies: as its members, as they lie

@@ -4,9 +4,8 @@ ghost use Rattle.std.specs.Prelude.{◌≡◌, IfOk, Bool, true, false};
 ghost use Rattle.p10_core.specs.Types.{plain_type, qualified, unqualified, void, integer, pointer, array, structure};
 ghost use Rattle.p10_core.specs.Rows.{same, same_form, adds_const, is_void, is_array, is_integer, is_pointer, is_scalar};
 
-use std::alloc::{AllocError, Global};
-
 use p10_int::IntType;
+use std::alloc::{AllocError, Global};
 
 /// A type of C, with its mark for `const`.
 #[derive(Drop)]
@@ -35,35 +34,50 @@ impl CType {
     pub fn integer(kind: IntType) -> CType
         ensures { plain_type result ≡ integer false kind }
     {
-        CType { is_const: false, form: TypeForm::Int(kind) }
+        CType {
+            is_const: false,
+            form: TypeForm::Int(kind),
+        }
     }
 
     /// `void`, without a mark.
     pub fn void() -> CType
         ensures { plain_type result ≡ void false }
     {
-        CType { is_const: false, form: TypeForm::Void }
+        CType {
+            is_const: false,
+            form: TypeForm::Void,
+        }
     }
 
     /// A pointer to `target`, without a mark.
     pub fn pointer(alloc: Global, target: CType) -> Result<CType, AllocError>
         ensures { IfOk result (λ t. plain_type t ≡ pointer false (plain_type target)) }
     {
-        Ok(CType { is_const: false, form: TypeForm::Pointer(Box::new(alloc, target)?) })
+        Ok(CType {
+            is_const: false,
+            form: TypeForm::Pointer(Box::new(alloc, target)?),
+        })
     }
 
     /// An array of `length` elements.
     pub fn array(alloc: Global, element: CType, length: u64) -> Result<CType, AllocError>
         ensures { IfOk result (λ t. plain_type t ≡ array false (plain_type element) length) }
     {
-        Ok(CType { is_const: false, form: TypeForm::Array(Box::new(alloc, element)?, length) })
+        Ok(CType {
+            is_const: false,
+            form: TypeForm::Array(Box::new(alloc, element)?, length),
+        })
     }
 
     /// The structure with a number, without a mark.
     pub fn structure(number: u32) -> CType
         ensures { plain_type result ≡ structure false number }
     {
-        CType { is_const: false, form: TypeForm::Struct(number) }
+        CType {
+            is_const: false,
+            form: TypeForm::Struct(number),
+        }
     }
 
     /// An equal type.
@@ -74,10 +88,16 @@ impl CType {
             TypeForm::Void => TypeForm::Void,
             TypeForm::Int(kind) => TypeForm::Int(*kind),
             TypeForm::Pointer(target) => TypeForm::Pointer(Box::new(alloc, target.copy(alloc)?)?),
-            TypeForm::Array(element, length) => TypeForm::Array(Box::new(alloc, element.copy(alloc)?)?, *length),
+            TypeForm::Array(element, length) => TypeForm::Array(
+                Box::new(alloc, element.copy(alloc)?)?,
+                *length,
+            ),
             TypeForm::Struct(number) => TypeForm::Struct(*number),
         };
-        Ok(CType { is_const: self.is_const, form })
+        Ok(CType {
+            is_const: self.is_const,
+            form,
+        })
     }
 
     /// The type without its own mark, as values have it (C99 6.3.2.1p2).
@@ -109,7 +129,8 @@ impl CType {
                 (target.is_const == others.is_const) & target.has_same_form(others)
             }
             (TypeForm::Array(element, length), TypeForm::Array(others, count)) => {
-                (length == count) & ((element.is_const == others.is_const) & element.has_same_form(others))
+                (length == count)
+                    & ((element.is_const == others.is_const) & element.has_same_form(others))
             }
             (TypeForm::Struct(number), TypeForm::Struct(others)) => number == others,
             _ => false,

@@ -3,6 +3,7 @@
 
 mod c_type;
 mod program;
+mod sizes;
 mod statements;
 mod structures;
 mod table;
@@ -10,6 +11,7 @@ mod typed;
 
 pub use c_type::{CType, TypeForm};
 pub use program::{Extent, Func, Global, Literal, Program, Variable};
+pub use sizes::size;
 pub use statements::{
     Initializer, Item, Label, Labels, LoopHead, LoopKeyword, MarkKind, Stmt, StmtForm, UpdateKind,
     Written,
@@ -17,4 +19,3 @@ pub use statements::{
 pub use structures::{Body, Member, Structure};
 pub use table::Types;
 pub use typed::{Library, LogicOp, Place, PlaceForm, Value, ValueForm};
-

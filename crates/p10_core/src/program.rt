@@ -1,8 +1,8 @@
 //! Typed programs: functions, variables and objects.
 
+use crate::c_type::CType;
 use crate::statements::{Initializer, Stmt};
 use crate::table::Types;
-use crate::c_type::CType;
 use p10_base::{ListBuf, Span};
 
 /// A variable of a function: a parameter or an automatic variable.

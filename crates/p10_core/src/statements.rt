@@ -1,7 +1,7 @@
 //! Typed statements and initialisers (C99 6.7.8, 6.8).
 
-use crate::typed::{Place, Value};
 use crate::c_type::CType;
+use crate::typed::{Place, Value};
 use p10_base::{At, ListBuf, Span};
 use p10_int::BinOp;
 

@@ -1,16 +1,16 @@
 //! The structures of a program, and what is known of types by them.
 
-ghost use Rattle.std.specs.Prelude.{◌≡◌, ℕ, ◌<◌, ◌^◌, ◌++◌, [], ◌∷◌, None, Some, length, IfOk, OnOk, OnErr, slice_get, option_map, option_copied};
-ghost use Rattle.p10_core.specs.Types.{plain_type, plain_structure, body_of, body_in};
+ghost use Rattle.std.specs.Prelude.{◌≡◌, ℕ, ◌<◌, ◌^◌, ◌++◌, [], ◌∷◌, None, Some, length, IfOk, OnOk, OnErr, slice_get, option_map, option_copied, false};
+ghost use Rattle.p10_core.specs.Types.{plain_type, plain_structure, plain_body, body_of, structure};
 ghost use Rattle.p10_core.specs.Views.{plain_types};
-ghost use Rattle.p10_core.specs.Sizes.{size_of, alignment_of, has_constant};
+ghost use Rattle.p10_core.specs.Sizes.{integer_bytes, size_of, alignment_of, has_constant};
 ghost use Rattle.p10_core.specs.Rows.{is_complete, is_modifiable};
 ghost use Rattle.p10_core.specs.WholePrograms.{AreWholeStructures, IsWholeType};
 
-use std::alloc::{AllocError, Global};
-
 use crate::c_type::{CType, TypeForm};
 use crate::structures::{Body, Structure};
+use p10_int::IntType;
+use std::alloc::{AllocError, Global};
 
 /// The structures of a program, by their numbers.
 #[derive(Drop)]
@@ -23,7 +23,9 @@ impl<'s> Types<'s> {
     pub fn new(alloc: Global) -> Types<'s>
         ensures { plain_types result ≡ [] }
     {
-        Types { structures: Vec::new(alloc) }
+        Types {
+            structures: Vec::new(alloc),
+        }
     }
 
     /// The structure with a number.
@@ -31,6 +33,16 @@ impl<'s> Types<'s> {
         ensures { option_map plain_structure (option_copied result) ≡ slice_get (plain_types self.now) number }
     {
         self.structures.get(number as usize)
+    }
+
+    /// The body of the structure with a number, if it is complete.
+    pub fn body(&self, number: u32) -> Option<&Body<'s>>
+        ensures { option_map plain_body (option_copied result) ≡ body_of (plain_types self.now) number }
+    {
+        match self.structure(number) {
+            Some(structure) => structure.body.as_ref(),
+            None => None,
+        }
     }
 
     /// Whether a type has a size (C99 6.2.5).
@@ -41,10 +53,105 @@ impl<'s> Types<'s> {
             TypeForm::Void => false,
             TypeForm::Int(_) | TypeForm::Pointer(_) => true,
             TypeForm::Array(element, _) => self.is_complete(element),
-            TypeForm::Struct(number) => match self.structure(*number) {
-                Some(structure) => structure.body.is_some(),
-                None => false,
-            },
+            TypeForm::Struct(number) => self.body(*number).is_some(),
         }
+    }
+
+    /// The size of a type in bytes (C99 6.5.3.4); 0 of a type that has none. It takes no memory.
+    #[tactic(auto, unfolding(crate::specs::Sizes::layout_of))]
+    pub fn size(&self, t: &CType) -> u64
+        requires structures { AreWholeStructures (plain_types self.now) }
+        requires whole { IsWholeType (plain_types self.now) (plain_type t.now) }
+        ensures { result ≡ size_of (plain_types self.now) (plain_type t.now) }
+    {
+        match &t.form {
+            TypeForm::Void => 0,
+            TypeForm::Int(kind) => integer_bytes(*kind),
+            TypeForm::Pointer(_) => 8,
+            TypeForm::Array(element, length) => *length * self.size(element),
+            TypeForm::Struct(number) => self.structure_size(*number),
+        }
+    }
+
+    /// The alignment of a type in bytes; 1 of a type that has no size.
+    #[tactic(auto, unfolding(crate::specs::Sizes::layout_of))]
+    pub fn alignment(&self, t: &CType) -> u64
+        requires structures { AreWholeStructures (plain_types self.now) }
+        ensures { result ≡ alignment_of (plain_types self.now) (plain_type t.now) }
+    {
+        match &t.form {
+            TypeForm::Void => 1,
+            TypeForm::Int(kind) => integer_bytes(*kind),
+            TypeForm::Pointer(_) => 8,
+            TypeForm::Array(element, _) => self.alignment(element),
+            TypeForm::Struct(number) => self.structure_alignment(*number),
+        }
+    }
+
+    /// Whether a type or a part of it is `const`.
+    #[tactic(auto, unfolding(crate::specs::Sizes::layout_of))]
+    pub fn has_const(&self, t: &CType) -> bool
+        requires structures { AreWholeStructures (plain_types self.now) }
+        ensures { result ≡ has_constant (plain_types self.now) (plain_type t.now) }
+    {
+        match &t.form {
+            TypeForm::Void | TypeForm::Int(_) | TypeForm::Pointer(_) => t.is_const,
+            TypeForm::Array(element, _) => t.is_const | self.has_const(element),
+            TypeForm::Struct(number) => t.is_const | self.structure_has_const(*number),
+        }
+    }
+
+    /// Whether a place of the type can be assigned (C99 6.3.2.1p1).
+    pub fn is_modifiable(&self, t: &CType) -> bool
+        requires structures { AreWholeStructures (plain_types self.now) }
+        ensures { result ≡ is_modifiable (plain_types self.now) (plain_type t.now) }
+    {
+        !t.is_array() && (self.is_complete(t) && !self.has_const(t))
+    }
+
+    /// The size of a structure; 0 where it isn't complete.
+    fn structure_size(&self, number: u32) -> u64
+        requires structures { AreWholeStructures (plain_types self.now) }
+        requires there { number < length (plain_types self.now) }
+        ensures { result ≡ size_of (plain_types self.now) (structure false number) }
+    {
+        match self.body(number) {
+            Some(body) => body.bytes,
+            None => 0,
+        }
+    }
+
+    /// The alignment of a structure; 1 where it isn't complete.
+    fn structure_alignment(&self, number: u32) -> u64
+        requires structures { AreWholeStructures (plain_types self.now) }
+        ensures { result ≡ alignment_of (plain_types self.now) (structure false number) }
+    {
+        match self.body(number) {
+            Some(body) => body.alignment,
+            None => 1,
+        }
+    }
+
+    /// Whether a part of a structure is `const`; false where it isn't complete.
+    fn structure_has_const(&self, number: u32) -> bool
+        requires structures { AreWholeStructures (plain_types self.now) }
+        ensures { result ≡ has_constant (plain_types self.now) (structure false number) }
+    {
+        match self.body(number) {
+            Some(body) => body.has_const,
+            None => false,
+        }
+    }
+}
+
+/// The bytes of an integer type.
+pub fn integer_bytes(kind: IntType) -> u64
+    ensures { result ≡ integer_bytes kind }
+{
+    match kind {
+        IntType::Bool | IntType::Char | IntType::SChar | IntType::UChar => 1,
+        IntType::Short | IntType::UShort => 2,
+        IntType::Int | IntType::UInt => 4,
+        IntType::Long | IntType::ULong | IntType::LLong | IntType::ULLong => 8,
     }
 }
