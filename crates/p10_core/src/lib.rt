@@ -2,6 +2,7 @@
 #![tactic(auto)]
 
 mod c_type;
+mod make;
 mod program;
 mod sizes;
 mod statements;
