@@ -41,7 +41,7 @@ members_same f g ms h = λ i. record {
 }
 
 -- the body of a structure that is complete
-body_there : {P : Type 0} (o : Option PlainBody) → is_some o ≡ true → ((b : PlainBody) → o ≡ Some b → P) → P
+pub body_there : {P : Type 0} (o : Option PlainBody) → is_some o ≡ true → ((b : PlainBody) → o ≡ Some b → P) → P
 body_there None h go = absurd cc
 body_there (Some b) h go = go b refl
 

@@ -1,3 +1,4 @@
+pub mod Bareness
 pub mod Layouts
 pub mod Lists
 pub mod SizesOfTypes

@@ -8,3 +8,4 @@ pub mod Constants
 pub mod Addresses
 pub mod Whole
 pub mod WholePrograms
+pub mod Laws

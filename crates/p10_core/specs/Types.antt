@@ -1,5 +1,6 @@
 -- The types of C as definitions speak of them (C99 6.2.5), the structures that they name, and what leads from the code's.
-use Rattle.std.specs.Prelude.{ℕ, Bool, true, false, ◌||◌, List, [], map, Option, option_map, Some, None, slice_get}
+use Rattle.std.specs.Prelude.{ℕ, Bool, true, false, ◌||◌, List, [], map, Option, option_map, Some, None, slice_get, bytes_eq}
+use Rattle.std.specs.List.{position_from}
 use Rattle.p10_int.specs.declared.types.IntType.{IntType}
 use Rattle.p10_base.specs.Words.{Text}
 use Rattle.p10_core.specs.declared.c_type.CType.{CType}
@@ -93,6 +94,10 @@ members_in (Some b) = b.members
 -- the members of the structure with a number: none of one that isn't complete
 abbrev pub members_of : List PlainStructure → ℕ → List PlainMember
 members_of structures n = members_in (body_of structures n)
+
+-- the place of the first member with a name
+abbrev pub member_named : Text → List PlainMember → Option ℕ
+member_named name members = position_from (λ m. bytes_eq m.name name) 0 members
 
 abbrev pub representative_in : ℕ → Option PlainStructure → ℕ
 representative_in n None = n

@@ -1,7 +1,17 @@
-//! Typed programs of C.
+//! The typed language of `p10`: what C's expressions, statements and declarations come to once names, types and
+//! conversions are known. Everything above speaks of these trees.
+//!
+//! Entry points: [`Program`] with its [`Func`]s, [`Global`]s and [`Types`]; [`Stmt`], [`Value`] and [`Place`], its trees,
+//! of which each node keeps where it stands and its type; [`size`], the size of a type.
+//! Contracts see trees as plain ones, without boxes (`specs/Typed.antt`, `specs/Views.antt`: `plain_program`).
+//! Invariant: a program is *whole* (`specs/WholePrograms.antt`: `IsWholeProgram`): its types agree as the rows of the
+//! operators say (`specs/Rows.antt`), its numbers name what is there and in scope, and its sizes are those of its types.
+//! Whoever makes a program proves that, and whoever takes one may rely on it.
+//! How C's trees come to typed ones, and what typed ones mean, are left to the crates above.
 #![tactic(auto)]
 
 mod c_type;
+pub mod laws;
 mod make;
 mod program;
 mod sizes;

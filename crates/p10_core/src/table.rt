@@ -1,14 +1,14 @@
 //! The structures of a program, and what is known of types by them.
 
-ghost use Rattle.std.specs.Prelude.{◌≡◌, ℕ, ◌<◌, ◌^◌, ◌++◌, [], ◌∷◌, None, Some, length, IfOk, OnOk, OnErr, slice_get, option_map, option_copied, false};
-ghost use Rattle.p10_core.specs.Types.{plain_type, plain_structure, plain_body, body_of, structure};
+ghost use Rattle.std.specs.Prelude.{◌≡◌, ℕ, ◌<◌, ◌^◌, ◌++◌, [], ◌∷◌, None, Some, length, IfOk, OnOk, OnErr, slice_get, option_map, option_copied, false, map};
+ghost use Rattle.p10_core.specs.Types.{plain_type, plain_structure, plain_body, plain_member, body_of, members_of, member_named, structure};
 ghost use Rattle.p10_core.specs.Views.{plain_types};
 ghost use Rattle.p10_core.specs.Sizes.{integer_bytes, size_of, alignment_of, has_constant};
 ghost use Rattle.p10_core.specs.Rows.{is_complete, is_modifiable};
 ghost use Rattle.p10_core.specs.WholePrograms.{AreWholeStructures, IsWholeType};
 
 use crate::c_type::{CType, TypeForm};
-use crate::structures::{Body, Structure};
+use crate::structures::{Body, Member, Structure};
 use p10_int::IntType;
 use std::alloc::{AllocError, Global};
 
@@ -43,6 +43,14 @@ impl<'s> Types<'s> {
             Some(structure) => structure.body.as_ref(),
             None => None,
         }
+    }
+
+    /// The place of the member with a name in the structure with a number, if it has one.
+    pub fn member_named(&self, number: u32, name: &[u8]) -> Option<usize>
+        ensures { result ≡ member_named name.now (members_of (plain_types self.now) number) }
+    {
+        let body = self.body(number)?;
+        place_of_member(body.members.as_slice(), name)
     }
 
     /// Whether a type has a size (C99 6.2.5).
@@ -142,6 +150,18 @@ impl<'s> Types<'s> {
             None => false,
         }
     }
+}
+
+/// The place of the member with a name.
+fn place_of_member(members: &[Member<'_>], name: &[u8]) -> Option<usize>
+    ensures { result ≡ member_named name.now (map plain_member members.now) }
+{
+    for (place, member) in members.iter().enumerate() {
+        if member.name == name {
+            return Some(place);
+        }
+    }
+    None
 }
 
 /// The bytes of an integer type.

@@ -1,0 +1,24 @@
+-- What holds of the definitions of types.
+use Rattle.std.specs.Prelude.{◌≡◌, ℕ, Bool, List, Option, Some, true}
+use Rattle.p10_core.specs.Types.{PlainType, structure, bare, PlainBody, PlainStructure, body_of}
+use Rattle.p10_core.specs.Sizes.{Layout, layout_of_members, with_mark, layout_of}
+use Rattle.p10_core.specs.Rows.{is_complete}
+use Rattle.p10_core.specs.WholePrograms.{AreWholeStructures, IsObjectType}
+
+-- a structure lies as its members do: none contains itself, so no bound on its depth counts (C99 6.7.2.1)
+abbrev pub StructuresLieAsTheirMembers : Type 0
+StructuresLieAsTheirMembers =
+    (structures : List PlainStructure) → AreWholeStructures structures → (c : Bool) (n : ℕ) (b : PlainBody) → body_of structures n ≡ Some b →
+    layout_of structures (structure c n) ≡ with_mark c (layout_of_members (layout_of structures) b.members)
+
+-- two layouts are the same, marks aside
+pub record LiesLike (l m : Layout) : Type 0 where
+  pub same_bytes : l.bytes ≡ m.bytes
+  pub same_alignment : l.alignment ≡ m.alignment
+  pub same_scalars : l.scalars ≡ m.scalars
+
+-- types that are one type, marks and compatible structures aside, lie alike (C99 6.2.7)
+abbrev pub CompatibleTypesLieAlike : Type 0
+CompatibleTypesLieAlike =
+    (structures : List PlainStructure) → AreWholeStructures structures → (s t : PlainType) → IsObjectType structures s → IsObjectType structures t →
+    bare structures s ≡ bare structures t → LiesLike (layout_of structures s) (layout_of structures t)

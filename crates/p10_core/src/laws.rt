@@ -1,0 +1,14 @@
+//! What holds of the definitions of types: each law is the contract of a function without a body.
+
+ghost use Rattle.p10_core.specs.Laws.{StructuresLieAsTheirMembers, CompatibleTypesLieAlike};
+
+/// A structure lies in memory as its members do, padded to its alignment: none contains itself, so no bound on its
+/// depth counts (C99 6.7.2.1).
+pub fn structures_lie_as_their_members()
+    ensures { StructuresLieAsTheirMembers }
+{}
+
+/// Types that are compatible between roots have one size, one alignment and the same scalars (C99 6.2.7).
+pub fn compatible_types_lie_alike()
+    ensures { CompatibleTypesLieAlike }
+{}
