@@ -27,10 +27,12 @@ abbrev pub single_at : Option Target → Option Target
 single_at (Some (in_array length n)) = Some (in_array 1 0)
 single_at target = None
 
+-- the first element of an array that begins at the target
 abbrev pub row_at : PlainType → Option Target → Option Target
 row_at (array c t n) (Some (in_array length at)) = Some (in_array n 0)
 row_at t target = None
 
+-- what a pointer points to: null points to nothing
 abbrev pub reached : Option Target → Option Target
 reached (Some (in_array length n)) = Some (in_array length n)
 reached target = None
@@ -55,6 +57,7 @@ abbrev mutual
   target_of (value at t (binary Sub a b)) = moved (target_of a) (negated (constant_of b))
   target_of v = None
 
+  -- where the address of a place points to, if it is a constant that doesn't stop
   pub place_target : PlainPlace → Option Target
   place_target (place at t (variable n)) = None
   place_target (place at t (global n)) = Some (in_array 1 0)

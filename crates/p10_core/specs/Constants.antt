@@ -12,6 +12,7 @@ use Rattle.p10_core.specs.Types.{PlainType, void, integer, pointer, array, struc
 use Rattle.p10_core.specs.Typed.{PlainValue, value, PlainForm, constant, read, sense, address, decay, convert, cast, unary, binary, logic, conditional, call, built_in, at_of, type_of}
 use Rattle.p10_core.specs.Rows.{is_integer}
 
+-- the first of two places that may be lacking
 abbrev pub first_of_parts : Option At → Option At → Option At
 first_of_parts None b = b
 first_of_parts (Some a) b = Some a
@@ -51,13 +52,16 @@ abbrev pub or_place : At → Result ℤ Stop → Result ℤ At
 or_place at (Ok z) = Ok z
 or_place at (Err stop) = Err at
 
+-- goes on with a number, or stops where it stopped
 abbrev pub folded_then : Result ℤ At → (ℤ → Result ℤ At) → Result ℤ At
 folded_then (Ok z) go = go z
 folded_then (Err at) go = Err at
 
+-- whether a number is 0
 abbrev pub is_zero : ℤ → Bool
 is_zero z = int_eq z (pos 0)
 
+-- 1 for a number other than 0, and 0 for 0
 abbrev pub truth_number : ℤ → Result ℤ At
 truth_number z = Ok (truth_of (not (is_zero z)))
 
@@ -79,10 +83,12 @@ fold (value at t (conditional c a b)) = folded_then (fold c) (λ x. if is_zero x
 fold (value at t (call s n arguments)) = Err at
 fold (value at t (built_in s f arguments)) = Err at
 
+-- whether a constant gives 0
 abbrev pub gives_zero : Result ℤ At → Bool
 gives_zero (Ok z) = is_zero z
 gives_zero (Err at) = false
 
+-- whether no part is of another form than constants have
 abbrev pub is_constant : Option At → Bool
 is_constant None = true
 is_constant (Some at) = false

@@ -27,6 +27,7 @@ number_of ULong = 9
 number_of LLong = 10
 number_of ULLong = 11
 
+-- whether two integer types are one
 abbrev pub same_integer : IntType → IntType → Bool
 same_integer a b = nat_eq (number_of a) (number_of b)
 
@@ -51,18 +52,22 @@ same_form s t = false
 abbrev pub same : PlainType → PlainType → Bool
 same s t = beq (mark_of s) (mark_of t) && same_form s t
 
+-- whether a type is `void`
 abbrev pub is_void : PlainType → Bool
 is_void (void c) = true
 is_void t = false
 
+-- whether a type is an array
 abbrev pub is_array : PlainType → Bool
 is_array (array c t n) = true
 is_array t = false
 
+-- whether a type is an integer type
 abbrev pub is_integer : PlainType → Bool
 is_integer (integer c i) = true
 is_integer t = false
 
+-- whether a type is a pointer
 abbrev pub is_pointer : PlainType → Bool
 is_pointer (pointer c t) = true
 is_pointer t = false
@@ -85,6 +90,7 @@ is_complete structures (structure c n) = is_some (body_of structures n)
 abbrev pub is_modifiable : List PlainStructure → PlainType → Bool
 is_modifiable structures t = not (is_array t) && (is_complete structures t && not (has_constant structures t))
 
+-- the type `int`
 abbrev pub int_type : PlainType
 int_type = integer false Int
 
@@ -96,9 +102,11 @@ pub record Row : Type 0 where
   pub left : PlainType
   pub right : PlainType
 
+-- a row that stands
 abbrev pub row : PlainType → PlainType → PlainType → Option Row
 row r a b = Some (record { result = r; left = a; right = b })
 
+-- a row that stands where a condition holds
 abbrev pub row_where : Bool → PlainType → PlainType → PlainType → Option Row
 row_where b r s t = if b then row r s t else None
 
@@ -191,6 +199,7 @@ pub record UnaryRow : Type 0 where
   pub result : PlainType
   pub operand : PlainType
 
+-- a row that stands
 abbrev pub unary_entry : PlainType → PlainType → Option UnaryRow
 unary_entry r a = Some (record { result = r; operand = a })
 
@@ -205,6 +214,7 @@ negation_row (integer c a) = unary_entry int_type (integer false a)
 negation_row (pointer c t) = unary_entry int_type (pointer false t)
 negation_row t = None
 
+-- the row of a unary operator for an operand of a type: none where it may not be applied to it
 abbrev pub unary_row : UnOp → PlainType → Option UnaryRow
 unary_row Plus t = promoted_row t
 unary_row Neg t = promoted_row t

@@ -41,14 +41,17 @@ abbrev pub past_members : (PlainType → Layout) → ℕ → List PlainMember �
 past_members layout n [] = n
 past_members layout n (m ∷ rest) = past_members layout (aligned n (layout m.type).alignment + (layout m.type).bytes) rest
 
+-- the greatest of the members' alignments
 abbrev pub greatest_alignment : (PlainType → Layout) → List PlainMember → ℕ
 greatest_alignment layout [] = 1
 greatest_alignment layout (m ∷ rest) = max (layout m.type).alignment (greatest_alignment layout rest)
 
+-- the members' scalars in order
 abbrev pub scalars_of_members : (PlainType → Layout) → List PlainMember → List PlainType
 scalars_of_members layout [] = []
 scalars_of_members layout (m ∷ rest) = (layout m.type).scalars ++ scalars_of_members layout rest
 
+-- whether a member or a part of one is `const`
 abbrev pub constant_among : (PlainType → Layout) → List PlainMember → Bool
 constant_among layout [] = false
 constant_among layout (m ∷ rest) = (layout m.type).constant || constant_among layout rest
@@ -62,6 +65,7 @@ layout_of_members layout members = record {
   constant = constant_among layout members;
 }
 
+-- a layout where the type has a mark of its own
 abbrev pub with_mark : Bool → Layout → Layout
 with_mark c l = record l { constant = c || l.constant }
 
@@ -91,6 +95,7 @@ layout_of structures t = layout_by structures (structure_layout (length structur
 abbrev pub size_of : List PlainStructure → PlainType → ℕ
 size_of structures t = (layout_of structures t).bytes
 
+-- the alignment of a type in bytes
 abbrev pub alignment_of : List PlainStructure → PlainType → ℕ
 alignment_of structures t = (layout_of structures t).alignment
 

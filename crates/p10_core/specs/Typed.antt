@@ -61,15 +61,19 @@ mutual
     no_values : PlainValues
     more_values : PlainValue → PlainValues → PlainValues
 
+-- where the tree of a value stands
 abbrev pub at_of : PlainValue → At
 at_of (value at t f) = at
 
+-- the type of a value
 abbrev pub type_of : PlainValue → PlainType
 type_of (value at t f) = t
 
+-- where the tree of a place stands
 abbrev pub place_at : PlainPlace → At
 place_at (place at t f) = at
 
+-- the type of a place
 abbrev pub place_type : PlainPlace → PlainType
 place_type (place at t f) = t
 
@@ -78,6 +82,7 @@ abbrev pub values_list : PlainValues → List PlainValue
 values_list no_values = []
 values_list (more_values v vs) = v ∷ values_list vs
 
+-- a list as values
 abbrev pub values_of_list : List PlainValue → PlainValues
 values_of_list [] = no_values
 values_of_list (v ∷ vs) = more_values v (values_of_list vs)
@@ -145,6 +150,7 @@ mutual
     no_statements : PlainStatements
     more_statements : PlainStatement → PlainStatements → PlainStatements
 
+-- where the tree of a statement stands
 abbrev pub statement_at : PlainStatement → At
 statement_at (statement at f) = at
 
@@ -153,6 +159,7 @@ abbrev pub statements_list : PlainStatements → List PlainStatement
 statements_list no_statements = []
 statements_list (more_statements s rest) = s ∷ statements_list rest
 
+-- a list as statements
 abbrev pub statements_of_list : List PlainStatement → PlainStatements
 statements_of_list [] = no_statements
 statements_of_list (s ∷ rest) = more_statements s (statements_of_list rest)

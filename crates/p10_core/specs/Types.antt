@@ -19,6 +19,7 @@ pub data PlainType : Type 0 where
   array : Bool → PlainType → ℕ → PlainType
   structure : Bool → ℕ → PlainType
 
+-- what a form of type of the code is, with its mark
 abbrev pub plain_form_of_type : Bool → TypeForm → PlainType
 plain_form_of_type c Void = void c
 plain_form_of_type c (Int i) = integer c i
@@ -72,6 +73,7 @@ pub record PlainStructure : Type 0 where
 abbrev pub plain_member : Member → PlainMember
 plain_member m = record { name = m.name.now; type = plain_type m.ty }
 
+-- what the body of a structure of the code is
 abbrev pub plain_body : Body → PlainBody
 plain_body b = record { members = map plain_member b.members; order = b.order; bytes = b.bytes; alignment = b.alignment; scalars = b.scalars; constant = b.has_const }
 
@@ -84,9 +86,11 @@ abbrev pub body_in : Option PlainStructure → Option PlainBody
 body_in None = None
 body_in (Some s) = s.body
 
+-- the body of the structure with a number: none where it is incomplete or not there
 abbrev pub body_of : List PlainStructure → ℕ → Option PlainBody
 body_of structures n = body_in (slice_get structures n)
 
+-- the members of a body: none where there is no body
 abbrev pub members_in : Option PlainBody → List PlainMember
 members_in None = []
 members_in (Some b) = b.members
@@ -99,6 +103,7 @@ members_of structures n = members_in (body_of structures n)
 abbrev pub member_named : Text → List PlainMember → Option ℕ
 member_named name members = position_from (λ m. bytes_eq m.name name) 0 members
 
+-- the structure that stands for one with a number: itself where there is none
 abbrev pub representative_in : ℕ → Option PlainStructure → ℕ
 representative_in n None = n
 representative_in n (Some s) = s.representative

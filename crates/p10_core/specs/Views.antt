@@ -32,13 +32,16 @@ use Rattle.p10_core.specs.Typed.{PlainVariable, PlainFunction, PlainObject, Plai
 abbrev pub plain_types : Types → List PlainStructure
 plain_types t = map plain_structure t.structures.items
 
+-- a value with the type of the code
 abbrev pub value_from : At → CType → PlainForm → PlainValue
 value_from at t f = value at (plain_type t) f
 
+-- a place with the type of the code
 abbrev pub place_from : At → CType → PlainPlaceForm → PlainPlace
 place_from at t f = place at (plain_type t) f
 
 abbrev mutual
+  -- what a form of value of the code is
   pub plain_form : ValueForm → PlainForm
   plain_form (Const n) = constant n
   plain_form (Read' p at t f) = read (place_from at t (plain_place_form f))
@@ -55,6 +58,7 @@ abbrev mutual
   plain_form (Call' s n shape all) = call s n (plain_row all)
   plain_form (Builtin' s l shape all) = built_in s l (plain_row all)
 
+  -- what a form of place of the code is
   pub plain_place_form : PlaceForm → PlainPlaceForm
   plain_place_form (Var n) = variable n
   plain_place_form (GlobalPlace n) = global n
@@ -63,6 +67,7 @@ abbrev mutual
   plain_place_form (Member' p at t f n) = member (place_from at t (plain_place_form f)) n
   plain_place_form (Deref' p at t f) = dereference (value_from at t (plain_form f))
 
+  -- what values of the code that follow one another are
   pub plain_row : {m : _} → Row_of-Value m → PlainValues
   plain_row end_of-Value = no_values
   plain_row (more_of-Value at t f rest) = more_values (value_from at t (plain_form f)) (plain_row rest)
@@ -80,10 +85,12 @@ abbrev pub plain_values : List Value → PlainValues
 plain_values [] = no_values
 plain_values (v ∷ vs) = more_values (plain_value v) (plain_values vs)
 
+-- what is written in an item of the code
 abbrev pub plain_written : Written → PlainWritten
 plain_written (Scalar v) = one_scalar (plain_value v)
 plain_written (Text bytes) = scalars_of_text bytes
 
+-- what an item of the code is
 abbrev pub plain_item : Item → PlainItem
 plain_item i = record { scalar = i.scalar; written = plain_written i.written }
 
@@ -94,10 +101,12 @@ plain_initializer (Single v) = single (plain_value v)
 plain_initializer (Copied p) = copied (plain_place p)
 plain_initializer (Listed at items) = listed at (map plain_item items)
 
+-- what labels of the code are
 abbrev pub plain_labels : Labels → PlainLabels
 plain_labels l = record { cases = l.cases; otherwise = l.otherwise }
 
 abbrev mutual
+  -- what a form of statement of the code is
   pub plain_statement_form : StmtForm → PlainStatementForm
   plain_statement_form (Set p v) = set (plain_place p) (plain_value v)
   plain_statement_form (Update kind op t p v) = update kind op (plain_type t) (plain_place p) (plain_value v)
@@ -119,6 +128,7 @@ abbrev mutual
   plain_statement_form Empty = empty
   plain_statement_form (Mark kind) = mark kind
 
+  -- what statements of the code that follow one another are
   pub plain_statements_row : {m : _} → Row_of-Stmt m → PlainStatements
   plain_statements_row end_of-Stmt = no_statements
   plain_statements_row (more_of-Stmt at f rest) = more_statements (statement at (plain_statement_form f)) (plain_statements_row rest)
@@ -132,6 +142,7 @@ abbrev pub plain_statements : List Stmt → PlainStatements
 plain_statements [] = no_statements
 plain_statements (s ∷ rest) = more_statements (plain_statement s) (plain_statements rest)
 
+-- what a variable of the code is
 abbrev pub plain_variable : Variable → PlainVariable
 plain_variable v = record { name = v.name.now; type = plain_type v.ty; bytes = v.bytes; frame = v.frame; span = v.span }
 
@@ -160,6 +171,7 @@ plain_object g = record {
   visible = g.visible;
 }
 
+-- what a string literal of the code is
 abbrev pub plain_literal : Literal → PlainLiteral
 plain_literal l = record { number = l.number; bytes = l.bytes }
 

@@ -84,6 +84,7 @@ pub record IsElement (c : Surroundings) (pointer_type integer_type t : PlainType
   pub integer_is : integer_type ≡ integer false kind
   pub complete : is_complete c.structures t ≡ true
 
+-- a string literal is one of the program, where those are known
 abbrev pub IsListed : Option (List PlainLiteral) → PlainLiteral → Type 0
 IsListed None l = Unit {0}
 IsListed (Some literals) l = Contains literals l
@@ -103,14 +104,17 @@ abbrev sensor_in : Option SeenObject → Bool
 sensor_in None = false
 sensor_in (Some o) = o.sensor
 
+-- whether a place is a frame variable
 abbrev pub is_frame : Surroundings → PlainPlaceForm → Bool
 is_frame c (variable n) = frame_in (c.variable_at n)
 is_frame c f = false
 
+-- whether a place is a sensor
 abbrev pub is_sensor : Surroundings → PlainPlaceForm → Bool
 is_sensor c (global n) = sensor_in (c.object_at n)
 is_sensor c f = false
 
+-- the form of a place
 abbrev pub form_of : PlainPlace → PlainPlaceForm
 form_of (place at t f) = f
 
@@ -179,6 +183,7 @@ pub record BinaryAgrees (c : Surroundings) (op : BinOp) (t left right : PlainTyp
   pub left_is : left ≡ entry.left
   pub right_is : right ≡ entry.right
 
+-- the types of `?:` and of its converted second and third operand are those of a row
 pub record ConditionalAgrees (t left right : PlainType) : Type 0 where
   pub left_null : Bool
   pub right_null : Bool
@@ -235,6 +240,7 @@ abbrev mutual
   pub IsWholeValue : Surroundings → PlainValue → Type 0
   IsWholeValue c (value at t f) = IsWholeForm c t f
 
+  -- what each form of value asks
   pub IsWholeForm : Surroundings → PlainType → PlainForm → Type 0
   IsWholeForm c t (constant z) = IsConstant t z
   IsWholeForm c t (read p) = IsWholePlace c p × Reads c t p
@@ -256,6 +262,7 @@ abbrev mutual
   pub IsWholePlace : Surroundings → PlainPlace → Type 0
   IsWholePlace c (place at t f) = IsWholePlaceForm c t f
 
+  -- what each form of place asks
   pub IsWholePlaceForm : Surroundings → PlainType → PlainPlaceForm → Type 0
   IsWholePlaceForm c t (variable n) = IsVariable c n t
   IsWholePlaceForm c t (global n) = IsObject c n t
@@ -264,6 +271,7 @@ abbrev mutual
   IsWholePlaceForm c t (member p m) = IsWholePlace c p × IsMember c (place_type p) t m
   IsWholePlaceForm c t (dereference v) = IsWholeValue c v × (type_of v ≡ pointer false t)
 
+  -- each of the values is whole
   pub AreWholeValues : Surroundings → PlainValues → Type 0
   AreWholeValues c no_values = Unit {0}
   AreWholeValues c (more_values v vs) = IsWholeValue c v × AreWholeValues c vs

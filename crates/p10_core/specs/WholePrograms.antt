@@ -59,6 +59,7 @@ ContainsBefore structures order (pointer c t) = Unit {0}
 ContainsBefore structures order (array c t n) = ContainsBefore structures order t
 ContainsBefore structures order (structure c n) = order_in (body_of structures n) < order
 
+-- a member has a size, and contains only what was completed before
 pub record IsWholeMember (structures : List PlainStructure) (order : ℕ) (m : PlainMember) : Type 0 where
   pub object : IsObjectType structures m.type
   pub before : ContainsBefore structures order m.type
@@ -97,19 +98,24 @@ pub record Region : Type 0 where
   pub in_loop : Bool
   pub in_switch : Bool
 
+-- whether a number is in a list
 abbrev pub is_among : ℕ → List ℕ → Bool
 is_among n [] = false
 is_among n (m ∷ rest) = nat_eq n m || is_among n rest
 
+-- what is seen of a variable
 abbrev pub seen_variable : PlainVariable → SeenVariable
 seen_variable v = record { type = v.type; frame = v.frame }
 
+-- what is seen of an object
 abbrev pub seen_object : PlainObject → SeenObject
 seen_object o = record { type = o.type; sensor = o.sensor }
 
+-- the types of a function's parameters
 abbrev pub parameter_types : PlainFunction → List PlainType
 parameter_types f = map (λ v. v.type) (take f.parameters f.variables)
 
+-- what is seen of a function
 abbrev pub seen_function : PlainFunction → SeenFunction
 seen_function f = record { parameters = parameter_types f; result = f.result }
 
@@ -134,12 +140,14 @@ abbrev pub after : Region → PlainStatement → Region
 after r (statement at (declare n i)) = record r { scope = n ∷ r.scope }
 after r s = r
 
+-- what stands round what comes after all of the statements
 abbrev pub after_all : Region → PlainStatements → Region
 after_all r no_statements = r
 after_all r (more_statements s rest) = after_all (after r s) rest
 
 -- ## Initialisers
 
+-- whether a type is one of the three character types (C99 6.2.5p15)
 abbrev pub is_character : PlainType → Bool
 is_character (integer c Char) = true
 is_character (integer c SChar) = true
@@ -158,10 +166,12 @@ pub record IsScalarText (scalars : List PlainType) (bytes : List ℕ) : Type 0 w
   pub characters : All (λ t. is_character t ≡ true) (take (length bytes) scalars)
   pub are_bytes : All (λ b. b < 256) bytes
 
+-- what is written fits the scalars for which it stands
 abbrev pub IsWholeWritten : Surroundings → List PlainType → PlainWritten → Type 0
 IsWholeWritten c scalars (one_scalar v) = IsScalarValue c scalars v
 IsWholeWritten c scalars (scalars_of_text bytes) = IsScalarText scalars bytes
 
+-- how many scalars it is written for
 abbrev pub width_of_written : PlainWritten → ℕ
 width_of_written (one_scalar v) = 1
 width_of_written (scalars_of_text bytes) = length bytes
@@ -180,11 +190,13 @@ pub record CopiesStructure (c : Surroundings) (t : PlainType) (p : PlainPlace) :
   pub source_is : unqualified (place_type p) ≡ structure false number
   pub complete : is_complete c.structures (structure false number) ≡ true
 
+-- a value that initialises a scalar
 pub record IsSingle (c : Surroundings) (t : PlainType) (v : PlainValue) : Type 0 where
   pub whole : IsWholeValue c v
   pub scalar : is_scalar t ≡ true
   pub type_is : type_of v ≡ unqualified t
 
+-- items that initialise an array or a structure
 pub record ListsScalars (c : Surroundings) (t : PlainType) (items : List PlainItem) : Type 0 where
   pub aggregate : is_scalar t ≡ false
   pub whole : AreWholeItems c (scalars_of c.structures t) 0 items
@@ -196,6 +208,7 @@ IsWholeInitializer c t (single v) = IsSingle c t v
 IsWholeInitializer c t (copied p) = CopiesStructure c t p
 IsWholeInitializer c t (listed at items) = ListsScalars c t items
 
+-- what is written for an object of static lifetime is constant
 abbrev pub IsStaticWritten : PlainWritten → Type 0
 IsStaticWritten (one_scalar v) = is_static_value v ≡ true
 IsStaticWritten (scalars_of_text bytes) = Unit {0}
@@ -223,6 +236,7 @@ is_one (value at t (constant (pos n))) = nat_eq n 1
 is_one (value at t (convert v)) = is_one v
 is_one v = false
 
+-- the value of `++` or `--` is 1, and its operator is `+` or `-`
 abbrev pub IsStep : UpdateKind → BinOp → PlainValue → Type 0
 IsStep Compound op v = Unit {0}
 IsStep Step Add v = is_one v ≡ true
@@ -288,6 +302,7 @@ abbrev pub is_variable_declaration : PlainStatement → Bool
 is_variable_declaration (statement at (declare n i)) = true
 is_variable_declaration s = false
 
+-- each of the statements passes a test
 abbrev pub AllOf : (PlainStatement → Bool) → PlainStatements → Type 0
 AllOf test no_statements = Unit {0}
 AllOf test (more_statements s rest) = (test s ≡ true) × AllOf test rest
@@ -303,6 +318,7 @@ abbrev pub switch_items : PlainStatement → List PlainStatement
 switch_items (statement at (block ss)) = statements_list ss
 switch_items s = s ∷ []
 
+-- whether a statement is a block
 abbrev pub is_block : PlainStatement → Bool
 is_block (statement at (block ss)) = true
 is_block s = false
@@ -330,6 +346,7 @@ abbrev pub Returns : Surroundings → PlainType → Option PlainValue → Type 0
 Returns c t None = is_void t ≡ true
 Returns c t (Some v) = IsWholeValue c v × (is_void t ≡ false) × (type_of v ≡ unqualified t)
 
+-- a test that may be lacking
 abbrev pub IsMaybeTest : Surroundings → Option PlainValue → Type 0
 IsMaybeTest c None = Unit {0}
 IsMaybeTest c (Some v) = IsTest c v
@@ -339,6 +356,7 @@ abbrev mutual
   pub IsWholeStatement : Region → PlainStatement → Type 0
   IsWholeStatement r (statement at f) = IsWholeStatementForm r f
 
+  -- what each form of statement asks
   pub IsWholeStatementForm : Region → PlainStatementForm → Type 0
   IsWholeStatementForm r (set p v) = Sets (around r) p v
   IsWholeStatementForm r (update kind op t p v) = Updates (around r) kind op t p v
@@ -363,6 +381,7 @@ abbrev mutual
   IsWholeStatementForm r empty = Unit {0}
   IsWholeStatementForm r (mark kind) = r.number ≡ r.program.main
 
+  -- statements are whole one after the other: each sees what those before it declare
   pub AreWholeStatements : Region → PlainStatements → Type 0
   AreWholeStatements r no_statements = Unit {0}
   AreWholeStatements r (more_statements s rest) = IsWholeStatement r s × AreWholeStatements (after r s) rest
@@ -374,6 +393,7 @@ abbrev mutual
   pub loops_in : PlainStatement → List LoopHead
   loops_in (statement at f) = loops_in_form f
 
+  -- the same of a form of statement
   pub loops_in_form : PlainStatementForm → List LoopHead
   loops_in_form (block ss) = loops_of ss
   loops_in_form (if_then v s) = loops_in s
@@ -382,6 +402,7 @@ abbrev mutual
   loops_in_form (switch span v labels body) = loops_in body
   loops_in_form f = []
 
+  -- the same of statements, one after the other
   pub loops_of : PlainStatements → List LoopHead
   loops_of no_statements = []
   loops_of (more_statements s rest) = loops_in s ++ loops_of rest
@@ -391,6 +412,7 @@ abbrev mutual
   pub declared_in : PlainStatement → List ℕ
   declared_in (statement at f) = declared_in_form f
 
+  -- the same of a form of statement
   pub declared_in_form : PlainStatementForm → List ℕ
   declared_in_form (declare n i) = n ∷ []
   declared_in_form (block ss) = declared_of ss
@@ -400,6 +422,7 @@ abbrev mutual
   declared_in_form (switch span v labels body) = declared_in body
   declared_in_form f = []
 
+  -- the same of statements, one after the other
   pub declared_of : PlainStatements → List ℕ
   declared_of no_statements = []
   declared_of (more_statements s rest) = declared_in s ++ declared_of rest
@@ -409,6 +432,7 @@ abbrev mutual
   pub marks_in : PlainStatement → List MarkKind
   marks_in (statement at f) = marks_in_form f
 
+  -- the same of a form of statement
   pub marks_in_form : PlainStatementForm → List MarkKind
   marks_in_form (mark kind) = kind ∷ []
   marks_in_form (block ss) = marks_of ss
@@ -418,6 +442,7 @@ abbrev mutual
   marks_in_form (switch span v labels body) = marks_in body
   marks_in_form f = []
 
+  -- the same of statements, one after the other
   pub marks_of : PlainStatements → List MarkKind
   marks_of no_statements = []
   marks_of (more_statements s rest) = marks_in s ++ marks_of rest
@@ -487,27 +512,33 @@ AreRising from (l ∷ rest) = (from ≤ l.number) × AreRising (l.number + 1) re
 abbrev pub main_items : PlainFunction → List PlainStatement
 main_items f = statements_list f.body
 
+-- whether two pragmas are of one kind
 abbrev pub is_mark : MarkKind → MarkKind → Bool
 is_mark InitDone InitDone = true
 is_mark TaskLoop TaskLoop = true
 is_mark a b = false
 
+-- whether an item is a pragma of a kind
 abbrev pub is_marked : MarkKind → Option PlainStatement → Bool
 is_marked kind (Some (statement at (mark found))) = is_mark kind found
 is_marked kind s = false
 
+-- whether a keyword is `for`
 abbrev pub is_for : LoopKeyword → Bool
 is_for For = true
 is_for keyword = false
 
+-- whether a keyword is `while`
 abbrev pub is_while : LoopKeyword → Bool
 is_while While = true
 is_while keyword = false
 
+-- whether a constant gives a number other than 0
 abbrev pub gives_other_than_zero : Result ℤ At → Bool
 gives_other_than_zero (Ok z) = not (is_zero z)
 gives_other_than_zero (Err at) = false
 
+-- whether a condition is an integer constant expression other than 0
 abbrev pub is_true_test : PlainValue → Bool
 is_true_test v = is_integer (type_of v) && (is_constant (inconstant_part v) && gives_other_than_zero (fold v))
 
@@ -517,6 +548,7 @@ may_be_task (Some (statement at (loop head no_statements None no_statements body
 may_be_task (Some (statement at (loop head no_statements (Some v) no_statements body))) = is_while head.keyword && is_true_test v
 may_be_task s = false
 
+-- whether a statement is `return`
 abbrev pub is_return : PlainStatement → Bool
 is_return (statement at (return span v)) = true
 is_return s = false
@@ -541,6 +573,7 @@ pub record IsTask (items : List PlainStatement) (n : ℕ) : Type 0 where
   pub loop : may_be_task (slice_get items n) ≡ true
   pub last : IsMaybeReturn (drop (n + 1) items)
 
+-- the pragma, where it has a place
 abbrev pub mark_list : MarkKind → Option ℕ → List MarkKind
 mark_list kind None = []
 mark_list kind (Some n) = kind ∷ []
@@ -554,6 +587,7 @@ pub record IsMain (p : PlainProgram) (f : PlainFunction) : Type 0 where
   pub init_done : IfSome p.mark (IsInitDone (main_items f) p.task)
   pub task : IfSome p.task (IsTask (main_items f))
 
+-- `main` is there, and is as it has to be
 pub record HasMain (p : PlainProgram) : Type 0 where
   pub function : PlainFunction
   pub there : slice_get p.functions p.main ≡ Some function
