@@ -1,12 +1,11 @@
 -- Compatible types lie alike: marks, and the numbers of structures that stand for others, aside.
-use Rattle.std.proofs.Common.{◌≡◌, ℕ, zero, suc, ◌+◌, ◌*◌, ◌<◌, ◌≤◌, max, Bool, true, false, List, [], ◌∷◌, ◌++◌, map, length, All, Option, Some, None, is_some, refl, sym, ◌∙◌, ap, subst, arith}
+use Rattle.std.proofs.Common.{◌≡◌, ℕ, zero, suc, ◌+◌, ◌*◌, ◌<◌, max, true, false, List, [], ◌∷◌, ◌++◌, map, length, All, Some, refl, sym, ◌∙◌, ap, subst, arith}
 use Rattle.std.proofs.lemmas.List.Elements.{All-head, All-tail}
-use Rattle.p10_int.specs.declared.types.IntType.{IntType}
-use Rattle.p10_core.specs.Types.{PlainType, void, integer, pointer, array, structure, bare, PlainMember, PlainBody, PlainStructure, body_of, members_in, members_of, representative_of}
-use Rattle.p10_core.specs.Sizes.{Layout, integer_bytes, aligned, repeated, past_members, greatest_alignment, scalars_of_members, constant_among, layout_of_members, with_mark, layout_by, structure_layout, layout_of}
+use Rattle.p10_core.specs.Types.{PlainType, void, integer, pointer, array, structure, bare, PlainMember, PlainBody, PlainStructure, body_of, members_of, representative_of}
+use Rattle.p10_core.specs.Sizes.{Layout, integer_bytes, aligned, repeated, past_members, greatest_alignment, scalars_of_members, layout_of_members, with_mark, layout_of}
 use Rattle.p10_core.specs.Rows.{is_complete}
 use Rattle.p10_core.specs.Constants.{integer_of}
-use Rattle.p10_core.specs.WholePrograms.{order_in, ContainsBefore, IsWholeMember, IsObjectType, IsWholeBody, AreWholeStructures, bare_member}
+use Rattle.p10_core.specs.WholePrograms.{order_in, ContainsBefore, IsWholeMember, IsWholeBody, AreWholeStructures, bare_member}
 use Rattle.p10_core.specs.Laws.{LiesLike, StructuresLieAsTheirMembers, CompatibleTypesLieAlike}
 use Rattle.p10_core.proofs.Layouts.{body_there, structure_lies}
 

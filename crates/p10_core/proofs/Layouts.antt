@@ -1,10 +1,10 @@
 -- How structures lie doesn't depend on how deep they may be nested: the laws of `layout_of`.
-use Rattle.std.proofs.Common.{◌≡◌, ℕ, zero, suc, ◌+◌, ◌*◌, ◌<◌, ◌≤◌, max, Bool, true, false, ◌||◌, List, [], ◌∷◌, ◌++◌, length, All, Option, Some, None, is_some, refl, sym, ◌∙◌, ap, subst, arith}
+use Rattle.std.proofs.Common.{◌≡◌, ℕ, zero, suc, ◌+◌, ◌*◌, ◌<◌, max, Bool, true, ◌||◌, List, [], ◌∷◌, ◌++◌, length, All, Option, Some, None, is_some, refl, sym, ◌∙◌, ap, subst, arith}
 use Rattle.std.proofs.lemmas.List.Elements.{All-head, All-tail}
-use Rattle.p10_core.specs.Types.{PlainType, void, integer, pointer, array, structure, bare, PlainMember, PlainBody, PlainStructure, body_of, members_in, members_of}
+use Rattle.p10_core.specs.Types.{PlainType, void, integer, pointer, array, structure, PlainMember, PlainBody, PlainStructure, body_of, members_in, members_of}
 use Rattle.p10_core.specs.Sizes.{Layout, aligned, repeated, past_members, greatest_alignment, scalars_of_members, constant_among, layout_of_members, with_mark, layout_by, structure_layout, layout_of}
 use Rattle.p10_core.specs.Rows.{is_complete}
-use Rattle.p10_core.specs.WholePrograms.{order_in, ContainsBefore, IsWholeMember, IsObjectType, IsWholeBody, AreWholeStructures}
+use Rattle.p10_core.specs.WholePrograms.{order_in, ContainsBefore, IsWholeMember, IsWholeBody, AreWholeStructures}
 
 -- two layouts of types agree on the types of members
 abbrev Agree : (PlainType → Layout) → (PlainType → Layout) → List PlainMember → Type 0

@@ -1,4 +1,5 @@
 pub mod Bareness
+pub mod Folding
 pub mod Layouts
 pub mod Lists
 pub mod SizesOfTypes

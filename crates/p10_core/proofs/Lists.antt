@@ -6,10 +6,8 @@ use Rattle.p10_core.specs.declared.typed.Value.{Value}
 use Rattle.p10_core.specs.declared.typed.ValueForm.TheVariants.{Call, Builtin}
 use Rattle.p10_core.specs.declared.typed.PlaceForm.TheViews.{the_lemmas}
 use Rattle.p10_core.specs.declared.typed.PlaceForm.TheBlock.{Row_of-Value, end_of-Value, more_of-Value, items-the_row-Value}
-use Rattle.p10_core.specs.declared.statements.Stmt.{Stmt}
-use Rattle.p10_core.specs.declared.statements.StmtForm.TheBlock.{Row_of-Stmt, end_of-Stmt, more_of-Stmt, items-the_row-Stmt}
-use Rattle.p10_core.specs.Typed.{call, built_in, more_values, more_statements}
-use Rattle.p10_core.specs.Views.{value_from, plain_form, plain_row, plain_values, plain_statement, plain_statements_row, plain_statements, plain_statement_form}
+use Rattle.p10_core.specs.Typed.{call, built_in, more_values}
+use Rattle.p10_core.specs.Views.{value_from, plain_form, plain_row, plain_values}
 
 pub plain_row-items : (m : _) (row : Row_of-Value m) → plain_row row ≡ plain_values (items-the_row-Value m row)
 plain_row-items _ end_of-Value = refl

@@ -1,7 +1,7 @@
 -- Sizes of types, as they are kept with structures and computed.
-use Rattle.std.proofs.Common.{◌≡◌, ℕ, zero, suc, ◌*◌, ◌≤◌, ◌<◌, ◌^◌, Bool, false, List, Option, Some, None, length, Fits, w64, refl, sym, ◌∙◌, ap, subst, arith}
+use Rattle.std.proofs.Common.{◌≡◌, ℕ, zero, suc, ◌*◌, ◌≤◌, Bool, false, List, Some, None, length, Fits, w64, refl, sym, ◌∙◌, ap, subst, arith}
 use Rattle.p10_core.specs.Types.{PlainType, array, structure, PlainBody, PlainStructure, body_of, members_in}
-use Rattle.p10_core.specs.Sizes.{Layout, layout_by, layout_of_members, structure_layout, layout_of, size_of, alignment_of, has_constant}
+use Rattle.p10_core.specs.Sizes.{layout_by, layout_of_members, structure_layout, layout_of, size_of, alignment_of, has_constant}
 use Rattle.p10_core.specs.WholePrograms.{AreWholeStructures, IsWholeType, most_bytes}
 
 pub kept_bytes : (ss : List PlainStructure) → AreWholeStructures ss → (n : ℕ) (b : PlainBody) → Some b ≡ body_of ss n → b.bytes ≡ size_of ss (structure false n)

@@ -2,8 +2,8 @@
 use Rattle.std.specs.Prelude.{ℕ, ℤ, pos, negsuc, neg_ℤ, ◌+ℤ◌, Bool, true, false, ◌&&◌, nat_le, if◌then◌else◌, Option, Some, None, is_some, Result, Ok, Err}
 use Rattle.p10_base.specs.declared.at.At.{At}
 use Rattle.p10_int.specs.declared.operators.BinOp.TheVariants.{Add, Sub}
-use Rattle.p10_core.specs.Types.{PlainType, void, integer, pointer, array, structure}
-use Rattle.p10_core.specs.Typed.{PlainValue, value, PlainForm, address, decay, convert, cast, binary, PlainPlace, place, variable, global, literal, index, member, dereference, at_of, type_of, place_type}
+use Rattle.p10_core.specs.Types.{PlainType, array}
+use Rattle.p10_core.specs.Typed.{PlainValue, value, address, decay, convert, cast, binary, PlainPlace, place, variable, global, literal, index, member, dereference, at_of, type_of, place_type}
 use Rattle.p10_core.specs.Rows.{is_integer, is_pointer}
 use Rattle.p10_core.specs.Constants.{inconstant_part, is_constant, fold, is_null}
 

@@ -1,8 +1,7 @@
 -- What holds of the definitions of types.
-use Rattle.std.specs.Prelude.{◌≡◌, ℕ, Bool, List, Option, Some, true}
+use Rattle.std.specs.Prelude.{◌≡◌, ℕ, Bool, List, Some}
 use Rattle.p10_core.specs.Types.{PlainType, structure, bare, PlainBody, PlainStructure, body_of}
 use Rattle.p10_core.specs.Sizes.{Layout, layout_of_members, with_mark, layout_of}
-use Rattle.p10_core.specs.Rows.{is_complete}
 use Rattle.p10_core.specs.WholePrograms.{AreWholeStructures, IsObjectType}
 
 -- a structure lies as its members do: none contains itself, so no bound on its depth counts (C99 6.7.2.1)

@@ -1,6 +1,6 @@
 -- What operators ask of the types of their operands, the types of their results, and the conversions that aren't written
 -- (C99 6.3.1.8, 6.3.2.1, 6.3.2.3, 6.5): a row for each operator.
-use Rattle.std.specs.Prelude.{ℕ, Bool, true, false, not, ◌&&◌, ◌||◌, nat_eq, nat_lt, if◌then◌else◌, Option, Some, None, is_some, List}
+use Rattle.std.specs.Prelude.{ℕ, Bool, true, false, not, ◌&&◌, ◌||◌, nat_eq, if◌then◌else◌, Option, Some, None, is_some, List}
 use Rattle.std.specs.Bool.{beq}
 use Rattle.p10_int.specs.declared.types.IntType.{IntType}
 use Rattle.p10_int.specs.declared.types.IntType.TheVariants.{Bool as Truth, Char, SChar, UChar, Short, UShort, Int, UInt, Long, ULong, LLong, ULLong}
@@ -9,7 +9,7 @@ use Rattle.p10_int.specs.declared.operators.BinOp.TheVariants.{Add, Sub, Mul, Di
 use Rattle.p10_int.specs.declared.operators.UnOp.{UnOp}
 use Rattle.p10_int.specs.declared.operators.UnOp.TheVariants.{Plus, Neg, Not, Com}
 use Rattle.p10_int.specs.Types.{promoted, usual_of}
-use Rattle.p10_core.specs.Types.{PlainType, void, integer, pointer, array, structure, unqualified, PlainStructure, body_of}
+use Rattle.p10_core.specs.Types.{PlainType, void, integer, pointer, array, structure, PlainStructure, body_of}
 use Rattle.p10_core.specs.Sizes.{has_constant}
 
 -- a number for each integer type

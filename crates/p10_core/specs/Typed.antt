@@ -1,5 +1,5 @@
 -- Typed programs as definitions speak of them: values, places, statements, functions, objects.
-use Rattle.std.specs.Prelude.{ℕ, ℤ, Bool, List, [], ◌∷◌, ◌++◌, Option}
+use Rattle.std.specs.Prelude.{ℕ, ℤ, Bool, List, [], ◌∷◌, Option}
 use Rattle.p10_base.specs.Words.{Text}
 use Rattle.p10_base.specs.declared.span.Span.{Span}
 use Rattle.p10_base.specs.declared.at.At.{At}
@@ -7,7 +7,6 @@ use Rattle.p10_int.specs.declared.operators.BinOp.{BinOp}
 use Rattle.p10_int.specs.declared.operators.UnOp.{UnOp}
 use Rattle.p10_core.specs.declared.typed.Library.{Library}
 use Rattle.p10_core.specs.declared.typed.LogicOp.{LogicOp}
-use Rattle.p10_core.specs.declared.statements.LoopKeyword.{LoopKeyword}
 use Rattle.p10_core.specs.declared.statements.UpdateKind.{UpdateKind}
 use Rattle.p10_core.specs.declared.statements.MarkKind.{MarkKind}
 use Rattle.p10_core.specs.declared.statements.Label.{Label}

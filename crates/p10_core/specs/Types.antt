@@ -1,5 +1,5 @@
 -- The types of C as definitions speak of them (C99 6.2.5), the structures that they name, and what leads from the code's.
-use Rattle.std.specs.Prelude.{ℕ, Bool, true, false, ◌||◌, List, [], map, Option, option_map, Some, None, slice_get, bytes_eq}
+use Rattle.std.specs.Prelude.{ℕ, Bool, false, ◌||◌, List, [], map, Option, option_map, Some, None, slice_get, bytes_eq}
 use Rattle.std.specs.List.{position_from}
 use Rattle.p10_int.specs.declared.types.IntType.{IntType}
 use Rattle.p10_base.specs.Words.{Text}

@@ -1,7 +1,6 @@
 -- What the trees of the code are, without the addresses of their boxes.
-use Rattle.std.specs.Prelude.{ℕ, List, [], ◌∷◌, map, Option, Some, None, option_map}
+use Rattle.std.specs.Prelude.{List, [], ◌∷◌, map, option_map}
 use Rattle.p10_base.specs.declared.at.At.{At}
-use Rattle.p10_base.specs.declared.span.Span.{Span}
 use Rattle.p10_core.specs.declared.c_type.CType.{CType}
 use Rattle.p10_core.specs.declared.table.Types.{Types}
 use Rattle.p10_core.specs.declared.typed.Value.{Value}
@@ -17,7 +16,7 @@ use Rattle.p10_core.specs.declared.statements.Initializer.TheVariants.{Absent, S
 use Rattle.p10_core.specs.declared.statements.Labels.{Labels}
 use Rattle.p10_core.specs.declared.statements.Stmt.{Stmt}
 use Rattle.p10_core.specs.declared.statements.StmtForm.{StmtForm}
-use Rattle.p10_core.specs.declared.statements.StmtForm.TheBlock.{Set, Update, Copy, Value as ValueStatement, Assert, Declare, Static, Block', If', Loop', Switch', Break, Continue, Return, Empty, Mark, Held-StmtForm-If-2, None', Some', Row_of-Stmt, end_of-Stmt, more_of-Stmt}
+use Rattle.p10_core.specs.declared.statements.StmtForm.TheBlock.{Set, Update, Copy, Value as ValueStatement, Assert, Declare, Static, Block', If', Loop', Switch', Break, Continue, Return, Empty, Mark, None', Some', Row_of-Stmt, end_of-Stmt, more_of-Stmt}
 use Rattle.p10_core.specs.declared.program.Variable.{Variable}
 use Rattle.p10_core.specs.declared.program.Func.{Func}
 use Rattle.p10_core.specs.declared.program.Global.{Global}

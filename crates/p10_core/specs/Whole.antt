@@ -1,16 +1,15 @@
 -- Whole values and places: their types agree as the rows of the operators say, and their numbers name what is there.
-use Rattle.std.specs.Prelude.{◌≡◌, ℕ, ◌<◌, ◌≤◌, ℤ, Bool, true, false, List, [], ◌∷◌, All, Contains, Option, Some, None, slice_get, length}
-use Rattle.p10_base.specs.declared.at.At.{At}
+use Rattle.std.specs.Prelude.{◌≡◌, ℕ, ◌<◌, ℤ, Bool, true, false, List, [], ◌∷◌, All, Contains, Option, Some, None, slice_get, length}
 use Rattle.p10_int.specs.declared.types.IntType.{IntType}
-use Rattle.p10_int.specs.declared.types.IntType.TheVariants.{Int, Char, ULong}
+use Rattle.p10_int.specs.declared.types.IntType.TheVariants.{Char, ULong}
 use Rattle.p10_int.specs.declared.operators.BinOp.{BinOp}
 use Rattle.p10_int.specs.declared.operators.UnOp.{UnOp}
 use Rattle.p10_int.specs.Types.{InRange}
 use Rattle.p10_core.specs.declared.typed.Library.{Library}
-use Rattle.p10_core.specs.declared.typed.Library.TheVariants.{Assert, CAssert, Getchar, Putchar, Malloc, Calloc, Free}
+use Rattle.p10_core.specs.declared.typed.Library.TheVariants.{CAssert, Getchar, Putchar, Malloc, Calloc, Free}
 use Rattle.p10_core.specs.Types.{PlainType, void, integer, pointer, array, structure, qualified, unqualified, bare, PlainMember, PlainStructure, members_of}
 use Rattle.p10_core.specs.Typed.{PlainValue, value, PlainForm, constant, read, sense, address, decay, convert, cast, unary, binary, logic, conditional, call, built_in, PlainPlace, place, PlainPlaceForm, variable, global, literal, index, member, dereference, PlainValues, no_values, more_values, type_of, place_type, PlainLiteral}
-use Rattle.p10_core.specs.Rows.{Row, UnaryRow, binary_row, conditional_row, unary_row, adds_const, is_scalar, is_void, is_array, is_complete, int_type}
+use Rattle.p10_core.specs.Rows.{Row, UnaryRow, binary_row, conditional_row, unary_row, adds_const, is_scalar, is_array, is_complete, int_type}
 use Rattle.p10_core.specs.Constants.{is_null}
 
 -- ## What stands round a value

@@ -8,7 +8,7 @@ use Rattle.p10_int.specs.declared.operators.BinOp.{BinOp}
 use Rattle.p10_int.specs.declared.operators.BinOp.TheVariants.{Add, Sub}
 use Rattle.p10_int.specs.Types.{InRange, promoted}
 use Rattle.p10_core.specs.declared.statements.LoopKeyword.{LoopKeyword}
-use Rattle.p10_core.specs.declared.statements.LoopKeyword.TheVariants.{While, Do, For}
+use Rattle.p10_core.specs.declared.statements.LoopKeyword.TheVariants.{While, For}
 use Rattle.p10_core.specs.declared.statements.LoopHead.{LoopHead}
 use Rattle.p10_core.specs.declared.statements.UpdateKind.{UpdateKind}
 use Rattle.p10_core.specs.declared.statements.UpdateKind.TheVariants.{Compound, Step}
@@ -17,7 +17,7 @@ use Rattle.p10_core.specs.declared.statements.MarkKind.TheVariants.{InitDone, Ta
 use Rattle.p10_core.specs.declared.statements.Label.{Label}
 use Rattle.p10_core.specs.declared.program.Extent.{Extent}
 use Rattle.p10_core.specs.Types.{PlainType, void, integer, pointer, array, structure, unqualified, bare, PlainMember, PlainBody, PlainStructure, body_of, members_of, representative_of}
-use Rattle.p10_core.specs.Sizes.{Layout, layout_of, size_of, scalars_of}
+use Rattle.p10_core.specs.Sizes.{layout_of, size_of, scalars_of}
 use Rattle.p10_core.specs.Typed.{PlainValue, value, constant, convert, PlainPlace, type_of, place_type, PlainWritten, one_scalar, scalars_of_text, PlainItem, PlainInitializer, not_initialized, single, copied, listed, PlainLabels, PlainStatement, statement, PlainStatementForm, set, update, copy, evaluate, asserts, declare, declare_static, block, if_then, if_else, loop, switch, break, continue, return, empty, mark, PlainStatements, no_statements, more_statements, statements_list}
 use Rattle.p10_core.specs.Typed.{PlainVariable, PlainFunction, PlainObject, PlainLiteral, PlainProgram}
 use Rattle.p10_core.specs.Rows.{Row, binary_row, fits, is_scalar, is_integer, is_void, is_complete, is_modifiable, int_type}

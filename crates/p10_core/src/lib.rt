@@ -11,6 +11,7 @@
 #![tactic(auto)]
 
 mod c_type;
+mod constants;
 pub mod laws;
 mod make;
 mod program;
@@ -21,6 +22,7 @@ mod table;
 mod typed;
 
 pub use c_type::{CType, TypeForm};
+pub use constants::{fold, inconstant_part, is_null};
 pub use program::{Extent, Func, Global, Literal, Program, Variable};
 pub use sizes::size;
 pub use statements::{
