@@ -1,6 +1,8 @@
 //! The host's files.
 
-ghost use Rattle.std.specs.Prelude.{◌≡◌, ◌≤◌, ◌+◌, ◌++◌, None, IfSome, OnOk, take, vec_len};
+ghost use Rattle.std.specs.Prelude.{◌≡◌, ◌≤◌, ◌+◌, ◌++◌, None, IfSome, IsErrOf, OnErr, OnOk, take, vec_len};
+ghost use Rattle.p10_world.specs.Faults.{Rose};
+ghost use Rattle.p10_world.specs.Files.{GrowsAtMost};
 
 use crate::{FileFault, Files};
 use std::alloc::Global;
@@ -43,7 +45,13 @@ impl<R: rt::Files + Drop> Files for HostFiles<R> {
         name: &str,
         limit: u64,
         into: &mut Vec<u8>,
-    ) -> Result<(), FileFault> {
+    ) -> Result<(), FileFault>
+        ensures most { OnOk result (GrowsAtMost limit into.old.items into.new.items) }
+        ensures failed { IsErrOf result FileFault.Failed → Rose (files_faults_of self.old) (files_faults_of self.new) }
+        ensures count { files_faults_of self.old ≤ files_faults_of self.new }
+        ensures steady { OnOk result (files_faults_of self.new ≡ files_faults_of self.old) }
+        ensures refused { OnErr result (into.new.items ≡ into.old.items) }
+    {
         let before = into.len();
         let outcome = append_file(&self.runtime, name, limit, into);
         if let Err(fault) = outcome {

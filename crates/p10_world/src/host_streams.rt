@@ -1,6 +1,10 @@
 //! The host's streams.
 
-ghost use Rattle.std.specs.Prelude.{◌≡◌};
+ghost use Rattle.std.specs.Prelude.{◌≡◌, ◌≤◌, length, IfOk, IfErr, OnOk, OnErr};
+ghost use Rattle.std.specs.Io.KnownBytes.{Appends, Keeps};
+ghost use Rattle.p10_world.specs.Faults.{Rose};
+ghost use Rattle.p10_world.specs.Source.{GivesNext, EndsAtZero};
+ghost use Rattle.p10_world.specs.Sink.{TakesFront, TakesPart};
 
 use crate::{Failed, Sink, SinkFault, Source};
 use std::io::{Read, Write};
@@ -35,7 +39,16 @@ impl<R: Read + Drop> Source for HostSource<R> {
 
     ghost faults = { λ host. source_faults_of host };
 
-    fn piece(&mut self, buf: &mut [u8]) -> Result<usize, Failed> {
+    fn piece(&mut self, buf: &mut [u8]) -> Result<usize, Failed>
+        ensures bound { IfOk result (λ count. count ≤ length buf.old) }
+        ensures given { IfOk result (λ count. GivesNext (R.remaining (source_of self.old)) (R.remaining (source_of self.new)) count buf.new) }
+        ensures end { IfOk result (λ count. EndsAtZero (R.remaining (source_of self.new)) count buf.new) }
+        ensures kept { OnErr result (Keeps (R.remaining (source_of self.old)) (R.remaining (source_of self.new))) }
+        ensures untouched { OnErr result (buf.new ≡ buf.old) }
+        ensures failed { OnErr result (Rose (source_faults_of self.old) (source_faults_of self.new)) }
+        ensures count { source_faults_of self.old ≤ source_faults_of self.new }
+        ensures steady { OnOk result (source_faults_of self.new ≡ source_faults_of self.old) }
+    {
         // A read that fails may leave bytes behind, and `buf` is to stay as it is then.
         let mut piece = [0u8; PIECE];
         let most = buf.len().min(PIECE);
@@ -79,7 +92,14 @@ impl<W: Write + Drop> Sink for HostSink<W> {
 
     ghost faults = { λ host. sink_faults_of host };
 
-    fn put(&mut self, bytes: &[u8]) -> Result<(), SinkFault> {
+    fn put(&mut self, bytes: &[u8]) -> Result<(), SinkFault>
+        ensures ok { OnOk result (Appends (W.contents (sink_of self.old)) (W.contents (sink_of self.new)) bytes.now) }
+        ensures part { IfErr result (λ fault. TakesPart (W.contents (sink_of self.old)) (W.contents (sink_of self.new)) bytes.now fault.wrote) }
+        ensures front { OnErr result (TakesFront (W.contents (sink_of self.old)) (W.contents (sink_of self.new)) bytes.now) }
+        ensures failed { OnErr result (Rose (sink_faults_of self.old) (sink_faults_of self.new)) }
+        ensures count { sink_faults_of self.old ≤ sink_faults_of self.new }
+        ensures steady { OnOk result (sink_faults_of self.new ≡ sink_faults_of self.old) }
+    {
         let mut wrote = 0;
         while wrote < bytes.len() {
             match self.stream.write(&bytes[wrote..]) {
