@@ -9,7 +9,7 @@ use Rattle.p10_direct.specs.declared.mark.Mark.{Mark}
 use Rattle.p10_direct.specs.declared.mark.Mark.TheVariants.{Opens, Elif, Else, Closes, Plain}
 use Rattle.p10_direct.specs.Lines.{piece_of}
 use Rattle.p10_direct.specs.Balance.{mark_of, is_closed, open_before, is_before_else, first_break_of}
-use Rattle.p10_direct.specs.Breaks.{stack_step, stray_behind, stray_from, unclosed_from, earlier_of, passed_back, read_back}
+use Rattle.p10_direct.specs.private.Breaks.{stack_step, stray_behind, stray_from, unclosed_from, earlier_of, passed_back, read_back}
 
 -- ## What is open before a line
 

@@ -5,7 +5,7 @@ use Rattle.std.proofs.lemmas.Option.{none-some}
 use Rattle.p10_direct.specs.declared.operator.Binary.{Binary}
 use Rattle.p10_direct.specs.Tokens.{Token}
 use Rattle.p10_direct.specs.Operators.{level_of_binary}
-use Rattle.p10_direct.specs.Climbing.{Algebra, Found, Reader, operator_at, operand, both_sides, kept, chained, ends_here, chain, ended, behind_left, climb}
+use Rattle.p10_direct.specs.private.Climbing.{Algebra, Found, Reader, operator_at, operand, both_sides, kept, chained, ends_here, chain, ended, behind_left, climb}
 
 -- continuation form: what follows speaks of plain variables
 pub then_some : {A B P : Type 0} (f : A → Option B) (o : Option A) (y : B) → option_and_then f o ≡ Some y → ((x : A) → o ≡ Some x → f x ≡ Some y → P) → P

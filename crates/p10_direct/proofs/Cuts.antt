@@ -5,10 +5,11 @@ use Rattle.std.proofs.Math.ListN.{drop_of_length-le}
 use Rattle.std.proofs.Math.Seq.{take-append_seam, drop-append_seam, take-length}
 use Rattle.std.proofs.lemmas.Option.{none-some, same_Some}
 use Rattle.p10_base.specs.declared.word.Word.{Word}
-use Rattle.p10_direct.specs.Spelling.{is_punctuator}
+use Rattle.p10_base.specs.Words.{is_punctuator, plain_word}
 use Rattle.p10_direct.specs.declared.line.Line.{Line}
 use Rattle.p10_direct.specs.Lines.{piece_of, Piece, DirectiveLine, TextRun, words_of, begins_directive, NonePasses, FollowedBy, IsPiece, AreCut}
-use Rattle.p10_direct.specs.Cutting.{before, behind, split, first_piece_of}
+use Rattle.p10_direct.specs.Cutting.{before, behind, split}
+use Rattle.p10_direct.specs.private.Pieces.{first_piece_of}
 
 -- ## Words before and behind the first that passes a test
 
@@ -107,7 +108,7 @@ to_piece words made piece left rest p r b = subst (λ q. Begins words q rest) p 
 first_takes : (words : List Word) (piece : Piece) (rest : List Word) → first_piece_of words ≡ Some (piece, rest) → Begins words piece rest
 first_takes [] piece rest e = absurd (none-some _ e)
 first_takes (word ∷ words) piece rest e =
-    elim (is_punctuator (codes "#") word) as (λ t. is_punctuator (codes "#") word ≡ t → cond t (both (DirectiveLine (word ∷ before (λ w. w.first) words)) (behind (λ w. w.first) words)) (both (TextRun (word ∷ before begins_directive words)) (behind begins_directive words)) ≡ both piece rest → Begins (word ∷ words) piece rest) [
+    elim (is_punctuator (codes "#") (plain_word word)) as (λ t. is_punctuator (codes "#") (plain_word word) ≡ t → cond t (both (DirectiveLine (word ∷ before (λ w. w.first) words)) (behind (λ w. w.first) words)) (both (TextRun (word ∷ before begins_directive words)) (behind begins_directive words)) ≡ both piece rest → Begins (word ∷ words) piece rest) [
       | true ↦ λ yes e. pair_some (DirectiveLine (word ∷ before (λ w. w.first) words)) piece (behind (λ w. w.first) words) rest e (λ p r. to_piece _ _ piece _ rest p r (record {
         parts = ap (λ ws. word ∷ ws) (sym (joined (λ w. w.first) words));
         fits = (yes, before_fails (λ w. w.first) words, behind_passes (λ w. w.first) words);

@@ -6,9 +6,9 @@ use Rattle.p10_base.specs.declared.span.Span.{Span}
 use Rattle.p10_base.specs.declared.word.Kind.{Kind}
 use Rattle.p10_base.specs.declared.word.Kind.TheVariants.{Name, Number, Char, Str, Punct, Mark}
 use Rattle.p10_base.specs.declared.word.Word.{Word}
-use Rattle.p10_direct.specs.Spelling.{Text, is_name, is_name_kind, is_punctuator_kind, is_punctuator}
+use Rattle.p10_base.specs.Words.{Text, is_name, is_name_kind, is_punctuator_kind, is_punctuator, plain_word}
 use Rattle.p10_direct.specs.Directives.{PlainMacro, Define, Definition, opens_list, is_ellipsis, AreParameters, Continues, IsList, HasNoList, DefinesBehind, Defines, IsDefinition, macro_of, is_bad, DefinesBadly, Outcome, Read, BadForm, BadDefinition}
-use Rattle.p10_direct.specs.Reading.{Parameters, Wrong, Listed, behind_parameters, parameters_of, judged, judged_or_wrong, listed, has_list, defined_of, definition_read, definition_of}
+use Rattle.p10_direct.specs.private.Reading.{Parameters, Wrong, Listed, behind_parameters, parameters_of, judged, judged_or_wrong, listed, has_list, defined_of, definition_read, definition_of}
 
 -- ## Words of two kinds
 
@@ -28,25 +28,25 @@ name_is_none Punct e = absurd cc
 name_is_none Mark e = refl
 
 -- a name is no punctuator
-pub name_no_punctuator : (text : Text) (word : Word) → is_name_kind word.kind ≡ true → is_punctuator text word ≡ false
+pub name_no_punctuator : (text : Text) (word : Word) → is_name_kind word.kind ≡ true → is_punctuator text (plain_word word) ≡ false
 name_no_punctuator text word name = ap (λ b. b && bytes_eq word.text.now text) (name_is_none word.kind name)
 
 -- a punctuator is no other
-pub other_punctuator : (text other : Text) (word : Word) → bytes_eq text other ≡ false → is_punctuator text word ≡ true → is_punctuator other word ≡ false
+pub other_punctuator : (text other : Text) (word : Word) → bytes_eq text other ≡ false → is_punctuator text (plain_word word) ≡ true → is_punctuator other (plain_word word) ≡ false
 other_punctuator text other word differ is =
     let same : word.text.now ≡ text = is_text _ _ (and_parts (is_punctuator_kind word.kind) (bytes_eq word.text.now text) is).1 in
     ap (λ t. is_punctuator_kind word.kind && bytes_eq t other) same ∙ ap (λ b. is_punctuator_kind word.kind && b) differ ∙ and_false (is_punctuator_kind word.kind)
 
 -- a name is no other
-pub other_name : (text other : Text) (word : Word) → bytes_eq text other ≡ false → is_name text word ≡ true → is_name other word ≡ false
+pub other_name : (text other : Text) (word : Word) → bytes_eq text other ≡ false → is_name text (plain_word word) ≡ true → is_name other (plain_word word) ≡ false
 other_name text other word differ is =
     let same : word.text.now ≡ text = is_text _ _ (and_parts (is_name_kind word.kind) (bytes_eq word.text.now text) is).1 in
     ap (λ t. is_name_kind word.kind && bytes_eq t other) same ∙ ap (λ b. is_name_kind word.kind && b) differ ∙ and_false (is_name_kind word.kind)
 
 -- a parameter is no `)`
-parameter_no_close : (word : Word) → is_name_kind word.kind || is_ellipsis word ≡ true → is_punctuator (codes ")") word ≡ false
+parameter_no_close : (word : Word) → is_name_kind word.kind || is_ellipsis word ≡ true → is_punctuator (codes ")") (plain_word word) ≡ false
 parameter_no_close word e =
-    elim (is_name_kind word.kind) as (λ b. is_name_kind word.kind ≡ b → b || is_ellipsis word ≡ true → is_punctuator (codes ")") word ≡ false)
+    elim (is_name_kind word.kind) as (λ b. is_name_kind word.kind ≡ b → b || is_ellipsis word ≡ true → is_punctuator (codes ")") (plain_word word) ≡ false)
     [ true ↦ λ name e. name_no_punctuator (codes ")") word name | false ↦ λ no e. other_punctuator (codes "...") (codes ")") word refl e ] refl e
 
 -- ## Parameter lists
@@ -54,12 +54,12 @@ parameter_no_close word e =
 -- a list of parameters that goes on
 params_again : (before : List Word) (word : Word) (parameters words body : List Word) → AreParameters (word ∷ parameters) → Continues parameters words body → behind_parameters before (word ∷ words) ≡ Listed (before ++ word ∷ parameters) body
 params_again before word [] (close ∷ words) body are (closes, same) =
-    ap (λ b. cond b (cond (is_name_kind word.kind || is_ellipsis word) (Listed (before ++ word ∷ []) words) Wrong) (cond (is_punctuator (codes ",") close && is_name_kind word.kind) (behind_parameters (before ++ word ∷ []) words) Wrong)) closes
+    ap (λ b. cond b (cond (is_name_kind word.kind || is_ellipsis word) (Listed (before ++ word ∷ []) words) Wrong) (cond (is_punctuator (codes ",") (plain_word close) && is_name_kind word.kind) (behind_parameters (before ++ word ∷ []) words) Wrong)) closes
     ∙ ap (λ b. cond b (Listed (before ++ word ∷ []) words) Wrong) are
     ∙ ap (Listed (before ++ word ∷ [])) same
 params_again before word [] [] body are continues = absurd continues
 params_again before word (next ∷ parameters) (comma ∷ other ∷ words) body (name, are) (is, same, continues) =
-    ap (λ b. cond b (cond (is_name_kind word.kind || is_ellipsis word) (Listed (before ++ word ∷ []) (other ∷ words)) Wrong) (cond (is_punctuator (codes ",") comma && is_name_kind word.kind) (behind_parameters (before ++ word ∷ []) (other ∷ words)) Wrong)) (other_punctuator (codes ",") (codes ")") comma refl is)
+    ap (λ b. cond b (cond (is_name_kind word.kind || is_ellipsis word) (Listed (before ++ word ∷ []) (other ∷ words)) Wrong) (cond (is_punctuator (codes ",") (plain_word comma) && is_name_kind word.kind) (behind_parameters (before ++ word ∷ []) (other ∷ words)) Wrong)) (other_punctuator (codes ",") (codes ")") comma refl is)
     ∙ ap (λ b. cond (b && is_name_kind word.kind) (behind_parameters (before ++ word ∷ []) (other ∷ words)) Wrong) is
     ∙ ap (λ b. cond b (behind_parameters (before ++ word ∷ []) (other ∷ words)) Wrong) name
     ∙ ap (λ w. behind_parameters (before ++ word ∷ []) (w ∷ words)) same
@@ -69,7 +69,7 @@ params_again before word (next ∷ parameters) (comma ∷ []) body are continues
 params_again before word (next ∷ parameters) [] body are continues = absurd continues
 
 -- the first parameter is no `)`
-first_no_close : (word : Word) (parameters : List Word) → AreParameters (word ∷ parameters) → is_punctuator (codes ")") word ≡ false
+first_no_close : (word : Word) (parameters : List Word) → AreParameters (word ∷ parameters) → is_punctuator (codes ")") (plain_word word) ≡ false
 first_no_close word [] are = parameter_no_close word are
 first_no_close word (next ∷ parameters) (name, are) = name_no_punctuator (codes ")") word name
 
@@ -87,7 +87,7 @@ abbrev TookMore : List Word → List Word → Parameters → Type 0
 TookMore before words Wrong = Unit {0}
 TookMore before words (Listed all body) = (word : Word) × (parameters : List Word) × (all ≡ before ++ word ∷ parameters) × AreParameters (word ∷ parameters) × IsList (word ∷ parameters) words body
 
-one_more : (before : List Word) (word comma : Word) (words : List Word) (found : Parameters) → is_name_kind word.kind ≡ true → is_punctuator (codes ",") comma ≡ true → TookMore (before ++ word ∷ []) words found → TookMore before (word ∷ comma ∷ words) found
+one_more : (before : List Word) (word comma : Word) (words : List Word) (found : Parameters) → is_name_kind word.kind ≡ true → is_punctuator (codes ",") (plain_word comma) ≡ true → TookMore (before ++ word ∷ []) words found → TookMore before (word ∷ comma ∷ words) found
 one_more before word comma words Wrong name is took = tt
 one_more before word comma (w ∷ words) (Listed all body) name is (next, parameters, same, are, list) =
     (word, next ∷ parameters, same ∙ append_assoc before (word ∷ []) (next ∷ parameters), (name, are), (refl, (is, list.0, list.1)))
@@ -98,11 +98,11 @@ params_take before [] = tt
 params_take before (word ∷ []) = tt
 params_take before (word ∷ separator ∷ words) =
     let more = before ++ word ∷ [] in
-    elim (is_punctuator (codes ")") separator) as (λ b. is_punctuator (codes ")") separator ≡ b → TookMore before (word ∷ separator ∷ words) (cond b (cond (is_name_kind word.kind || is_ellipsis word) (Listed more words) Wrong) (cond (is_punctuator (codes ",") separator && is_name_kind word.kind) (behind_parameters more words) Wrong))) [
+    elim (is_punctuator (codes ")") (plain_word separator)) as (λ b. is_punctuator (codes ")") (plain_word separator) ≡ b → TookMore before (word ∷ separator ∷ words) (cond b (cond (is_name_kind word.kind || is_ellipsis word) (Listed more words) Wrong) (cond (is_punctuator (codes ",") (plain_word separator) && is_name_kind word.kind) (behind_parameters more words) Wrong))) [
       | true ↦ λ closes. elim (is_name_kind word.kind || is_ellipsis word) as (λ b. is_name_kind word.kind || is_ellipsis word ≡ b → TookMore before (word ∷ separator ∷ words) (cond b (Listed more words) Wrong))
           [ true ↦ λ are. (word, [], refl, are, (refl, (closes, refl))) | false ↦ λ no. tt ] refl
-      | false ↦ λ goes_on. elim (is_punctuator (codes ",") separator && is_name_kind word.kind) as (λ b. is_punctuator (codes ",") separator && is_name_kind word.kind ≡ b → TookMore before (word ∷ separator ∷ words) (cond b (behind_parameters more words) Wrong)) [
-        | true ↦ λ both. let h = and_parts (is_punctuator (codes ",") separator) (is_name_kind word.kind) both in one_more before word separator words (behind_parameters more words) h.1 h.0 (params_take more words)
+      | false ↦ λ goes_on. elim (is_punctuator (codes ",") (plain_word separator) && is_name_kind word.kind) as (λ b. is_punctuator (codes ",") (plain_word separator) && is_name_kind word.kind ≡ b → TookMore before (word ∷ separator ∷ words) (cond b (behind_parameters more words) Wrong)) [
+        | true ↦ λ both. let h = and_parts (is_punctuator (codes ",") (plain_word separator)) (is_name_kind word.kind) both in one_more before word separator words (behind_parameters more words) h.1 h.0 (params_take more words)
         | false ↦ λ no. tt
       ] refl
     ] refl
@@ -118,7 +118,7 @@ as_list words (Listed all body) (word, parameters, same, are, list) = subst (λ 
 list_takes : (words : List Word) → TookList words (parameters_of words)
 list_takes [] = tt
 list_takes (word ∷ words) =
-    elim (is_punctuator (codes ")") word) as (λ b. is_punctuator (codes ")") word ≡ b → TookList (word ∷ words) (cond b (Listed [] words) (behind_parameters [] (word ∷ words))))
+    elim (is_punctuator (codes ")") (plain_word word)) as (λ b. is_punctuator (codes ")") (plain_word word) ≡ b → TookList (word ∷ words) (cond b (Listed [] words) (behind_parameters [] (word ∷ words))))
     [ true ↦ λ closes. (tt, (closes, refl)) | false ↦ λ no. as_list (word ∷ words) (behind_parameters [] (word ∷ words)) (params_take [] (word ∷ words)) ] refl
 
 -- ## Definitions

@@ -4,7 +4,6 @@ pub mod Breaking
 pub mod Definitions
 pub mod Repeats
 pub mod Outcomes
-pub mod Digits
 pub mod Marks
 pub mod Places
 pub mod Climbs
@@ -12,4 +11,3 @@ pub mod Trees
 pub mod Truths
 pub mod Heads
 pub mod Plainly
-pub mod Naming

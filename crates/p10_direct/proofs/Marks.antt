@@ -10,11 +10,12 @@ use Rattle.p10_int.specs.declared.operators.UnOp.{UnOp}
 use Rattle.p10_int.specs.declared.operators.UnOp.TheVariants.{Plus, Neg, Not, Com}
 use Rattle.p10_direct.specs.declared.operator.Binary.{Binary}
 use Rattle.p10_direct.specs.declared.operator.Binary.TheVariants.{Apply, AndAlso, OrElse}
-use Rattle.p10_direct.specs.Spelling.{Text, is_punctuator_kind}
-use Rattle.p10_direct.specs.Tokens.{Token, sign_token, is_mark}
-use Rattle.p10_direct.specs.Operators.{sign_text, binary_text, level_of_binary, sign_of, binary_of, logical_of, comparison_of, arithmetical_of, or_other}
+use Rattle.p10_base.specs.Words.{Text, is_punctuator_kind}
+use Rattle.p10_direct.specs.Tokens.{Token, sign_token}
+use Rattle.p10_direct.specs.private.Signs.{is_mark, sign_of, binary_of, logical_of, comparison_of, arithmetical_of, or_other}
+use Rattle.p10_direct.specs.Operators.{sign_text, binary_text, level_of_binary}
 use Rattle.p10_direct.specs.Constants.{Constant, constant_of, constant_of_kind}
-use Rattle.p10_direct.specs.Climbing.{Group, Sign, Lone, lone_or_nothing, sign_or_lone, start_of, heads, if_level, operator_at}
+use Rattle.p10_direct.specs.private.Climbing.{Group, Sign, Lone, lone_or_nothing, sign_or_lone, start_of, heads, if_level, operator_at}
 
 -- ## What is spelled is read
 

@@ -1,9 +1,6 @@
 -- Each line has one outcome, which is read.
-use Rattle.std.proofs.Common.{◌≡◌, ℕ, ◌+◌, ◌-◌, ◌<◌, ◌≤◌, ◌==◌, suc, List, [], ◌∷◌, ◌++◌, length, take, drop, get_or, Bool, true, false, cond, ◌&&◌, codes, nat_le, refl, sym, ◌∙◌, ap, subst, arith, Option, Some, None, Result, Ok, Err, IfOk, IfErr, length-append, ◌⊎◌, inl, inr}
-use Rattle.std.proofs.Math.Seq.{take-length, take-append_seam, get_or-append_seam}
-use Rattle.std.proofs.lemmas.List.{take_more}
-use Rattle.std.proofs.lemmas.Bool.{and_parts, and_from, both_ways, le-leb, leb-true, eqb-true, eq-eqb}
-use Rattle.std.proofs.lemmas.Option.{cond_some, none-some}
+use Rattle.std.proofs.Common.{◌≡◌, ℕ, ◌-◌, ◌≤◌, ◌==◌, List, [], ◌∷◌, ◌++◌, length, take, drop, get_or, Bool, true, false, cond, ◌&&◌, codes, nat_le, refl, sym, ◌∙◌, ap, subst, arith, Option, Some, None, Result, Ok, Err, IfOk, IfErr, ◌⊎◌, inl, inr}
+use Rattle.std.proofs.lemmas.Bool.{both_ways}
 use Rattle.p10_base.specs.declared.span.Span.{Span}
 use Rattle.p10_base.specs.declared.word.Word.{Word}
 use Rattle.p10_direct.specs.declared.form.Directive.{Directive}
@@ -11,48 +8,17 @@ use Rattle.p10_direct.specs.declared.form.DirectFault.{DirectFault}
 use Rattle.p10_direct.specs.declared.form.DirectFault.TheVariants.{Refused, Memory}
 use Rattle.p10_direct.specs.declared.keyword.Keyword.{Keyword}
 use Rattle.p10_direct.specs.declared.keyword.Keyword.TheVariants as keyword
-use Rattle.p10_direct.specs.Spelling.{Text, is_name, is_name_kind, is_punctuator}
+use Rattle.p10_base.specs.Words.{Text, is_name, is_name_kind, is_punctuator, plain_word}
 use Rattle.p10_direct.specs.Keywords.{keyword_of}
 use Rattle.p10_direct.specs.Directives.{PlainDirective, Null, Include, Define, Undef, If, Elif, Ifdef, Ifndef, Else, Endif, Once, InitDone, TaskLoop, OtherPragma, One, IsNamed, is_string_kind, enclosed, IsOther, IsOwn, SpellsNamed, SpellsBehind, Spells, place_of, IsBadNamed, IsBadBehind, IsFunctionLikeBehind, Outcome, Read, BadForm, BadDefinition, IsOutcome, refusal_of, OneOutcome}
-use Rattle.p10_direct.specs.Form.{plain, BeginsWithHash, IsFaultOf, TellsUnless}
-use Rattle.p10_direct.specs.Reading.{inside, quoted_or_wrong, include_between, include_of, read_or_wrong, of_name, alone, own_of, is_nil, pragma_of, named_outcome, outcome_behind, definition_of}
+use Rattle.p10_lex.specs.Literals.{inside}
+use Rattle.p10_direct.specs.Form.{plain, BeginsWithHash, IsFaultOf}
+use Rattle.p10_direct.specs.private.Telling.{TellsUnless}
+use Rattle.p10_direct.specs.private.Reading.{quoted_or_wrong, include_between, include_of, read_or_wrong, of_name, alone, own_of, is_nil, pragma_of, named_outcome, outcome_behind, definition_of}
 use Rattle.p10_direct.proofs.Definitions.{other_name, and_false, Judges, define_takes, good_again, bad_again}
+use Rattle.p10_lex.proofs.Enclosing.{inside_takes, inside_again}
 
 -- ## The name of an include
-
-last_split : (text : List ℕ) → 1 ≤ length text → take (length text - 1) text ++ get_or text (length text - 1) 0 ∷ [] ≡ text
-last_split text some =
-    let inner : length text - 1 < length text = omega (arith, some) in
-    let all : (length text - 1) + 1 ≡ length text = omega (arith, some) in
-    sym (take_more text (length text - 1) 0 inner) ∙ ap (λ n. take n text) all ∙ take-length text
-
-inside_takes : (opening closing : ℕ) (text name : Text) → inside opening closing text ≡ Some name → text ≡ opening ∷ name ++ closing ∷ []
-inside_takes opening closing [] name e = absurd (none-some name e)
-inside_takes opening closing (byte ∷ text) name e =
-    let tests = cond_some _ _ _ e in
-    let parts = and_parts _ _ tests.0 in
-    let front = and_parts _ _ parts.0 in
-    let long : 2 ≤ length (byte ∷ text) = leb-true _ _ front.0 in
-    let some : 1 ≤ length text = omega (arith, long) in
-    let first_is : byte ≡ opening = eqb-true _ _ front.1 in
-    let less : length (byte ∷ text) - 1 ≡ suc (length text - 1) = omega (arith, some) in
-    let last_is : get_or text (length text - 1) 0 ≡ closing = ap (λ n. get_or (byte ∷ text) n 0) (sym less) ∙ eqb-true _ _ parts.1 in
-    let shorter : length (byte ∷ text) - 1 - 1 ≡ length text - 1 = omega arith in
-    let name_is : take (length text - 1) text ≡ name = ap (λ n. take n text) (sym shorter) ∙ tests.1 in
-    ap (λ t. byte ∷ t) (sym (last_split text some)) ∙ ap (λ b. b ∷ take (length text - 1) text ++ get_or text (length text - 1) 0 ∷ []) first_is
-    ∙ ap (λ b. opening ∷ take (length text - 1) text ++ b ∷ []) last_is ∙ ap (λ n. opening ∷ n ++ closing ∷ []) name_is
-
-inside_again : (opening closing : ℕ) (name : Text) → inside opening closing (opening ∷ name ++ closing ∷ []) ≡ Some name
-inside_again opening closing name =
-    let text = name ++ closing ∷ [] in
-    let count : length text ≡ suc (length name) = omega (arith, length-append name (closing ∷ [])) in
-    let less : length (opening ∷ text) - 1 ≡ suc (length name) = omega (arith, count) in
-    let shorter : length (opening ∷ text) - 1 - 1 ≡ length name = omega (arith, count) in
-    let last_is : get_or (opening ∷ text) (length (opening ∷ text) - 1) 0 ≡ closing = ap (λ n. get_or (opening ∷ text) n 0) less ∙ get_or-append_seam name closing [] 0 in
-    let long : nat_le 2 (length (opening ∷ text)) ≡ true = le-leb _ _ (omega (arith, count)) in
-    let tests : ((nat_le 2 (length (opening ∷ text)) && opening == opening) && get_or (opening ∷ text) (length (opening ∷ text) - 1) 0 == closing) ≡ true
-    = and_from _ _ (and_from _ _ long (eq-eqb opening opening refl)) (eq-eqb _ _ last_is) in
-    ap (λ b. cond b (Some (take (length (opening ∷ text) - 1 - 1) text)) None) tests ∙ ap (λ n. Some (take n text)) shorter ∙ ap Some (take-append_seam name (closing ∷ []))
 
 inside_other : (opening closing byte : ℕ) (text : Text) → (byte == opening) ≡ false → inside opening closing (byte ∷ text) ≡ None
 inside_other opening closing byte text differ =
@@ -83,37 +49,37 @@ include_words angle name (word ∷ []) (kind, text) = include_again angle name w
 include_words angle name [] one = absurd one
 include_words angle name (word ∷ next ∷ words) one = absurd one
 
-once_again : (words : List Word) → One (λ word. is_name (codes "once") word ≡ true) words → pragma_of words ≡ Read Once
+once_again : (words : List Word) → One (λ word. is_name (codes "once") (plain_word word) ≡ true) words → pragma_of words ≡ Read Once
 once_again (word ∷ []) is =
-    ap (λ b. cond b (own_of []) (cond (is_name (codes "once") word && true) (Read Once) (Read OtherPragma))) (other_name (codes "once") (codes "p10") word refl is)
+    ap (λ b. cond b (own_of []) (cond (is_name (codes "once") (plain_word word) && true) (Read Once) (Read OtherPragma))) (other_name (codes "once") (codes "p10") word refl is)
     ∙ ap (λ b. cond (b && true) (Read Once) (Read OtherPragma)) is
 once_again [] one = absurd one
 once_again (word ∷ next ∷ words) one = absurd one
 
-init_again : (words : List Word) → One (λ last. is_name (codes "init_done") last ≡ true) words → own_of words ≡ Read InitDone
-init_again (word ∷ []) is = ap (λ b. cond b (Read InitDone) (cond (is_name (codes "task_loop") word) (Read TaskLoop) BadForm)) is
+init_again : (words : List Word) → One (λ last. is_name (codes "init_done") (plain_word last) ≡ true) words → own_of words ≡ Read InitDone
+init_again (word ∷ []) is = ap (λ b. cond b (Read InitDone) (cond (is_name (codes "task_loop") (plain_word word)) (Read TaskLoop) BadForm)) is
 init_again [] one = absurd one
 init_again (word ∷ next ∷ words) one = absurd one
 
-task_again : (words : List Word) → One (λ last. is_name (codes "task_loop") last ≡ true) words → own_of words ≡ Read TaskLoop
+task_again : (words : List Word) → One (λ last. is_name (codes "task_loop") (plain_word last) ≡ true) words → own_of words ≡ Read TaskLoop
 task_again (word ∷ []) is =
-    ap (λ b. cond b (Read InitDone) (cond (is_name (codes "task_loop") word) (Read TaskLoop) BadForm)) (other_name (codes "task_loop") (codes "init_done") word refl is)
+    ap (λ b. cond b (Read InitDone) (cond (is_name (codes "task_loop") (plain_word word)) (Read TaskLoop) BadForm)) (other_name (codes "task_loop") (codes "init_done") word refl is)
     ∙ ap (λ b. cond b (Read TaskLoop) BadForm) is
 task_again [] one = absurd one
 task_again (word ∷ next ∷ words) one = absurd one
 
-own_again : (text : Text) (directive : PlainDirective) → ((words : List Word) → One (λ last. is_name text last ≡ true) words → own_of words ≡ Read directive) → (words : List Word) → IsOwn text words → pragma_of words ≡ Read directive
-own_again text directive go (word ∷ words) (is, one) = ap (λ b. cond b (own_of words) (cond (is_name (codes "once") word && is_nil words) (Read Once) (Read OtherPragma))) is ∙ go words one
+own_again : (text : Text) (directive : PlainDirective) → ((words : List Word) → One (λ last. is_name text (plain_word last) ≡ true) words → own_of words ≡ Read directive) → (words : List Word) → IsOwn text words → pragma_of words ≡ Read directive
+own_again text directive go (word ∷ words) (is, one) = ap (λ b. cond b (own_of words) (cond (is_name (codes "once") (plain_word word) && is_nil words) (Read Once) (Read OtherPragma))) is ∙ go words one
 own_again text directive go [] own = absurd own
 
 other_again : (words : List Word) → IsOther words → pragma_of words ≡ Read OtherPragma
 other_again [] other = refl
 other_again (word ∷ []) (not_own, not_once) =
-    ap (λ b. cond b (own_of []) (cond (is_name (codes "once") word && true) (Read Once) (Read OtherPragma))) not_own
+    ap (λ b. cond b (own_of []) (cond (is_name (codes "once") (plain_word word) && true) (Read Once) (Read OtherPragma))) not_own
     ∙ ap (λ b. cond (b && true) (Read Once) (Read OtherPragma)) not_once
 other_again (word ∷ next ∷ words) not_own =
-    ap (λ b. cond b (own_of (next ∷ words)) (cond (is_name (codes "once") word && false) (Read Once) (Read OtherPragma))) not_own
-    ∙ ap (λ b. cond b (Read Once) (Read OtherPragma)) (and_false (is_name (codes "once") word))
+    ap (λ b. cond b (own_of (next ∷ words)) (cond (is_name (codes "once") (plain_word word) && false) (Read Once) (Read OtherPragma))) not_own
+    ∙ ap (λ b. cond b (Read Once) (Read OtherPragma)) (and_false (is_name (codes "once") (plain_word word)))
 
 named_again : (whole : Span) (directive : PlainDirective) (name : Option Keyword) (words : List Word) → SpellsNamed directive name words → named_outcome whole name words ≡ Read directive
 named_again whole (Include name angle) (Some keyword.Include) words spells = include_words angle name words spells
@@ -191,28 +157,28 @@ took_name : (whole : Span) (name : Option Keyword) (directive : Text → PlainDi
 took_name whole name directive words outcome go took =
     elim took [ inl (text, one, same) ↦ subst (λ o. TookNamed whole name words o) (sym same) (go text one) | inr wrong ↦ subst (λ o. TookNamed whole name words o) (sym wrong) tt ]
 
-own_takes : (whole : Span) (word : Word) (words : List Word) → is_name (codes "p10") word ≡ true → TookNamed whole (Some keyword.Pragma) (word ∷ words) (own_of words)
+own_takes : (whole : Span) (word : Word) (words : List Word) → is_name (codes "p10") (plain_word word) ≡ true → TookNamed whole (Some keyword.Pragma) (word ∷ words) (own_of words)
 own_takes whole word (last ∷ []) own =
-    elim (is_name (codes "init_done") last) as (λ b. is_name (codes "init_done") last ≡ b → TookNamed whole (Some keyword.Pragma) (word ∷ last ∷ []) (cond b (Read InitDone) (cond (is_name (codes "task_loop") last) (Read TaskLoop) BadForm))) [
+    elim (is_name (codes "init_done") (plain_word last)) as (λ b. is_name (codes "init_done") (plain_word last) ≡ b → TookNamed whole (Some keyword.Pragma) (word ∷ last ∷ []) (cond b (Read InitDone) (cond (is_name (codes "task_loop") (plain_word last)) (Read TaskLoop) BadForm))) [
       | true ↦ λ init. (own, init)
-      | false ↦ λ other. elim (is_name (codes "task_loop") last) as (λ b. is_name (codes "task_loop") last ≡ b → TookNamed whole (Some keyword.Pragma) (word ∷ last ∷ []) (cond b (Read TaskLoop) BadForm))
+      | false ↦ λ other. elim (is_name (codes "task_loop") (plain_word last)) as (λ b. is_name (codes "task_loop") (plain_word last) ≡ b → TookNamed whole (Some keyword.Pragma) (word ∷ last ∷ []) (cond b (Read TaskLoop) BadForm))
           [ true ↦ λ task. (own, task) | false ↦ λ neither. tt ] refl
     ] refl
 own_takes whole word [] own = tt
 own_takes whole word (last ∷ next ∷ words) own = tt
 
-lone_takes : (whole : Span) (word : Word) (words : List Word) → is_name (codes "p10") word ≡ false → TookNamed whole (Some keyword.Pragma) (word ∷ words) (cond (is_name (codes "once") word && is_nil words) (Read Once) (Read OtherPragma))
+lone_takes : (whole : Span) (word : Word) (words : List Word) → is_name (codes "p10") (plain_word word) ≡ false → TookNamed whole (Some keyword.Pragma) (word ∷ words) (cond (is_name (codes "once") (plain_word word) && is_nil words) (Read Once) (Read OtherPragma))
 lone_takes whole word [] foreign =
-    elim (is_name (codes "once") word) as (λ b. is_name (codes "once") word ≡ b → TookNamed whole (Some keyword.Pragma) (word ∷ []) (cond (b && true) (Read Once) (Read OtherPragma)))
+    elim (is_name (codes "once") (plain_word word)) as (λ b. is_name (codes "once") (plain_word word) ≡ b → TookNamed whole (Some keyword.Pragma) (word ∷ []) (cond (b && true) (Read Once) (Read OtherPragma)))
     [ true ↦ λ once. once | false ↦ λ other. (foreign, other) ] refl
 lone_takes whole word (next ∷ words) foreign =
-    elim (is_name (codes "once") word) as (λ b. TookNamed whole (Some keyword.Pragma) (word ∷ next ∷ words) (cond (b && false) (Read Once) (Read OtherPragma)))
+    elim (is_name (codes "once") (plain_word word)) as (λ b. TookNamed whole (Some keyword.Pragma) (word ∷ next ∷ words) (cond (b && false) (Read Once) (Read OtherPragma)))
     [ true ↦ foreign | false ↦ foreign ]
 
 pragma_takes : (whole : Span) (words : List Word) → TookNamed whole (Some keyword.Pragma) words (pragma_of words)
 pragma_takes whole [] = tt
 pragma_takes whole (word ∷ words) =
-    elim (is_name (codes "p10") word) as (λ b. is_name (codes "p10") word ≡ b → TookNamed whole (Some keyword.Pragma) (word ∷ words) (cond b (own_of words) (cond (is_name (codes "once") word && is_nil words) (Read Once) (Read OtherPragma))))
+    elim (is_name (codes "p10") (plain_word word)) as (λ b. is_name (codes "p10") (plain_word word) ≡ b → TookNamed whole (Some keyword.Pragma) (word ∷ words) (cond b (own_of words) (cond (is_name (codes "once") (plain_word word) && is_nil words) (Read Once) (Read OtherPragma))))
     [ true ↦ own_takes whole word words | false ↦ lone_takes whole word words ] refl
 
 from_judges : (whole : Span) (words : List Word) (outcome : Outcome) → Judges whole words outcome → TookNamed whole (Some keyword.Define) words outcome
@@ -257,7 +223,7 @@ behind_takes whole (word ∷ words) = from_named whole word words (named_outcome
 
 -- ## The outcome of a line
 
-pub hash_outcome : (hash : Word) (words : List Word) (outcome : Outcome) → is_punctuator (codes "#") hash ≡ true → outcome_behind (place_of (hash ∷ words)) words ≡ outcome → IsOutcome (hash ∷ words) outcome
+pub hash_outcome : (hash : Word) (words : List Word) (outcome : Outcome) → is_punctuator (codes "#") (plain_word hash) ≡ true → outcome_behind (place_of (hash ∷ words)) words ≡ outcome → IsOutcome (hash ∷ words) outcome
 hash_outcome hash words (Read directive) is e = (is, subst (λ o. TookBehind (place_of (hash ∷ words)) words o) e (behind_takes (place_of (hash ∷ words)) words))
 hash_outcome hash words (BadDefinition at) is e = (is, subst (λ o. TookBehind (place_of (hash ∷ words)) words o) e (behind_takes (place_of (hash ∷ words)) words))
 hash_outcome hash words BadForm is e = (
@@ -265,7 +231,7 @@ hash_outcome hash words BadForm is e = (
   (λ at bad. let r = bad_behind_read (place_of (hash ∷ words)) at words bad.1 in absurd cc),
 )
 
-pub hash_only : (hash : Word) (words : List Word) (other : Outcome) → is_punctuator (codes "#") hash ≡ true → IsOutcome (hash ∷ words) other → other ≡ outcome_behind (place_of (hash ∷ words)) words
+pub hash_only : (hash : Word) (words : List Word) (other : Outcome) → is_punctuator (codes "#") (plain_word hash) ≡ true → IsOutcome (hash ∷ words) other → other ≡ outcome_behind (place_of (hash ∷ words)) words
 hash_only hash words (Read directive) is outcome = sym (behind_read (place_of (hash ∷ words)) directive words outcome.1)
 hash_only hash words (BadDefinition at) is outcome = sym (bad_behind_read (place_of (hash ∷ words)) at words outcome.1)
 hash_only hash words BadForm is (unspelled, good) =
@@ -276,7 +242,7 @@ hash_only hash words BadForm is (unspelled, good) =
     ] refl
 
 -- a line that doesn't begin with `#` spells nothing
-pub text_only : (word : Word) (words : List Word) (other : Outcome) → is_punctuator (codes "#") word ≡ false → IsOutcome (word ∷ words) other → other ≡ BadForm
+pub text_only : (word : Word) (words : List Word) (other : Outcome) → is_punctuator (codes "#") (plain_word word) ≡ false → IsOutcome (word ∷ words) other → other ≡ BadForm
 text_only word words (Read directive) no_hash outcome = absurd (both_ways _ no_hash outcome.0)
 text_only word words (BadDefinition at) no_hash outcome = absurd (both_ways _ no_hash outcome.0)
 text_only word words BadForm no_hash outcome = refl
@@ -289,7 +255,7 @@ empty_only BadForm outcome = refl
 pub one_outcome : (line : List Word) → OneOutcome line
 one_outcome [] = record { outcome = BadForm; is_outcome = ((λ directive spells. spells), (λ at bad. bad)); only = empty_only }
 one_outcome (word ∷ words) =
-    elim (is_punctuator (codes "#") word) as (λ b. is_punctuator (codes "#") word ≡ b → OneOutcome (word ∷ words)) [
+    elim (is_punctuator (codes "#") (plain_word word)) as (λ b. is_punctuator (codes "#") (plain_word word) ≡ b → OneOutcome (word ∷ words)) [
       | true ↦ λ is. record { outcome = outcome_behind (place_of (word ∷ words)) words; is_outcome = hash_outcome word words (outcome_behind (place_of (word ∷ words)) words) is refl; only = λ other outcome. hash_only word words other is outcome }
       | false ↦ λ no_hash. record { outcome = BadForm; is_outcome = ((λ directive spells. both_ways _ no_hash spells.0), (λ at bad. both_ways _ no_hash bad.0)); only = λ other outcome. text_only word words other no_hash outcome }
     ] refl

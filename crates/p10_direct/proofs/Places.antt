@@ -4,11 +4,11 @@ use Rattle.std.proofs.Math.Seq.{drop-cons}
 use Rattle.std.proofs.Math.ListN.{drop_of_length-le}
 use Rattle.std.proofs.lemmas.List.{drop-drop, drop-map}
 use Rattle.p10_base.specs.declared.word.Word.{Word}
-use Rattle.p10_direct.specs.Spelling.{Text, is_punctuator}
+use Rattle.p10_base.specs.Words.{Text, is_punctuator, plain_word}
 use Rattle.p10_direct.specs.Tokens.{token_of, tokens_of}
-use Rattle.p10_direct.specs.Parts.{from}
-use Rattle.p10_direct.specs.Operators.{binary_of}
-use Rattle.p10_direct.specs.Climbing.{Nothing, heads, if_level, operator_at, start_of, start_at, is_nil}
+use Rattle.p10_direct.specs.private.Parts.{from}
+use Rattle.p10_direct.specs.private.Signs.{binary_of}
+use Rattle.p10_direct.specs.private.Climbing.{Nothing, heads, if_level, operator_at, start_of, start_at, is_nil}
 
 pub from_end : (place : ℕ) (words : List Word) → length words ≤ place → from place words ≡ []
 unfolding from
@@ -25,7 +25,7 @@ from_next place words = ap tokens_of (sym (drop-drop 1 place words)) ∙ sym (dr
 pub from_stays : (place : ℕ) (words : List Word) → length words ≤ place → from place words ≡ drop 1 (from place words)
 from_stays place words past = from_end place words past ∙ ap (drop 1) (sym (from_end place words past))
 
-pub heads_there : (place : ℕ) (words : List Word) (d : Word) (text : Text) (answer : Bool) → place < length words → answer ≡ is_punctuator text (get_or words place d) → answer ≡ heads text (from place words)
+pub heads_there : (place : ℕ) (words : List Word) (d : Word) (text : Text) (answer : Bool) → place < length words → answer ≡ is_punctuator text (plain_word (get_or words place d)) → answer ≡ heads text (from place words)
 heads_there place words d text answer inside e = e ∙ sym (ap (heads text) (from_word place words d inside))
 
 pub heads_end : (place : ℕ) (words : List Word) (text : Text) → length words ≤ place → false ≡ heads text (from place words)

@@ -9,12 +9,13 @@ use Rattle.p10_base.specs.declared.span.Span.{Span}
 use Rattle.p10_base.specs.declared.word.Word.{Word}
 use Rattle.p10_direct.specs.declared.keyword.Keyword.{Keyword}
 use Rattle.p10_direct.specs.declared.keyword.Keyword.TheVariants as keyword
-use Rattle.p10_direct.specs.Spelling.{Text, is_name, is_name_kind, is_punctuator}
+use Rattle.p10_base.specs.Words.{Text, is_name, is_name_kind, is_punctuator, plain_word}
 use Rattle.p10_direct.specs.Keywords.{keyword_of}
 use Rattle.p10_direct.specs.Lines.{Piece, DirectiveLine, TextRun, words_of, NonePasses, FollowedBy, begins_directive, IsPiece, AreCut}
 use Rattle.p10_direct.specs.Balance.{mark_of, first_unbalanced, first_break_of}
 use Rattle.p10_direct.specs.Directives.{PlainMacro, PlainDirective, Define, Undef, If, Elif, Ifdef, Ifndef, Else, Endif, Once, OtherPragma, is_string_kind, is_ellipsis, is_refused, has_repeated_text, repeats_a_parameter, has_bad_word, Definition, texts_of, has_ellipsis, is_bad, macro_of, place_of, Outcome, Read, BadForm, BadDefinition, IsOutcome}
-use Rattle.p10_direct.specs.Reading.{Parameters, Wrong, Listed, behind_parameters, parameters_of, listed, judged, judged_or_wrong, has_list, defined_of, definition_of, inside, quoted_or_wrong, include_between, include_of, only_name_of, read_or_wrong, of_name, alone, own_of, is_nil, pragma_of, named_outcome, outcome_behind}
+use Rattle.p10_lex.specs.Literals.{inside}
+use Rattle.p10_direct.specs.private.Reading.{Parameters, Wrong, Listed, behind_parameters, parameters_of, listed, judged, judged_or_wrong, has_list, defined_of, definition_of, quoted_or_wrong, include_between, include_of, only_name_of, read_or_wrong, of_name, alone, own_of, is_nil, pragma_of, named_outcome, outcome_behind}
 use Rattle.p10_direct.specs.Tokens.{tokens_of, token_of}
 use Rattle.p10_direct.specs.Conditions.{HasTruth}
 use Rattle.p10_direct.proofs.Outcomes.{hash_outcome, hash_only, text_only, empty_only}
@@ -129,14 +130,14 @@ names_bare : (before words : List Word) → behind_parameters (bare_words before
 names_bare before [] = refl
 names_bare before (word ∷ []) = refl
 names_bare before (word ∷ separator ∷ words) =
-    cond_map bare_parameters (is_punctuator (codes ")") separator) _ _ _ _
+    cond_map bare_parameters (is_punctuator (codes ")") (plain_word separator)) _ _ _ _
     (cond_map bare_parameters (is_name_kind word.kind || is_ellipsis word) _ _ _ _ (ap (λ ps. Listed ps (bare_words words)) (one_more before word)) refl)
-    (cond_map bare_parameters (is_punctuator (codes ",") separator && is_name_kind word.kind) _ _ _ _
+    (cond_map bare_parameters (is_punctuator (codes ",") (plain_word separator) && is_name_kind word.kind) _ _ _ _
     (ap (λ ps. behind_parameters ps (bare_words words)) (one_more before word) ∙ names_bare (before ++ word ∷ []) words) refl)
 
 parameters_bare : (words : List Word) → parameters_of (bare_words words) ≡ bare_parameters (parameters_of words)
 parameters_bare [] = refl
-parameters_bare (word ∷ words) = cond_map bare_parameters (is_punctuator (codes ")") word) _ _ _ _ refl (names_bare [] (word ∷ words))
+parameters_bare (word ∷ words) = cond_map bare_parameters (is_punctuator (codes ")") (plain_word word)) _ _ _ _ refl (names_bare [] (word ∷ words))
 
 texts_bare : (words : List Word) → texts_of (bare_words words) ≡ texts_of words
 texts_bare [] = refl
@@ -231,7 +232,7 @@ alone_bare directive same (word ∷ words) = refl
 
 own_bare : (words : List Word) → own_of (bare_words words) ≡ bare_outcome (own_of words)
 own_bare [] = refl
-own_bare (word ∷ []) = cond_map bare_outcome (is_name (codes "init_done") word) _ _ _ _ refl (cond_map bare_outcome (is_name (codes "task_loop") word) _ _ _ _ refl refl)
+own_bare (word ∷ []) = cond_map bare_outcome (is_name (codes "init_done") (plain_word word)) _ _ _ _ refl (cond_map bare_outcome (is_name (codes "task_loop") (plain_word word)) _ _ _ _ refl refl)
 own_bare (word ∷ next ∷ words) = refl
 
 nil_bare : (words : List Word) → is_nil (bare_words words) ≡ is_nil words
@@ -241,8 +242,8 @@ nil_bare (word ∷ words) = refl
 pragma_bare : (words : List Word) → pragma_of (bare_words words) ≡ bare_outcome (pragma_of words)
 pragma_bare [] = refl
 pragma_bare (word ∷ words) =
-    cond_map bare_outcome (is_name (codes "p10") word) _ _ _ _ (own_bare words)
-    (ap (λ b. cond (is_name (codes "once") word && b) (Read Once) (Read OtherPragma)) (nil_bare words) ∙ cond_map bare_outcome (is_name (codes "once") word && is_nil words) _ _ _ _ refl refl)
+    cond_map bare_outcome (is_name (codes "p10") (plain_word word)) _ _ _ _ (own_bare words)
+    (ap (λ b. cond (is_name (codes "once") (plain_word word) && b) (Read Once) (Read OtherPragma)) (nil_bare words) ∙ cond_map bare_outcome (is_name (codes "once") (plain_word word) && is_nil words) _ _ _ _ refl refl)
 
 named_bare : (whole : Span) (name : Option Keyword) (words : List Word) → named_outcome whole name (bare_words words) ≡ bare_outcome (named_outcome whole name words)
 named_bare whole None words = refl
@@ -263,12 +264,12 @@ behind_bare whole (word ∷ words) = named_bare whole (keyword_of word) words
 
 -- ### What comes of a line
 
-hash_bare : (hash : Word) (words : List Word) (outcome : Outcome) → is_punctuator (codes "#") hash ≡ true → IsOutcome (hash ∷ words) outcome → IsOutcome (bare_words (hash ∷ words)) (bare_outcome outcome)
+hash_bare : (hash : Word) (words : List Word) (outcome : Outcome) → is_punctuator (codes "#") (plain_word hash) ≡ true → IsOutcome (hash ∷ words) outcome → IsOutcome (bare_words (hash ∷ words)) (bare_outcome outcome)
 hash_bare hash words outcome is comes =
     hash_outcome (bare hash) (bare_words words) (bare_outcome outcome) is
     (ap (λ at. outcome_behind at (bare_words words)) (place_bare (hash ∷ words)) ∙ behind_bare (place_of (hash ∷ words)) words ∙ ap bare_outcome (sym (hash_only hash words outcome is comes)))
 
-text_bare : (word : Word) (words : List Word) (outcome : Outcome) → is_punctuator (codes "#") word ≡ false → IsOutcome (word ∷ words) outcome → IsOutcome (bare_words (word ∷ words)) (bare_outcome outcome)
+text_bare : (word : Word) (words : List Word) (outcome : Outcome) → is_punctuator (codes "#") (plain_word word) ≡ false → IsOutcome (word ∷ words) outcome → IsOutcome (bare_words (word ∷ words)) (bare_outcome outcome)
 text_bare word words outcome no_hash comes =
     subst (λ o. IsOutcome (bare_words (word ∷ words)) (bare_outcome o)) (sym (text_only word words outcome no_hash comes))
     ((λ directive spells. both_ways _ no_hash spells.0), (λ at bad. both_ways _ no_hash bad.0))
@@ -277,7 +278,7 @@ text_bare word words outcome no_hash comes =
 pub outcome_bare : (line : List Word) (outcome : Outcome) → IsOutcome line outcome → IsOutcome (bare_words line) (bare_outcome outcome)
 outcome_bare [] outcome comes = subst (λ o. IsOutcome [] (bare_outcome o)) (sym (empty_only outcome comes)) ((λ directive spells. spells), (λ at bad. bad))
 outcome_bare (word ∷ words) outcome comes =
-    elim (is_punctuator (codes "#") word) as (λ b. is_punctuator (codes "#") word ≡ b → IsOutcome (bare_words (word ∷ words)) (bare_outcome outcome))
+    elim (is_punctuator (codes "#") (plain_word word)) as (λ b. is_punctuator (codes "#") (plain_word word) ≡ b → IsOutcome (bare_words (word ∷ words)) (bare_outcome outcome))
     [ true ↦ λ is. hash_bare word words outcome is comes | false ↦ λ no_hash. text_bare word words outcome no_hash comes ] refl
 
 -- ## Conditions

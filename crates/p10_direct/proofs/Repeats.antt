@@ -4,9 +4,9 @@ use Rattle.std.specs.List.{list_any}
 use Rattle.std.proofs.lemmas.Bool.{or_from, or_left, or_right}
 use Rattle.std.proofs.lemmas.List.{drop-drop, drop_more}
 use Rattle.p10_base.specs.declared.word.Word.{Word}
-use Rattle.p10_direct.specs.Spelling.{Text, is_name_kind, is_punctuator}
+use Rattle.p10_base.specs.Words.{Text, is_name_kind, is_punctuator, plain_word}
 use Rattle.p10_direct.specs.Directives.{has_repeated_text, is_ellipsis, texts_of}
-use Rattle.p10_direct.specs.Reading.{Parameters, Wrong, Listed, Parameter, No, Last, Further, parameter_of, behind_parameters}
+use Rattle.p10_direct.specs.private.Reading.{Parameters, Wrong, Listed, Parameter, No, Last, Further, parameter_of, behind_parameters}
 use Rattle.p10_direct.proofs.Cuts.{rest_from}
 
 -- ## Words from a place on, with a set of their texts
@@ -79,10 +79,10 @@ step_is before [] = refl
 step_is before (word ∷ []) = refl
 step_is before (word ∷ separator ∷ words) =
     let more = before ++ word ∷ [] in
-    elim (is_punctuator (codes ")") separator) as (λ b. cond b (cond (is_name_kind word.kind || is_ellipsis word) (Listed more words) Wrong) (cond (is_punctuator (codes ",") separator && is_name_kind word.kind) (behind_parameters more words) Wrong)
-    ≡ follow before words (cond b (cond (is_name_kind word.kind || is_ellipsis word) (Last word) No) (cond (is_punctuator (codes ",") separator && is_name_kind word.kind) (Further word) No))) [
+    elim (is_punctuator (codes ")") (plain_word separator)) as (λ b. cond b (cond (is_name_kind word.kind || is_ellipsis word) (Listed more words) Wrong) (cond (is_punctuator (codes ",") (plain_word separator) && is_name_kind word.kind) (behind_parameters more words) Wrong)
+    ≡ follow before words (cond b (cond (is_name_kind word.kind || is_ellipsis word) (Last word) No) (cond (is_punctuator (codes ",") (plain_word separator) && is_name_kind word.kind) (Further word) No))) [
       | true ↦ elim (is_name_kind word.kind || is_ellipsis word) as (λ b. cond b (Listed more words) Wrong ≡ follow before words (cond b (Last word) No)) [ true ↦ refl | false ↦ refl ]
-      | false ↦ elim (is_punctuator (codes ",") separator && is_name_kind word.kind) as (λ b. cond b (behind_parameters more words) Wrong ≡ follow before words (cond b (Further word) No)) [ true ↦ refl | false ↦ refl ]
+      | false ↦ elim (is_punctuator (codes ",") (plain_word separator) && is_name_kind word.kind) as (λ b. cond b (behind_parameters more words) Wrong ≡ follow before words (cond b (Further word) No)) [ true ↦ refl | false ↦ refl ]
     ]
 
 -- the parameter at a place, behind those before it

@@ -5,11 +5,12 @@ use Rattle.p10_int.specs.declared.operators.UnOp.{UnOp}
 use Rattle.p10_int.specs.declared.operators.BinOp.TheVariants.{Add, Sub, Mul, Div, Rem, Shl, Shr, And, Or, Xor, Lt, Gt, Le, Ge, Eq, Ne}
 use Rattle.p10_direct.specs.declared.operator.Binary.{Binary}
 use Rattle.p10_direct.specs.declared.operator.Binary.TheVariants.{Apply, AndAlso, OrElse}
-use Rattle.p10_direct.specs.Tokens.{Token, sign_token, is_mark}
-use Rattle.p10_direct.specs.Operators.{sign_text, binary_text, level_of_binary, sign_of}
+use Rattle.p10_direct.specs.Tokens.{Token, sign_token}
+use Rattle.p10_direct.specs.private.Signs.{is_mark, sign_of}
+use Rattle.p10_direct.specs.Operators.{sign_text, binary_text, level_of_binary}
 use Rattle.p10_direct.specs.Constants.{Constant, constant_of}
 use Rattle.p10_direct.specs.Conditions.{Condition, Single, Grouped, Applied, Joined, Chosen, level_of, spell, IsFormed, depth_of}
-use Rattle.p10_direct.specs.Climbing.{Algebra, Found, Reader, Group, Lone, lone_or_nothing, sign_or_lone, heads, operator_at, closed, signed, begun, operand, both_sides, kept, chained, ends_here, chain, three_parts, second_branch, choice, ended, behind_left, climb}
+use Rattle.p10_direct.specs.private.Climbing.{Algebra, Found, Reader, Group, Lone, lone_or_nothing, sign_or_lone, heads, operator_at, closed, signed, begun, operand, both_sides, kept, chained, ends_here, chain, three_parts, second_branch, choice, ended, behind_left, climb}
 use Rattle.p10_direct.proofs.Marks.{sign_again, close_no_operator, question_no_operator, colon_no_operator, lone_again, mark_is, heads_is, sign_is, binary_low, operator_there, operator_low, operator_is, operator_higher, operator_eleven, operator_bound}
 use Rattle.p10_direct.proofs.Climbs.{then_some, kept_shallow, kept_some, left_end, left_step, climb_suc, climb_zero}
 

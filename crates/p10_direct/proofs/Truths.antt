@@ -8,8 +8,8 @@ use Rattle.p10_direct.specs.Tokens.{Token, tokens_of}
 use Rattle.p10_direct.specs.Operators.{level_of_binary}
 use Rattle.p10_direct.specs.Values.{Value, applied, joined, chosen, is_zero}
 use Rattle.p10_direct.specs.Conditions.{Condition, Single, Grouped, Applied, Joined, Chosen, spell, depth_of, value_of, SpellsCondition, HasTruth}
-use Rattle.p10_direct.specs.Climbing.{Algebra, values, Found, operator_at, operand, both_sides, choice, ended, behind_left, climb, number_of, is_nil}
-use Rattle.p10_direct.specs.Parts.{from, found_of}
+use Rattle.p10_direct.specs.private.Climbing.{Algebra, values, Found, operator_at, operand, both_sides, choice, ended, behind_left, climb, number_of, is_nil}
+use Rattle.p10_direct.specs.private.Parts.{from, found_of}
 use Rattle.p10_direct.proofs.Climbs.{left_end, left_step, climb_step, climb_zero}
 use Rattle.p10_direct.proofs.Trees.{fold, result, climb_again, Took, climb_takes}
 

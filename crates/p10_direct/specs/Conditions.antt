@@ -1,5 +1,5 @@
 -- The conditions of `#if`: trees, the words that spell them, their depth and their truth (C99 6.10.1, 6.6, 6.5.15).
-use Rattle.std.specs.Prelude.{◌≡◌, ℕ, suc, max, ◌≤◌, ◌<◌, List, [], ◌∷◌, Bool, not, ℤ, Some, codes}
+use Rattle.std.specs.Prelude.{ℤ, ℕ, ◌≡◌, suc, max, ◌≤◌, ◌<◌, List, [], ◌∷◌, Bool, not, Some, codes}
 use Rattle.p10_int.specs.declared.operators.UnOp.{UnOp}
 use Rattle.p10_base.specs.declared.word.Word.{Word}
 use Rattle.p10_direct.specs.declared.operator.Binary.{Binary}

@@ -1,5 +1,5 @@
 -- The directives, and the words that spell them (C99 6.10).
-use Rattle.std.specs.Prelude.{◌≡◌, ◌↔◌, ℕ, ◌==◌, List, [], ◌∷◌, ◌++◌, length, map, Bool, true, false, ◌&&◌, ◌||◌, Option, Some, None, option_map, bytes_eq, codes, slice_index_or, ◌-◌, ◌⊎◌}
+use Rattle.std.specs.Prelude.{ℕ, ◌≡◌, ◌↔◌, ◌==◌, List, [], ◌∷◌, ◌++◌, length, map, Bool, true, false, ◌&&◌, ◌||◌, Option, Some, None, option_map, bytes_eq, codes, slice_index_or, ◌-◌, ◌⊎◌}
 use Rattle.std.specs.List.{list_any}
 use Rattle.std.specs.Option.{option_map_or}
 use Rattle.p10_base.specs.declared.span.Span.{Span}
@@ -7,11 +7,13 @@ use Rattle.p10_base.specs.declared.word.Kind.{Kind}
 use Rattle.p10_base.specs.declared.word.Kind.TheVariants.{Str}
 use Rattle.p10_base.specs.declared.word.Word.{Word}
 use Rattle.p10_base.specs.declared.report.Refusal.{Refusal}
-use Rattle.p10_base.specs.declared.report.Family.TheVariants.{D}
 use Rattle.p10_direct.specs.declared.keyword.Keyword.{Keyword}
 use Rattle.p10_direct.specs.declared.keyword.Keyword.TheVariants as keyword
-use Rattle.p10_direct.specs.Spelling.{Text, is_name, is_name_kind, is_punctuator}
+use Rattle.p10_base.specs.Words.{Text, is_name, is_name_kind, is_punctuator, plain_word}
 use Rattle.p10_direct.specs.Keywords.{keyword_of}
+use Rattle.p10_base.specs.Codes.{directive_refusal}
+use Rattle.p10_base.specs.declared.codes.DirectiveCode.TheVariants.{BadDirective}
+use Rattle.p10_base.specs.declared.codes.DirectiveCode.TheVariants as code
 
 -- ## Directives as plain values
 
@@ -49,11 +51,11 @@ pub record Definition : Type 0 where
 
 -- whether a word is the `(` of a parameter list: it stands directly behind the name (C99 6.10p1, `lparen`)
 abbrev pub opens_list : Word → Word → Bool
-opens_list name word = is_punctuator (codes "(") word && (name.at.end == word.at.start)
+opens_list name word = is_punctuator (codes "(") (plain_word word) && (name.at.end == word.at.start)
 
 -- whether a word is `...`, which stands for variable arguments (C99 6.10.3p12)
 abbrev pub is_ellipsis : Word → Bool
-is_ellipsis word = is_punctuator (codes "...") word
+is_ellipsis word = is_punctuator (codes "...") (plain_word word)
 
 -- parameters are names, but the last may be `...`
 abbrev pub AreParameters : List Word → Type 0
@@ -63,8 +65,8 @@ AreParameters (word ∷ words) = (is_name_kind word.kind ≡ true) × AreParamet
 
 -- further parameters, each behind a comma, then `)`, then the rest
 abbrev pub Continues : List Word → List Word → List Word → Type 0
-Continues [] (close ∷ words) rest = (is_punctuator (codes ")") close ≡ true) × (words ≡ rest)
-Continues (parameter ∷ parameters) (comma ∷ word ∷ words) rest = (is_punctuator (codes ",") comma ≡ true) × (word ≡ parameter) × Continues parameters words rest
+Continues [] (close ∷ words) rest = (is_punctuator (codes ")") (plain_word close) ≡ true) × (words ≡ rest)
+Continues (parameter ∷ parameters) (comma ∷ word ∷ words) rest = (is_punctuator (codes ",") (plain_word comma) ≡ true) × (word ≡ parameter) × Continues parameters words rest
 Continues _ _ rest = ⊥
 
 -- parameters between commas, then `)`, then the rest
@@ -115,7 +117,7 @@ repeats_a_parameter definition = option_map_or (λ parameters. has_repeated_text
 -- a word that no replacement list may have here: `#`, which C99 allows in those of object-like macros, `##` (C99 6.10.3.2,
 -- 6.10.3.3) and `...`
 abbrev pub is_refused : Word → Bool
-is_refused word = is_punctuator (codes "#") word || is_punctuator (codes "##") word || is_ellipsis word
+is_refused word = is_punctuator (codes "#") (plain_word word) || is_punctuator (codes "##") (plain_word word) || is_ellipsis word
 
 -- whether `...` is among the parameters; an object-like macro has none
 abbrev pub has_ellipsis : Option (List Word) → Bool
@@ -159,12 +161,12 @@ enclosed false name = 34 ∷ name ++ 34 ∷ []
 -- a pragma that is none of this program's: not of `p10`, and not just `once`
 abbrev pub IsOther : List Word → Type 0
 IsOther [] = Unit {0}
-IsOther (word ∷ []) = (is_name (codes "p10") word ≡ false) × (is_name (codes "once") word ≡ false)
-IsOther (word ∷ words) = is_name (codes "p10") word ≡ false
+IsOther (word ∷ []) = (is_name (codes "p10") (plain_word word) ≡ false) × (is_name (codes "once") (plain_word word) ≡ false)
+IsOther (word ∷ words) = is_name (codes "p10") (plain_word word) ≡ false
 
 -- `p10`, and one word with this text
 abbrev pub IsOwn : Text → List Word → Type 0
-IsOwn text (word ∷ words) = (is_name (codes "p10") word ≡ true) × One (λ last. is_name text last ≡ true) words
+IsOwn text (word ∷ words) = (is_name (codes "p10") (plain_word word) ≡ true) × One (λ last. is_name text (plain_word last) ≡ true) words
 IsOwn text [] = ⊥
 
 -- the words behind a directive's name spell it
@@ -178,7 +180,7 @@ SpellsNamed (Ifdef name) (Some keyword.Ifdef) words = One (IsNamed name) words
 SpellsNamed (Ifndef name) (Some keyword.Ifndef) words = One (IsNamed name) words
 SpellsNamed Else (Some keyword.Else) words = words ≡ []
 SpellsNamed Endif (Some keyword.Endif) words = words ≡ []
-SpellsNamed Once (Some keyword.Pragma) words = One (λ word. is_name (codes "once") word ≡ true) words
+SpellsNamed Once (Some keyword.Pragma) words = One (λ word. is_name (codes "once") (plain_word word) ≡ true) words
 SpellsNamed InitDone (Some keyword.Pragma) words = IsOwn (codes "init_done") words
 SpellsNamed TaskLoop (Some keyword.Pragma) words = IsOwn (codes "task_loop") words
 SpellsNamed OtherPragma (Some keyword.Pragma) words = IsOther words
@@ -193,7 +195,7 @@ SpellsBehind directive [] = ⊥
 -- the words of a line spell a directive
 abbrev pub Spells : PlainDirective → List Word → Type 0
 Spells directive [] = ⊥
-Spells directive (hash ∷ words) = (is_punctuator (codes "#") hash ≡ true) × SpellsBehind directive words
+Spells directive (hash ∷ words) = (is_punctuator (codes "#") (plain_word hash) ≡ true) × SpellsBehind directive words
 
 -- ## Refused directives
 
@@ -221,7 +223,7 @@ IsBadBehind whole at (word ∷ words) = IsBadNamed whole at (keyword_of word) wo
 -- the line is a bad definition, which is refused at this place
 abbrev pub IsBadDefinition : Span → List Word → Type 0
 IsBadDefinition at [] = ⊥
-IsBadDefinition at (hash ∷ words) = (is_punctuator (codes "#") hash ≡ true) × IsBadBehind (place_of (hash ∷ words)) at words
+IsBadDefinition at (hash ∷ words) = (is_punctuator (codes "#") (plain_word hash) ≡ true) × IsBadBehind (place_of (hash ∷ words)) at words
 
 -- ## Function-like macros
 
@@ -238,7 +240,7 @@ IsFunctionLikeBehind (word ∷ words) = IsFunctionLikeNamed (keyword_of word) wo
 -- the line begins the definition of a function-like macro: `#define NAME(`
 abbrev pub DefinesFunctionLike : List Word → Type 0
 DefinesFunctionLike [] = ⊥
-DefinesFunctionLike (hash ∷ words) = (is_punctuator (codes "#") hash ≡ true) × IsFunctionLikeBehind words
+DefinesFunctionLike (hash ∷ words) = (is_punctuator (codes "#") (plain_word hash) ≡ true) × IsFunctionLikeBehind words
 
 -- ## What comes of a line
 
@@ -260,8 +262,8 @@ IsOutcome line BadForm = ((directive : PlainDirective) → Spells directive line
 -- the refusal in which it ends, where the line has this place
 abbrev pub refusal_of : Span → Outcome → Option Refusal
 refusal_of whole (Read directive) = None
-refusal_of whole BadForm = Some (record { family = D; number = 1; span = whole })
-refusal_of whole (BadDefinition at) = Some (record { family = D; number = 4; span = at })
+refusal_of whole BadForm = Some (directive_refusal BadDirective whole)
+refusal_of whole (BadDefinition at) = Some (directive_refusal code.BadDefinition at)
 
 -- the line is refused in this way
 pub record IsRefused (line : List Word) (refusal : Refusal) : Type 0 where

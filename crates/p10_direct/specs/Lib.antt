@@ -1,7 +1,4 @@
--- The definitions that the contracts of this crate cite.
-
--- what the public functions promise
-pub mod Spelling
+-- The definitions that the contracts of this crate cite: those of public clauses, and in `private` those of private ones alone.
 pub mod Keywords
 pub mod Lines
 pub mod Balance
@@ -12,12 +9,5 @@ pub mod Operators
 pub mod Constants
 pub mod Values
 pub mod Conditions
-pub mod Names
--- how the private ones come to it
 pub mod Cutting
-pub mod Breaks
-pub mod Reading
-pub mod Listed
-pub mod Valued
-pub mod Climbing
-pub mod Parts
+pub mod private

@@ -3,7 +3,7 @@ use Rattle.std.specs.Prelude.{◌≡◌, List, [], ◌∷◌, ◌++◌, Bool, tr
 use Rattle.p10_base.specs.declared.word.Word.{Word}
 use Rattle.p10_direct.specs.declared.line.Line.{Line}
 use Rattle.p10_direct.specs.declared.line.Line.TheVariants.{Text, Directive}
-use Rattle.p10_direct.specs.Spelling.{is_punctuator}
+use Rattle.p10_base.specs.Words.{is_punctuator, plain_word}
 
 -- a directive line, or a run of lines that are none
 pub data Piece : Type 0 where
@@ -22,7 +22,7 @@ words_of (TextRun words) = words
 
 -- whether a directive begins at a word behind the first: it begins its line, and is `#`
 abbrev pub begins_directive : Word → Bool
-begins_directive word = word.first && is_punctuator (codes "#") word
+begins_directive word = word.first && is_punctuator (codes "#") (plain_word word)
 
 -- no word passes the test
 abbrev pub NonePasses : (Word → Bool) → List Word → Type 0
@@ -37,8 +37,8 @@ FollowedBy test (word ∷ rest) = test word ≡ true
 -- a piece where these words follow: a directive line begins with `#` and goes on to the next word that begins a line; a run of
 -- text begins with another word and goes on to the next directive
 abbrev pub IsPiece : Piece → List Word → Type 0
-IsPiece (DirectiveLine (word ∷ words)) rest = (is_punctuator (codes "#") word ≡ true) × NonePasses (λ other. other.first) words × FollowedBy (λ next. next.first) rest
-IsPiece (TextRun (word ∷ words)) rest = (is_punctuator (codes "#") word ≡ false) × NonePasses begins_directive words × FollowedBy begins_directive rest
+IsPiece (DirectiveLine (word ∷ words)) rest = (is_punctuator (codes "#") (plain_word word) ≡ true) × NonePasses (λ other. other.first) words × FollowedBy (λ next. next.first) rest
+IsPiece (TextRun (word ∷ words)) rest = (is_punctuator (codes "#") (plain_word word) ≡ false) × NonePasses begins_directive words × FollowedBy begins_directive rest
 IsPiece _ rest = ⊥
 
 -- the words of a file are these pieces, one after the other

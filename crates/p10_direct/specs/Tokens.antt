@@ -1,9 +1,9 @@
 -- Words without their places.
-use Rattle.std.specs.Prelude.{List, Bool, ◌&&◌, map, bytes_eq}
+use Rattle.std.specs.Prelude.{List, map}
 use Rattle.p10_base.specs.declared.word.Kind.{Kind}
 use Rattle.p10_base.specs.declared.word.Kind.TheVariants.{Punct}
 use Rattle.p10_base.specs.declared.word.Word.{Word}
-use Rattle.p10_direct.specs.Spelling.{Text, is_punctuator_kind}
+use Rattle.p10_base.specs.Words.{Text}
 
 -- a word's kind and spelling
 pub record Token : Type 0 where
@@ -21,7 +21,3 @@ tokens_of words = map token_of words
 -- the punctuator with this spelling
 abbrev pub sign_token : Text → Token
 sign_token text = record { kind = Punct; text = text }
-
--- whether it is this punctuator
-abbrev pub is_mark : Text → Token → Bool
-is_mark text token = is_punctuator_kind token.kind && bytes_eq token.text text

@@ -3,7 +3,7 @@
 ghost use Rattle.std.specs.Prelude.{◌≡◌, ◌+◌, ◌^◌, ◌<◌, ◌≤◌, [], IfOk, map, reverse};
 ghost use Rattle.p10_direct.specs.Lines.{piece_of};
 ghost use Rattle.p10_direct.specs.Balance.{first_unbalanced, mark_of, mark_of_word};
-ghost use Rattle.p10_direct.specs.Breaks.{stray_from, unclosed_from, passed_back, earlier_of, Stacks};
+ghost use Rattle.p10_direct.specs.private.Breaks.{stray_from, unclosed_from, passed_back, earlier_of, Stacks};
 
 use crate::keyword::{Keyword, directive_named};
 use crate::line::Line;

@@ -2,16 +2,15 @@
 
 ghost use Rattle.std.specs.Prelude.{◌≡◌, ◌+◌, ◌≤◌, ◌<◌, drop, List, option_map, IfSome, IfNone, Bool, not};
 ghost use Rattle.p10_direct.specs.Conditions.{HasTruth, ConditionsAreUnique};
-ghost use Rattle.p10_direct.specs.Climbing.{values, climb, operand, choice, heads, operator_at, if_level, start_at, start_of, both_sides, number_of, is_nil};
-ghost use Rattle.p10_direct.specs.Parts.{from, found_of, start_read};
+ghost use Rattle.p10_direct.specs.private.Climbing.{values, climb, operand, choice, heads, operator_at, if_level, start_at, start_of, both_sides, number_of, is_nil};
+ghost use Rattle.p10_direct.specs.private.Parts.{from, found_of, start_read};
 ghost use Rattle.p10_base.specs.declared.word.Word.{Word};
 ghost use Rattle.p10_direct.specs.Tokens.{token_of};
-ghost use Rattle.p10_direct.specs.Operators.{binary_of};
+ghost use Rattle.p10_direct.specs.private.Signs.{binary_of};
 ghost use Rattle.p10_direct.specs.Values.{is_zero};
 
 use crate::constant::constant;
 use crate::evaluate::{apply_sign, choose, join};
-use crate::keyword::punctuates;
 use crate::operator::{Binary, binary_operator, binding, sign_operator};
 use crate::part::{Part, Start};
 use crate::value::Value;
@@ -78,7 +77,7 @@ fn punctuates_at(words: &[Word<'_>], place: usize, text: &[u8]) -> bool
     ensures { result ≡ heads text.now (from place words.now) }
 {
     if place < words.len() {
-        punctuates(&words[place], text)
+        words[place].is_punctuator(text)
     } else {
         false
     }
@@ -118,7 +117,7 @@ fn start(words: &[Word<'_>], place: usize) -> Start
 fn start_word(word: &Word<'_>) -> Start
     ensures { start_read result ≡ start_of (token_of word.now) }
 {
-    if punctuates(word, b"(") {
+    if word.is_punctuator(b"(") {
         return Start::Group;
     }
     if let Some(op) = sign_operator(word) {

@@ -2,11 +2,11 @@
 
 ghost use Rattle.std.specs.Prelude.{◌≡◌, ◌<◌, length, Some, IfOk, map};
 ghost use Rattle.p10_direct.specs.Lines.{AreCut, LinesAreUnique, piece_of, begins_directive};
-ghost use Rattle.p10_direct.specs.Cutting.{behind, split, first_piece_of};
+ghost use Rattle.p10_direct.specs.Cutting.{behind, split};
+ghost use Rattle.p10_direct.specs.private.Pieces.{first_piece_of};
 ghost use Rattle.p10_direct.specs.Balance.{first_unbalanced};
 
 use crate::balance::first_break;
-use crate::keyword::punctuates;
 use crate::{Line, Lines};
 use p10_base::{ListBuf, Word};
 use std::alloc::{AllocError, Global};
@@ -42,7 +42,7 @@ fn first_line<'w, 's>(words: &'w [Word<'s>]) -> (Line<'w, 's>, &'w [Word<'s>])
     ensures value { Some (piece_of result.0, result.1.now) ≡ first_piece_of words.now }
     ensures shorter { length result.1.now < length words.now }
 {
-    if punctuates(&words[0], b"#") {
+    if words[0].is_punctuator(b"#") {
         let (line, after) = split_line(words);
         (Line::Directive(line), after)
     } else {
@@ -92,7 +92,7 @@ fn behind_text<'w, 's>(words: &'w [Word<'s>]) -> &'w [Word<'s>]
 {
     let mut rest = words;
     while let [word, others @ ..] = rest {
-        if word.first && punctuates(word, b"#") {
+        if word.first && word.is_punctuator(b"#") {
             break;
         }
         rest = others;

@@ -3,14 +3,14 @@
 ghost use Rattle.std.specs.Prelude.{◌≡◌, ◌≤◌, [], map, length, true, option_map, IsSome, IfOk, OnErr, IsTrue};
 ghost use Rattle.std.specs.List.{list_any};
 ghost use Rattle.p10_direct.specs.Directives.{IsDefinition, IsFunctionLike, is_refused, has_repeated_text, repeats_a_parameter, has_ellipsis, is_ellipsis, has_bad_word, is_bad, texts_of};
-ghost use Rattle.p10_direct.specs.Form.{TellsUnless, fault_of, plain_definition};
-ghost use Rattle.p10_direct.specs.Reading.{definition_of, definition_read, defined_of, judged, parameters_of, behind_parameters, parameter_of, has_list};
-ghost use Rattle.p10_direct.specs.Listed.{parameters_read, parameter_read};
+ghost use Rattle.p10_direct.specs.private.Telling.{TellsUnless, fault_of};
+ghost use Rattle.p10_direct.specs.Form.{plain_definition};
+ghost use Rattle.p10_direct.specs.private.Reading.{definition_of, definition_read, defined_of, judged, parameters_of, behind_parameters, parameter_of, has_list};
+ghost use Rattle.p10_direct.specs.private.Listed.{parameters_read, parameter_read};
 
 use crate::form::{Definition, DirectFault, Directive, Macro};
-use crate::keyword::punctuates;
 use crate::read::bad_form;
-use p10_base::{Family, Kind, ListBuf, Refusal, Span, Word};
+use p10_base::{DirectiveCode, Kind, ListBuf, Refusal, Span, Word};
 use std::alloc::{AllocError, Global};
 use std::collections::HashSet;
 
@@ -85,13 +85,9 @@ fn read_words<'w, 's>(
 
 /// The refusal of a bad definition.
 fn bad_definition(at: Span) -> DirectFault
-    ensures { result ≡ fault_of 4 at }
+    ensures { result ≡ fault_of DirectiveCode.BadDefinition at }
 {
-    DirectFault::Refused(Refusal {
-        family: Family::D,
-        number: 4,
-        span: at,
-    })
+    DirectFault::Refused(Refusal::directive(DirectiveCode::BadDefinition, at))
 }
 
 /// Reads the words behind the defined name.
@@ -127,7 +123,7 @@ fn begins_list(name: &Word<'_>, words: &[Word<'_>]) -> bool
 {
     match words {
         [] => false,
-        [word, ..] => punctuates(word, b"(") && name.at.end == word.at.start,
+        [word, ..] => word.is_punctuator(b"(") && name.at.end == word.at.start,
     }
 }
 
@@ -138,7 +134,7 @@ fn judge<'w, 's>(
     found: Definition<'w, 's>,
 ) -> Result<Directive<'w, 's>, DirectFault>
     ensures told { TellsUnless (IsSome found.entry.parameters) whole (judged (plain_definition found.entry)) result }
-    ensures sure { IsTrue (has_bad_word (plain_definition found.entry)) → result ≡ Err (fault_of 4 found.entry.name.at) }
+    ensures sure { IsTrue (has_bad_word (plain_definition found.entry)) → result ≡ Err (fault_of DirectiveCode.BadDefinition found.entry.name.at) }
 {
     match is_bad_definition(alloc, &found) {
         Ok(true) => Err(bad_definition(found.name.at)),
@@ -188,7 +184,7 @@ pub fn is_variadic(found: &Definition<'_, '_>) -> bool
 fn has_ellipsis_among(words: &[Word<'_>]) -> bool
     ensures { result ≡ list_any is_ellipsis words.now }
 {
-    words.iter().any(|word| punctuates(word, b"..."))
+    words.iter().any(|word| word.is_punctuator(b"..."))
 }
 
 /// Whether a parameter stands twice.
@@ -222,9 +218,9 @@ fn has_repeated_text(alloc: Global, words: &[Word<'_>]) -> Result<bool, AllocErr
 pub fn has_pasting(body: &[Word<'_>]) -> bool
     ensures { result ≡ list_any is_refused body.now }
 {
-    body.iter().any(|word| punctuates(word, b"#")
-        || punctuates(word, b"##")
-        || punctuates(word, b"..."))
+    body.iter().any(|word| word.is_punctuator(b"#")
+        || word.is_punctuator(b"##")
+        || word.is_punctuator(b"..."))
 }
 
 /// The names of the parameters.
@@ -263,7 +259,7 @@ fn read_parameters<'w, 's>(
     ensures { IfOk result (λ found. parameters_read found ≡ parameters_of words.now) }
 {
     match words {
-        [close, body @ ..] if punctuates(close, b")") => Ok(Parameters::Listed(
+        [close, body @ ..] if close.is_punctuator(b")") => Ok(Parameters::Listed(
             ListBuf::of(Vec::new(alloc)),
             body,
         )),
@@ -301,13 +297,13 @@ fn read_parameter<'s>(words: &[Word<'s>]) -> Parameter<'s>
 {
     let (word, separator) = (&words[0], &words[1]);
     let named = matches!(word.kind, Kind::Name);
-    if punctuates(separator, b")") {
-        if named || punctuates(word, b"...") {
+    if separator.is_punctuator(b")") {
+        if named || word.is_punctuator(b"...") {
             Parameter::Last(*word)
         } else {
             Parameter::Wrong
         }
-    } else if punctuates(separator, b",") && named {
+    } else if separator.is_punctuator(b",") && named {
         Parameter::Further(*word)
     } else {
         Parameter::Wrong

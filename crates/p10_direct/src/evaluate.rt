@@ -5,7 +5,7 @@ ghost use Rattle.p10_int.specs.Types.{InRange};
 ghost use Rattle.p10_int.specs.Conversion.{converted};
 ghost use Rattle.p10_int.specs.Operators.{IsRightOperand, operate_unary};
 ghost use Rattle.p10_direct.specs.Values.{type_of, as_option, applied, is_shift, is_comparison, right_operand, operated, calculated, truth_value, and_value, or_value, joined, chosen_value, chosen};
-ghost use Rattle.p10_direct.specs.Valued.{value_read};
+ghost use Rattle.p10_direct.specs.private.Valued.{value_read};
 
 use crate::operator::Binary;
 use crate::value::Value;

@@ -1,10 +1,9 @@
-//! Words by their spelling, and the names of directives.
+//! The names of directives.
 
 ghost use Rattle.std.specs.Prelude.{◌≡◌};
-ghost use Rattle.p10_direct.specs.Spelling.{is_punctuator, is_name};
 ghost use Rattle.p10_direct.specs.Keywords.{keyword_of};
 
-use p10_base::{Kind, Word};
+use p10_base::Word;
 
 /// The name of a directive (C99 6.10).
 #[derive(Clone, Copy)]
@@ -21,43 +20,29 @@ pub enum Keyword {
     Pragma,
 }
 
-/// Whether the word is this punctuator.
-pub fn punctuates(word: &Word<'_>, text: &[u8]) -> bool
-    ensures { result ≡ is_punctuator text.now word.now }
-{
-    matches!(word.kind, Kind::Punct) && word.text == text
-}
-
-/// Whether the word is this name.
-pub fn names(word: &Word<'_>, text: &[u8]) -> bool
-    ensures { result ≡ is_name text.now word.now }
-{
-    matches!(word.kind, Kind::Name) && word.text == text
-}
-
 /// The directive that the word names.
 pub fn directive_named(word: &Word<'_>) -> Option<Keyword>
     ensures { result ≡ keyword_of word.now }
 {
-    if names(word, b"include") {
+    if word.is_name(b"include") {
         Some(Keyword::Include)
-    } else if names(word, b"define") {
+    } else if word.is_name(b"define") {
         Some(Keyword::Define)
-    } else if names(word, b"undef") {
+    } else if word.is_name(b"undef") {
         Some(Keyword::Undef)
-    } else if names(word, b"if") {
+    } else if word.is_name(b"if") {
         Some(Keyword::If)
-    } else if names(word, b"ifdef") {
+    } else if word.is_name(b"ifdef") {
         Some(Keyword::Ifdef)
-    } else if names(word, b"ifndef") {
+    } else if word.is_name(b"ifndef") {
         Some(Keyword::Ifndef)
-    } else if names(word, b"elif") {
+    } else if word.is_name(b"elif") {
         Some(Keyword::Elif)
-    } else if names(word, b"else") {
+    } else if word.is_name(b"else") {
         Some(Keyword::Else)
-    } else if names(word, b"endif") {
+    } else if word.is_name(b"endif") {
         Some(Keyword::Endif)
-    } else if names(word, b"pragma") {
+    } else if word.is_name(b"pragma") {
         Some(Keyword::Pragma)
     } else {
         None

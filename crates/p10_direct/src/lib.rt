@@ -3,15 +3,14 @@
 //!
 //! Entry points: [`lines`], which cuts a file's words into directive lines and runs of text;
 //! [`directive`], which reads one directive line; [`read_definition`], which reads the words of a
-//! definition, also of one that is refused; and [`truth`], which tells what a condition is. [`Names`]
-//! keeps names, each once, for the crates above.
+//! definition, also of one that is refused; and [`truth`], which tells what a condition is.
+//!
 //! Invariant: the words of the lines, joined, are the words of the file.
 //! Which lines are obeyed, the replacement of macros, the files that an include names, and a name
 //! that is defined twice are left to the crates above.
 #![tactic(auto)]
 
 mod balance;
-mod base;
 mod condition;
 mod constant;
 mod cut;
@@ -21,7 +20,6 @@ mod form;
 mod keyword;
 mod line;
 mod mark;
-mod name_list;
 mod operator;
 mod part;
 mod read;
@@ -32,11 +30,7 @@ pub use condition::{one_condition, truth};
 pub use cut::{lines, one_cut, split_line};
 pub use definition::{has_pasting, is_variadic, read_definition};
 pub use form::{Definition, DirectFault, Directive, Macro};
-pub use keyword::{Keyword, directive_named, names, punctuates};
+pub use keyword::{Keyword, directive_named};
 pub use line::{Line, Lines};
 pub use mark::Mark;
-pub use name_list::Names;
-pub use read::{between, directive, one_outcome, whole};
-
-#[cfg(test)]
-mod tests;
+pub use read::{directive, one_outcome, whole};

@@ -1,10 +1,10 @@
 //! The operators of a condition.
 
 ghost use Rattle.std.specs.Prelude.{◌≡◌, ◌≤◌};
-ghost use Rattle.p10_direct.specs.Operators.{sign_of, binary_of, logical_of, comparison_of, arithmetical_of, level_of_binary};
+ghost use Rattle.p10_direct.specs.private.Signs.{sign_of, binary_of, logical_of, comparison_of, arithmetical_of};
+ghost use Rattle.p10_direct.specs.Operators.{level_of_binary};
 ghost use Rattle.p10_direct.specs.Tokens.{token_of};
 
-use crate::keyword::punctuates;
 use p10_base::Word;
 use p10_int::{BinOp, UnOp};
 
@@ -20,17 +20,17 @@ pub enum Binary {
 }
 
 /// The operator that the word is before an operand.
-#[tactic(auto, unfolding(crate::specs::Operators::sign_of))]
+#[tactic(auto, unfolding(crate::specs::private::Signs::sign_of))]
 pub fn sign_operator(word: &Word<'_>) -> Option<UnOp>
     ensures { result ≡ sign_of (token_of word.now) }
 {
-    if punctuates(word, b"+") {
+    if word.is_punctuator(b"+") {
         Some(UnOp::Plus)
-    } else if punctuates(word, b"-") {
+    } else if word.is_punctuator(b"-") {
         Some(UnOp::Neg)
-    } else if punctuates(word, b"~") {
+    } else if word.is_punctuator(b"~") {
         Some(UnOp::Com)
-    } else if punctuates(word, b"!") {
+    } else if word.is_punctuator(b"!") {
         Some(UnOp::Not)
     } else {
         None
@@ -38,7 +38,7 @@ pub fn sign_operator(word: &Word<'_>) -> Option<UnOp>
 }
 
 /// The operator that the word is between two operands.
-#[tactic(auto, unfolding(crate::specs::Operators::binary_of))]
+#[tactic(auto, unfolding(crate::specs::private::Signs::binary_of))]
 pub fn binary_operator(word: &Word<'_>) -> Option<Binary>
     ensures { result ≡ binary_of (token_of word.now) }
 {
@@ -52,19 +52,19 @@ pub fn binary_operator(word: &Word<'_>) -> Option<Binary>
 }
 
 /// `||`, `&&`, `|`, `^` or `&`.
-#[tactic(auto, unfolding(crate::specs::Operators::logical_of))]
+#[tactic(auto, unfolding(crate::specs::private::Signs::logical_of))]
 fn logical(word: &Word<'_>) -> Option<Binary>
     ensures { result ≡ logical_of (token_of word.now) }
 {
-    if punctuates(word, b"||") {
+    if word.is_punctuator(b"||") {
         Some(Binary::OrElse)
-    } else if punctuates(word, b"&&") {
+    } else if word.is_punctuator(b"&&") {
         Some(Binary::AndAlso)
-    } else if punctuates(word, b"|") {
+    } else if word.is_punctuator(b"|") {
         Some(Binary::Apply(BinOp::Or))
-    } else if punctuates(word, b"^") {
+    } else if word.is_punctuator(b"^") {
         Some(Binary::Apply(BinOp::Xor))
-    } else if punctuates(word, b"&") {
+    } else if word.is_punctuator(b"&") {
         Some(Binary::Apply(BinOp::And))
     } else {
         None
@@ -72,21 +72,21 @@ fn logical(word: &Word<'_>) -> Option<Binary>
 }
 
 /// `==`, `!=`, `<`, `>`, `<=` or `>=`.
-#[tactic(auto, unfolding(crate::specs::Operators::comparison_of))]
+#[tactic(auto, unfolding(crate::specs::private::Signs::comparison_of))]
 fn comparison(word: &Word<'_>) -> Option<Binary>
     ensures { result ≡ comparison_of (token_of word.now) }
 {
-    if punctuates(word, b"==") {
+    if word.is_punctuator(b"==") {
         Some(Binary::Apply(BinOp::Eq))
-    } else if punctuates(word, b"!=") {
+    } else if word.is_punctuator(b"!=") {
         Some(Binary::Apply(BinOp::Ne))
-    } else if punctuates(word, b"<") {
+    } else if word.is_punctuator(b"<") {
         Some(Binary::Apply(BinOp::Lt))
-    } else if punctuates(word, b">") {
+    } else if word.is_punctuator(b">") {
         Some(Binary::Apply(BinOp::Gt))
-    } else if punctuates(word, b"<=") {
+    } else if word.is_punctuator(b"<=") {
         Some(Binary::Apply(BinOp::Le))
-    } else if punctuates(word, b">=") {
+    } else if word.is_punctuator(b">=") {
         Some(Binary::Apply(BinOp::Ge))
     } else {
         None
@@ -94,23 +94,23 @@ fn comparison(word: &Word<'_>) -> Option<Binary>
 }
 
 /// `<<`, `>>`, `+`, `-`, `*`, `/` or `%`.
-#[tactic(auto, unfolding(crate::specs::Operators::arithmetical_of))]
+#[tactic(auto, unfolding(crate::specs::private::Signs::arithmetical_of))]
 fn arithmetical(word: &Word<'_>) -> Option<Binary>
     ensures { result ≡ arithmetical_of (token_of word.now) }
 {
-    if punctuates(word, b"<<") {
+    if word.is_punctuator(b"<<") {
         Some(Binary::Apply(BinOp::Shl))
-    } else if punctuates(word, b">>") {
+    } else if word.is_punctuator(b">>") {
         Some(Binary::Apply(BinOp::Shr))
-    } else if punctuates(word, b"+") {
+    } else if word.is_punctuator(b"+") {
         Some(Binary::Apply(BinOp::Add))
-    } else if punctuates(word, b"-") {
+    } else if word.is_punctuator(b"-") {
         Some(Binary::Apply(BinOp::Sub))
-    } else if punctuates(word, b"*") {
+    } else if word.is_punctuator(b"*") {
         Some(Binary::Apply(BinOp::Mul))
-    } else if punctuates(word, b"/") {
+    } else if word.is_punctuator(b"/") {
         Some(Binary::Apply(BinOp::Div))
-    } else if punctuates(word, b"%") {
+    } else if word.is_punctuator(b"%") {
         Some(Binary::Apply(BinOp::Rem))
     } else {
         None

@@ -2,13 +2,16 @@
 
 ghost use Rattle.std.specs.Prelude.{◌≡◌, ◌<◌, length, option_copied, IfOk, IfErr};
 ghost use Rattle.p10_direct.specs.Directives.{Spells, IsFunctionLikeNamed, IsFunctionLikeBehind, place_of, Undef, Ifdef, Ifndef, Else, Endif, LinesHaveOneOutcome};
-ghost use Rattle.p10_direct.specs.Form.{plain, BeginsWithHash, IsFaultOf, Tells, TellsUnless, fault_of};
-ghost use Rattle.p10_direct.specs.Reading.{inside, include_of, of_name, only_name_of, alone, own_of, pragma_of, named_outcome, outcome_behind};
+ghost use Rattle.p10_lex.specs.Literals.{inside};
+ghost use Rattle.p10_direct.specs.Form.{plain, BeginsWithHash, IsFaultOf};
+ghost use Rattle.p10_direct.specs.private.Telling.{Tells, TellsUnless, fault_of};
+ghost use Rattle.p10_direct.specs.private.Reading.{include_of, of_name, only_name_of, alone, own_of, pragma_of, named_outcome, outcome_behind};
 
 use crate::definition::define;
 use crate::form::{DirectFault, Directive};
-use crate::keyword::{Keyword, directive_named, names};
-use p10_base::{Family, Kind, Refusal, Span, Word};
+use crate::keyword::{Keyword, directive_named};
+use p10_base::{DirectiveCode, Kind, Refusal, Span, Word};
+use p10_lex::between;
 use std::alloc::Global;
 
 /// The directive that a line spells, or its refusal: D1 at the directive for an unknown one or one
@@ -47,13 +50,9 @@ pub fn whole(line: &[Word<'_>]) -> Span
 
 /// The refusal of a directive with the place `whole` that is unknown or of another form.
 pub fn bad_form(whole: Span) -> DirectFault
-    ensures { result ≡ fault_of 1 whole }
+    ensures { result ≡ fault_of DirectiveCode.BadDirective whole }
 {
-    DirectFault::Refused(Refusal {
-        family: Family::D,
-        number: 1,
-        span: whole,
-    })
+    DirectFault::Refused(Refusal::directive(DirectiveCode::BadDirective, whole))
 }
 
 /// Reads the words behind `#`.
@@ -91,18 +90,6 @@ fn read_named<'w, 's>(
         Some(Keyword::Else) => lone_else(whole, words),
         Some(Keyword::Endif) => lone_endif(whole, words),
         Some(Keyword::Pragma) => pragma(whole, words),
-    }
-}
-
-/// The text between its first byte and its last, where these are `opening` and `closing`; `None` where
-/// they are others, or the text has fewer than two bytes.
-pub fn between(text: &[u8], opening: u8, closing: u8) -> Option<&[u8]>
-    ensures { option_copied result ≡ inside opening closing text.now }
-{
-    if text.len() >= 2 && text[0] == opening && text[text.len() - 1] == closing {
-        Some(&text[1..text.len() - 1])
-    } else {
-        None
     }
 }
 
@@ -187,9 +174,9 @@ fn pragma<'w, 's>(whole: Span, words: &'w [Word<'s>]) -> Result<Directive<'w, 's
     match words {
         [] => Ok(Directive::OtherPragma),
         [word, others @ ..] => {
-            if names(word, b"p10") {
+            if word.is_name(b"p10") {
                 own_pragma(whole, others)
-            } else if names(word, b"once") && others.is_empty() {
+            } else if word.is_name(b"once") && others.is_empty() {
                 Ok(Directive::Once)
             } else {
                 Ok(Directive::OtherPragma)
@@ -205,9 +192,9 @@ fn own_pragma<'w, 's>(whole: Span, words: &'w [Word<'s>]) -> Result<Directive<'w
     let [word] = words else {
         return Err(bad_form(whole));
     };
-    if names(word, b"init_done") {
+    if word.is_name(b"init_done") {
         Ok(Directive::InitDone)
-    } else if names(word, b"task_loop") {
+    } else if word.is_name(b"task_loop") {
         Ok(Directive::TaskLoop)
     } else {
         Err(bad_form(whole))

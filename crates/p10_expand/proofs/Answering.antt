@@ -6,7 +6,7 @@ use Rattle.p10_base.specs.declared.word.Word.{Word}
 use Rattle.p10_macros.specs.Table.{Table}
 use Rattle.p10_expand.specs.declared.expansion.digits.Digits.{Digits}
 use Rattle.p10_expand.specs.Conditionals.{answered}
-use Rattle.p10_expand.specs.Running.{PutsAnswer}
+use Rattle.p10_expand.specs.private.Running.{PutsAnswer}
 
 -- the words of a question are passed over
 pub answered_behind : (digits : Digits) (macros : Table) (behind : ℕ) (words : List Word) → answered digits macros behind words ≡ answered digits macros 0 (drop behind words)

@@ -10,7 +10,7 @@ use Rattle.p10_expand.specs.declared.expansion.fault.ExpandFault.TheVariants.{Ov
 use Rattle.p10_expand.specs.declared.expansion.state.State.{State as CodedState}
 use Rattle.p10_expand.specs.declared.expansion.step.Step.{Step}
 use Rattle.p10_expand.specs.Obeying.{State, File, Next, ObeyedGives, Does, breaks_at, refuse}
-use Rattle.p10_expand.specs.Steps.{Steps}
+use Rattle.p10_expand.specs.private.Steps.{Steps}
 
 -- what comes of it in one way comes of it in another
 pub steps_map : (this that : Next → Type 0) → ((next : Next) → this next → that next) → (answer : Result Step ExpandFault) (s : CodedState) → Steps this answer s → Steps that answer s

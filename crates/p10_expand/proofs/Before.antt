@@ -8,7 +8,7 @@ use Rattle.p10_base.specs.declared.report.Family.{Family}
 use Rattle.p10_macros.specs.declared.replaced.Replaced.{Replaced}
 use Rattle.p10_macros.specs.declared.replaced.ReplaceFault.TheVariants as fault
 use Rattle.p10_macros.specs.Table.{Table}
-use Rattle.p10_macros.specs.Uses.{Sourced, written, plain_words}
+use Rattle.p10_macros.specs.Uses.{Sourced, written, sourced_words}
 use Rattle.p10_macros.specs.Endings.{Ending, Gives, Refused, TooMany}
 use Rattle.p10_macros.specs.Ends.{Ends}
 use Rattle.p10_macros.specs.Answers.{IsReplaced, IsFault}
@@ -16,7 +16,7 @@ use Rattle.p10_macros.specs.Fronts.{FrontsGive}
 use Rattle.p10_macros.proofs.OneEnding.{one_ending}
 use Rattle.p10_expand.specs.Conditionals.{RunEnds, refusal_of}
 use Rattle.p10_expand.specs.Obeying.{State, Refuses, End, begins_at, words_before, with_words, TextGives}
-use Rattle.p10_expand.specs.Running.{GivesBefore}
+use Rattle.p10_expand.specs.private.Running.{GivesBefore}
 use Rattle.p10_expand.specs.Before.{ComeInOrder, WordsBeforeGive}
 
 -- words of which one is split off
@@ -88,11 +88,11 @@ module _ (macros : Table) (taken words : List Word) (left : ℕ) (same : taken �
   ends_so ending ends = one_ending macros None (map written words) left ending (Gives made remaining) (subst (λ (l : List Word). RunEnds macros l left ending) same ends) gives
 
   -- give it,
-  pub replaced_so : (replaced : Replaced) → IsReplaced macros taken left replaced → replaced.words.items ≡ plain_words made
+  pub replaced_so : (replaced : Replaced) → IsReplaced macros taken left replaced → replaced.words.items ≡ sourced_words made
   replaced_so replaced (other, ends, is) =
       let so : Gives other replaced.left ≡ Gives made remaining = ends_so (Gives other replaced.left) ends in
       let these : other ≡ made = cc in
-      sym is ∙ ap plain_words these
+      sym is ∙ ap sourced_words these
 
   -- aren't refused,
   pub not_refused : (refusal : Refusal) → IsFault macros taken left (fault.Refused refusal) → ⊥
@@ -112,6 +112,6 @@ module _ (macros : Table) (taken words : List Word) (left : ℕ) (same : taken �
 pub refused_so : (s new : State) (words : List Word) (refusal : Refusal) → FrontsGive → ComeInOrder 0 words → IsFault s.macros words s.left (fault.Refused refusal) → GivesBefore s (words_before refusal.span words) new → TextGives s words (End (Refuses new refusal))
 refused_so s new words refusal fronts order (family, ends) given =
     let (made, remaining, gives) = words_before_give fronts s.macros words s.left refusal.number refusal.span order ends in
-    let state : new ≡ with_words s (plain_words made) = given made remaining gives in
+    let state : new ≡ with_words s (sourced_words made) = given made remaining gives in
     let is : refusal ≡ refusal_of refusal.number refusal.span = ap (λ (f : Family). let r : Refusal = record { family = f; number = refusal.number; span = refusal.span } in r) family in
-    (Refused refusal.number refusal.span, ends, (made, remaining, gives, ap (λ (n : State). End (Refuses n refusal)) state ∙ ap (λ (r : Refusal). End (Refuses (with_words s (plain_words made)) r)) is))
+    (Refused refusal.number refusal.span, ends, (made, remaining, gives, ap (λ (n : State). End (Refuses n refusal)) state ∙ ap (λ (r : Refusal). End (Refuses (with_words s (sourced_words made)) r)) is))

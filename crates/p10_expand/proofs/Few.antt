@@ -9,10 +9,9 @@ use Rattle.p10_base.specs.declared.span.Span.{Span}
 use Rattle.p10_base.specs.declared.word.Word.{Word}
 use Rattle.p10_base.specs.declared.report.Limit.{Limit}
 use Rattle.p10_base.specs.Gathered.{Gathered, count_of, text_of, name_of, candidate_of}
-use Rattle.p10_lex.specs.Pieces.{seen}
+use Rattle.p10_base.specs.Words.{plain_word, Text}
 use Rattle.p10_lex.specs.Slices.{AreSlices}
 use Rattle.p10_lex.proofs.SliceLaws.{answer_slices}
-use Rattle.p10_direct.specs.Spelling.{Text}
 use Rattle.p10_direct.specs.Keywords.{keyword_of}
 use Rattle.p10_direct.specs.declared.keyword.Keyword.{Keyword}
 use Rattle.p10_direct.specs.declared.keyword.Keyword.TheVariants as keyword
@@ -22,7 +21,7 @@ use Rattle.p10_direct.specs.Directives.{PlainMacro, PlainDirective, Null, Includ
 use Rattle.p10_macros.specs.declared.table.Effect.{Effect}
 use Rattle.p10_macros.specs.declared.table.Effect.TheVariants.{New, Same, Other}
 use Rattle.p10_macros.specs.Table.{Table}
-use Rattle.p10_macros.specs.Uses.{Sourced, plain_words}
+use Rattle.p10_macros.specs.Uses.{Sourced, sourced_words}
 use Rattle.p10_macros.specs.Endings.{Ending, Gives, Refused, TooMany}
 use Rattle.p10_expand.specs.declared.expanded.Expanded.{Expanded}
 use Rattle.p10_expand.specs.declared.expanded.Obeyed.{Obeyed as ObeyedLine}
@@ -34,11 +33,12 @@ use Rattle.p10_expand.specs.Headers.{header_of, stdint, stdbool, stddef, stdio, 
 use Rattle.p10_expand.specs.Skips.{is_obeyed}
 use Rattle.p10_expand.specs.Conditionals.{Judged, Judges, answered}
 use Rattle.p10_expand.specs.Items.{lines_of, onto_line, ends_line, item_name, is_among, new_words}
-use Rattle.p10_expand.specs.Obeying.{State, Ended, Goes, Refuses, Passes, Next, On, Enter, End, File, limit, refuse, words_before, begins_at, TextEnds, TextGives, RunGives, included, is_header, is_some_text, defined_as, DefinitionGives, DefineGives, judged_next, ConditionGives, mark_word, Does, Acts, breaks_at, listed, passed, ObeyedGives, LineGives}
+use Rattle.p10_expand.specs.Obeying.{State, Ended, Goes, Refuses, Passes, Next, On, Enter, End, File, refuse, words_before, begins_at, TextEnds, TextGives, RunGives, included, is_header, is_some_text, defined_as, DefinitionGives, DefineGives, judged_next, ConditionGives, mark_word, Does, Acts, breaks_at, listed, passed, ObeyedGives, LineGives}
 use Rattle.p10_expand.specs.Expands.{Layout, Includes, GoesOn, Follows, LinesGive, counted, CountedGives, IncludeGives, Expansion, RootEnds, RootsGive, Expands, IsLaidOut, fresh, no_words, words_at}
-use Rattle.p10_expand.specs.Steps.{IsExpansion, expansion_of}
+use Rattle.p10_expand.specs.Answers.{IsExpansion, expansion_of}
 use Rattle.p10_expand.proofs.Keeping.{each_front, each_back}
 use Rattle.p10_expand.proofs.Counting.{together, Few, run_few, made_few}
+use Rattle.p10_base.specs.declared.report.TheConstants.Limit.{MACROS}
 
 -- ## The texts of built-in headers
 
@@ -134,12 +134,12 @@ enclosed_delimits : (angle : Bool) (name : Text) → delimits (enclosed angle na
 enclosed_delimits true name = refl
 enclosed_delimits false name = refl
 
-words_plain : (g : Gathered) (number place : ℕ) (words : List Word) → delimits (text_of g number) ≡ false → AreSlices number (text_of g number) place (map seen words) → AllByRecursion IsPlain words
+words_plain : (g : Gathered) (number place : ℕ) (words : List Word) → delimits (text_of g number) ≡ false → AreSlices number (text_of g number) place (map plain_word words) → AllByRecursion IsPlain words
 words_plain g number place [] p slices = tt
 words_plain g number place (word ∷ words) p slices =
     (subst (λ text. delimits text ≡ false) (sym slices.1.slice) (take_delimits (word.at.end - word.at.start) (drop word.at.start (text_of g number)) (drop_delimits word.at.start (text_of g number) p)), words_plain g number word.at.end words p slices.2)
 
-words_short : (g : Gathered) (number place : ℕ) (words : List Word) → AreSlices number (text_of g number) place (map seen words) → place ≤ length (text_of g number) → place + length words ≤ length (text_of g number)
+words_short : (g : Gathered) (number place : ℕ) (words : List Word) → AreSlices number (text_of g number) place (map plain_word words) → place ≤ length (text_of g number) → place + length words ≤ length (text_of g number)
 words_short g number place [] slices within = omega (arith, within)
 words_short g number place (word ∷ words) slices within =
     let more : word.at.end + length words ≤ length (text_of g number) = words_short g number word.at.end words slices.2 slices.1.within in
@@ -210,10 +210,10 @@ module _ (g : Gathered) where
   text_ends_few : (count : ℕ) (whole : List Word) (s : State) (words : List Word) (ending : Ending (List Sourced)) (next : Next) → length words ≤ length whole →
       StateFew count s → Few (length words + s.left) s.left ending → TextEnds s words ending next → NextFew count whole next
   text_ends_few count whole s words (Gives made left) next w h e is =
-      subst (NextFew count whole) (sym is) (omega (arith, w, h, e.0, e.1, made_few made, length-append s.words (plain_words made)))
+      subst (NextFew count whole) (sym is) (omega (arith, w, h, e.0, e.1, made_few made, length-append s.words (sourced_words made)))
   text_ends_few count whole s words (Refused number at) next w h e (made, left, ends, is) =
       let out = run_few s.macros (words_before at words) s.left (Gives made left) ends in
-      subst (NextFew count whole) (sym is) (omega (arith, w, h, out.0, made_few made, before_few at words, length-append s.words (plain_words made)))
+      subst (NextFew count whole) (sym is) (omega (arith, w, h, out.0, made_few made, before_few at words, length-append s.words (sourced_words made)))
   text_ends_few count whole s words TooMany next w h e is = subst (NextFew count whole) (sym is) tt
 
   text_few : (count : ℕ) (whole : List Word) (s : State) (words : List Word) (next : Next) → length words ≤ length whole → StateFew count s → TextGives s words next → NextFew count whole next
@@ -289,7 +289,7 @@ module _ (g : Gathered) where
   mark_few (hash ∷ words) = omega arith
 
   defined_few : (count : ℕ) (line : List Word) (s : State) (answer : Effect) (macros : Table) → StateFew count s → NextFew count line (defined_as line s answer macros)
-  defined_few count line s New macros h = next_if count line _ (End (Passes (limit 6))) (On Obeyed (record s { macros = macros })) tt (omega (arith, h))
+  defined_few count line s New macros h = next_if count line _ (End (Passes MACROS)) (On Obeyed (record s { macros = macros })) tt (omega (arith, h))
   defined_few count line s Same macros h = omega (arith, h)
   defined_few count line s Other macros h = omega (arith, h)
 
@@ -514,7 +514,7 @@ header_words g layout laid number is =
     each_place_or IsHeaderOf layout.words [] number (record { few = omega arith; plain = tt })
     (λ there.
     let held : number < count_of g = omega (arith, laid.words.all, there) in
-    let slices : AreSlices number (text_of g number) 0 (map seen (get_or layout.words number [])) = answer_slices number (text_of g number) (map seen (get_or layout.words number [])) (laid.words.lexed number held) in
+    let slices : AreSlices number (text_of g number) 0 (map plain_word (get_or layout.words number [])) = answer_slices number (text_of g number) (map plain_word (get_or layout.words number [])) (laid.words.lexed number held) in
     record {
       few = omega (arith, is.short, words_short g number 0 (get_or layout.words number []) slices (omega arith));
       plain = words_plain g number 0 (get_or layout.words number []) is.without slices;

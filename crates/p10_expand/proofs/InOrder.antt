@@ -3,10 +3,9 @@ use Rattle.std.proofs.Common.{◌≡◌, ℕ, suc, ◌<◌, ◌≤◌, List, [],
 use Rattle.std.specs.List.{AllByRecursion}
 use Rattle.p10_base.specs.declared.word.Word.{Word}
 use Rattle.p10_base.specs.Gathered.{Gathered, count_of, text_of}
-use Rattle.p10_lex.specs.Pieces.{seen}
+use Rattle.p10_base.specs.Words.{plain_word, Text}
 use Rattle.p10_lex.specs.Slices.{AreSlices}
 use Rattle.p10_lex.proofs.SliceLaws.{answer_slices}
-use Rattle.p10_direct.specs.Spelling.{Text}
 use Rattle.p10_direct.specs.Lines.{Piece, AreCut, words_of}
 use Rattle.p10_expand.specs.Items.{lines_of, onto_line, ends_line, item_name, is_among, given_after, new_words}
 use Rattle.p10_expand.specs.declared.expansion.fault.ExpandFault.{ExpandFault}
@@ -15,7 +14,7 @@ use Rattle.p10_expand.specs.declared.expansion.step.Step.{Step}
 use Rattle.p10_expand.specs.Obeying.{State, TextGives, RunGives}
 use Rattle.p10_expand.specs.Before.{ComeInOrder}
 use Rattle.p10_expand.specs.Expands.{Layout, IsLaidOut, words_at}
-use Rattle.p10_expand.specs.Steps.{Steps}
+use Rattle.p10_expand.specs.private.Steps.{Steps}
 
 -- those that come behind a place come behind an earlier one
 earlier : (place before : ℕ) (words : List Word) → before ≤ place → ComeInOrder place words → ComeInOrder before words
@@ -23,7 +22,7 @@ earlier place before [] less order = tt
 earlier place before (word ∷ words) less order = (omega (arith, less, order.0), order.1)
 
 -- the words of a file come in order
-slices_in_order : (file : ℕ) (bytes : List ℕ) (place : ℕ) (words : List Word) → AreSlices file bytes place (map seen words) → ComeInOrder place words
+slices_in_order : (file : ℕ) (bytes : List ℕ) (place : ℕ) (words : List Word) → AreSlices file bytes place (map plain_word words) → ComeInOrder place words
 slices_in_order file bytes place [] slices = tt
 slices_in_order file bytes place (word ∷ words) slices =
     (slices.0, earlier word.at.end (suc word.at.start) words (omega (arith, slices.1.some)) (slices_in_order file bytes word.at.end words slices.2))
@@ -49,7 +48,7 @@ pieces_in_order place words (piece ∷ pieces) (rest, same, is, cut) order =
 pub file_in_order : (g : Gathered) (layout : Layout) (number : ℕ) (pieces : List Piece) → IsLaidOut g layout → number < count_of g → AreCut (words_at layout number) pieces → PiecesInOrder pieces
 file_in_order g layout number pieces laid held cut =
     pieces_in_order 0 (words_at layout number) pieces cut
-    (slices_in_order number (text_of g number) 0 (words_at layout number) (answer_slices number (text_of g number) (map seen (words_at layout number)) (laid.words.lexed number held)))
+    (slices_in_order number (text_of g number) 0 (words_at layout number) (answer_slices number (text_of g number) (map plain_word (words_at layout number)) (laid.words.lexed number held)))
 
 -- ## Items
 

@@ -3,10 +3,10 @@ use Rattle.std.proofs.Common.{◌≡◌, ℕ, ◌-◌, ◌<◌, List, [], ◌∷
 use Rattle.std.proofs.lemmas.List.{take-append-drop}
 use Rattle.std.proofs.Math.Seq.{drop-append_seam}
 use Rattle.p10_base.specs.declared.word.Word.{Word}
-use Rattle.p10_direct.specs.Spelling.{Text}
+use Rattle.p10_base.specs.Words.{Text}
 use Rattle.p10_direct.specs.Cutting.{before, behind, split}
 use Rattle.p10_expand.specs.Items.{lines_of, onto_line, given_after, new_words}
-use Rattle.p10_expand.specs.Running.{PutsItem}
+use Rattle.p10_expand.specs.private.Running.{PutsItem}
 use Rattle.p10_expand.proofs.Answering.{all_from}
 
 first_by : (begins : Bool) (word next : Word) (words front after : List Word) → lines_of (next ∷ words) ≡ (next ∷ front) ∷ lines_of after →

@@ -4,10 +4,10 @@ use Rattle.std.proofs.lemmas.Slice.Eq.{bytes_eq-Decides}
 use Rattle.std.specs.List.{AllByRecursion, flat_map}
 use Rattle.p10_base.specs.declared.span.Span.{Span}
 use Rattle.p10_base.specs.declared.word.Word.{Word}
-use Rattle.p10_direct.specs.Spelling.{Text, is_name, is_name_kind}
+use Rattle.p10_base.specs.Words.{Text, is_name, is_name_kind, plain_word}
 use Rattle.p10_direct.specs.Directives.{PlainMacro}
 use Rattle.p10_macros.specs.Table.{Entry, Table, macro_named, behind_first, last_first, without_macro}
-use Rattle.p10_macros.specs.Uses.{Sourced, written, plain_words, Arguments, opens, closes, separates, depth_behind, word_before, argument_before, arguments_in, fitting, Use, Stays, Wrong, Calls, fitted, called, unless_recursive, use_as, use_by, use_of, given, value_of, value_or, texts_of, replacement}
+use Rattle.p10_macros.specs.Uses.{Sourced, written, sourced_words, Arguments, opens, closes, separates, depth_behind, word_before, argument_before, arguments_in, fitting, Use, Stays, Wrong, Calls, fitted, called, unless_recursive, use_as, use_by, use_of, given, value_of, value_or, texts_of, replacement}
 use Rattle.p10_macros.specs.Endings.{Ending, Gives, Refused, TooMany, behind_word, behind_argument}
 use Rattle.p10_macros.specs.Ends.{Ends, EndsAll, Follows, place_of_use, no_words, word_stays, use_refused, use_replaced, no_arguments, argument_given, argument_refused, argument_too_long, replacement_made, replacement_too_long, values_refused, values_too_long}
 
@@ -219,7 +219,7 @@ module _ (kept : Kept) where
   value_holds : (parameters : List Text) (values : List (List Sourced)) (word : Word) → AllByRecursion (AllByRecursion SourcedPart) values → ValueHolds (value_of parameters values word)
   value_holds [] values word p = tt
   value_holds (parameter ∷ parameters) [] word p = tt
-  value_holds (parameter ∷ parameters) (value ∷ values) word p = value_if (is_name parameter word) (Some value) _ p.0 (value_holds parameters values word p.1)
+  value_holds (parameter ∷ parameters) (value ∷ values) word p = value_if (is_name parameter (plain_word word)) (Some value) _ p.0 (value_holds parameters values word p.1)
 
   value_or_holds : (value : Option (List Sourced)) (word : Word) → ValueHolds value → kept.IsPart word → AllByRecursion SourcedPart (value_or value word)
   value_or_holds None word p q = (q, tt)
@@ -292,7 +292,7 @@ module _ (kept : Kept) where
   pub run_holds : (table : Table) (words : List Word) (left : ℕ) (ending : Ending (List Sourced)) → Ends table None (map written words) left ending → TableHolds table → AllByRecursion kept.Stands words → EndingHolds ending
   run_holds table words left ending ends t p = ends_hold ends t tt (each_mapped kept.Stands HoldsSourced written (λ word stands. inl stands) words p)
 
-  pub made_holds : (made : List Sourced) → AllByRecursion HoldsSourced made → AllByRecursion Holds (plain_words made)
+  pub made_holds : (made : List Sourced) → AllByRecursion HoldsSourced made → AllByRecursion Holds (sourced_words made)
   made_holds made p = each_mapped HoldsSourced Holds (λ sourced. sourced.word) (λ sourced held. held) made p
 
   pub without_holds : (table : Table) (name : Text) → TableHolds table → TableHolds (without_macro table name)

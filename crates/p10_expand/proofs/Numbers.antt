@@ -7,7 +7,7 @@ use Rattle.p10_base.specs.declared.report.Refusal.{Refusal}
 use Rattle.p10_base.specs.declared.report.Limit.{Limit}
 use Rattle.p10_base.specs.declared.report.Family.TheVariants.{D}
 use Rattle.p10_base.specs.Gathered.{Gathered, root_count, name_of, candidate_of}
-use Rattle.p10_direct.specs.Spelling.{Text}
+use Rattle.p10_base.specs.Words.{Text}
 use Rattle.p10_direct.specs.Lines.{Piece, DirectiveLine, TextRun}
 use Rattle.p10_direct.specs.Balance.{mark_of}
 use Rattle.p10_direct.specs.Directives.{PlainMacro, PlainDirective, Include, Define, If, Elif, Outcome, Read, BadForm, BadDefinition, place_of}
@@ -24,8 +24,9 @@ use Rattle.p10_expand.specs.declared.expansion.stand.Stand.TheVariants.{Obeyed, 
 use Rattle.p10_expand.specs.Skips.{is_obeyed, stand_behind}
 use Rattle.p10_expand.specs.Conditionals.{Judged, Holds, Fails, Exceeds, Judges}
 use Rattle.p10_expand.specs.Items.{is_among, given_after, lines_of, new_words}
-use Rattle.p10_expand.specs.Obeying.{State, Ended, Goes, Refuses, Passes, Next, On, Enter, End, File, limit, refuse, TextEnds, TextGives, RunGives, is_header, included, defined_as, DefinitionGives, DefineGives, judged_next, ConditionGives, Does, Acts, breaks_at, listed, ObeyedGives, DirectiveGives, LineGives}
+use Rattle.p10_expand.specs.Obeying.{State, Ended, Goes, Refuses, Passes, Next, On, Enter, End, File, refuse, TextEnds, TextGives, RunGives, is_header, included, defined_as, DefinitionGives, DefineGives, judged_next, ConditionGives, Does, Acts, breaks_at, listed, ObeyedGives, DirectiveGives, LineGives}
 use Rattle.p10_expand.specs.Expands.{Layout, Includes, GoesOn, Follows, LinesGive, CountedGives, IncludeGives, Expansion, no_words, RootEnds, RootsGive, Expands}
+use Rattle.p10_base.specs.declared.report.TheConstants.Limit.{MACROS, MOST_MACROS}
 
 -- ## The numbers
 
@@ -94,7 +95,7 @@ included_numbered g line name s None = (refl, omega arith, omega arith)
 included_numbered g line name s (Some number) = next_if (is_among s.once (name_of g number)) (On Obeyed s) (Enter number (is_header g number name) s) tt tt
 
 defined_numbered : (line : List Word) (s : State) (answer : Effect) (macros : Table) → NextNumbered (defined_as line s answer macros)
-defined_numbered line s New macros = next_if (nat_lt 8192 (own_of macros)) (End (Passes (limit 6))) (On Obeyed (record s { macros = macros })) (inr (inr refl)) tt
+defined_numbered line s New macros = next_if (nat_lt MOST_MACROS (own_of macros)) (End (Passes MACROS)) (On Obeyed (record s { macros = macros })) (inr (inr refl)) tt
 defined_numbered line s Same macros = tt
 defined_numbered line s Other macros = (refl, omega arith, omega arith)
 

@@ -6,7 +6,7 @@ use Rattle.p10_base.specs.declared.report.Limit.{Limit}
 use Rattle.p10_base.specs.declared.word.Word.{Word}
 use Rattle.p10_lex.specs.declared.fault.LexFault.{LexFault}
 use Rattle.p10_lex.specs.declared.fault.LexFault.TheVariants.{Refused, Over, Memory}
-use Rattle.p10_lex.specs.Pieces.{LexedWord}
+use Rattle.p10_base.specs.Words.{PlainWord}
 use Rattle.p10_lex.specs.Lexes.{Answers}
 use Rattle.p10_lex.proofs.Uniqueness.{same_words, same_answer}
 use Rattle.p10_direct.specs.Lines.{Piece, DirectiveLine, TextRun, AreCut}
@@ -19,9 +19,9 @@ use Rattle.p10_expand.specs.Includes.{word_of, NamedIn, HasIncludes}
 -- ## Answers of lexing
 
 abbrev Lexed : Type 0
-Lexed = Result (List LexedWord) LexFault
+Lexed = Result (List PlainWord) LexFault
 
-abbrev words_are : List LexedWord → Lexed
+abbrev words_are : List PlainWord → Lexed
 words_are words = Ok words
 
 abbrev refused_by : Refusal → Lexed
@@ -33,7 +33,7 @@ passing limit = Err (Over limit)
 abbrev wanting : Lexed
 wanting = Err Memory
 
-words_there : (words : List LexedWord) → words_are words ≢ wanting
+words_there : (words : List PlainWord) → words_are words ≢ wanting
 words_there words = λ same. cc
 
 refusal_there : (refusal : Refusal) → refused_by refusal ≢ wanting
@@ -48,10 +48,10 @@ same_refusal r q same = cc
 same_limit : (l m : Limit) → passing l ≡ passing m → l ≡ m
 same_limit l m same = cc
 
-words_apart : (words : List LexedWord) (refusal : Refusal) → words_are words ≡ refused_by refusal → ⊥
+words_apart : (words : List PlainWord) (refusal : Refusal) → words_are words ≡ refused_by refusal → ⊥
 words_apart words refusal same = cc
 
-words_below : (words : List LexedWord) (limit : Limit) → words_are words ≡ passing limit → ⊥
+words_below : (words : List PlainWord) (limit : Limit) → words_are words ≡ passing limit → ⊥
 words_below words limit same = cc
 
 refusal_below : (refusal : Refusal) (limit : Limit) → refused_by refusal ≡ passing limit → ⊥

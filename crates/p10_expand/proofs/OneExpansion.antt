@@ -11,7 +11,7 @@ use Rattle.p10_direct.specs.Directives.{PlainMacro, PlainDirective, Null, Includ
 use Rattle.p10_macros.specs.declared.table.Effect.{Effect}
 use Rattle.p10_macros.specs.declared.table.Effect.TheVariants.{New, Same, Other}
 use Rattle.p10_macros.specs.Table.{Table, macro_named, same_macro}
-use Rattle.p10_macros.specs.Uses.{Sourced, plain_words}
+use Rattle.p10_macros.specs.Uses.{Sourced, sourced_words}
 use Rattle.p10_macros.specs.Endings.{Ending, Gives, Refused, TooMany}
 use Rattle.p10_macros.specs.Ends.{WordsEndInOneWay}
 use Rattle.p10_macros.specs.Answers.{Defines}
@@ -101,7 +101,7 @@ module _ (ends : WordsEndInOneWay) where
   text_ends_once s words (Gives made left) this that p q = both p q
   text_ends_once s words (Refused number at) this that (made, left, ends, this_is) (other, remaining, others, that_is) =
       let same : made ≡ other = same_given (run_once s.macros (words_before at words) s.left (Gives made left) (Gives other remaining) ends others) in
-      this_is ∙ ap (λ words. refuse (with_words s (plain_words words)) number at) same ∙ sym that_is
+      this_is ∙ ap (λ words. refuse (with_words s (sourced_words words)) number at) same ∙ sym that_is
   text_ends_once s words TooMany this that p q = both p q
 
   text_once : (s : State) (words : List Word) (this that : Next) → TextGives s words this → TextGives s words that → this ≡ that

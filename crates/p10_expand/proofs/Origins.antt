@@ -5,11 +5,10 @@ use Rattle.p10_base.specs.declared.span.Span.{Span}
 use Rattle.p10_base.specs.declared.word.Word.{Word}
 use Rattle.p10_base.specs.declared.report.Limit.{Limit}
 use Rattle.p10_base.specs.Gathered.{Gathered, LiesIn, count_of, text_of, name_of, candidate_of}
-use Rattle.p10_lex.specs.Pieces.{LexedWord, seen}
+use Rattle.p10_base.specs.Words.{PlainWord, plain_word, Text, is_name_kind}
 use Rattle.p10_lex.specs.Slices.{IsSlice, AreSlices}
 use Rattle.p10_lex.specs.Lexes.{Answers}
 use Rattle.p10_lex.proofs.SliceLaws.{answer_slices}
-use Rattle.p10_direct.specs.Spelling.{Text, is_name_kind}
 use Rattle.p10_direct.specs.Keywords.{keyword_of}
 use Rattle.p10_direct.specs.declared.keyword.Keyword.{Keyword}
 use Rattle.p10_direct.specs.declared.keyword.Keyword.TheVariants as keyword
@@ -19,7 +18,7 @@ use Rattle.p10_direct.specs.Directives.{PlainMacro, PlainDirective, Null, Includ
 use Rattle.p10_macros.specs.declared.table.Effect.{Effect}
 use Rattle.p10_macros.specs.declared.table.Effect.TheVariants.{New, Same, Other}
 use Rattle.p10_macros.specs.Table.{Entry, Table}
-use Rattle.p10_macros.specs.Uses.{Sourced, plain_words}
+use Rattle.p10_macros.specs.Uses.{Sourced, sourced_words}
 use Rattle.p10_macros.specs.Endings.{Ending, Gives, Refused, TooMany}
 use Rattle.p10_macros.specs.Answers.{Defines}
 use Rattle.p10_expand.specs.declared.expanded.Obeyed.{Obeyed as ObeyedLine}
@@ -29,13 +28,14 @@ use Rattle.p10_expand.specs.declared.expansion.stand.Stand.TheVariants.{Obeyed, 
 use Rattle.p10_expand.specs.Skips.{is_obeyed}
 use Rattle.p10_expand.specs.Conditionals.{Judged, Holds as Truth, Fails, Exceeds, Judges, answered, answered_at, asked_at}
 use Rattle.p10_expand.specs.Items.{lines_of, onto_line, ends_line, item_name, is_among, new_words}
-use Rattle.p10_expand.specs.Obeying.{State, Ended, Goes, Refuses, Passes, Next, On, Enter, End, File, limit, refuse, words_before, begins_at, with_words, TextEnds, TextGives, RunGives, operand_place, included, is_header, defined_as, DefinitionGives, DefineGives, judged_next, ConditionGives, mark_word, Does, Acts, breaks_at, listed, passed, ObeyedGives, LineGives}
+use Rattle.p10_expand.specs.Obeying.{State, Ended, Goes, Refuses, Passes, Next, On, Enter, End, File, refuse, words_before, begins_at, with_words, TextEnds, TextGives, RunGives, operand_place, included, is_header, defined_as, DefinitionGives, DefineGives, judged_next, ConditionGives, mark_word, Does, Acts, breaks_at, listed, passed, ObeyedGives, LineGives}
 use Rattle.p10_expand.specs.Expands.{Layout, Includes, GoesOn, Follows, LinesGive, counted, CountedGives, IncludeGives, Expansion, RootEnds, RootsGive, Expands, IsLaidOut, fresh, no_words, words_at}
 use Rattle.p10_expand.specs.declared.expanded.Expanded.{Expanded}
 use Rattle.p10_expand.specs.declared.expansion.fault.ExpandFault.{ExpandFault}
-use Rattle.p10_expand.specs.Steps.{IsExpansion, expansion_of}
+use Rattle.p10_expand.specs.Answers.{IsExpansion, expansion_of}
 use Rattle.p10_expand.specs.Coming.{HasWords, IsWritten, IsInText, IsDirective, IsMacroName, Comes, in_text, as_mark, by_macro, IsListed, ExpansionComes}
 use Rattle.p10_expand.proofs.Keeping.{Kept, Holds, TableHolds, MacroHolds, EndingHolds, each_joined, each_front, each_back, each_weaker, run_holds, made_holds, without_holds}
+use Rattle.p10_base.specs.declared.report.TheConstants.Limit.{MACROS}
 
 -- ## Lists
 
@@ -68,23 +68,23 @@ module _ (g : Gathered) where
   -- ## Words
 
   abbrev Written : Word → Type 0
-  Written word = IsWritten g (seen word)
+  Written word = IsWritten g (plain_word word)
 
   abbrev InText : Word → Type 0
-  InText word = IsInText g (seen word)
+  InText word = IsInText g (plain_word word)
 
   abbrev Coming : Word → Type 0
-  Coming word = Comes g (seen word)
+  Coming word = Comes g (plain_word word)
 
   -- a word of a file, but for its place
   record IsPart (word : Word) : Type 0 where
-    part : LexedWord
+    part : PlainWord
     written : IsWritten g part
-    same : seen word ≡ record part { at = word.at }
+    same : plain_word word ≡ record part { at = word.at }
 
   -- the place of a macro's name in a text
   record IsUse (at : Span) : Type 0 where
-    name : LexedWord
+    name : PlainWord
     is_name : is_name_kind name.kind ≡ true
     of_macro : IsMacroName g name.text
     in_text : IsInText g name
@@ -96,9 +96,9 @@ module _ (g : Gathered) where
     IsName = IsMacroName g;
     IsPart = IsPart;
     IsPlace = IsUse;
-    part = λ word stands. record { part = seen word; written = stands.written; same = refl };
-    place = λ word stands kind name. record { name = seen word; is_name = kind; of_macro = name; in_text = stands; place = refl };
-    moved = λ word at is. record { part = is.part; written = is.written; same = ap (λ (other : LexedWord). record other { at = at }) is.same };
+    part = λ word stands. record { part = plain_word word; written = stands.written; same = refl };
+    place = λ word stands kind name. record { name = plain_word word; is_name = kind; of_macro = name; in_text = stands; place = refl };
+    moved = λ word at is. record { part = is.part; written = is.written; same = ap (λ (other : PlainWord). record other { at = at }) is.same };
   }
 
   comes : (word : Word) → Holds kept word → Coming word
@@ -113,7 +113,7 @@ module _ (g : Gathered) where
     given = part.same ∙ ap (λ at. record part.part { at = at }) (sym use'.place);
   })
 
-  written_lies : (word : LexedWord) → IsWritten g word → LiesIn g word.at
+  written_lies : (word : PlainWord) → IsWritten g word → LiesIn g word.at
   written_lies word is =
       let of_file : word.at.file ≡ is.file = is.slice.of_file in
       let start : word.at.start < word.at.end = is.slice.some in
@@ -123,12 +123,12 @@ module _ (g : Gathered) where
       }
 
   lies : (word : Word) → Written word → LiesIn g word.at
-  lies word is = written_lies (seen word) is
+  lies word is = written_lies (plain_word word) is
 
-  pub comes_lies : (word : LexedWord) → Comes g word → LiesIn g word.at
+  pub comes_lies : (word : PlainWord) → Comes g word → LiesIn g word.at
   comes_lies word (in_text is) = written_lies word is.written
-  comes_lies word (as_mark is) = subst (λ (word : LexedWord). LiesIn g word.at) (sym is.mark) (written_lies is.last is.written)
-  comes_lies word (by_macro is) = subst (λ (word : LexedWord). LiesIn g word.at) (sym is.given) (written_lies is.name is.in_text.written)
+  comes_lies word (as_mark is) = subst (λ (word : PlainWord). LiesIn g word.at) (sym is.mark) (written_lies is.last is.written)
+  comes_lies word (by_macro is) = subst (λ (word : PlainWord). LiesIn g word.at) (sym is.given) (written_lies is.name is.in_text.written)
 
   use_lies : (at : Span) → IsUse at → LiesIn g at
   use_lies at is = subst (LiesIn g) is.place (written_lies is.name is.in_text.written)
@@ -158,7 +158,7 @@ module _ (g : Gathered) where
   mark_holds : (line : List Word) → LineHolds line → AllByRecursion Coming (mark_word line)
   mark_holds [] h = absurd h
   mark_holds (hash ∷ words) h =
-      (as_mark (record { last = seen (get_or (hash ∷ words) (length (hash ∷ words) - 1) hash); written = each_at Written (hash ∷ words) hash (h.0, h.1) h.0 (length (hash ∷ words) - 1); mark = refl }), tt)
+      (as_mark (record { last = plain_word (get_or (hash ∷ words) (length (hash ∷ words) - 1) hash); written = each_at Written (hash ∷ words) hash (h.0, h.1) h.0 (length (hash ∷ words) - 1); mark = refl }), tt)
 
   abbrev ListedHolds : ObeyedLine → Type 0
   ListedHolds line = AllByRecursion Written line.words × LiesIn g line.span × IsDirective g line.words
@@ -192,8 +192,8 @@ module _ (g : Gathered) where
   before_hold at [] p = tt
   before_hold at (word ∷ words) p = before_if (begins_at at word) (word ∷ words_before at words) (p.0, before_hold at words p.1)
 
-  given_come : (made : List Sourced) → EndingHolds kept (Gives made 0) → AllByRecursion Coming (plain_words made)
-  given_come made p = each_weaker (Holds kept) Coming comes (plain_words made) (made_holds kept made p)
+  given_come : (made : List Sourced) → EndingHolds kept (Gives made 0) → AllByRecursion Coming (sourced_words made)
+  given_come made p = each_weaker (Holds kept) Coming comes (sourced_words made) (made_holds kept made p)
 
   more_words : (s : State) (words : List Word) (left : ℕ) → StateHolds s → AllByRecursion Coming words → StateHolds (record s { words = s.words ++ words; left = left })
   more_words s words left h p = record { macros = h.macros; words = each_joined Coming s.words words h.words p; obeyed = h.obeyed }
@@ -202,10 +202,10 @@ module _ (g : Gathered) where
   with_holds s words h p = record { macros = h.macros; words = each_joined Coming s.words words h.words p; obeyed = h.obeyed }
 
   text_ends_hold : (s : State) (words : List Word) (ending : Ending (List Sourced)) (next : Next) → StateHolds s → AllByRecursion InText words → EndingHolds kept ending → TextEnds s words ending next → NextHolds next
-  text_ends_hold s words (Gives made left) next h p e is = subst NextHolds (sym is) (more_words s (plain_words made) left h (given_come made e))
+  text_ends_hold s words (Gives made left) next h p e is = subst NextHolds (sym is) (more_words s (sourced_words made) left h (given_come made e))
   text_ends_hold s words (Refused number at) next h p e (made, left, ends, is) =
       let out = given_come made (run_holds kept s.macros (words_before at words) s.left (Gives made left) ends h.macros (before_hold at words p)) in
-      subst NextHolds (sym is) (with_holds s (plain_words made) h out, use_lies at e)
+      subst NextHolds (sym is) (with_holds s (sourced_words made) h out, use_lies at e)
   text_ends_hold s words TooMany next h p e is = subst NextHolds (sym is) tt
 
   text_holds : (s : State) (words : List Word) (next : Next) → StateHolds s → AllByRecursion InText words → TextGives s words next → NextHolds next
@@ -337,7 +337,7 @@ module _ (g : Gathered) where
   definition_holds definition (name ∷ words) d p = body_holds name definition.parameters definition.body words d.2 p.1
 
   written_part : (word : Word) → Written word → IsPart word
-  written_part word is = record { part = seen word; written = is; same = refl }
+  written_part word is = record { part = plain_word word; written = is; same = refl }
 
   named_holds : (directive : PlainDirective) (name : Option Keyword) (words : List Word) → SpellsNamed directive name words → AllByRecursion Written words → WordsHold directive
   named_holds (Define made) (Some keyword.Define) words (definition, defines, bad, is) p =
@@ -391,7 +391,7 @@ module _ (g : Gathered) where
   with_macros s macros h t = record { macros = t; words = h.words; obeyed = h.obeyed }
 
   defined_holds : (line : List Word) (s : State) (answer : Effect) (macros : Table) → StateHolds s → LineHolds line → TableHolds kept macros → NextHolds (defined_as line s answer macros)
-  defined_holds line s New macros h l t = next_if _ (End (Passes (limit 6))) (On Obeyed (record s { macros = macros })) tt (with_macros s macros h t)
+  defined_holds line s New macros h l t = next_if _ (End (Passes MACROS)) (On Obeyed (record s { macros = macros })) tt (with_macros s macros h t)
   defined_holds line s Same macros h l t = with_macros s macros h t
   defined_holds line s Other macros h l t = (h, operand_lies line l)
 
@@ -470,15 +470,15 @@ module _ (g : Gathered) where
   -- the word is one of these, which are those of the file
   record IsOf (number : ℕ) (words : List Word) (word : Word) : Type 0 where
     has : HasWords g number words
-    among : Contains (map seen words) (seen word)
-    slice : IsSlice number (text_of g number) (seen word)
+    among : Contains (map plain_word words) (plain_word word)
+    slice : IsSlice number (text_of g number) (plain_word word)
 
   module _ (number : ℕ) (whole : List Word) where
     abbrev is_written : (word : Word) → IsOf number whole word → Written word
     is_written word is = record { file = number; words = whole; has = is.has; among = is.among; slice = is.slice }
 
     module _ (all : List Piece) (all_cut : AreCut whole all) where
-      run_stands : (run : List Word) → Contains all (TextRun run) → (word : Word) → IsOf number whole word → Contains (map seen run) (seen word) → InText word
+      run_stands : (run : List Word) → Contains all (TextRun run) → (word : Word) → IsOf number whole word → Contains (map plain_word run) (plain_word word) → InText word
       run_stands run piece word is within = record { written = is_written word is; pieces = all; cut = all_cut; run = run; piece = piece; within = within }
 
       piece_holds : (piece : Piece) (rest : List Word) → IsPiece piece rest → Contains all piece → AllByRecursion (IsOf number whole) (words_of piece) → PieceHolds piece
@@ -486,7 +486,7 @@ module _ (g : Gathered) where
       piece_holds (DirectiveLine (word ∷ words)) rest is c p =
           let line : IsDirective g (word ∷ words) = record { file = number; words = whole; has = p.0.has; pieces = all; cut = all_cut; piece = c } in
           (is_written word p.0, each_weaker (IsOf number whole) Written is_written words p.1, line)
-      piece_holds (TextRun words) rest is c p = each_both (IsOf number whole) (λ word. Contains (map seen words) (seen word)) InText (run_stands words c) words p (each_in seen words)
+      piece_holds (TextRun words) rest is c p = each_both (IsOf number whole) (λ word. Contains (map plain_word words) (plain_word word)) InText (run_stands words c) words p (each_in plain_word words)
 
       pieces_hold : (words : List Word) (pieces : List Piece) → AreCut words pieces → AllByRecursion (Contains all) pieces → AllByRecursion (IsOf number whole) words → AllByRecursion PieceHolds pieces
       pieces_hold words [] cut c p = tt
@@ -582,15 +582,15 @@ module _ (g : Gathered) where
 
 -- ## The words of the files
 
-slice_each : (g : Gathered) (number : ℕ) (place : ℕ) (words : List Word) → AreSlices number (text_of g number) place (map seen words) → AllByRecursion (λ word. IsSlice number (text_of g number) (seen word)) words
+slice_each : (g : Gathered) (number : ℕ) (place : ℕ) (words : List Word) → AreSlices number (text_of g number) place (map plain_word words) → AllByRecursion (λ word. IsSlice number (text_of g number) (plain_word word)) words
 slice_each g number place [] slices = tt
 slice_each g number place (word ∷ words) slices = (slices.1, slice_each g number word.at.end words slices.2)
 
-file_comes : (g : Gathered) (number : ℕ) (words : List Word) → number < count_of g → Answers number (text_of g number) (Ok (map seen words)) → AllByRecursion (IsOf g number words) words
+file_comes : (g : Gathered) (number : ℕ) (words : List Word) → number < count_of g → Answers number (text_of g number) (Ok (map plain_word words)) → AllByRecursion (IsOf g number words) words
 file_comes g number words held lexed =
-    each_both (λ word. Contains (map seen words) (seen word)) (λ word. IsSlice number (text_of g number) (seen word)) (IsOf g number words)
-    (λ word among slice. record { has = record { held = held; lexed = lexed }; among = among; slice = slice }) words (each_in seen words)
-    (slice_each g number 0 words (answer_slices number (text_of g number) (map seen words) lexed))
+    each_both (λ word. Contains (map plain_word words) (plain_word word)) (λ word. IsSlice number (text_of g number) (plain_word word)) (IsOf g number words)
+    (λ word among slice. record { has = record { held = held; lexed = lexed }; among = among; slice = slice }) words (each_in plain_word words)
+    (slice_each g number 0 words (answer_slices number (text_of g number) (map plain_word words) lexed))
 
 files_come : (g : Gathered) (layout : Layout) → IsLaidOut g layout → (number : ℕ) → AllByRecursion (IsOf g number (words_at layout number)) (words_at layout number)
 files_come g layout laid number =

@@ -8,11 +8,11 @@ use Rattle.p10_base.specs.declared.report.Refusal.{Refusal}
 use Rattle.p10_base.specs.declared.report.Limit.{Limit}
 use Rattle.p10_base.specs.declared.report.Family.TheVariants.{D}
 use Rattle.p10_base.specs.Gathered.{Gathered, LiesIn, root_count}
-use Rattle.p10_lex.specs.Pieces.{LexedWord, seen}
+use Rattle.p10_base.specs.Words.{PlainWord, plain_word}
 use Rattle.p10_expand.specs.declared.expanded.Expanded.{Expanded}
 use Rattle.p10_expand.specs.declared.expansion.fault.ExpandFault.TheVariants.{Over}
 use Rattle.p10_expand.specs.Expands.{Layout, IsLaidOut, Expansion, Expands}
-use Rattle.p10_expand.specs.Steps.{IsExpansion, IsFault, expansion_of}
+use Rattle.p10_expand.specs.Answers.{IsExpansion, IsFault, expansion_of}
 use Rattle.p10_expand.specs.Coming.{IsWritten, Comes, IsListed, ExpansionComes}
 use Rattle.p10_expand.specs.Plain.{PlainObeyed, plain_obeyed, PlainExpansion, plain_expansion, plain_answer, ExpandsTo}
 use Rattle.p10_expand.proofs.Keeping.{each_mapped}
@@ -33,22 +33,22 @@ module _ (g : Gathered) where
   -- ## Words, directives and refusals
 
   -- a word of a root comes from a file, and has its place in one
-  pub record WordComes (word : LexedWord) : Type 0 where
+  pub record WordComes (word : PlainWord) : Type 0 where
     pub comes : Comes g word
     pub place : LiesIn g word.at
 
   abbrev PlainHolds : Result PlainExpansion Limit → Type 0
-  PlainHolds (Ok expansion) = All (λ (words : List LexedWord). All WordComes words) expansion.roots
+  PlainHolds (Ok expansion) = All (λ (words : List PlainWord). All WordComes words) expansion.roots
       × All (λ (line : PlainObeyed). All (IsWritten g) line.words × LiesIn g line.span) expansion.obeyed
       × IfSome expansion.refusal (λ refusal. LiesIn g refusal.span × IsOfDirectives refusal)
   PlainHolds (Err limit) = IsOfExpansion limit
 
-  words_hold : (words : List Word) → AllByRecursion (λ word. Comes g (seen word)) words → All WordComes (map seen words)
+  words_hold : (words : List Word) → AllByRecursion (λ word. Comes g (plain_word word)) words → All WordComes (map plain_word words)
   words_hold words come =
-      All-from_recursion WordComes (map seen words) (each_mapped (λ word. Comes g (seen word)) WordComes seen (λ word comes. record { comes = comes; place = comes_lies g (seen word) comes }) words come)
+      All-from_recursion WordComes (map plain_word words) (each_mapped (λ word. Comes g (plain_word word)) WordComes plain_word (λ word comes. record { comes = comes; place = comes_lies g (plain_word word) comes }) words come)
 
-  written_hold : (words : List Word) → AllByRecursion (λ word. IsWritten g (seen word)) words → All (IsWritten g) (map seen words)
-  written_hold words written = All-from_recursion (IsWritten g) (map seen words) (each_mapped (λ word. IsWritten g (seen word)) (IsWritten g) seen (λ word is. is) words written)
+  written_hold : (words : List Word) → AllByRecursion (λ word. IsWritten g (plain_word word)) words → All (IsWritten g) (map plain_word words)
+  written_hold words written = All-from_recursion (IsWritten g) (map plain_word words) (each_mapped (λ word. IsWritten g (plain_word word)) (IsWritten g) plain_word (λ word is. is) words written)
 
   refusal_holds : (refusal : Option Refusal) → IfSome refusal (λ refusal. LiesIn g refusal.span) → IfSome refusal IsOfDirectives → IfSome refusal (λ refusal. LiesIn g refusal.span × IsOfDirectives refusal)
   refusal_holds None lies numbered = tt
@@ -57,8 +57,8 @@ module _ (g : Gathered) where
   answer_holds : (layout : Layout) (answer : Result Expansion Limit) → IsLaidOut g layout → Expands g layout answer → AnswerNumbered g layout answer → PlainHolds (plain_answer answer)
   answer_holds layout (Ok expansion) laid expands numbered =
       let comes : ExpansionComes g expansion = expansion_comes g layout expansion laid expands in (
-        All-from_recursion (λ (words : List LexedWord). All WordComes words) (map (map seen) expansion.roots)
-            (each_mapped (AllByRecursion (λ word. Comes g (seen word))) (λ (words : List LexedWord). All WordComes words) (map seen) words_hold expansion.roots comes.roots),
+        All-from_recursion (λ (words : List PlainWord). All WordComes words) (map (map plain_word) expansion.roots)
+            (each_mapped (AllByRecursion (λ word. Comes g (plain_word word))) (λ (words : List PlainWord). All WordComes words) (map plain_word) words_hold expansion.roots comes.roots),
         All-from_recursion (λ (line : PlainObeyed). All (IsWritten g) line.words × LiesIn g line.span) (map plain_obeyed expansion.obeyed)
             (each_mapped (IsListed g) (λ (line : PlainObeyed). All (IsWritten g) line.words × LiesIn g line.span) plain_obeyed (λ line is. (written_hold line.words is.words, is.place)) expansion.obeyed comes.obeyed),
         refusal_holds expansion.refusal comes.refusal numbered,
@@ -69,7 +69,7 @@ module _ (g : Gathered) where
   plain_holds answer to = subst PlainHolds (sym to.plain) (answer_holds to.layout to.expansion to.laid_out to.expands (expansion_numbered g to.layout to.expansion to.expands))
 
   -- each word of each root comes from a file
-  pub words_come : (expansion : PlainExpansion) → ExpandsTo g (Ok expansion) → All (λ (words : List LexedWord). All WordComes words) expansion.roots
+  pub words_come : (expansion : PlainExpansion) → ExpandsTo g (Ok expansion) → All (λ (words : List PlainWord). All WordComes words) expansion.roots
   words_come expansion to = (plain_holds (Ok expansion) to).0
 
   -- those of the directives that were obeyed are words of files
@@ -93,7 +93,7 @@ module _ (g : Gathered) where
   PlainHasRoots (Err limit) = Unit {0}
 
   many_plain : (layout : Layout) (answer : Result Expansion Limit) → HasRoots g layout (root_count g) answer → PlainHasRoots (plain_answer answer)
-  many_plain layout (Ok expansion) has = length-map expansion.roots (map seen) ∙ has
+  many_plain layout (Ok expansion) has = length-map expansion.roots (map plain_word) ∙ has
   many_plain layout (Err limit) has = tt
 
   -- each root has its words

@@ -2,7 +2,7 @@
 use Rattle.std.proofs.Common.{◌≡◌, ℕ, Bool, List, [], ◌∷◌, ◌++◌, map, Option, Some, None, refl, ap, sym, ◌∙◌, subst, inl, inr}
 use Rattle.std.proofs.lemmas.List.{map-append}
 use Rattle.p10_base.specs.declared.word.Word.{Word}
-use Rattle.p10_lex.specs.Pieces.{seen}
+use Rattle.p10_base.specs.Words.{plain_word}
 use Rattle.p10_direct.specs.declared.keyword.Keyword.{Keyword}
 use Rattle.p10_direct.specs.declared.keyword.Keyword.TheVariants as keyword
 use Rattle.p10_direct.specs.Lines.{Piece, DirectiveLine, TextRun, words_of, NonePasses, FollowedBy, begins_directive, IsPiece, AreCut}
@@ -12,15 +12,15 @@ use Rattle.p10_expand.specs.declared.place.Include.{Include as Wanted}
 use Rattle.p10_expand.specs.Includes.{word_of, NamedIn, AreIncludes}
 
 abbrev plain : Word → Word
-plain word = word_of (seen word)
+plain word = word_of (plain_word word)
 
 abbrev plain_piece : Piece → Piece
 plain_piece (DirectiveLine words) = DirectiveLine (map plain words)
 plain_piece (TextRun words) = TextRun (map plain words)
 
-plain_words : (piece : Piece) → words_of (plain_piece piece) ≡ map plain (words_of piece)
-plain_words (DirectiveLine words) = refl
-plain_words (TextRun words) = refl
+sourced_words : (piece : Piece) → words_of (plain_piece piece) ≡ map plain (words_of piece)
+sourced_words (DirectiveLine words) = refl
+sourced_words (TextRun words) = refl
 
 none_first : (words : List Word) → NonePasses (λ other. other.first) words → NonePasses (λ other. other.first) (map plain words)
 none_first [] none = tt
@@ -47,7 +47,7 @@ plain_is_piece (TextRun (word ∷ words)) rest piece = (piece.0, none_directive 
 plain_cut : (words : List Word) (pieces : List Piece) → AreCut words pieces → AreCut (map plain words) (map plain_piece pieces)
 plain_cut words [] cut = ap (map plain) cut
 plain_cut words (piece ∷ pieces) (rest, parts, is, cut) =
-    (map plain rest, ap (map plain) parts ∙ (map-append plain (words_of piece) rest ∙ ap (λ ws. ws ++ map plain rest) (sym (plain_words piece))), plain_is_piece piece rest is, plain_cut rest pieces cut)
+    (map plain rest, ap (map plain) parts ∙ (map-append plain (words_of piece) rest ∙ ap (λ ws. ws ++ map plain rest) (sym (sourced_words piece))), plain_is_piece piece rest is, plain_cut rest pieces cut)
 
 named_one : (name : List ℕ) (angle : Bool) (k : Option Keyword) (word : Word) → SpellsNamed (Include name angle) k (plain word ∷ []) ≡ SpellsNamed (Include name angle) k (word ∷ [])
 named_one name angle None word = refl
@@ -109,12 +109,12 @@ plain_named (DirectiveLine line ∷ pieces) includes (inl named) = inl (λ name 
 plain_named (DirectiveLine line ∷ pieces) includes (inr (include, rest, is, parts, named)) =
     inr (include, rest, spells_plain include.name include.angle line is, parts, plain_named pieces rest named)
 
-plain_all : (words : List Word) → map plain words ≡ map word_of (map seen words)
+plain_all : (words : List Word) → map plain words ≡ map word_of (map plain_word words)
 plain_all [] = refl
 plain_all (word ∷ words) = ap (λ ws. plain word ∷ ws) (plain_all words)
 
 -- the include lines of words are those of the same words wherever their texts stand
-pub includes_plain : (words : List Word) (includes : List Wanted) → AreIncludes words includes → AreIncludes (map word_of (map seen words)) includes
+pub includes_plain : (words : List Word) (includes : List Wanted) → AreIncludes words includes → AreIncludes (map word_of (map plain_word words)) includes
 includes_plain words includes are = subst (λ ws. AreIncludes ws includes) (plain_all words) (record {
   pieces = map plain_piece are.pieces;
   cut = plain_cut words are.pieces are.cut;

@@ -5,7 +5,7 @@ use Rattle.std.proofs.lemmas.List.{map-append, length-map, ext_get_or}
 use Rattle.p10_base.specs.declared.word.Word.{Word}
 use Rattle.p10_base.specs.declared.report.Limit.{Limit}
 use Rattle.p10_base.specs.Gathered.{Gathered, count_of, text_of}
-use Rattle.p10_lex.specs.Pieces.{LexedWord, seen}
+use Rattle.p10_base.specs.Words.{PlainWord, plain_word}
 use Rattle.p10_lex.proofs.Uniqueness.{same_words}
 use Rattle.p10_direct.specs.Lines.{Piece, AreCut}
 use Rattle.p10_direct.proofs.Plainly.{bare, bare_words, bare_piece, cond_map, cut_bare}
@@ -133,18 +133,18 @@ module _ (g : Gathered) (layout : Layout) where
 
 -- ## One layout without places in memory
 
-abbrev word_of : LexedWord → Word
+abbrev word_of : PlainWord → Word
 word_of w = record { kind = w.kind; text = record { ref_ptr = (0, 0); now = w.text }; at = w.at; first = w.first }
 
-bare_seen : (words : List Word) → bare_words words ≡ map word_of (map seen words)
+bare_seen : (words : List Word) → bare_words words ≡ map word_of (map plain_word words)
 bare_seen [] = refl
 bare_seen (word ∷ words) = ap (λ others. bare word ∷ others) (bare_seen words)
 
-seen_bare : (words : List Word) → map seen (bare_words words) ≡ map seen words
+seen_bare : (words : List Word) → map plain_word (bare_words words) ≡ map plain_word words
 seen_bare [] = refl
-seen_bare (word ∷ words) = ap (λ others. seen word ∷ others) (seen_bare words)
+seen_bare (word ∷ words) = ap (λ others. plain_word word ∷ others) (seen_bare words)
 
-same_bare : (these those : List Word) → map seen these ≡ map seen those → bare_words these ≡ bare_words those
+same_bare : (these those : List Word) → map plain_word these ≡ map plain_word those → bare_words these ≡ bare_words those
 same_bare these those same = bare_seen these ∙ ap (map word_of) same ∙ sym (bare_seen those)
 
 file_words : (g : Gathered) (count : ℕ) (these those : List (List Word)) → AreWords g count these → AreWords g count those → (number : ℕ) → number < count → bare_words (get_or these number []) ≡ bare_words (get_or those number [])
@@ -169,12 +169,12 @@ layouts_same g this that here there =
 
 -- ## One plain answer
 
-lists_plain : (lists : List (List Word)) → map (map seen) (bare_lists lists) ≡ map (map seen) lists
+lists_plain : (lists : List (List Word)) → map (map plain_word) (bare_lists lists) ≡ map (map plain_word) lists
 lists_plain [] = refl
-lists_plain (words ∷ lists) = ap (λ first. first ∷ map (map seen) (bare_lists lists)) (seen_bare words) ∙ ap (λ others. map seen words ∷ others) (lists_plain lists)
+lists_plain (words ∷ lists) = ap (λ first. first ∷ map (map plain_word) (bare_lists lists)) (seen_bare words) ∙ ap (λ others. map plain_word words ∷ others) (lists_plain lists)
 
 line_plain : (line : ObeyedLine) → plain_obeyed (bare_obeyed line) ≡ plain_obeyed line
-line_plain line = ap (λ (words : List LexedWord). let made : PlainObeyed = record { words = words; span = line.span; guard = line.guard } in made) (seen_bare line.words)
+line_plain line = ap (λ (words : List PlainWord). let made : PlainObeyed = record { words = words; span = line.span; guard = line.guard } in made) (seen_bare line.words)
 
 obeyed_plain : (lines : List ObeyedLine) → map plain_obeyed (map bare_obeyed lines) ≡ map plain_obeyed lines
 obeyed_plain [] = refl
@@ -183,8 +183,8 @@ obeyed_plain (line ∷ lines) = ap (λ first. first ∷ map plain_obeyed (map ba
 answer_plain : (answer : Result Expansion Limit) → plain_answer (bare_answer answer) ≡ plain_answer answer
 answer_plain (Err limit) = refl
 answer_plain (Ok expansion) =
-    let made : List (List LexedWord) → List PlainObeyed → Result PlainExpansion Limit = λ roots obeyed. Ok (record { roots = roots; obeyed = obeyed; refusal = expansion.refusal }) in
-    ap (λ roots. made roots (map plain_obeyed (map bare_obeyed expansion.obeyed))) (lists_plain expansion.roots) ∙ ap (made (map (map seen) expansion.roots)) (obeyed_plain expansion.obeyed)
+    let made : List (List PlainWord) → List PlainObeyed → Result PlainExpansion Limit = λ roots obeyed. Ok (record { roots = roots; obeyed = obeyed; refusal = expansion.refusal }) in
+    ap (λ roots. made roots (map plain_obeyed (map bare_obeyed expansion.obeyed))) (lists_plain expansion.roots) ∙ ap (made (map (map plain_word) expansion.roots)) (obeyed_plain expansion.obeyed)
 
 -- a program expands to one thing at most, wherever the texts of its words lie
 pub expands_to_once : ExpansionsAreUnique → ExpandsToOnce

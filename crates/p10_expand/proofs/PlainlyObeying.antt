@@ -6,7 +6,7 @@ use Rattle.p10_base.specs.declared.span.Span.{Span}
 use Rattle.p10_base.specs.declared.word.Word.{Word}
 use Rattle.p10_base.specs.declared.word.Kind.TheVariants.{Mark}
 use Rattle.p10_base.specs.Gathered.{Gathered, name_of, candidate_of}
-use Rattle.p10_direct.specs.Spelling.{Text, is_name, is_name_kind, is_punctuator}
+use Rattle.p10_base.specs.Words.{Text, is_name, is_name_kind, is_punctuator, plain_word}
 use Rattle.p10_direct.specs.Lines.{Piece, DirectiveLine, TextRun}
 use Rattle.p10_direct.specs.Balance.{mark_of}
 use Rattle.p10_direct.specs.Directives.{PlainMacro, PlainDirective, Null, Include, Define, Undef, If, Elif, Ifdef, Ifndef, Else, Endif, Once, InitDone, TaskLoop, OtherPragma, Outcome, Read, BadForm, BadDefinition, place_of, texts_of}
@@ -15,7 +15,7 @@ use Rattle.p10_direct.proofs.Plainly.{bare, bare_words, bare_piece, bare_macro, 
 use Rattle.p10_macros.specs.declared.table.Effect.{Effect}
 use Rattle.p10_macros.specs.declared.table.Effect.TheVariants.{New, Same, Other}
 use Rattle.p10_macros.specs.Table.{Table, macro_named, own_of}
-use Rattle.p10_macros.specs.Uses.{Sourced, plain_words}
+use Rattle.p10_macros.specs.Uses.{Sourced, sourced_words}
 use Rattle.p10_macros.specs.Endings.{Ending, Gives, Refused, TooMany}
 use Rattle.p10_macros.specs.Ends.{Ends}
 use Rattle.p10_macros.proofs.Plainly.{bare_table, bare_all, bare_ending, named_bare, without_bare, own_bare, defines_bare, plain_bare, written_bare, ends_bare}
@@ -27,7 +27,8 @@ use Rattle.p10_expand.specs.Guards.{guarded_name, defines_as_nothing, closes_las
 use Rattle.p10_expand.specs.Skips.{is_obeyed, stand_behind, stand_of_group}
 use Rattle.p10_expand.specs.Conditionals.{is_defined, RunEnds, asked_inside, asked, asked_at, digit_at, answered_at, answered, Judged, Holds, Fails, Exceeds, Judges, JudgesCondition}
 use Rattle.p10_expand.specs.Items.{ends_line, onto_line, lines_of, item_name, is_among, given_after, new_words}
-use Rattle.p10_expand.specs.Obeying.{State, Ended, Goes, Refuses, Passes, Next, On, Enter, End, File, limit, refuse, begins_at, words_before, with_words, TextEnds, TextGives, ItemsGive, RunGives, operand_place, is_header, included, defined_as, DefinitionGives, DefineGives, judged_next, ConditionGives, mark_word, Does, Acts, is_place, breaks_at, begins_guard, listed, passed, ObeyedGives, DirectiveGives, LineGives}
+use Rattle.p10_expand.specs.Obeying.{State, Ended, Goes, Refuses, Passes, Next, On, Enter, End, File, refuse, begins_at, words_before, with_words, TextEnds, TextGives, ItemsGive, RunGives, operand_place, is_header, included, defined_as, DefinitionGives, DefineGives, judged_next, ConditionGives, mark_word, Does, Acts, is_place, breaks_at, begins_guard, listed, passed, ObeyedGives, DirectiveGives, LineGives}
+use Rattle.p10_base.specs.declared.report.TheConstants.Limit.{MACROS, MOST_MACROS}
 
 -- ## What is known between two lines
 
@@ -83,10 +84,10 @@ inside_bare (name ∷ closing ∷ words) = refl
 
 asked_bare : (words : List Word) → asked (bare_words words) ≡ asked words
 asked_bare [] = refl
-asked_bare (word ∷ words) = ap (λ found. cond (is_name_kind word.kind) (Some (word.text.now, 1)) (cond (is_punctuator (codes "(") word) found None)) (inside_bare words)
+asked_bare (word ∷ words) = ap (λ found. cond (is_name_kind word.kind) (Some (word.text.now, 1)) (cond (is_punctuator (codes "(") (plain_word word)) found None)) (inside_bare words)
 
 question_bare : (word : Word) (words : List Word) → asked_at (bare word) (bare_words words) ≡ asked_at word words
-question_bare word words = ap (λ found. cond (is_name (codes "defined") word) found None) (asked_bare words)
+question_bare word words = ap (λ found. cond (is_name (codes "defined") (plain_word word)) found None) (asked_bare words)
 
 digit_bare : (digits : Digits) (word : Word) (truth : Bool) → digit_at (bare_digits digits) (bare word) truth ≡ bare (digit_at digits word truth)
 digit_bare digits word true = refl
@@ -139,12 +140,12 @@ with_bare s words = ap (λ (all : List Word). let new : State = record (bare_sta
 
 text_ends_bare : (s : State) (words : List Word) (ending : Ending (List Sourced)) (next : Next) → TextEnds s words ending next → TextEnds (bare_state s) (bare_words words) (bare_ending ending) (bare_next next)
 text_ends_bare s words (Gives made left) next is =
-    ap bare_next is ∙ ap (λ (all : List Word). On Obeyed (record (bare_state s) { words = all; left = left })) (map-append bare s.words (plain_words made) ∙ ap (λ all. bare_words s.words ++ all) (sym (plain_bare made)))
+    ap bare_next is ∙ ap (λ (all : List Word). On Obeyed (record (bare_state s) { words = all; left = left })) (map-append bare s.words (sourced_words made) ∙ ap (λ all. bare_words s.words ++ all) (sym (plain_bare made)))
 text_ends_bare s words (Refused number at) next (made, left, runs, is) = (
   bare_all made,
   left,
   subst (λ (all : List Word). RunEnds (bare_table s.macros) all s.left (bare_ending (Gives made left))) (sym (before_bare at words)) (run_bare s.macros _ s.left (Gives made left) runs),
-  ap bare_next is ∙ ap (λ state. refuse state number at) (with_bare s (plain_words made) ∙ ap (with_words (bare_state s)) (sym (plain_bare made))),
+  ap bare_next is ∙ ap (λ state. refuse state number at) (with_bare s (sourced_words made) ∙ ap (with_words (bare_state s)) (sym (plain_bare made))),
 )
 text_ends_bare s words TooMany next is = ap bare_next is
 
@@ -213,8 +214,8 @@ included_bare g line name s (Some number) = sym (cond_map bare_next (is_among s.
 
 defined_as_bare : (line : List Word) (s : State) (answer : Effect) (macros : Table) → bare_next (defined_as line s answer macros) ≡ defined_as (bare_words line) (bare_state s) answer (bare_table macros)
 defined_as_bare line s New macros =
-    sym (ap (λ n. cond (nat_lt 8192 n) (End (Passes (limit 6))) (On Obeyed (record (bare_state s) { macros = bare_table macros }))) (own_bare macros)
-    ∙ cond_map bare_next (nat_lt 8192 (own_of macros)) (End (Passes (limit 6))) (On Obeyed (record s { macros = macros })) _ _ refl refl)
+    sym (ap (λ n. cond (nat_lt MOST_MACROS n) (End (Passes MACROS)) (On Obeyed (record (bare_state s) { macros = bare_table macros }))) (own_bare macros)
+    ∙ cond_map bare_next (nat_lt MOST_MACROS (own_of macros)) (End (Passes MACROS)) (On Obeyed (record s { macros = macros })) _ _ refl refl)
 defined_as_bare line s Same macros = refl
 defined_as_bare line s Other macros = ap (refuse (bare_state s) 4) (sym (operand_bare line))
 

@@ -14,7 +14,8 @@ use Rattle.p10_expand.specs.declared.expansion.fault.ExpandFault.TheVariants.{Ov
 use Rattle.p10_expand.specs.declared.expansion.state.State.{State as CodedState}
 use Rattle.p10_expand.specs.Obeying.{State, Ended, Goes, Refuses, Passes}
 use Rattle.p10_expand.specs.Expands.{Layout, Expansion, IsLaidOut, FileGives, IncludeGives, RootsGive, RootEnds, Expands, fresh, no_words}
-use Rattle.p10_expand.specs.Steps.{Reaches, IsExpansion, IsFault, state_of, lists_of, expansion_of}
+use Rattle.p10_expand.specs.private.Steps.{Reaches, state_of}
+use Rattle.p10_expand.specs.Answers.{IsExpansion, IsFault, lists_of, expansion_of}
 
 -- roots without words, by their number
 pub none_of : (numbers : List ℕ) → no_words numbers ≡ replicate (length numbers) []

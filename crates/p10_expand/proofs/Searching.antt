@@ -13,7 +13,7 @@ use Rattle.p10_expand.specs.declared.fault.Trouble.{Trouble}
 use Rattle.p10_expand.specs.declared.fault.Trouble.TheVariants.{Read, Refused, Over, Memory}
 use Rattle.p10_expand.specs.Finding.{name_at, IsThere, IsAbsent, IsFirst}
 use Rattle.p10_expand.specs.Gathering.{IsAt, IsNew, HasRoom, present}
-use Rattle.p10_expand.specs.Standing.{Keeps, AddsFile, IsFresh, IsLocated, Fails, FailsFirst, IsFound}
+use Rattle.p10_expand.specs.private.Standing.{Keeps, AddsFile, IsFresh, IsLocated, Fails, FailsFirst, IsFound}
 use Rattle.p10_expand.proofs.Standing.{text_there}
 
 -- ## From a moment back to an earlier one at which the same files were gathered

@@ -20,7 +20,8 @@ use Rattle.p10_expand.specs.Candidates.{candidates_of}
 use Rattle.p10_expand.specs.Finding.{name_at, IsAbsent, IsFirst}
 use Rattle.p10_expand.specs.Includes.{HasIncludes, no_include}
 use Rattle.p10_expand.specs.Gathering.{Setting, Request, Root, Line, Moment, depth_of, places_of, lines_of, no_known, known_at, IsNew, linked, noted, Finds, Answered, Reached, Gathers, FailsBy, IsFault, HaveWords}
-use Rattle.p10_expand.specs.Standing.{Stands, Keeps, Grows, Links, IsLocated, FindsFirst, Fails, FailsFirst, setting, moment, lines_from, new_lines, Steps, StopsAt, Stops, Comes, ComesTo, Follows, StopsFollowing, fault_with}
+use Rattle.p10_expand.specs.private.Standing.{Stands, Keeps, Grows, Links, IsLocated, FindsFirst, Fails, FailsFirst, moment, lines_from, new_lines, Steps, StopsAt, Stops, Comes, ComesTo, Follows, StopsFollowing, fault_with}
+use Rattle.p10_expand.specs.Setting.{setting}
 
 -- ## Moments
 

@@ -17,13 +17,14 @@ use Rattle.p10_expand.specs.declared.expansion.fault.ExpandFault.{ExpandFault}
 use Rattle.p10_expand.specs.declared.expansion.fault.ExpandFault.TheVariants.{Over, Memory}
 use Rattle.p10_expand.specs.declared.expansion.state.State.{State as CodedState}
 use Rattle.p10_expand.specs.declared.expansion.texts.Texts.{Texts}
-use Rattle.p10_expand.specs.Steps.{AreTexts, IsCut, Steps, Reaches, layout_of}
+use Rattle.p10_expand.specs.private.Steps.{AreTexts, IsCut, Steps, Reaches, layout_of}
 use Rattle.p10_expand.specs.declared.expansion.stand.Stand.{Stand}
 use Rattle.p10_expand.specs.declared.expansion.stand.Stand.TheVariants.{Obeyed}
-use Rattle.p10_expand.specs.Obeying.{State, Ended, Goes, Refuses, Passes, Next, On, Enter, End, File, limit, LineGives}
+use Rattle.p10_expand.specs.Obeying.{State, Ended, Goes, Refuses, Passes, Next, On, Enter, End, File, LineGives}
 use Rattle.p10_expand.specs.Before.{ComeInOrder}
 use Rattle.p10_expand.proofs.InOrder.{PiecesInOrder}
 use Rattle.p10_expand.specs.Expands.{Layout, Follows, Includes, LinesGive, counted, CountedGives, FileGives, IncludeGives, words_at}
+use Rattle.p10_base.specs.declared.report.TheConstants.Limit.{NESTED_INCLUDES}
 
 -- a line, and those behind it
 pub line_here : (items : List Line) (place : ℕ) (other : Line) → place < length items → map piece_of (drop place items) ≡ piece_of (get_or items place other) ∷ map piece_of (drop (place + 1) items)
@@ -46,7 +47,7 @@ entered_within g layout (suc more) number built_in s ended some gives =
     let same : suc more - 1 ≡ more = omega arith in
     rw same at gives
 
-pub entered_nowhere : (g : Gathered) (layout : Layout) (nested number : ℕ) (built_in : Bool) (s : State) → nested ≡ 0 → IncludeGives g layout nested number built_in s (Passes (limit 3))
+pub entered_nowhere : (g : Gathered) (layout : Layout) (nested number : ℕ) (built_in : Bool) (s : State) → nested ≡ 0 → IncludeGives g layout nested number built_in s (Passes NESTED_INCLUDES)
 unfolding IncludeGives
 entered_nowhere g layout nested number built_in s none = rw none refl
 
@@ -74,9 +75,9 @@ module _ (g : Gathered) (layout : Layout) (nested : ℕ) (file : File) (items : 
       LinesGive g layout (IncludeGives g layout nested) file next (place + 1) (map piece_of (drop (place + 1) items)) new ended → wanted ended
   goes_on next new gives ended rest = follow (On next new) gives ended (next_place next new ended rest)
 
-  pub too_deep : (number : ℕ) (built_in : Bool) (new : State) → GivesHere (Enter number built_in new) → nested ≡ 0 → wanted (Passes (limit 3))
+  pub too_deep : (number : ℕ) (built_in : Bool) (new : State) → GivesHere (Enter number built_in new) → nested ≡ 0 → wanted (Passes NESTED_INCLUDES)
   too_deep number built_in new gives none =
-      follow (Enter number built_in new) gives (Passes (limit 3)) (Passes (limit 3), entered_nowhere g layout nested number built_in new none, refl)
+      follow (Enter number built_in new) gives (Passes NESTED_INCLUDES) (Passes NESTED_INCLUDES, entered_nowhere g layout nested number built_in new none, refl)
 
   pub within_refuses : (number : ℕ) (built_in : Bool) (new left : State) (refusal : Refusal) → GivesHere (Enter number built_in new) → 0 < nested →
       FileGives g layout (IncludeGives g layout (nested - 1)) number built_in new (Refuses left refusal) → wanted (Refuses left refusal)

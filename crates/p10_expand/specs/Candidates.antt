@@ -5,6 +5,7 @@ use Rattle.std.specs.Str.{is_utf8}
 use Rattle.p10_expand.specs.declared.place.Include.{Include}
 use Rattle.p10_expand.specs.declared.place.Place.{Place}
 use Rattle.p10_expand.specs.declared.place.Place.TheVariants.{File, Header}
+use Rattle.p10_base.specs.Words.{Text}
 
 -- whether a byte is `/`
 abbrev pub is_slash : ℕ → Bool
@@ -15,7 +16,7 @@ abbrev pub directory_of : List ℕ → List ℕ
 directory_of name = take (length name - length (after_last is_slash name)) name
 
 -- the files with this name in the directories, each joined to it by `/`
-abbrev pub in_directories : List (List ℕ) → List ℕ → List Place
+abbrev pub in_directories : List Text → List ℕ → List Place
 in_directories dirs name = map (λ dir. File (dir ++ 47 ∷ [] ++ name)) dirs
 
 -- a name that no place has: it is empty, has a byte 0 or isn't UTF-8
@@ -30,12 +31,12 @@ is_absolute (byte ∷ bytes) = is_slash byte
 
 -- the places of a relative name: between angle brackets the built-in header and then the directories, between quotes the
 -- directory of the including file, the directories and then the built-in header
-abbrev pub relative_places : List (List ℕ) → List ℕ → List ℕ → Bool → List Place
+abbrev pub relative_places : List Text → List ℕ → List ℕ → Bool → List Place
 relative_places dirs from name true = Header name ∷ in_directories dirs name
 relative_places dirs from name false = File (directory_of from ++ name) ∷ in_directories dirs name ++ Header name ∷ []
 
 -- the candidates of an include line of the file `from`, in the order in which they are looked for
-abbrev pub candidates_of : List (List ℕ) → List ℕ → Include → List Place
+abbrev pub candidates_of : List Text → List ℕ → Include → List Place
 candidates_of dirs from include =
     if is_no_name include.name then []
     else if is_absolute include.name then File include.name ∷ []

@@ -1,13 +1,12 @@
 -- Where the words of an expansion come from.
-use Rattle.std.specs.Prelude.{◌≡◌, ℕ, ◌<◌, List, map, true, Ok, IfSome}
+use Rattle.std.specs.Prelude.{ℕ, ◌≡◌, ◌<◌, List, map, true, Ok, IfSome}
 use Rattle.std.specs.List.{AllByRecursion, Contains}
 use Rattle.p10_base.specs.declared.word.Word.{Word}
 use Rattle.p10_base.specs.declared.word.Kind.TheVariants.{Mark}
 use Rattle.p10_base.specs.Gathered.{Gathered, LiesIn, count_of, text_of}
-use Rattle.p10_lex.specs.Pieces.{LexedWord, seen}
+use Rattle.p10_base.specs.Words.{PlainWord, plain_word, Text, is_name_kind}
 use Rattle.p10_lex.specs.Slices.{IsSlice}
 use Rattle.p10_lex.specs.Lexes.{Answers}
-use Rattle.p10_direct.specs.Spelling.{Text, is_name_kind}
 use Rattle.p10_direct.specs.Lines.{Piece, DirectiveLine, TextRun, AreCut}
 use Rattle.p10_direct.specs.Directives.{PlainMacro, Define, Spells}
 use Rattle.p10_expand.specs.declared.expanded.Obeyed.{Obeyed}
@@ -18,24 +17,24 @@ use Rattle.p10_expand.specs.Expands.{Expansion}
 -- the file with this number, which may be a built-in header, has these words (C99 6.4)
 pub record HasWords (g : Gathered) (file : ℕ) (words : List Word) : Type 0 where
   pub held : file < count_of g
-  pub lexed : Answers file (text_of g file) (Ok (map seen words))
+  pub lexed : Answers file (text_of g file) (Ok (map plain_word words))
 
 -- the word is one of a file: the slice of the file's bytes at its place
-pub record IsWritten (g : Gathered) (word : LexedWord) : Type 0 where
+pub record IsWritten (g : Gathered) (word : PlainWord) : Type 0 where
   pub file : ℕ
   pub words : List Word
   pub has : HasWords g file words
-  pub among : Contains (map seen words) word
+  pub among : Contains (map plain_word words) word
   pub slice : IsSlice file (text_of g file) word
 
 -- it stands in the text of its file, and so in no directive (C99 6.10p2)
-pub record IsInText (g : Gathered) (word : LexedWord) : Type 0 where
+pub record IsInText (g : Gathered) (word : PlainWord) : Type 0 where
   pub written : IsWritten g word
   pub pieces : List Piece
   pub cut : AreCut written.words pieces
   pub run : List Word
   pub piece : Contains pieces (TextRun run)
-  pub within : Contains (map seen run) word
+  pub within : Contains (map plain_word run) word
 
 -- the words are a directive of a file
 pub record IsDirective (g : Gathered) (line : List Word) : Type 0 where
@@ -57,24 +56,24 @@ pub record IsMacroName (g : Gathered) (name : Text) : Type 0 where
 -- ## Words of an expansion
 
 -- it is a mark, which a pragma leaves: a word of a file, but for its kind
-pub record IsMark (g : Gathered) (word : LexedWord) : Type 0 where
-  pub last : LexedWord
+pub record IsMark (g : Gathered) (word : PlainWord) : Type 0 where
+  pub last : PlainWord
   pub written : IsWritten g last
   pub mark : word ≡ record last { kind = Mark }
 
 -- a macro gave it (C99 6.10.3): it is a word of a file, as of a definition, of an argument or of a built-in header, but for its
 -- place, which is that of the outermost use: of a macro's name in a text
-pub record IsGiven (g : Gathered) (word : LexedWord) : Type 0 where
-  pub part : LexedWord
+pub record IsGiven (g : Gathered) (word : PlainWord) : Type 0 where
+  pub part : PlainWord
   pub written : IsWritten g part
-  pub name : LexedWord
+  pub name : PlainWord
   pub is_name : is_name_kind name.kind ≡ true
   pub of_macro : IsMacroName g name.text
   pub in_text : IsInText g name
   pub given : word ≡ record part { at = name.at }
 
 -- where a word of a root comes from: it stands in a text, a pragma left it, or a macro gave it
-pub data Comes (g : Gathered) (word : LexedWord) : Type 0 where
+pub data Comes (g : Gathered) (word : PlainWord) : Type 0 where
   in_text : IsInText g word → Comes g word
   as_mark : IsMark g word → Comes g word
   by_macro : IsGiven g word → Comes g word
@@ -82,11 +81,11 @@ pub data Comes (g : Gathered) (word : LexedWord) : Type 0 where
 -- the words are a directive of a file, each is written there, and its place lies in a file
 pub record IsListed (g : Gathered) (line : Obeyed) : Type 0 where
   pub directive : IsDirective g line.words
-  pub words : AllByRecursion (λ word. IsWritten g (seen word)) line.words
+  pub words : AllByRecursion (λ word. IsWritten g (plain_word word)) line.words
   pub place : LiesIn g line.span
 
 -- all words of an expansion come from the files, and its refusal has its place in one
 pub record ExpansionComes (g : Gathered) (expansion : Expansion) : Type 0 where
-  pub roots : AllByRecursion (AllByRecursion (λ word. Comes g (seen word))) expansion.roots
+  pub roots : AllByRecursion (AllByRecursion (λ word. Comes g (plain_word word))) expansion.roots
   pub obeyed : AllByRecursion (IsListed g) expansion.obeyed
   pub refusal : IfSome expansion.refusal (λ refusal. LiesIn g refusal.span)

@@ -1,17 +1,19 @@
 -- What comes of the condition of an `#if` or `#elif` (C99 6.10.1).
-use Rattle.std.specs.Prelude.{◌≡◌, ◌⊎◌, ℕ, zero, suc, List, [], ◌∷◌, Bool, ◌&&◌, map, Option, Some, None, is_some, if◌then◌else◌, codes}
+use Rattle.std.specs.Prelude.{ℕ, ◌≡◌, ◌⊎◌, zero, suc, List, [], ◌∷◌, Bool, ◌&&◌, map, Option, Some, None, is_some, if◌then◌else◌, codes}
 use Rattle.p10_base.specs.declared.span.Span.{Span}
 use Rattle.p10_base.specs.declared.word.Word.{Word}
 use Rattle.p10_base.specs.declared.word.Kind.TheVariants.{Number}
 use Rattle.p10_base.specs.declared.report.Refusal.{Refusal}
 use Rattle.p10_base.specs.declared.report.Family.TheVariants.{D}
-use Rattle.p10_direct.specs.Spelling.{Text, is_name, is_name_kind, is_punctuator}
+use Rattle.p10_base.specs.Words.{Text, is_name, is_name_kind, is_punctuator, plain_word}
 use Rattle.p10_direct.specs.Conditions.{HasTruth}
 use Rattle.p10_expand.specs.declared.expansion.digits.Digits.{Digits}
 use Rattle.p10_macros.specs.Table.{Table, macro_named}
-use Rattle.p10_macros.specs.Uses.{Sourced, written, plain_words}
+use Rattle.p10_macros.specs.Uses.{Sourced, written, sourced_words}
 use Rattle.p10_macros.specs.Endings.{Ending, Gives, Refused, TooMany}
 use Rattle.p10_macros.specs.Ends.{Ends}
+use Rattle.p10_base.specs.Codes.{directive_refusal}
+use Rattle.p10_base.specs.declared.codes.DirectiveCode.TheVariants.{BadCondition}
 
 -- the refusal with this number among those of directives and macros
 abbrev pub refusal_of : ℕ → Span → Refusal
@@ -29,7 +31,7 @@ RunEnds macros words left ending = Ends macros None (map written words) left end
 
 -- the name in parentheses for which the words behind `defined (` ask, and how many words behind `defined` that takes
 abbrev pub asked_inside : List Word → Option (Text × ℕ)
-asked_inside (name ∷ closing ∷ words) = if is_name_kind name.kind && is_punctuator (codes ")") closing then Some (name.text.now, 3) else None
+asked_inside (name ∷ closing ∷ words) = if is_name_kind name.kind && is_punctuator (codes ")") (plain_word closing) then Some (name.text.now, 3) else None
 asked_inside _ = None
 
 -- what the words behind `defined` ask for: a name, and how many words that takes
@@ -37,12 +39,12 @@ abbrev pub asked : List Word → Option (Text × ℕ)
 asked [] = None
 asked (word ∷ words) =
     if is_name_kind word.kind then Some (word.text.now, 1)
-    else if is_punctuator (codes "(") word then asked_inside words
+    else if is_punctuator (codes "(") (plain_word word) then asked_inside words
     else None
 
 -- what a word and those behind it ask for
 abbrev pub asked_at : Word → List Word → Option (Text × ℕ)
-asked_at word words = if is_name (codes "defined") word then asked words else None
+asked_at word words = if is_name (codes "defined") (plain_word word) then asked words else None
 
 -- the number that stands for `defined` and its name (C99 6.10.1p1)
 abbrev pub digit_at : Digits → Word → Bool → Word
@@ -72,8 +74,8 @@ pub data Judged : Type 0 where
 -- what comes of the words of a condition of a directive at this place, after replacement
 abbrev pub Judges : Span → Ending (List Sourced) → Judged → Type 0
 Judges whole (Gives made left) judged =
-    ((truth : Bool) × HasTruth (plain_words made) truth × (judged ≡ Holds truth left))
-    ⊎ (((truth : Bool) → HasTruth (plain_words made) truth → ⊥) × (judged ≡ Fails (refusal_of 3 whole)))
+    ((truth : Bool) × HasTruth (sourced_words made) truth × (judged ≡ Holds truth left))
+    ⊎ (((truth : Bool) → HasTruth (sourced_words made) truth → ⊥) × (judged ≡ Fails (directive_refusal BadCondition whole)))
 Judges whole (Refused number at) judged = judged ≡ Fails (refusal_of number at)
 Judges whole TooMany judged = judged ≡ Exceeds
 

@@ -1,17 +1,18 @@
 -- What the words of a program are after its directives are obeyed and its macros replaced (C99 5.1.1.2p1, phase 4; 6.10).
-use Rattle.std.specs.Prelude.{◌≡◌, ℕ, zero, suc, ◌-◌, ◌<◌, nat_le, List, [], ◌∷◌, ◌++◌, length, map, slice_index_or, Bool, true, false, Option, Some, None, Result, Ok, Err, if◌then◌else◌, codes}
+use Rattle.std.specs.Prelude.{ℕ, ◌≡◌, zero, suc, ◌-◌, ◌<◌, nat_le, List, [], ◌∷◌, ◌++◌, length, map, slice_index_or, Bool, true, false, Option, Some, None, Result, Ok, Err, if◌then◌else◌, codes}
 use Rattle.p10_base.specs.declared.word.Word.{Word}
 use Rattle.p10_base.specs.declared.report.Refusal.{Refusal}
 use Rattle.p10_base.specs.declared.report.Limit.{Limit}
 use Rattle.p10_base.specs.Gathered.{Gathered, count_of, text_of}
-use Rattle.p10_lex.specs.Pieces.{seen}
+use Rattle.p10_base.specs.Words.{plain_word}
 use Rattle.p10_lex.specs.Lexes.{Answers}
 use Rattle.p10_direct.specs.Lines.{Piece, AreCut}
 use Rattle.p10_expand.specs.declared.expanded.Obeyed.{Obeyed as ObeyedLine}
 use Rattle.p10_expand.specs.declared.expansion.digits.Digits.{Digits}
 use Rattle.p10_expand.specs.declared.expansion.stand.Stand.{Stand}
 use Rattle.p10_expand.specs.declared.expansion.stand.Stand.TheVariants.{Obeyed}
-use Rattle.p10_expand.specs.Obeying.{State, Ended, Goes, Refuses, Passes, Next, On, Enter, End, File, limit, LineGives}
+use Rattle.p10_expand.specs.Obeying.{State, Ended, Goes, Refuses, Passes, Next, On, Enter, End, File, LineGives}
+use Rattle.p10_base.specs.declared.report.TheConstants.Limit.{EXPANDED_WORDS, NESTED_INCLUDES, MOST_NESTED_INCLUDES, MOST_EXPANDED_WORDS}
 
 -- ## The words of the files
 
@@ -27,7 +28,7 @@ words_at layout number = slice_index_or layout.words number []
 -- these are the words of the first files (C99 6.4), which are so many
 pub record AreWords (g : Gathered) (count : ℕ) (words : List (List Word)) : Type 0 where
   pub all : length words ≡ count
-  pub lexed : (number : ℕ) → number < count → Answers number (text_of g number) (Ok (map seen (slice_index_or words number [])))
+  pub lexed : (number : ℕ) → number < count → Answers number (text_of g number) (Ok (map plain_word (slice_index_or words number [])))
 
 -- these are the words of the files, and those texts
 pub record IsLaidOut (g : Gathered) (layout : Layout) : Type 0 where
@@ -70,7 +71,7 @@ module _ (g : Gathered) (layout : Layout) where
 
   -- what comes of a file where its words were counted
   abbrev pub CountedGives : Includes → ℕ → Bool → Option State → Ended → Type 0
-  CountedGives includes number built_in None ended = ended ≡ Passes (limit 4)
+  CountedGives includes number built_in None ended = ended ≡ Passes EXPANDED_WORDS
   CountedGives includes number built_in (Some s) ended =
       (pieces : List Piece) × AreCut (words_at layout number) pieces
       × LinesGive includes (record { number = number; built_in = built_in; pieces = pieces }) Obeyed 0 pieces s ended
@@ -81,7 +82,7 @@ module _ (g : Gathered) (layout : Layout) where
 
   -- what comes of an included file, in which so many includes may still be nested, itself counted
   unfoldable pub IncludeGives : ℕ → ℕ → Bool → State → Ended → Type 0
-  IncludeGives zero number built_in s ended = ended ≡ Passes (limit 3)
+  IncludeGives zero number built_in s ended = ended ≡ Passes NESTED_INCLUDES
   IncludeGives (suc more) number built_in s ended = FileGives (IncludeGives more) number built_in s ended
 
 -- ## Roots
@@ -112,12 +113,12 @@ module _ (g : Gathered) (layout : Layout) where
   abbrev pub RootsGive : List ℕ → List (List Word) → List ObeyedLine → ℕ → Result Expansion Limit → Type 0
   RootsGive [] roots obeyed left answer = answer ≡ Ok (record { roots = roots; obeyed = obeyed; refusal = None })
   RootsGive (number ∷ numbers) roots obeyed left answer =
-      (ended : Ended) × FileGives g layout (IncludeGives g layout 64) number false (fresh obeyed left) ended
+      (ended : Ended) × FileGives g layout (IncludeGives g layout MOST_NESTED_INCLUDES) number false (fresh obeyed left) ended
       × RootEnds (λ roots obeyed left answer. RootsGive numbers roots obeyed left answer) numbers roots ended answer
 
   -- what a program expands to, or the limit that it passes before a refusal
   abbrev pub Expands : Result Expansion Limit → Type 0
-  Expands answer = RootsGive g.roots [] [] 1048576 answer
+  Expands answer = RootsGive g.roots [] [] MOST_EXPANDED_WORDS answer
 
 -- a program expands to one thing at most
 abbrev pub ExpansionsAreUnique : Type 0

@@ -1,5 +1,5 @@
 -- What is found at a place.
-use Rattle.std.specs.Prelude.{◌≡◌, ℕ, List, [], ◌∷◌, ◌++◌, All, Option, Some, None, IfSome, IsSome}
+use Rattle.std.specs.Prelude.{ℕ, ◌≡◌, List, [], ◌∷◌, ◌++◌, All, Option, Some, None, IfSome, IsSome}
 use Rattle.p10_world.specs.Files.{Named, Lacks}
 use Rattle.p10_world.specs.Files as world
 use Rattle.p10_expand.specs.declared.place.Place.{Place}

@@ -1,5 +1,5 @@
 -- What the gathered files of a program are: laws of the way in which they are gathered.
-use Rattle.std.specs.Prelude.{◌≡◌, ℕ, zero, suc, ◌<◌, ◌≤◌, List, [], All, Contains, length, slice_index_or, Option, Some, None, IsSome}
+use Rattle.std.specs.Prelude.{◌+◌, ℕ, ◌≡◌, zero, suc, ◌<◌, ◌≤◌, List, [], All, Contains, length, slice_index_or, Option, Some, None, IsSome}
 use Rattle.p10_base.specs.declared.sources.SourceFile.{SourceFile}
 use Rattle.p10_base.specs.Gathered.{Gathered, count_of, root_count, file_of, name_of, root_of, candidate_of}
 use Rattle.p10_world.specs.Files.{Named}
@@ -10,6 +10,7 @@ use Rattle.p10_expand.specs.Candidates.{candidates_of}
 use Rattle.p10_expand.specs.Finding.{name_at, HasText, IsAbsent, IsFirst}
 use Rattle.p10_expand.specs.Includes.{HasIncludes}
 use Rattle.p10_expand.specs.Gathering.{Setting, known_at, IsAt, Gathers}
+use Rattle.p10_base.specs.declared.report.TheConstants.Limit.{MOST_NESTED_INCLUDES}
 
 -- ## The roots
 
@@ -40,7 +41,7 @@ pub record IsLink (s : Setting) (g : Gathered) (known : List Known) (from : ℕ)
   pub from_held : from < count_of g
   pub held : number < count_of g
   pub line : Contains (known_at known from).includes include
-  pub followed : (known_at known from).depth ≤ 64
+  pub followed : (known_at known from).depth ≤ MOST_NESTED_INCLUDES
   pub first : IsFirst s.held (candidates_of s.dirs (name_of g from) include) (known_at known number).place
 
 -- what an include line of the file `from` stands for: a file, or none, where there is a file at none of its candidates
@@ -64,10 +65,10 @@ pub record AreKnown (s : Setting) (g : Gathered) (known : List Known) : Type 0 w
   -- the files have no other links than those of their include lines
   pub links : (from : ℕ) (include : Include) (number : ℕ) → candidate_of g from include.name include.angle ≡ Some number → IsLink s g known from include number
   -- the include lines of a file are followed where it ends a chain of at most 64 includes
-  pub lines : (from : ℕ) → from < count_of g → (known_at known from).depth ≤ 64 →
+  pub lines : (from : ℕ) → from < count_of g → (known_at known from).depth ≤ MOST_NESTED_INCLUDES →
       All (λ include. IsLed s g known from include (candidate_of g from include.name include.angle)) (known_at known from).includes
   -- each file is a root's or ends a chain of at most 65 includes, and no shorter one leads to it
-  pub chain : (number : ℕ) → number < count_of g → ((known_at known number).depth ≤ 65) × EndsChain g (known_at known number).depth number
+  pub chain : (number : ℕ) → number < count_of g → ((known_at known number).depth ≤ 1 + MOST_NESTED_INCLUDES) × EndsChain g (known_at known number).depth number
   pub shortest : (number n : ℕ) → EndsChain g n number → (known_at known number).depth ≤ n
 
 -- where files are told, that much is known of the files of a program

@@ -1,13 +1,13 @@
 -- How the files of a program are gathered. Requests are answered in the order in which they were made: first the roots, and
 -- then, for each gathered file in order, its include lines, also those of skipped groups.
-use Rattle.std.specs.Prelude.{◌≡◌, ℕ, zero, suc, ◌+◌, ◌<◌, ◌≤◌, ◌⊎◌, Bool, true, false, List, [], ◌∷◌, ◌++◌, All, length, map, nat_le, slice_index_or, Option, is_some, IsSome, if◌then◌else◌, Result, Ok, Err}
+use Rattle.std.specs.Prelude.{ℕ, ◌≡◌, zero, suc, ◌+◌, ◌<◌, ◌≤◌, ◌⊎◌, Bool, true, false, List, [], ◌∷◌, ◌++◌, All, length, map, nat_le, slice_index_or, Option, is_some, IsSome, if◌then◌else◌, Result, Ok, Err}
 use Rattle.std.specs.List.{filter}
 use Rattle.p10_base.specs.declared.report.Refusal.{Refusal}
 use Rattle.p10_base.specs.declared.report.Limit.{Limit}
 use Rattle.p10_base.specs.Gathered.{Gathered, nothing_gathered, count_of, root_count, name_of, text_of, candidate_of, with_file, with_root, with_link}
 use Rattle.p10_world.specs.Files.{Named}
 use Rattle.p10_lex.specs.declared.fault.LexFault.TheVariants as lexing
-use Rattle.p10_lex.specs.Pieces.{LexedWord}
+use Rattle.p10_base.specs.Words.{PlainWord, Text}
 use Rattle.p10_lex.specs.Lexes.{Answers}
 use Rattle.p10_expand.specs.declared.place.Include.{Include}
 use Rattle.p10_expand.specs.declared.place.Place.{Place}
@@ -18,6 +18,7 @@ use Rattle.p10_expand.specs.declared.fault.GatherFault.TheVariants.{RootAbsent, 
 use Rattle.p10_expand.specs.Candidates.{candidates_of}
 use Rattle.p10_expand.specs.Finding.{name_at, HasText, IsAbsent, IsFirst}
 use Rattle.p10_expand.specs.Includes.{HasIncludes}
+use Rattle.p10_base.specs.declared.report.TheConstants.Limit.{FILES, MOST_FILES, MOST_NESTED_INCLUDES}
 
 -- ## What is asked for
 
@@ -25,8 +26,8 @@ use Rattle.p10_expand.specs.Includes.{HasIncludes}
 -- included files
 pub record Setting : Type 0 where
   pub held : Option (List Named)
-  pub roots : List (List ℕ)
-  pub dirs : List (List ℕ)
+  pub roots : List Text
+  pub dirs : List Text
 
 -- a root by its name, or an include line of the file with this number, at the end of a chain of so many includes
 pub data Request : Type 0 where
@@ -39,14 +40,14 @@ depth_of (Root name) = 0
 depth_of (Line from depth include) = depth
 
 -- where it is looked for, in this order
-abbrev pub places_of : List (List ℕ) → Gathered → Request → List Place
+abbrev pub places_of : List Text → Gathered → Request → List Place
 places_of dirs g (Root name) = File name ∷ []
 places_of dirs g (Line from depth include) = candidates_of dirs (name_of g from) include
 
 -- the include lines of a file that are followed: all of them where the chain that led to the file has at most 64 includes. Files
 -- are found breadth first, so that chain is the shortest
 abbrev pub lines_of : ℕ → Known → List Request
-lines_of number known = if nat_le known.depth 64 then map (Line number (known.depth + 1)) known.includes else []
+lines_of number known = if nat_le known.depth MOST_NESTED_INCLUDES then map (Line number (known.depth + 1)) known.includes else []
 
 -- ## The moments of gathering
 
@@ -88,7 +89,7 @@ present known = length (filter (λ file. is_file file.place) known)
 
 -- limit M7 allows 256 files; built-in headers aren't counted
 abbrev pub HasRoom : List Known → Place → Type 0
-HasRoom known (File name) = present known < 256
+HasRoom known (File name) = present known < MOST_FILES
 HasRoom known (Header name) = Unit {0}
 
 -- an include of the file `from` is linked to the file with this number, unless it was linked before
@@ -202,8 +203,8 @@ pub record IsOneTooMany (s : Setting) (m : Moment) (limit : Limit) : Type 0 wher
   pub name : List ℕ
   pub finds : Finds s m request rest (File name)
   pub new : IsNew m.known (File name)
-  pub full : 256 ≤ present m.known
-  pub limit_is : limit ≡ record { number = 7 }
+  pub full : MOST_FILES ≤ present m.known
+  pub limit_is : limit ≡ FILES
 
 -- why gathering ends at this moment
 abbrev pub EndsAt : Setting → Moment → GatherFault → Type 0
@@ -243,7 +244,7 @@ IsEnding s (Err fault) = FailsBy s fault
 
 -- each of the files has words
 abbrev pub HaveWords : Gathered → Type 0
-HaveWords g = (number : ℕ) → number < count_of g → (words : List LexedWord) × Answers number (text_of g number) (Ok words)
+HaveWords g = (number : ℕ) → number < count_of g → (words : List PlainWord) × Answers number (text_of g number) (Ok words)
 
 -- where files are told, it ends in one way only
 abbrev pub EndsOnce : Type 0

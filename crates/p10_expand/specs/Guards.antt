@@ -3,18 +3,18 @@ use Rattle.std.specs.Prelude.{ℕ, zero, suc, ◌-◌, length, slice_get, List, 
 use Rattle.p10_base.specs.declared.word.Word.{Word}
 use Rattle.p10_direct.specs.declared.mark.Mark.{Mark}
 use Rattle.p10_direct.specs.declared.mark.Mark.TheVariants.{Opens, Closes, Plain}
-use Rattle.p10_direct.specs.Spelling.{Text, is_name, is_name_kind, is_punctuator}
+use Rattle.p10_base.specs.Words.{Text, is_name, is_name_kind, is_punctuator, plain_word}
 use Rattle.p10_direct.specs.Lines.{Piece, DirectiveLine}
 use Rattle.p10_direct.specs.Balance.{mark_of}
 
 -- the name in `ifndef X`, if these are its words
 abbrev pub guarded_by_ifndef : Word → Word → Option Text
-guarded_by_ifndef word name = if is_name (codes "ifndef") word && is_name_kind name.kind then Some name.text.now else None
+guarded_by_ifndef word name = if is_name (codes "ifndef") (plain_word word) && is_name_kind name.kind then Some name.text.now else None
 
 -- the name in `if !defined(X)`, if these are its words
 abbrev pub guarded_by_if : Word → Word → Word → Word → Word → Word → Option Text
 guarded_by_if word bang asks opening name closing =
-    if is_name (codes "if") word && is_punctuator (codes "!") bang && is_name (codes "defined") asks && is_punctuator (codes "(") opening && is_name_kind name.kind && is_punctuator (codes ")") closing
+    if is_name (codes "if") (plain_word word) && is_punctuator (codes "!") (plain_word bang) && is_name (codes "defined") (plain_word asks) && is_punctuator (codes "(") (plain_word opening) && is_name_kind name.kind && is_punctuator (codes ")") (plain_word closing)
     then Some name.text.now
     else None
 
@@ -26,7 +26,7 @@ guarded_name _ = None
 
 -- the line is `#define X` with an empty list
 abbrev pub defines_as_nothing : Text → List Word → Bool
-defines_as_nothing name (hash ∷ word ∷ defined ∷ []) = is_name (codes "define") word && is_name name defined
+defines_as_nothing name (hash ∷ word ∷ defined ∷ []) = is_name (codes "define") (plain_word word) && is_name name (plain_word defined)
 defines_as_nothing name _ = false
 
 -- the conditional that is open ends with the last of these lines, and has no `#elif` and no `#else`; so many conditionals have
@@ -42,7 +42,7 @@ closes_last (suc inner) (_ ∷ marks) = closes_last (suc inner) marks
 
 -- the line is `#endif` alone
 abbrev pub is_lone_endif : Piece → Bool
-is_lone_endif (DirectiveLine (hash ∷ word ∷ [])) = is_name (codes "endif") word
+is_lone_endif (DirectiveLine (hash ∷ word ∷ [])) = is_name (codes "endif") (plain_word word)
 is_lone_endif _ = false
 
 -- whether there is a line, and it is `#endif` alone

@@ -1,5 +1,5 @@
 -- The built-in headers: each is a text of one line an item, in which the items have their order.
-use Rattle.std.specs.Prelude.{ℕ, ◌==◌, ◌&&◌, Bool as Flag, false, List, [], ◌∷◌, ◌++◌, codes, Option, Some, None, option_map, bytes_eq, if◌then◌else◌, ℤ, flat_map, nat_lt}
+use Rattle.std.specs.Prelude.{ℤ, ℕ, ◌==◌, ◌&&◌, Bool as Flag, false, List, [], ◌∷◌, ◌++◌, codes, Option, Some, None, option_map, bytes_eq, if◌then◌else◌, flat_map, nat_lt}
 use Rattle.std.specs.List.{find}
 use Rattle.std.specs.Bool.{beq}
 use Rattle.std.specs.Option.{unwrap_or}

@@ -1,7 +1,7 @@
 -- The include lines of a file (C99 6.10.2).
-use Rattle.std.specs.Prelude.{◌≡◌, ℕ, List, [], ◌∷◌, map, Bool, false, ◌⊎◌, Option, Some, None, Ok}
+use Rattle.std.specs.Prelude.{ℕ, ◌≡◌, List, [], ◌∷◌, map, Bool, false, ◌⊎◌, Option, Some, None, Ok}
 use Rattle.p10_base.specs.declared.word.Word.{Word}
-use Rattle.p10_lex.specs.Pieces.{LexedWord}
+use Rattle.p10_base.specs.Words.{PlainWord}
 use Rattle.p10_lex.specs.Lexes.{Answers}
 use Rattle.p10_direct.specs.Directives.{Include, Spells}
 use Rattle.p10_direct.specs.declared.line.Line.{Line}
@@ -39,11 +39,11 @@ pub record AreIncludes (words : List Word) (includes : List Wanted) : Type 0 whe
   pub named : NamedIn pieces includes
 
 -- a word as one that borrows its text; where the text stands in memory doesn't count
-abbrev pub word_of : LexedWord → Word
+abbrev pub word_of : PlainWord → Word
 word_of word = record { kind = word.kind; text = record { ref_ptr = (0, 0); now = word.text }; at = word.at; first = word.first }
 
 -- the text of the file with this number has words, and these are its include lines
 pub record HasIncludes (number : ℕ) (text : List ℕ) (includes : List Wanted) : Type 0 where
-  pub words : List LexedWord
+  pub words : List PlainWord
   pub lexes : Answers number text (Ok words)
   pub named : AreIncludes (map word_of words) includes

@@ -1,11 +1,10 @@
--- The definitions that the contracts of this crate cite.
-
--- what the public functions promise
+-- The definitions that the contracts of this crate cite: those of public clauses, and in `private` those of private ones alone.
 pub mod Headers
 pub mod Includes
 pub mod Candidates
 pub mod Finding
 pub mod Gathering
+pub mod Setting
 pub mod Gathered
 pub mod Guards
 pub mod Skips
@@ -13,11 +12,8 @@ pub mod Conditionals
 pub mod Items
 pub mod Obeying
 pub mod Expands
+pub mod Answers
 pub mod Plain
 pub mod Coming
 pub mod Before
--- how the private ones come to it
-pub mod Standing
-pub mod Steps
-pub mod Judging
-pub mod Running
+pub mod private

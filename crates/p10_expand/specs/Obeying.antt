@@ -1,21 +1,21 @@
 -- What the directives do (C99 6.10), and what the lines of a file stand for, one by one.
-use Rattle.std.specs.Prelude.{◌≡◌, ℕ, ◌-◌, ◌==◌, nat_lt, List, [], ◌∷◌, ◌++◌, length, slice_index_or, Bool, true, false, ◌&&◌, not, MatchBool, Option, Some, None, if◌then◌else◌, bytes_eq}
+use Rattle.std.specs.Prelude.{ℕ, ◌≡◌, ◌-◌, ◌==◌, nat_lt, List, [], ◌∷◌, ◌++◌, length, slice_index_or, Bool, true, false, ◌&&◌, not, MatchBool, Option, Some, None, if◌then◌else◌, bytes_eq}
 use Rattle.p10_base.specs.declared.span.Span.{Span}
 use Rattle.p10_base.specs.declared.word.Word.{Word}
 use Rattle.p10_base.specs.declared.word.Kind.TheVariants.{Mark}
 use Rattle.p10_base.specs.declared.report.Refusal.{Refusal}
 use Rattle.p10_base.specs.declared.report.Limit.{Limit}
 use Rattle.p10_base.specs.Gathered.{Gathered, name_of, text_of, candidate_of}
-use Rattle.p10_direct.specs.Spelling.{Text}
+use Rattle.p10_base.specs.Words.{Text}
 use Rattle.p10_direct.specs.Lines.{Piece, DirectiveLine, TextRun}
 use Rattle.p10_direct.specs.Balance.{mark_of, first_unbalanced}
 use Rattle.p10_direct.specs.Directives.{PlainMacro, PlainDirective, Null, Include, Define, Undef, If, Elif, Ifdef, Ifndef, Else, Endif, Once, InitDone, TaskLoop, OtherPragma, Outcome, Read, BadForm, BadDefinition, IsOutcome, place_of}
-use Rattle.p10_direct.specs.Reading.{inside}
-use Rattle.p10_direct.specs.Names.{with_name}
+use Rattle.p10_lex.specs.Literals.{inside}
+use Rattle.p10_base.specs.Names.{with_name}
 use Rattle.p10_macros.specs.declared.table.Effect.{Effect}
 use Rattle.p10_macros.specs.declared.table.Effect.TheVariants.{New, Same, Other}
 use Rattle.p10_macros.specs.Table.{Table, without_macro, own_of}
-use Rattle.p10_macros.specs.Uses.{Sourced, plain_words}
+use Rattle.p10_macros.specs.Uses.{Sourced, sourced_words}
 use Rattle.p10_macros.specs.Endings.{Ending, Gives, Refused, TooMany}
 use Rattle.p10_macros.specs.Answers.{Defines}
 use Rattle.p10_expand.specs.declared.expanded.Obeyed.{Obeyed as ObeyedLine}
@@ -27,6 +27,10 @@ use Rattle.p10_expand.specs.Guards.{is_guarded}
 use Rattle.p10_expand.specs.Skips.{is_obeyed, stand_behind, stand_of_group, stand_of_else}
 use Rattle.p10_expand.specs.Conditionals.{refusal_of, is_defined, RunEnds, Judged, Holds, Fails, Exceeds, JudgesCondition}
 use Rattle.p10_expand.specs.Items.{lines_of, is_among, given_after, new_words}
+use Rattle.p10_base.specs.Codes.{directive_number}
+use Rattle.p10_base.specs.declared.codes.DirectiveCode.TheVariants.{BadDirective, UnbalancedConditional, IncludeNotFound}
+use Rattle.p10_base.specs.declared.codes.DirectiveCode.TheVariants as code
+use Rattle.p10_base.specs.declared.report.TheConstants.Limit.{EXPANDED_WORDS, MACROS, MOST_MACROS}
 
 -- ## What is known between two lines
 
@@ -69,10 +73,6 @@ pub record File : Type 0 where
   pub built_in : Bool
   pub pieces : List Piece
 
--- the limit with this number
-abbrev pub limit : ℕ → Limit
-limit number = record { number = number }
-
 -- the program is refused here, by the refusal with this number at this place
 abbrev pub refuse : State → ℕ → Span → Next
 refuse s number at = End (Refuses s (refusal_of number at))
@@ -94,10 +94,10 @@ with_words s words = record s { words = s.words ++ words }
 
 -- what comes of a run of text with this expansion; a refused one stands for the replacement of the words before the refused use
 abbrev pub TextEnds : State → List Word → Ending (List Sourced) → Next → Type 0
-TextEnds s words (Gives made left) next = next ≡ On Obeyed (record s { words = s.words ++ plain_words made; left = left })
+TextEnds s words (Gives made left) next = next ≡ On Obeyed (record s { words = s.words ++ sourced_words made; left = left })
 TextEnds s words (Refused number at) next =
-    (made : List Sourced) × (left : ℕ) × RunEnds s.macros (words_before at words) s.left (Gives made left) × (next ≡ refuse (with_words s (plain_words made)) number at)
-TextEnds s words TooMany next = next ≡ End (Passes (limit 4))
+    (made : List Sourced) × (left : ℕ) × RunEnds s.macros (words_before at words) s.left (Gives made left) × (next ≡ refuse (with_words s (sourced_words made)) number at)
+TextEnds s words TooMany next = next ≡ End (Passes EXPANDED_WORDS)
 
 -- a run of text stands for its expansion (C99 6.10.3)
 abbrev pub TextGives : State → List Word → Next → Type 0
@@ -131,7 +131,7 @@ is_header g number name = is_some_text name (inside 60 62 (name_of g number)) &&
 
 -- an include stands for the lines of its candidate, if that isn't included once only, and was before (C99 6.10.2)
 abbrev pub included : Gathered → List Word → Text → State → Option ℕ → Next
-included g line name s None = refuse s 5 (operand_place line)
+included g line name s None = refuse s (directive_number IncludeNotFound) (operand_place line)
 included g line name s (Some number) =
     if is_among s.once (name_of g number) then On Obeyed s
     else Enter number (is_header g number name) s
@@ -141,9 +141,9 @@ included g line name s (Some number) =
 -- what comes of a definition with this effect on the macros (C99 6.10.3p2): none where the name has the same definition; it is
 -- refused where the name has another one
 abbrev pub defined_as : List Word → State → Effect → Table → Next
-defined_as line s New macros = if nat_lt 8192 (own_of macros) then End (Passes (limit 6)) else On Obeyed (record s { macros = macros })
+defined_as line s New macros = if nat_lt MOST_MACROS (own_of macros) then End (Passes MACROS) else On Obeyed (record s { macros = macros })
 defined_as line s Same macros = On Obeyed (record s { macros = macros })
-defined_as line s Other macros = refuse s 4 (operand_place line)
+defined_as line s Other macros = refuse s (directive_number code.BadDefinition) (operand_place line)
 
 -- what comes of a definition, in a built-in header or not
 abbrev pub DefinitionGives : Bool → List Word → PlainMacro → State → Next → Type 0
@@ -166,7 +166,7 @@ DefineGives false line made s next = DefinitionGives false line made s next
 abbrev pub judged_next : State → Judged → Next
 judged_next s (Holds truth left) = On (stand_of_group truth) (record s { left = left })
 judged_next s (Fails refusal) = End (Refuses s refusal)
-judged_next s Exceeds = End (Passes (limit 4))
+judged_next s Exceeds = End (Passes EXPANDED_WORDS)
 
 -- a group is chosen where its condition holds
 abbrev pub ConditionGives : Digits → List Word → List Word → State → Next → Type 0
@@ -198,10 +198,10 @@ Does g digits file stand line OtherPragma s next = next ≡ On Obeyed s
 -- what comes of an obeyed line with this outcome: one of another form is refused, then one that breaks the structure of the
 -- file's conditionals
 abbrev pub Acts : Gathered → Digits → File → Stand → Bool → List Word → Outcome → State → Next → Type 0
-Acts g digits file stand breaks line BadForm s next = next ≡ refuse s 1 (place_of line)
-Acts g digits file stand breaks line (BadDefinition at) s next = next ≡ refuse s 4 at
+Acts g digits file stand breaks line BadForm s next = next ≡ refuse s (directive_number BadDirective) (place_of line)
+Acts g digits file stand breaks line (BadDefinition at) s next = next ≡ refuse s (directive_number code.BadDefinition) at
 Acts g digits file stand breaks line (Read directive) s next =
-    MatchBool breaks (next ≡ refuse s 2 (place_of line)) (Does g digits file stand line directive s next)
+    MatchBool breaks (next ≡ refuse s (directive_number UnbalancedConditional) (place_of line)) (Does g digits file stand line directive s next)
 
 -- ## Lines
 

@@ -4,30 +4,30 @@ use Rattle.p10_base.specs.declared.span.Span.{Span}
 use Rattle.p10_base.specs.declared.report.Refusal.{Refusal}
 use Rattle.p10_base.specs.declared.report.Limit.{Limit}
 use Rattle.p10_base.specs.Gathered.{Gathered}
-use Rattle.p10_lex.specs.Pieces.{LexedWord, seen}
+use Rattle.p10_base.specs.Words.{PlainWord, plain_word}
 use Rattle.p10_expand.specs.declared.expanded.Obeyed.{Obeyed as ObeyedLine}
 use Rattle.p10_expand.specs.Expands.{Layout, IsLaidOut, Expansion, Expands}
 
 -- a directive that was obeyed, or the refused one, which for D2 may stand in a skipped group: its words, its place, and whether it begins an include guard
 pub record PlainObeyed : Type 0 where
-  pub words : List LexedWord
+  pub words : List PlainWord
   pub span : Span
   pub guard : Bool
 
 -- an obeyed line, where its words have no places in memory
 abbrev pub plain_obeyed : ObeyedLine → PlainObeyed
-plain_obeyed line = record { words = map seen line.words; span = line.span; guard = line.guard }
+plain_obeyed line = record { words = map plain_word line.words; span = line.span; guard = line.guard }
 
 -- the words of each root, the directives that were obeyed, and the refusal, if there is one
 pub record PlainExpansion : Type 0 where
-  pub roots : List (List LexedWord)
+  pub roots : List (List PlainWord)
   pub obeyed : List PlainObeyed
   pub refusal : Option Refusal
 
 -- an expansion without where its texts lie
 abbrev pub plain_expansion : Expansion → PlainExpansion
 plain_expansion expansion = record {
-  roots = map (map seen) expansion.roots;
+  roots = map (map plain_word) expansion.roots;
   obeyed = map plain_obeyed expansion.obeyed;
   refusal = expansion.refusal;
 }

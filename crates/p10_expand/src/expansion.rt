@@ -13,8 +13,6 @@ mod run;
 mod stand;
 mod state;
 mod step;
-#[cfg(test)]
-mod tests;
 mod texts;
 
 ghost use Rattle.std.specs.Prelude.{◌≡◌, ◌<◌, ◌^◌, [], ◌++◌, Some, length, replicate, sum_by, IfOk, IfErr};
@@ -22,7 +20,8 @@ ghost use Rattle.p10_base.specs.Gathered.{count_of};
 ghost use Rattle.p10_expand.specs.Gathering.{HaveWords};
 ghost use Rattle.p10_expand.specs.Expands.{AreWords, ExpansionsAreUnique};
 ghost use Rattle.p10_expand.specs.Coming.{ExpansionComes};
-ghost use Rattle.p10_expand.specs.Steps.{AreCuts, AreTexts, IsExpansion, IsFault, expansion_of, lists_in, lists_of};
+ghost use Rattle.p10_expand.specs.private.Steps.{AreCuts, AreTexts, lists_in};
+ghost use Rattle.p10_expand.specs.Answers.{IsExpansion, IsFault, expansion_of, lists_of};
 
 use crate::expanded::{Expanded, Obeyed};
 use crate::expansion::digits::Digits;
@@ -32,14 +31,14 @@ use crate::expansion::texts::Texts;
 use crate::includes::MOST_NESTED;
 pub use fault::ExpandFault;
 pub use laws::{expands_to_once, words_before_give};
-use p10_base::{ListBuf, Refusal, Sources, Word};
+use p10_base::{Limit, ListBuf, Refusal, Sources, Word};
 use p10_direct::{Lines, lines, one_condition, one_cut, one_outcome};
 use p10_lex::lex;
 use p10_macros::one_ending;
 use std::alloc::{AllocError, Global};
 
 /// The most words of files and of replacements (M4).
-const MOST_WORDS: u64 = 1_048_576;
+const MOST_WORDS: u64 = Limit::MOST_EXPANDED_WORDS;
 
 /// Expands a program: obeys its directives and replaces its macros (C99 6.10).
 ///

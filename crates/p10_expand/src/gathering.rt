@@ -38,7 +38,7 @@ impl Gathering {
     ghost use Rattle.p10_base.specs.Gathered.{count_of, nothing_gathered};
     ghost use Rattle.p10_expand.specs.Gathering.{IsAt, IsNew, known_at, present};
     ghost use Rattle.p10_expand.specs.Includes.{no_include};
-    ghost use Rattle.p10_expand.specs.Standing.{AddsFile, FailsToAdd, Links};
+    ghost use Rattle.p10_expand.specs.private.Standing.{AddsFile, FailsToAdd, Links};
 
     /// Nothing gathered.
     pub fn new(alloc: Global) -> Gathering

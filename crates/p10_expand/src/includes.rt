@@ -6,13 +6,13 @@ ghost use Rattle.p10_direct.specs.Lines.{Piece, piece_of};
 ghost use Rattle.p10_expand.specs.Includes.{Begins, IsNamedBy, NamedIn, AreIncludes};
 
 use crate::place::Include;
-use p10_base::{ListBuf, Word};
+use p10_base::{Limit, ListBuf, Word};
 use p10_direct::{DirectFault, Directive, Line, directive, lines, one_outcome};
 use std::alloc::{AllocError, Global};
 
 /// The most nested includes: the limit M3. A file to which one more leads is gathered, but never expanded, so its own include
 /// lines aren't followed.
-pub const MOST_NESTED: u32 = 64;
+pub const MOST_NESTED: u32 = Limit::MOST_NESTED_INCLUDES as u32;
 
 /// The include lines of a file with these words, in their order, also those of skipped groups.
 pub fn includes_of(alloc: Global, words: &[Word<'_>]) -> Result<Vec<Include>, AllocError>

@@ -26,6 +26,3 @@ pub use expansion::{ExpandFault, expand, expands_to_once, one_expansion, words_b
 pub use fault::GatherFault;
 pub use laws::{ends_once, files_are_known, roots_are_named};
 pub use walk::gather;
-
-#[cfg(test)]
-mod tests;

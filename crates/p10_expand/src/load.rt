@@ -3,7 +3,7 @@
 ghost use Rattle.std.specs.Prelude.{◌≡◌, ◌≤◌, ◌<◌, ℕ, true, Ok, None, IsOk, OnOk, IfOk, IfErr, IsErrOf, bytes_eq, length};
 ghost use Rattle.std.specs.List.{list_any};
 ghost use Rattle.p10_expand.specs.Gathering.{IsAt, IsNew};
-ghost use Rattle.p10_expand.specs.Standing.{Stands, IsFound, Fails};
+ghost use Rattle.p10_expand.specs.private.Standing.{Stands, IsFound, Fails};
 ghost use Rattle.p10_world.specs.Faults.{Rose};
 
 use crate::fault::Trouble;
@@ -15,10 +15,10 @@ use p10_world::{FileFault, Files};
 use std::alloc::Global;
 
 /// The most bytes of a source file (M1), and one more, by which a longer one is known.
-const ENOUGH: u64 = 1_048_577;
+const ENOUGH: u64 = Limit::MOST_FILE_BYTES + 1;
 
 /// The most gathered files that are no built-in headers (M7).
-const MOST_FILES: usize = 256;
+const MOST_FILES: usize = Limit::MOST_FILES as usize;
 
 /// The number of the file at a place, which is gathered now if it wasn't before; `depth` is then the
 /// length of the chain of includes that leads to it. `None` where there is no such file.
@@ -83,7 +83,7 @@ fn load<F: Files>(
     match files.read(alloc, name, ENOUGH, &mut text) {
         Ok(()) => {
             if state.present() >= MOST_FILES {
-                return Err(Trouble::Over(Limit { number: 7 }));
+                return Err(Trouble::Over(Limit::FILES));
             }
             let place = Place::File(TextBuf::of(String::from_str(alloc, name)?));
             let whole = String::from_str(alloc, name)?;

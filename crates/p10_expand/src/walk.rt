@@ -7,7 +7,8 @@ ghost use Rattle.p10_world.specs.Files.{Lacks};
 ghost use Rattle.p10_world.specs.Faults.{Rose};
 ghost use Rattle.p10_expand.specs.Gathering.{Root, Line, Gathers, HaveWords, IsFault, known_at};
 ghost use Rattle.p10_expand.specs.Includes.{no_include};
-ghost use Rattle.p10_expand.specs.Standing.{FailsFirst, FindsFirst, Follows, Grows, Keeps, Stands, Steps, Stops, StopsFollowing, fault_with, setting};
+ghost use Rattle.p10_expand.specs.private.Standing.{FailsFirst, FindsFirst, Follows, Grows, Keeps, Stands, Steps, Stops, StopsFollowing, fault_with};
+ghost use Rattle.p10_expand.specs.Setting.{setting};
 
 use crate::candidates::candidates;
 use crate::fault::{GatherFault, Trouble};

@@ -17,11 +17,12 @@ use Rattle.p10_first.specs.declared.reader.Target.TheVariants.{New, Old}
 use Rattle.p10_first.specs.declared.reader.Expecting.{Expecting}
 use Rattle.p10_first.specs.declared.reader.Expecting.TheVariants.{AnItem, NewName, Declared, Assigned, FirstAtom, NextAtom, Joint, Value, End, Brace, Nothing}
 use Rattle.p10_first.specs.Names.{is_nondigit, is_word_byte, is_name, reserved_words, is_reserved}
-use Rattle.p10_first.specs.Form.{Text, name_of, atom_word, addend_words, sum_words, item_words, items_words, return_words, is_variable_name, AtomFits, SumFits, ItemFits, ItemsFit, declared_after, greatest_int, AreApart, IsProgram}
-use Rattle.p10_first.specs.Reading.{Reading, expect, if_int, numeral, number_or_variable, below, atom_of, readable, item_for, step, steps, start, whole_at, body_of}
-use Rattle.p10_first.specs.Runs.{numeral_of}
+use Rattle.p10_base.specs.Words.{Text}
+use Rattle.p10_first.specs.Form.{name_of, atom_word, addend_words, sum_words, item_words, items_words, return_words, is_variable_name, AtomFits, SumFits, ItemFits, ItemsFit, declared_after, greatest_int, AreApart, IsProgram}
+use Rattle.p10_first.specs.private.Reading.{Reading, expect, if_int, numeral, number_or_variable, below, atom_of, readable, item_for, step, steps, start, whole_at, body_of}
+use Rattle.p10_first.specs.private.Runs.{numeral_of}
 use Rattle.p10_first.proofs.DecimalNumbers.{numeral_of_takes, numeral_of_again}
-use Rattle.p10_direct.specs.Names.{place_in}
+use Rattle.p10_base.specs.Names.{place_in}
 use Rattle.p10_first.proofs.Places.{first_place, no_place}
 use Rattle.p10_first.proofs.Spelling.{other_text, fit_rises}
 

@@ -8,7 +8,7 @@ use Rattle.std.specs.List.{list_all}
 use Rattle.p10_base.specs.declared.report.Bounds.{Bounds}
 use Rattle.p10_first.specs.Certificate.{first_lines, flag_number, IsEnd, greatest_size}
 use Rattle.p10_first.specs.Names.{is_word_byte, is_name}
-use Rattle.p10_first.specs.CertificateReading.{FunctionClaim}
+use Rattle.p10_first.specs.private.CertificateReading.{FunctionClaim}
 use Rattle.p10_first.proofs.CertificateSteps.{both_true}
 use Rattle.p10_first.proofs.CertificateNumbers.{name_in_word}
 use Rattle.p10_first.proofs.DecimalNumbers.{numeral_of_again}

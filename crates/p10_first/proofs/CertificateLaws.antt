@@ -4,7 +4,7 @@ use Rattle.std.proofs.Common.{◌≡◌, ◌≢◌, ℕ, IfOk, OnErr, List, [], 
 use Rattle.std.proofs.lemmas.Bool.Decides.{nat_tests}
 use Rattle.p10_first.specs.declared.certificate.Certificate.{Certificate}
 use Rattle.p10_first.specs.Certificate.{Claims, claims_of, IsCertificate, certificate_text}
-use Rattle.p10_first.specs.CertificateReading.{result_map, FunctionClaim, certificate_at}
+use Rattle.p10_first.specs.private.CertificateReading.{result_map, FunctionClaim, certificate_at}
 use Rattle.p10_first.proofs.CertificateSteps.{line_ok, line_is, after_front_takes, after_front_again}
 use Rattle.p10_first.proofs.CertificateLines.{function_text, result_text, total_text, function_takes, function_again, result_takes, result_again, total_takes, total_again}
 

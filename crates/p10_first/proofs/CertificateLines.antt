@@ -7,7 +7,7 @@ use Rattle.std.specs.Fmt.{signed_decimal}
 use Rattle.p10_base.specs.declared.report.Bounds.{Bounds}
 use Rattle.p10_first.specs.Names.{is_word_byte, is_name}
 use Rattle.p10_first.specs.Certificate.{◌then◌, flag_number, IsEnd, greatest_count}
-use Rattle.p10_first.specs.CertificateReading.{FunctionClaim, greatest_rank, function_at, result_at, total_at}
+use Rattle.p10_first.specs.private.CertificateReading.{FunctionClaim, greatest_rank, function_at, result_at, total_at}
 use Rattle.p10_first.proofs.CertificateSteps.{then_some, bind_is, after_front_takes, after_front_again}
 use Rattle.p10_first.proofs.CertificateNumbers.{labelled_takes, labelled_again, signed_takes, signed_again, name_takes, name_again}
 

@@ -9,9 +9,9 @@ use Rattle.std.specs.Int.{is_in_range}
 use Rattle.std.specs.Fmt.{signed_decimal}
 use Rattle.std.specs.List.{list_all}
 use Rattle.p10_first.specs.Names.{is_nondigit, is_word_byte, is_name}
-use Rattle.p10_first.specs.Runs.{after_run, front_of}
+use Rattle.p10_first.specs.private.Runs.{after_run, front_of}
 use Rattle.p10_first.specs.Certificate.{IsEnd, greatest_size}
-use Rattle.p10_first.specs.CertificateReading.{number_at, labelled_at, negative_at, positive_at, signed_at, name_at}
+use Rattle.p10_first.specs.private.CertificateReading.{number_at, labelled_at, negative_at, positive_at, signed_at, name_at}
 use Rattle.p10_first.proofs.DecimalNumbers.{numeral_of_takes, numeral_of_again}
 use Rattle.p10_first.proofs.CertificateSteps.{then_some, bind_is, else_some, both_true, after_front_takes, after_front_again, run_front, front_of-append, after_run-append}
 

@@ -3,8 +3,8 @@ use Rattle.std.proofs.Common.{◌≡◌, ℕ, ◌-◌, Bool, true, false, cond, 
 use Rattle.std.proofs.Math.Seq.{take-append_seam, drop-append_seam}
 use Rattle.std.proofs.lemmas.Slice.Eq.{bytes_eq-Decides}
 use Rattle.std.specs.List.{list_all}
-use Rattle.p10_first.specs.CertificateReading.{◌>>=◌, at_line, after_front}
-use Rattle.p10_first.specs.Runs.{after_run, front_of}
+use Rattle.p10_first.specs.private.CertificateReading.{◌>>=◌, at_line, after_front}
+use Rattle.p10_first.specs.private.Runs.{after_run, front_of}
 
 -- ---- steps
 

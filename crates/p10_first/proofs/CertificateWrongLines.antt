@@ -7,7 +7,7 @@ use Rattle.p10_base.specs.declared.report.Bounds.{Bounds}
 use Rattle.p10_first.specs.declared.certificate.Certificate.{Certificate}
 use Rattle.p10_first.specs.Names.{is_nondigit}
 use Rattle.p10_first.specs.Certificate.{Claims, claims_of, IsCertificate, certificate_text, first_lines, IsFirstWrongLine}
-use Rattle.p10_first.specs.CertificateReading.{result_map, at_line, FunctionClaim, after_front, function_at, result_at, total_at, certificate_at}
+use Rattle.p10_first.specs.private.CertificateReading.{result_map, at_line, FunctionClaim, after_front, function_at, result_at, total_at, certificate_at}
 use Rattle.p10_first.proofs.CertificateSteps.{after_front_takes, after_front_again}
 use Rattle.p10_first.proofs.CertificateLines.{function_text, result_text, total_text, function_takes, function_again, FitsFunction, result_takes, result_again, FitsResult, total_takes, total_again, FitsTotal}
 use Rattle.p10_first.proofs.CertificateFrontLines.{lines_fewer, lines_zero, lines_front, no_first_line, header_lines, function_lines, result_lines, total_lines, end_lines}

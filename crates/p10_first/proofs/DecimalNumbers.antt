@@ -6,7 +6,7 @@ use Rattle.std.proofs.lemmas.Str.Parse.{IsNumeralModel, numerals_by_fold}
 use Rattle.std.proofs.lemmas.Fmt.{decimal_is_IsNumeral_wide, length-decimal-le_wide}
 use Rattle.std.specs.Char.{is_ascii_digit}
 use Rattle.std.specs.List.{list_all}
-use Rattle.p10_first.specs.Runs.{most_digits, value_of, numeral_of}
+use Rattle.p10_first.specs.private.Runs.{most_digits, value_of, numeral_of}
 use Rattle.p10_first.specs.Certificate.{greatest_size}
 use Rattle.p10_first.proofs.CertificateSteps.{if_some}
 

@@ -1,16 +1,16 @@
 -- The places of names among names.
-use Rattle.std.proofs.Common.{◌≡◌, ℕ, ◌<◌, List, [], ◌∷◌, ◌++◌, true, false, cond, bytes_eq, length, refl, sym, ◌∙◌, ap, arith, Some, None}
+use Rattle.std.proofs.Common.{◌≡◌, ℕ, ◌<◌, List, [], ◌∷◌, ◌++◌, true, false, cond, bytes_eq, length, refl, sym, ◌∙◌, ap, arith, Some, None, ltb}
 use Rattle.std.specs.List.{list_any}
-use Rattle.std.proofs.Common.{ltb}
 use Rattle.std.proofs.lemmas.Bool.{lt-ltb, le-ltb}
 use Rattle.std.proofs.lemmas.Option.{none-some}
 use Rattle.std.proofs.lemmas.Slice.Eq.{bytes_eq-Decides}
 use Rattle.std.proofs.lemmas.List.Folds.{list_any_at}
 use Rattle.std.proofs.lemmas.List.Quantifiers.{position-Some}
 use Rattle.std.proofs.lemmas.List.Sums.{position_or_len_is}
-use Rattle.p10_direct.specs.Names.{place_in, with_name}
-use Rattle.p10_direct.proofs.Naming.{has_place}
-use Rattle.p10_first.specs.Form.{Text, name_of}
+use Rattle.p10_base.specs.Names.{place_in, with_name}
+use Rattle.p10_base.proofs.Naming.{has_place}
+use Rattle.p10_base.specs.Words.{Text}
+use Rattle.p10_first.specs.Form.{name_of}
 
 pub place_takes : (names : List Text) (name : Text) (place : ℕ) → place_in names name ≡ Some place → (place < length names) × (name_of names place ≡ name)
 place_takes names name place e =

@@ -10,10 +10,11 @@ use Rattle.p10_first.specs.declared.program.Atom.TheVariants.{Number, Variable}
 use Rattle.p10_first.specs.declared.program.Sum.{Sum}
 use Rattle.p10_first.specs.declared.program.Item.{Item}
 use Rattle.p10_first.specs.declared.program.Item.TheVariants.{Declare, Initialise, Assign}
-use Rattle.p10_first.specs.Form.{Text, name_of, atom_word, addend_words, sum_words, item_words, items_words, AtomFits, SumFits, ItemFits, ItemsFit, declared_after, greatest_int}
-use Rattle.p10_first.specs.Reading.{numeral, atom_of, below, if_int, number_or_variable}
-use Rattle.p10_first.specs.Runs.{numeral_of}
-use Rattle.p10_direct.specs.Names.{place_in}
+use Rattle.p10_base.specs.Words.{Text}
+use Rattle.p10_first.specs.Form.{name_of, atom_word, addend_words, sum_words, item_words, items_words, AtomFits, SumFits, ItemFits, ItemsFit, declared_after, greatest_int}
+use Rattle.p10_first.specs.private.Reading.{numeral, atom_of, below, if_int, number_or_variable}
+use Rattle.p10_first.specs.private.Runs.{numeral_of}
+use Rattle.p10_base.specs.Names.{place_in}
 use Rattle.p10_first.proofs.Places.{place_takes}
 use Rattle.p10_first.proofs.DecimalNumbers.{numeral_of_takes}
 

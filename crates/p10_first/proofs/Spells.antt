@@ -6,9 +6,10 @@ use Rattle.p10_first.specs.declared.program.Program.{Program}
 use Rattle.std.proofs.lemmas.List.{nil_from_length}
 use Rattle.p10_base.specs.declared.word.Word.{Word}
 use Rattle.p10_first.specs.declared.reader.Reader.{Reader}
-use Rattle.p10_first.specs.Reader.{Takes, reading_of}
-use Rattle.p10_first.specs.Form.{Text, spelling, texts, head_words, items_words, return_words, Spells}
-use Rattle.p10_first.specs.Reading.{after_head, body_of, program_of, Reading, step, steps, start, whole_at}
+use Rattle.p10_first.specs.private.Reader.{Takes, reading_of}
+use Rattle.p10_base.specs.Words.{Text, plain_words}
+use Rattle.p10_first.specs.Form.{spelling, texts, head_words, items_words, return_words, Spells}
+use Rattle.p10_first.specs.private.Reading.{after_head, body_of, program_of, Reading, step, steps, start, whole_at}
 use Rattle.p10_first.proofs.Spelling.{is_text}
 use Rattle.p10_first.proofs.Taking.{body_takes}
 use Rattle.p10_first.proofs.Again.{body_again}
@@ -76,17 +77,17 @@ no_head words head other s = none-some other (ap (λ h. option_and_then body_of 
 drop_past : (words : List Word) (i : ℕ) → length words ≤ i → drop i words ≡ []
 drop_past words i past = nil_from_length (drop i words) (omega (arith, length-drop i words, past))
 
-pub body_stops : (words : List Word) (i : ℕ) (d : Word) (text : Text) (old new : Reader) (fits : Bool) → steps (texts words) start ≡ steps (texts (drop i words)) (reading_of old) → i < length words → text ≡ spelling (get_or words i d).kind (get_or words i d).text.now → fits ≡ false → Takes (step text) fits old new → None ≡ body_of (texts words)
+pub body_stops : (words : List Word) (i : ℕ) (d : Word) (text : Text) (old new : Reader) (fits : Bool) → steps (texts (plain_words words)) start ≡ steps (texts (plain_words (drop i words))) (reading_of old) → i < length words → text ≡ spelling (get_or words i d).kind (get_or words i d).text.now → fits ≡ false → Takes (step text) fits old new → None ≡ body_of (texts (plain_words words))
 unfolding body_of
 body_stops words i d text old new fits so_far inside spelled refused takes =
     let r = reading_of old in
     let stops : step text r ≡ None = subst (λ b. Takes (step text) b old new) refused takes in
-    let ends : steps (texts words) start ≡ None = so_far ∙ ap (λ (ws : List Word). steps (texts ws) r) (drop-cons words i d inside)
-    ∙ ap (λ t. option_and_then (steps (texts (drop (suc i) words))) (step t r)) (sym spelled) ∙ ap (λ o. option_and_then (steps (texts (drop (suc i) words))) o) stops in
+    let ends : steps (texts (plain_words words)) start ≡ None = so_far ∙ ap (λ (ws : List Word). steps (texts (plain_words ws)) r) (drop-cons words i d inside)
+    ∙ ap (λ t. option_and_then (steps (texts (plain_words (drop (suc i) words)))) (step t r)) (sym spelled) ∙ ap (λ o. option_and_then (steps (texts (plain_words (drop (suc i) words)))) o) stops in
     sym (ap (λ o. option_and_then (λ (r : Reading). whole_at r.expecting r) o) ends)
 
-pub body_ends : (words : List Word) (i : ℕ) (r : Reading) → steps (texts words) start ≡ steps (texts (drop i words)) r → length words ≤ i → whole_at r.expecting r ≡ body_of (texts words)
+pub body_ends : (words : List Word) (i : ℕ) (r : Reading) → steps (texts (plain_words words)) start ≡ steps (texts (plain_words (drop i words))) r → length words ≤ i → whole_at r.expecting r ≡ body_of (texts (plain_words words))
 unfolding body_of
 body_ends words i r so_far past =
-    let ends : steps (texts words) start ≡ Some r = so_far ∙ ap (λ (ws : List Word). steps (texts ws) r) (drop_past words i past) in
+    let ends : steps (texts (plain_words words)) start ≡ Some r = so_far ∙ ap (λ (ws : List Word). steps (texts (plain_words ws)) r) (drop_past words i past) in
     sym (ap (λ o. option_and_then (λ (r : Reading). whole_at r.expecting r) o) ends)

@@ -14,8 +14,9 @@ use Rattle.p10_first.specs.declared.reader.Target.{Target}
 use Rattle.p10_first.specs.declared.reader.Target.TheVariants.{New, Old}
 use Rattle.p10_first.specs.declared.reader.Expecting.{Expecting}
 use Rattle.p10_first.specs.declared.reader.Expecting.TheVariants.{AnItem, NewName, Declared, Assigned, FirstAtom, NextAtom, Joint, Value, End, Brace, Nothing}
-use Rattle.p10_first.specs.Form.{Text, name_of, atom_word, addend_words, sum_words, item_words, items_words, return_words, AtomFits, ItemFits, ItemsFit, declared_after, greatest_int, is_variable_name, AreApart, IsProgram}
-use Rattle.p10_first.specs.Reading.{Reading, expect, add_item, clear_others, atom_of, readable, item_for, step_at, step, steps, start, whole_at, body_of, operand_of, item_step, new_name_step, declared_step, word_step, first_atom_step, next_atom_step, joint_step, value_step}
+use Rattle.p10_base.specs.Words.{Text}
+use Rattle.p10_first.specs.Form.{name_of, atom_word, addend_words, sum_words, item_words, items_words, return_words, AtomFits, ItemFits, ItemsFit, declared_after, greatest_int, is_variable_name, AreApart, IsProgram}
+use Rattle.p10_first.specs.private.Reading.{Reading, expect, add_item, clear_others, atom_of, readable, item_for, step_at, step, steps, start, whole_at, body_of, operand_of, item_step, new_name_step, declared_step, word_step, first_atom_step, next_atom_step, joint_step, value_step}
 use Rattle.p10_first.proofs.Places.{place_takes, place_none}
 use Rattle.p10_first.proofs.Spelling.{is_text, cond_cases, map_some, numeral_takes, atom_of_takes, name_grows, items_grow, addends_push, items_push, fit_push}
 

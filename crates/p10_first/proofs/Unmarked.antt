@@ -3,14 +3,14 @@ use Rattle.std.proofs.Common.{◌≡◌, ◌≢◌, ℕ, ◌+◌, ◌<◌, ◌�
 use Rattle.std.proofs.lemmas.Fmt.{decimal_nonempty}
 use Rattle.std.proofs.lemmas.List.Elements.{All-nil, All-cons, All-head, All-tail, All-get_or}
 use Rattle.p10_base.specs.declared.word.Kind.TheVariants.{Mark}
-use Rattle.p10_base.specs.declared.word.Word.{Word}
 use Rattle.p10_first.specs.declared.program.Atom.{Atom}
 use Rattle.p10_first.specs.declared.program.Atom.TheVariants.{Number, Variable}
 use Rattle.p10_first.specs.declared.program.Sum.{Sum}
 use Rattle.p10_first.specs.declared.program.Item.{Item}
 use Rattle.p10_first.specs.declared.program.Item.TheVariants.{Declare, Initialise, Assign}
 use Rattle.p10_first.specs.declared.program.Program.{Program}
-use Rattle.p10_first.specs.Form.{Text, spelling, texts, name_of, atom_word, addend_words, sum_words, item_words, items_words, head_words, return_words, program_words, is_variable_name, greatest_int, AtomFits, SumFits, ItemFits, ItemsFit, declared_after, IsProgram, Spells}
+use Rattle.p10_base.specs.Words.{Text, PlainWord}
+use Rattle.p10_first.specs.Form.{spelling, texts, name_of, atom_word, addend_words, sum_words, item_words, items_words, head_words, return_words, program_words, is_variable_name, greatest_int, AtomFits, SumFits, ItemFits, ItemsFit, declared_after, IsProgram, Spells}
 use Rattle.p10_first.proofs.Spelling.{fit_rises}
 
 abbrev pub HasByte : Text → Type 0
@@ -75,13 +75,13 @@ program_has names p is =
     (both (items_words names p.items) (return_words p.returned) (items_have names 0 p.items p.variables (record { each = is.each; within = omega (arith, is.count) }) is.items)
     (omega arith, (number_has p.returned is.returned, (omega arith, (omega arith, tt)))))
 
-no_marks : (words : List Word) → HaveByte (texts words) → All (λ (word : Word). word.kind ≢ Mark) words
-no_marks [] have = All-nil (λ (word : Word). word.kind ≢ Mark)
+no_marks : (words : List PlainWord) → HaveByte (texts words) → All (λ (word : PlainWord). word.kind ≢ Mark) words
+no_marks [] have = All-nil (λ (word : PlainWord). word.kind ≢ Mark)
 no_marks (word ∷ words) have =
-    All-cons (λ (word : Word). word.kind ≢ Mark) word words
-    (λ mark. let empty : HasByte [] = subst (λ k. HasByte (spelling k word.text.now)) mark have.0 in omega (arith, empty))
+    All-cons (λ (word : PlainWord). word.kind ≢ Mark) word words
+    (λ mark. let empty : HasByte [] = subst (λ k. HasByte (spelling k word.text)) mark have.0 in omega (arith, empty))
     (no_marks words have.1)
 
 -- no word of a program is a mark
-pub no_mark : (words : List Word) (p : Program) → Spells (texts words) p → All (λ (word : Word). word.kind ≢ Mark) words
+pub no_mark : (words : List PlainWord) (p : Program) → Spells (texts words) p → All (λ (word : PlainWord). word.kind ≢ Mark) words
 no_mark words p s = no_marks words (subst HaveByte (sym s.words_are) (program_has s.names p s.is_program))

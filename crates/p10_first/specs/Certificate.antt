@@ -1,5 +1,5 @@
 -- The text of a certificate with one function, and the claims that it makes.
-use Rattle.std.specs.Prelude.{◌≡◌, ◌≢◌, ℕ, zero, suc, ◌-◌, ◌^◌, ◌<◌, ◌≤◌, Bool, true, false, ◌==◌, if◌then◌else◌, List, [], ◌∷◌, ◌++◌, ℤ, pos, neg_ℤ, ◌≤ℤ◌, codes, decimal}
+use Rattle.std.specs.Prelude.{ℤ, ℕ, ◌≡◌, ◌≢◌, zero, suc, ◌-◌, ◌^◌, ◌<◌, ◌≤◌, Bool, true, false, ◌==◌, if◌then◌else◌, List, [], ◌∷◌, ◌++◌, pos, neg_ℤ, ◌≤ℤ◌, codes, decimal}
 use Rattle.std.specs.Fmt.{signed_decimal}
 use Rattle.p10_base.specs.declared.report.Bounds.{Bounds}
 use Rattle.p10_first.specs.declared.certificate.Certificate.{Certificate}

@@ -1,5 +1,5 @@
 -- What a program of the first form costs, and the conditions on a program and its certificate.
-use Rattle.std.specs.Prelude.{◌≡◌, ℕ, true, ◌+◌, ◌*◌, ◌<◌, ◌≤◌, length, codes, pos, ◌≤ℤ◌, sum_by}
+use Rattle.std.specs.Prelude.{ℕ, ◌≡◌, true, ◌+◌, ◌*◌, ◌<◌, ◌≤◌, length, codes, pos, ◌≤ℤ◌, sum_by}
 use Rattle.p10_int.specs.declared.types.IntType.TheVariants.{Int}
 use Rattle.p10_int.specs.Types.{least_of, greatest_of}
 use Rattle.p10_first.specs.declared.program.Sum.{Sum}

@@ -1,6 +1,6 @@
 -- The words of a program of the first form, and which programs there are.
 -- The form is a part of C99 6.7, 6.8 and 6.9: `int main ( void ) { items return N ; }`.
-use Rattle.std.specs.Prelude.{unsigned_abs, ◌≡◌, ℕ, ◌+◌, ◌<◌, ◌≤◌, List, [], ◌∷◌, ◌++◌, All, codes, decimal, slice_index_or, length, Bool, not, ◌&&◌, true, map}
+use Rattle.std.specs.Prelude.{ℕ, unsigned_abs, ◌≡◌, ◌+◌, ◌<◌, ◌≤◌, List, [], ◌∷◌, ◌++◌, All, codes, decimal, slice_index_or, length, Bool, not, ◌&&◌, true, map}
 use Rattle.p10_first.specs.declared.program.Atom.{Atom}
 use Rattle.p10_first.specs.declared.program.Atom.TheVariants.{Number, Variable}
 use Rattle.p10_first.specs.declared.program.Sum.{Sum}
@@ -11,14 +11,10 @@ use Rattle.p10_int.specs.declared.types.IntType.TheVariants.{Int}
 use Rattle.p10_int.specs.Types.{greatest_of}
 use Rattle.p10_base.specs.declared.word.Kind.{Kind}
 use Rattle.p10_base.specs.declared.word.Kind.TheVariants.{Mark}
-use Rattle.p10_base.specs.declared.word.Word.{Word}
+use Rattle.p10_base.specs.Words.{PlainWord, Text}
 use Rattle.p10_first.specs.Names.{is_name, is_reserved}
 
 -- ## The words that spell a program, where its variables have these names
-
--- a word is a list of bytes
-abbrev pub Text : Type 0
-Text = List ℕ
 
 -- the name of the variable with this number
 abbrev pub name_of : List Text → ℕ → Text
@@ -125,5 +121,5 @@ spelling Mark text = []
 spelling kind text = text
 
 -- the texts that words spell
-abbrev pub texts : List Word → List Text
-texts words = map (λ (word : Word). spelling word.kind word.text.now) words
+abbrev pub texts : List PlainWord → List Text
+texts words = map (λ word. spelling word.kind word.text) words

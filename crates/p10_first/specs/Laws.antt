@@ -1,7 +1,6 @@
 -- What holds of the definitions, for all programs and certificates.
-use Rattle.std.specs.Prelude.{◌≡◌, ◌≢◌, ℕ, ◌+◌, ◌<◌, true, List, [], ◌∷◌, All, ℤ, pos, ◌≤ℤ◌, IsSomeAnd, ◌⊎◌}
+use Rattle.std.specs.Prelude.{ℤ, ℕ, ◌≡◌, ◌≢◌, ◌+◌, ◌<◌, true, List, [], ◌∷◌, All, pos, ◌≤ℤ◌, IsSomeAnd, ◌⊎◌}
 use Rattle.p10_base.specs.declared.word.Kind.TheVariants.{Mark}
-use Rattle.p10_base.specs.declared.word.Word.{Word}
 use Rattle.p10_int.specs.declared.operators.Stop.{Stop}
 use Rattle.p10_int.specs.declared.operators.Stop.TheVariants.{U1, U8}
 use Rattle.p10_first.specs.declared.program.Atom.TheVariants.{Number, Variable}
@@ -9,7 +8,8 @@ use Rattle.p10_first.specs.declared.program.Item.TheVariants.{Declare, Initialis
 use Rattle.p10_first.specs.declared.program.Program.{Program}
 use Rattle.p10_first.specs.declared.conditions.Condition.{Condition}
 use Rattle.p10_first.specs.Certificate.{Claims, IsCertificate, certificate_text, IsFirstWrongLine}
-use Rattle.p10_first.specs.Form.{Text, Spells, texts}
+use Rattle.p10_base.specs.Words.{Text, PlainWord}
+use Rattle.p10_first.specs.Form.{Spells, texts}
 use Rattle.p10_first.specs.Meaning.{Frame, Outcome, Gives, Ends, Undefined, StepsSpent, execute_all, opened_frame, call_main, Within}
 use Rattle.p10_first.specs.Ranges.{Describes, ranges_at_return, is_reached}
 use Rattle.p10_first.specs.Conditions.{cost_of, Accepts, IsFirstFailure}
@@ -32,7 +32,7 @@ SpellsOneProgram = (words : List Text) (p q : Program) → Spells words p → Sp
 
 -- no word of a program is a mark
 abbrev pub HasNoMark : Type 0
-HasNoMark = (words : List Word) (p : Program) → Spells (texts words) p → All (λ (word : Word). word.kind ≢ Mark) words
+HasNoMark = (words : List PlainWord) (p : Program) → Spells (texts words) p → All (λ (word : PlainWord). word.kind ≢ Mark) words
 
 -- only one condition is the first that doesn't hold
 abbrev pub FailsOnce : Type 0

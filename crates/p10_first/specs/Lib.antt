@@ -1,12 +1,9 @@
--- The definitions that the contracts of this crate cite.
+-- The definitions that the contracts of this crate cite: those of public clauses, and in `private` those of private ones alone.
 pub mod Names
-pub mod Runs
 pub mod Form
-pub mod Reading
-pub mod Reader
 pub mod Certificate
-pub mod CertificateReading
 pub mod Meaning
 pub mod Ranges
 pub mod Conditions
 pub mod Laws
+pub mod private

@@ -2,7 +2,7 @@
 -- what it means that every run stays within bounds. Such a program has no assertion, no task loop,
 -- no allocation, and neither input nor output. The end of a run has no place in the source here: only what
 -- prints such a place would ask for it.
-use Rattle.std.specs.Prelude.{◌≡◌, ◌≢◌, ℕ, ◌*◌, ◌≤◌, zero, suc, List, [], ◌∷◌, length, ℤ, pos, Option, Some, None, Result, Ok, Err, slice_get, slice_set, replicate}
+use Rattle.std.specs.Prelude.{ℤ, ℕ, ◌≡◌, ◌≢◌, ◌*◌, ◌≤◌, zero, suc, List, [], ◌∷◌, length, pos, Option, Some, None, Result, Ok, Err, slice_get, slice_set, replicate}
 use Rattle.p10_base.specs.declared.report.Bounds.{Bounds}
 use Rattle.p10_int.specs.declared.types.IntType.TheVariants.{Int}
 use Rattle.p10_int.specs.declared.operators.Stop.{Stop}

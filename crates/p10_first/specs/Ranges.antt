@@ -1,6 +1,6 @@
 -- The range of each variable where a program is followed without its values (interval analysis): whether the
 -- `return` can be reached as far as ranges tell.
-use Rattle.std.specs.Prelude.{◌≡◌, ℕ, Bool, List, [], ◌∷◌, replicate, ℤ, pos, ◌≤ℤ◌, ◌+ℤ◌, int_le, if◌then◌else◌, Option, Some, None, is_some, option_map, option_and_then, slice_set, slice_index_or, MatchBool}
+use Rattle.std.specs.Prelude.{ℤ, ℕ, ◌≡◌, Bool, List, [], ◌∷◌, replicate, pos, ◌≤ℤ◌, ◌+ℤ◌, int_le, if◌then◌else◌, Option, Some, None, is_some, option_map, option_and_then, slice_set, slice_index_or}
 use Rattle.std.specs.Int.{int_min, int_max}
 use Rattle.p10_int.specs.declared.types.IntType.TheVariants.{Int}
 use Rattle.p10_int.specs.Types.{least_of, greatest_of}
@@ -108,7 +108,3 @@ Describes [] [] = Unit {0}
 Describes (r ∷ ranges) (value ∷ frame) = DescribesOne r value × Describes ranges frame
 Describes [] (value ∷ frame) = ⊥
 Describes (r ∷ ranges) [] = ⊥
-
--- the ranges after a step were written in the place of those before it, or no run goes on
-abbrev pub Passes : (Ranges → Option Ranges) → Bool → Ranges → Ranges → Type 0
-Passes step goes_on old new = MatchBool goes_on (step old ≡ Some new) (step old ≡ None)

@@ -3,7 +3,7 @@
 ghost use Rattle.std.specs.Prelude.{◌≡◌, ◌≤◌, length};
 ghost use Rattle.std.specs.List.{list_all};
 ghost use Rattle.p10_first.specs.Names.{is_nondigit, is_word_byte, is_name};
-ghost use Rattle.p10_first.specs.Runs.{after_run};
+ghost use Rattle.p10_first.specs.private.Runs.{after_run};
 
 /// Whether a byte is a letter or `_` (C99 6.4.2.1: a nondigit).
 #[tactic(auto, unfolding(crate::specs::Names::is_nondigit))]

@@ -5,7 +5,7 @@
 //! doesn't begin as it should. All work on slices of the one text and take no memory.
 
 ghost use Rattle.std.specs.Prelude.{◌≡◌, ◌≢◌, ◌≤◌, option_map, option_copied, IfSome, IfOk, IfErr, OnErr};
-ghost use Rattle.p10_first.specs.CertificateReading.{result_map, after_front, number_at, labelled_at, certificate_at, function_at, function_claim, result_at, total_at, signed_at, negative_at, positive_at, name_at};
+ghost use Rattle.p10_first.specs.private.CertificateReading.{result_map, after_front, number_at, labelled_at, certificate_at, function_at, function_claim, result_at, total_at, signed_at, negative_at, positive_at, name_at};
 ghost use Rattle.p10_first.specs.Certificate.{Claims, IsCertificate, IsFirstWrongLine, certificate_text, claims_of};
 
 use crate::bytes::{after_word_bytes, is_name};
@@ -69,7 +69,7 @@ pub fn read(text: &[u8]) -> Result<Certificate<'_>, u64>
 }
 
 /// The same as `read`, stated by the reading function on lists that the laws of certificates are about.
-#[tactic(auto, unfolding(crate::specs::CertificateReading::certificate_at))]
+#[tactic(auto, unfolding(crate::specs::private::CertificateReading::certificate_at))]
 fn parsed(text: &[u8]) -> Result<Certificate<'_>, u64>
     ensures { result_map claims_of result ≡ certificate_at text.now }
 {
@@ -95,7 +95,7 @@ fn parsed(text: &[u8]) -> Result<Certificate<'_>, u64>
 }
 
 /// The line of the function.
-#[tactic(auto, unfolding(crate::specs::CertificateReading::function_at))]
+#[tactic(auto, unfolding(crate::specs::private::CertificateReading::function_at))]
 fn function_line(text: &[u8]) -> Option<(FunctionLine<'_>, &[u8])>
     ensures { option_map (λ x. (function_claim x.0, x.1.now)) result ≡ function_at text.now }
 {
@@ -118,7 +118,7 @@ fn function_line(text: &[u8]) -> Option<(FunctionLine<'_>, &[u8])>
 }
 
 /// The line of the function's result: its least value, its greatest and what stands after the line.
-#[tactic(auto, unfolding(crate::specs::CertificateReading::result_at))]
+#[tactic(auto, unfolding(crate::specs::private::CertificateReading::result_at))]
 fn result_line(text: &[u8]) -> Option<(i128, i128, &[u8])>
     ensures { option_map (λ x. (x.0, x.1, x.2.now)) result ≡ result_at text.now }
 {
@@ -133,7 +133,7 @@ fn result_line(text: &[u8]) -> Option<(i128, i128, &[u8])>
 }
 
 /// The line of the bounds of the whole program.
-#[tactic(auto, unfolding(crate::specs::CertificateReading::total_at))]
+#[tactic(auto, unfolding(crate::specs::private::CertificateReading::total_at))]
 fn total_line(text: &[u8]) -> Option<(Bounds, &[u8])>
     ensures { option_map (λ x. (x.0, x.1.now)) result ≡ total_at text.now }
 {
@@ -152,7 +152,7 @@ fn total_line(text: &[u8]) -> Option<(Bounds, &[u8])>
 }
 
 /// What stands after the label, if the text begins with it.
-#[tactic(auto, unfolding(crate::specs::CertificateReading::after_front))]
+#[tactic(auto, unfolding(crate::specs::private::CertificateReading::after_front))]
 fn after<'t>(text: &'t [u8], label: &[u8]) -> Option<&'t [u8]>
     ensures { option_copied result ≡ after_front label.now text.now }
 {
@@ -160,7 +160,7 @@ fn after<'t>(text: &'t [u8], label: &[u8]) -> Option<&'t [u8]>
 }
 
 /// A number after a label.
-#[tactic(auto, unfolding(crate::specs::CertificateReading::labelled_at))]
+#[tactic(auto, unfolding(crate::specs::private::CertificateReading::labelled_at))]
 fn labelled<'t>(text: &'t [u8], label: &[u8], most: u128) -> Option<(u128, &'t [u8])>
     ensures exact { option_map (λ x. (x.0, x.1.now)) result ≡ labelled_at label.now most text.now }
     ensures small { IfSome result (λ x. x.0 ≤ most) }
@@ -169,7 +169,7 @@ fn labelled<'t>(text: &'t [u8], label: &[u8], most: u128) -> Option<(u128, &'t [
 }
 
 /// A decimal number without leading zeros that is at most `most`.
-#[tactic(auto, unfolding(crate::specs::CertificateReading::number_at))]
+#[tactic(auto, unfolding(crate::specs::private::CertificateReading::number_at))]
 fn number(text: &[u8], most: u128) -> Option<(u128, &[u8])>
     ensures exact { option_map (λ x. (x.0, x.1.now)) result ≡ number_at most text.now }
     ensures small { IfSome result (λ x. x.0 ≤ most) }
@@ -184,7 +184,7 @@ fn number(text: &[u8], most: u128) -> Option<(u128, &[u8])>
 }
 
 /// A number with its sign, of at most `GREATEST_SIZE`.
-#[tactic(auto, unfolding(crate::specs::CertificateReading::signed_at))]
+#[tactic(auto, unfolding(crate::specs::private::CertificateReading::signed_at))]
 fn signed(text: &[u8]) -> Option<(i128, &[u8])>
     ensures { option_map (λ x. (x.0, x.1.now)) result ≡ signed_at text.now }
 {
@@ -195,7 +195,7 @@ fn signed(text: &[u8]) -> Option<(i128, &[u8])>
 }
 
 /// The number below zero whose size the text begins with.
-#[tactic(auto, unfolding(crate::specs::CertificateReading::negative_at))]
+#[tactic(auto, unfolding(crate::specs::private::CertificateReading::negative_at))]
 fn negative(text: &[u8]) -> Option<(i128, &[u8])>
     ensures { option_map (λ x. (x.0, x.1.now)) result ≡ negative_at text.now }
 {
@@ -208,7 +208,7 @@ fn negative(text: &[u8]) -> Option<(i128, &[u8])>
 }
 
 /// The number without a sign that the text begins with.
-#[tactic(auto, unfolding(crate::specs::CertificateReading::positive_at))]
+#[tactic(auto, unfolding(crate::specs::private::CertificateReading::positive_at))]
 fn positive(text: &[u8]) -> Option<(i128, &[u8])>
     ensures { option_map (λ x. (x.0, x.1.now)) result ≡ positive_at text.now }
 {
@@ -217,7 +217,7 @@ fn positive(text: &[u8]) -> Option<(i128, &[u8])>
 }
 
 /// A name of C (C99 6.4.2.1), keywords included.
-#[tactic(auto, unfolding(crate::specs::CertificateReading::name_at))]
+#[tactic(auto, unfolding(crate::specs::private::CertificateReading::name_at))]
 fn name(text: &[u8]) -> Option<(&[u8], &[u8])>
     ensures { option_map (λ x. (x.0.now, x.1.now)) result ≡ name_at text.now }
 {

@@ -2,13 +2,13 @@
 
 ghost use Rattle.std.specs.Prelude.{◌≡◌, ◌≤◌, length};
 ghost use Rattle.std.specs.Char.{is_ascii_digit};
-ghost use Rattle.p10_first.specs.Runs.{after_run, most_digits, value_of, numeral_of};
+ghost use Rattle.p10_first.specs.private.Runs.{after_run, most_digits, value_of, numeral_of};
 
 /// The most digits of a number: those of the greatest that a certificate may name.
 const MOST_DIGITS: usize = 21;
 
 /// The number whose decimal form these bytes are.
-#[tactic(auto, unfolding(crate::specs::Runs::numeral_of))]
+#[tactic(auto, unfolding(crate::specs::private::Runs::numeral_of))]
 pub(crate) fn numeral(digits: &[u8]) -> Option<u128>
     ensures { result ≡ numeral_of digits.now }
 {

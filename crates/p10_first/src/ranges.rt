@@ -2,7 +2,8 @@
 //! over its items, with a range for each variable.
 
 ghost use Rattle.std.specs.Prelude.{◌≡◌, IfOk, slice_set};
-ghost use Rattle.p10_first.specs.Ranges.{added, unless_empty, range_at, range_of_atom, range_of_sum, ranges_assigned, ranges_after, Passes, is_reached, int_range};
+ghost use Rattle.p10_first.specs.Ranges.{added, unless_empty, range_at, range_of_atom, range_of_sum, ranges_assigned, ranges_after, is_reached, int_range};
+ghost use Rattle.p10_first.specs.private.Passing.{Passes};
 
 use crate::{Atom, Item, Program, Sum};
 use p10_int::IntType;

@@ -3,15 +3,15 @@
 
 ghost use Rattle.std.specs.Prelude.{◌≡◌, ◌&&◌, ◌||◌, bytes_eq, IfOk, Some, None, IfSome, IfNone, option_map, OnOk};
 ghost use Rattle.std.specs.List.{list_any};
+ghost use Rattle.p10_base.specs.Words.{plain_words};
 ghost use Rattle.p10_first.specs.Form.{is_variable_name, spelling, texts, Spells};
 ghost use Rattle.p10_first.specs.Names.{is_reserved};
-ghost use Rattle.p10_first.specs.Reading.{numeral, atom_of, is_head, after_head, body_of};
+ghost use Rattle.p10_first.specs.private.Reading.{numeral, atom_of, is_head, after_head, body_of};
 
 use crate::bytes::is_name;
 use crate::numerals::numeral;
 use crate::{Atom, Item, Program, Sum};
-use p10_base::{Kind, ListBuf, Word};
-use p10_direct::Names;
+use p10_base::{Kind, ListBuf, NameList, Word};
 use std::alloc::{AllocError, Global};
 use std::mem;
 
@@ -80,7 +80,7 @@ fn names_variable(word: &[u8]) -> bool
 }
 
 /// The constant of type `int` that a word spells.
-#[tactic(auto, unfolding(crate::specs::Reading::numeral))]
+#[tactic(auto, unfolding(crate::specs::private::Reading::numeral))]
 fn number(word: &[u8]) -> Option<u32>
     ensures { result ≡ numeral word.now }
 {
@@ -91,8 +91,8 @@ fn number(word: &[u8]) -> Option<u32>
 }
 
 /// The operand that a word spells, where it may read the first `declared` variables.
-#[tactic(auto, unfolding(crate::specs::Reading::atom_of))]
-fn atom(declared: usize, names: &Names<'_>, word: &[u8]) -> Option<Atom>
+#[tactic(auto, unfolding(crate::specs::private::Reading::atom_of))]
+fn atom(declared: usize, names: &NameList<'_>, word: &[u8]) -> Option<Atom>
     ensures { result ≡ atom_of declared names.now word.now }
 {
     if let Some(n) = number(word) {
@@ -109,7 +109,7 @@ fn atom(declared: usize, names: &Names<'_>, word: &[u8]) -> Option<Atom>
 struct Reader<'s> {
     alloc: Global,
     /// The names of the variables that are declared so far.
-    names: Names<'s>,
+    names: NameList<'s>,
     items: Vec<Item>,
     /// The further atoms of the sum that is open.
     others: Vec<Atom>,
@@ -117,11 +117,11 @@ struct Reader<'s> {
 }
 
 impl<'s> Reader<'s> {
-    ghost use Rattle.p10_first.specs.Reader.{Takes, reading_of};
-    ghost use Rattle.p10_first.specs.Reading.{item_step, new_name_step, declared_step, word_step, first_atom_step, next_atom_step, joint_step, value_step, step, operand_of, add_item};
+    ghost use Rattle.p10_first.specs.private.Reader.{Takes, reading_of};
+    ghost use Rattle.p10_first.specs.private.Reading.{item_step, new_name_step, declared_step, word_step, first_atom_step, next_atom_step, joint_step, value_step, step, operand_of, add_item};
 
     /// Takes one more word, or tells that it doesn't fit.
-    #[tactic(auto, unfolding(crate::specs::Reading::step))]
+    #[tactic(auto, unfolding(crate::specs::private::Reading::step))]
     fn take(&mut self, word: &'s [u8]) -> Result<bool, AllocError>
         ensures { IfOk result (λ fits. Takes (step word.now) fits self.old self.new) }
     {
@@ -281,15 +281,15 @@ impl<'s> Reader<'s> {
 }
 
 impl<'s> Reader<'s> {
-    ghost use Rattle.p10_first.specs.Reader.{reading_of};
-    ghost use Rattle.p10_first.specs.Reading.{start, whole_at};
+    ghost use Rattle.p10_first.specs.private.Reader.{reading_of};
+    ghost use Rattle.p10_first.specs.private.Reading.{start, whole_at};
 
     fn new(alloc: Global) -> Reader<'s>
         ensures { reading_of result ≡ start }
     {
         Reader {
             alloc,
-            names: Names::new(alloc),
+            names: NameList::new(alloc),
             items: Vec::new(alloc),
             others: Vec::new(alloc),
             expecting: Expecting::AnItem,
@@ -341,9 +341,9 @@ fn begins_main(
 }
 
 /// The words after `int main ( void ) {`.
-#[tactic(auto, unfolding(crate::specs::Reading::after_head))]
+#[tactic(auto, unfolding(crate::specs::private::Reading::after_head))]
 fn after_head<'w, 's>(words: &'w [Word<'s>]) -> Option<&'w [Word<'s>]>
-    ensures { option_map (λ body. texts body.now) result ≡ after_head (texts words.now) }
+    ensures { option_map (λ body. texts (plain_words body.now)) result ≡ after_head (texts (plain_words words.now)) }
 {
     let [int, main, opening, void, closing, brace, body @ ..] = words else {
         return None;
@@ -364,7 +364,7 @@ fn after_head<'w, 's>(words: &'w [Word<'s>]) -> Option<&'w [Word<'s>]>
 
 /// The program whose words after the head are these.
 fn read_body(alloc: Global, words: &[Word<'_>]) -> Result<Option<Program>, AllocError>
-    ensures { IfOk result (λ program. program ≡ body_of (texts words.now)) }
+    ensures { IfOk result (λ program. program ≡ body_of (texts (plain_words words.now))) }
 {
     let mut reader = Reader::new(alloc);
     for word in words {
@@ -380,8 +380,8 @@ fn read_body(alloc: Global, words: &[Word<'_>]) -> Result<Option<Program>, Alloc
 /// # Errors
 /// Want of memory alone.
 pub fn read(alloc: Global, words: &[Word<'_>]) -> Result<Option<Program>, AllocError>
-    ensures found { IfOk result (λ program. IfSome program (Spells (texts words.now))) }
-    ensures none { IfOk result (λ program. IfNone program ((other : Program) → Spells (texts words.now) other → ⊥)) }
+    ensures found { IfOk result (λ program. IfSome program (Spells (texts (plain_words words.now)))) }
+    ensures none { IfOk result (λ program. IfNone program ((other : Program) → Spells (texts (plain_words words.now)) other → ⊥)) }
 {
     match after_head(words) {
         Some(body) => read_body(alloc, body),

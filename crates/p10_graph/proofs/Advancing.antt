@@ -6,7 +6,7 @@ use Rattle.std.proofs.lemmas.Result.{on_ok_weaker}
 use Rattle.p10_graph.specs.declared.search.Mark.{Mark}
 use Rattle.p10_graph.specs.declared.search.Mark.TheVariants.{Unseen, Open}
 use Rattle.p10_graph.specs.Graphs.{Edge}
-use Rattle.p10_graph.specs.Searching.{IsFinished, IsSearch, IsStep, State, done_of, finished, mark_of, merged, row_of, settled, visited}
+use Rattle.p10_graph.specs.private.Searching.{IsFinished, IsSearch, IsStep, State, done_of, finished, mark_of, merged, row_of, settled, visited}
 use Rattle.p10_graph.proofs.Groups.{unfinished_within}
 use Rattle.p10_graph.proofs.Edges.{IsLast, finish_step, merge_step, node_within, reaches_end, settle_step, settles_last}
 use Rattle.p10_graph.proofs.Visiting.{visit_step}

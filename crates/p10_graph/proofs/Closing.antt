@@ -9,7 +9,7 @@ use Rattle.std.proofs.Math.ListN.{get_or-map}
 use Rattle.p10_graph.specs.declared.search.Mark.{Mark}
 use Rattle.p10_graph.specs.declared.search.Mark.TheVariants.{Unseen, Open, Closed}
 use Rattle.p10_graph.specs.Graphs.{Edge, Reaches}
-use Rattle.p10_graph.specs.Searching.{AllFinishedBut, Begin, IsClosedUpTo, IsDone, IsFinished, IsSearch, IsStep, Settles, State, closing, is_unseen, mark_of, with_component}
+use Rattle.p10_graph.specs.private.Searching.{AllFinishedBut, Begin, IsClosedUpTo, IsDone, IsFinished, IsSearch, IsStep, Settles, State, closing, is_unseen, mark_of, with_component}
 use Rattle.p10_graph.proofs.Places.{slice_get-front, take_cases}
 use Rattle.p10_graph.proofs.Groups.{begin_before, begin_within, finished_as, finished_before, finished_from, up_to_before, up_to_fewer, up_to_last, up_to_more}
 use Rattle.p10_graph.proofs.Edges.{shorter}

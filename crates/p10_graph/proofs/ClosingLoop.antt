@@ -6,7 +6,7 @@ use Rattle.std.proofs.lemmas.Option.{same_Some, slice_get-get_or, slice_get_with
 use Rattle.std.proofs.Math.ListN.{get_or-map}
 use Rattle.p10_graph.specs.declared.search.Mark.{Mark}
 use Rattle.p10_graph.specs.declared.search.Mark.TheVariants.{Unseen, Open, Closed}
-use Rattle.p10_graph.specs.Searching.{Agree, closing, mark_of}
+use Rattle.p10_graph.specs.private.Searching.{Agree, closing, mark_of}
 use Rattle.p10_graph.proofs.Marks.{mark-set_other, mark-set_same, open_within}
 use Rattle.p10_graph.proofs.Closing.{closing-before, closing-from}
 

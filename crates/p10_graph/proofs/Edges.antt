@@ -6,7 +6,7 @@ use Rattle.std.proofs.lemmas.Option.{none-some, same_Some}
 use Rattle.p10_graph.specs.declared.search.Mark.{Mark}
 use Rattle.p10_graph.specs.declared.search.Mark.TheVariants.{Unseen, Open, Closed}
 use Rattle.p10_graph.specs.Graphs.{Edge, Reaches}
-use Rattle.p10_graph.specs.Searching.{IsDone, IsFinished, IsSearch, IsStep, IsUpTo, Settles, State, done_of, finished, mark_of, merged, row_of, settled, undone}
+use Rattle.p10_graph.specs.private.Searching.{IsDone, IsFinished, IsSearch, IsStep, IsUpTo, Settles, State, done_of, finished, mark_of, merged, row_of, settled, undone}
 use Rattle.p10_graph.proofs.Groups.{begin_merged, finished_as, finished_more, up_to_fewer, up_to_last, up_to_merged}
 use Rattle.p10_graph.proofs.Marks.{open_unseen, open_within}
 use Rattle.p10_graph.proofs.Walks.{reaches_next, reaches_on}

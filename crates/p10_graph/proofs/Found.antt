@@ -10,7 +10,7 @@ use Rattle.p10_graph.specs.declared.search.Mark.{Mark}
 use Rattle.p10_graph.specs.declared.search.Mark.TheVariants.{Unseen, Open, Closed}
 use Rattle.p10_graph.specs.Graphs.{Edge, Walk}
 use Rattle.p10_graph.specs.Components.{AreComponents}
-use Rattle.p10_graph.specs.Searching.{IsClosedUpTo, IsSearch, State, done_of, is_unseen, mark_of, number_at, opened, row_of, stack_of, visited}
+use Rattle.p10_graph.specs.private.Searching.{IsClosedUpTo, IsSearch, State, done_of, is_unseen, mark_of, number_at, opened, row_of, stack_of, visited}
 use Rattle.p10_graph.proofs.Marks.{closed_unseen, mark-set_same, open_unseen}
 use Rattle.p10_graph.proofs.Visiting.{visit_keeps}
 use Rattle.p10_graph.proofs.Places.{stack_none}

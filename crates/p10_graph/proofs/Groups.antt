@@ -2,7 +2,7 @@
 use Rattle.std.proofs.Common.{◌≡◌, ℕ, ◌<◌, ◌≤◌, ◌⊎◌, inl, inr, List, [], ◌∷◌, length, drop, Some, None, slice_get, refl, sym, ◌∙◌, subst, arith}
 use Rattle.std.proofs.lemmas.Bool.{cases_lt, cases_order}
 use Rattle.std.proofs.lemmas.Option.{none-some, same_Some}
-use Rattle.p10_graph.specs.Searching.{AllFinishedBut, Begin, IsUpTo}
+use Rattle.p10_graph.specs.private.Searching.{AllFinishedBut, Begin, IsUpTo}
 
 -- ## Groups
 

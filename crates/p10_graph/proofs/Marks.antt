@@ -6,7 +6,7 @@ use Rattle.std.proofs.lemmas.List.{get_or_past}
 use Rattle.std.proofs.lemmas.List.Sums.{sum_by-set}
 use Rattle.p10_graph.specs.declared.search.Mark.{Mark}
 use Rattle.p10_graph.specs.declared.search.Mark.TheVariants.{Unseen, Open, Closed}
-use Rattle.p10_graph.specs.Searching.{is_unseen, mark_of}
+use Rattle.p10_graph.specs.private.Searching.{is_unseen, mark_of}
 
 pub mark-set_same : (marks : List Mark) (u : ℕ) (m : Mark) → u < length marks → mark_of (set marks u m) u ≡ m
 mark-set_same marks u m l = get_or-set_same marks u m Unseen l

@@ -4,7 +4,7 @@ use Rattle.std.specs.Option.{option_to_list}
 use Rattle.std.proofs.lemmas.List.{reverse-append, get_or-reverse, length-reverse}
 use Rattle.std.proofs.lemmas.Bool.{false≢true}
 use Rattle.std.proofs.lemmas.Option.{slice_get-get_or, none-some, same_Some}
-use Rattle.p10_graph.specs.Searching.{stack_of}
+use Rattle.p10_graph.specs.private.Searching.{stack_of}
 
 -- ## One more element at the end
 

@@ -5,7 +5,7 @@ use Rattle.std.proofs.lemmas.Option.{slice_get_within}
 use Rattle.p10_graph.specs.declared.search.Mark.{Mark}
 use Rattle.p10_graph.specs.declared.search.Mark.TheVariants.{Unseen, Open, Closed}
 use Rattle.p10_graph.specs.Graphs.{Reaches}
-use Rattle.p10_graph.specs.Searching.{AllFinishedBut, IsClosedUpTo, IsDone, IsFinished, IsSearch, IsStep, IsUpTo, Settles, State, done_of, mark_of, visited}
+use Rattle.p10_graph.specs.private.Searching.{AllFinishedBut, IsClosedUpTo, IsDone, IsFinished, IsSearch, IsStep, IsUpTo, Settles, State, done_of, mark_of, visited}
 use Rattle.p10_graph.proofs.Places.{push_cases, slice_get-last, slice_get-left}
 use Rattle.p10_graph.proofs.Groups.{finished_as}
 use Rattle.p10_graph.proofs.Marks.{mark-set_other, mark-set_same, mark_after, mark_before, unseen-set}

@@ -1,5 +1,5 @@
--- The definitions that the contracts of this crate cite.
+-- The definitions that the contracts of this crate cite: those of public clauses, and in `private` those of private ones alone.
 pub mod Graphs
 pub mod Components
 pub mod Laws
-pub mod Searching
+pub mod private

@@ -8,7 +8,7 @@
 
 ghost use Rattle.std.specs.Prelude.{◌≡◌, ◌≤◌, IfOk, length, map};
 ghost use Rattle.p10_graph.specs.Components.{AreComponents};
-ghost use Rattle.p10_graph.specs.Searching.{Agree, closing, number_at};
+ghost use Rattle.p10_graph.specs.private.Searching.{Agree, closing, number_at};
 
 use crate::Graph;
 use crate::stack::{pop, push, top};
@@ -61,7 +61,7 @@ pub fn components(alloc: Global, graph: &Graph) -> Result<Vec<u32>, AllocError>
 
 impl Search {
     ghost use Rattle.std.specs.Prelude.{◌≡◌, ◌<◌, ◌≤◌, ◌+◌, ◌^◌, [], length, map, slice_get, IfOk, OnOk};
-    ghost use Rattle.p10_graph.specs.Searching.{Agree, IsSearch, IsStep, done_of, number_at, finished, merged, opened, settled, state_of, visited, with_component};
+    ghost use Rattle.p10_graph.specs.private.Searching.{Agree, IsSearch, IsStep, done_of, number_at, finished, merged, opened, settled, state_of, visited, with_component};
 
     /// No node was seen.
     fn new(alloc: Global, graph: &Graph) -> Result<Search, AllocError>

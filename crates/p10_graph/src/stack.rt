@@ -1,7 +1,7 @@
 //! Stacks of places: vectors whose last element is the top.
 
 ghost use Rattle.std.specs.Prelude.{◌≡◌, ◌∷◌, OnOk, slice_get, drop};
-ghost use Rattle.p10_graph.specs.Searching.{stack_of};
+ghost use Rattle.p10_graph.specs.private.Searching.{stack_of};
 
 use std::alloc::AllocError;
 

@@ -10,10 +10,10 @@ use Rattle.p10_lex.specs.declared.pieces.Piece.TheVariants.{Blank, Splices, Comm
 use Rattle.p10_lex.specs.Bytes.{is_blank, is_nondigit, is_digit, is_quote, is_name_byte}
 use Rattle.p10_lex.specs.Splices.{joined_after, splice_length, AreSplices, on_one_line}
 use Rattle.p10_lex.specs.Lexemes.{begins_digit, begins_number, all_go_on_number, IsQuoted, IsHeaderName, is_punctuator, single_punctuators, IsLexeme, IsLongest}
-use Rattle.p10_lex.specs.Constants.{begins_with}
+use Rattle.p10_lex.specs.Characters.{begins_with}
 use Rattle.p10_lex.specs.Pieces.{begins_comment, begins_byte, IsPiece, IsStray, IsLineComment, IsBlockComment, IsOpenComment, IsOpenLiteral}
-use Rattle.p10_lex.specs.Runs.{after_run, after_number, after_line, after_comment, after_literal, after_header, after_splices, punctuator_length}
-use Rattle.p10_lex.specs.Reading.{kind_of_quote, literal_at, comment_at, punctuator_at, header_at, cut_at}
+use Rattle.p10_lex.specs.private.Runs.{after_run, after_number, after_line, after_comment, after_literal, after_header, after_splices, punctuator_length}
+use Rattle.p10_lex.specs.private.Reading.{kind_of_quote, literal_at, comment_at, punctuator_at, header_at, cut_at}
 use Rattle.p10_lex.proofs.Classes.{and_both, or_neither, same_number, number_same, other_number, not_true, not_false, nondigit_not_blank, number_head, number_not_blank, quote_is}
 use Rattle.p10_lex.proofs.RunLaws.{run_again, number_again, header_takes, header_again, comment_again, comment_again_open, line_again}
 use Rattle.p10_lex.proofs.SpliceLaws.{literal_takes, literal_again, splices_again, splice_more, no_splice, positive, positive_test, is_either}

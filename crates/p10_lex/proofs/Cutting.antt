@@ -3,7 +3,7 @@ use Rattle.std.proofs.Common.{◌≡◌, ℕ, ◌<◌, List, [], ◌∷◌, ◌+
 use Rattle.std.proofs.lemmas.List.{append_cancel_right}
 use Rattle.p10_lex.specs.declared.pieces.Piece.{Piece}
 use Rattle.p10_lex.specs.Pieces.{IsPiece}
-use Rattle.p10_lex.specs.Reading.{cut_at}
+use Rattle.p10_lex.specs.private.Reading.{cut_at}
 use Rattle.p10_lex.proofs.Found.{Found, found}
 use Rattle.p10_lex.proofs.Again.{again, some_byte}
 

@@ -3,18 +3,19 @@ use Rattle.std.proofs.Common.{◌≡◌, ℕ, ◌+◌, ◌<◌, ◌≤◌, List,
 use Rattle.std.specs.Prelude.{Option, Some, None}
 use Rattle.p10_base.specs.declared.report.Refusal.{Refusal}
 use Rattle.p10_lex.specs.declared.pieces.Piece.{Piece}
-use Rattle.p10_lex.specs.Pieces.{IsPiece, Cut, State, advance, state_after, is_include, Cuts, LexedWord, word_before, words_of}
+use Rattle.p10_lex.specs.Pieces.{IsPiece, Cut, State, advance, state_after, is_include, Cuts, word_before, words_of}
 use Rattle.p10_lex.specs.Refusals.{Row, refusal_at, rank_of, Holds, Precedes}
 use Rattle.p10_lex.proofs.Cutting.{same_piece, piece_some}
 use Rattle.p10_lex.proofs.Rows.{IsFirstRow, row_within, row_extent, row_number, same_rank}
+use Rattle.p10_base.specs.Words.{PlainWord}
 
 -- From a state on, the bytes give these words, and then end or are refused.
-pub data Gives (file : ℕ) : State → List ℕ → List LexedWord → Option Refusal → Type 0 where
+pub data Gives (file : ℕ) : State → List ℕ → List PlainWord → Option Refusal → Type 0 where
   ends : (s : State) → Gives file s [] [] None
   stops : (s : State) (piece : Piece) (text rest whole : List ℕ) (n i e : ℕ) → whole ≡ text ++ rest
       → IsPiece (is_include s.line) piece text rest → IsFirstRow s.tight piece text rest n i e
       → Gives file s whole [] (Some (refusal_at file n (s.place + i) e))
-  goes_on : (s : State) (piece : Piece) (text rest whole : List ℕ) (words : List LexedWord) (end : Option Refusal) → whole ≡ text ++ rest
+  goes_on : (s : State) (piece : Piece) (text rest whole : List ℕ) (words : List PlainWord) (end : Option Refusal) → whole ≡ text ++ rest
       → IsPiece (is_include s.line) piece text rest → ((n i e : ℕ) → Row s.tight piece text rest n i e → ⊥)
       → Gives file (advance s piece text) rest words end → Gives file s whole (word_before file s.place s.line piece text words) end
 
@@ -24,7 +25,7 @@ place_grows s [] = omega arith
 place_grows s (p ∷ ps) = let h : s.place + length p.text ≤ (state_after (advance s p.piece p.text) ps).place = place_grows (advance s p.piece p.text) ps in omega arith
 
 -- the words of a file that isn't refused are those among its pieces
-pub cut_of : {file : ℕ} {s : State} {bytes : List ℕ} {words : List LexedWord} (end : Option Refusal) → Gives file s bytes words end → end ≡ None
+pub cut_of : {file : ℕ} {s : State} {bytes : List ℕ} {words : List PlainWord} (end : Option Refusal) → Gives file s bytes words end → end ≡ None
     → (pieces : List Cut) × Cuts s bytes pieces [] × (words ≡ words_of file s pieces)
 cut_of {file} _ (ends s) e = ([], refl, refl)
 cut_of {file} _ (stops s piece text rest whole n i x parts is first) e = absurd (cc)
@@ -33,7 +34,7 @@ cut_of {file} _ (goes_on s piece text rest whole words end parts is none reads) 
     (record { piece = piece; text = text } ∷ pieces, (rest, parts, is, cuts), ap (word_before file s.place s.line piece text) are)
 
 -- the refusal of a file holds
-pub holds_of : {file : ℕ} {s : State} {bytes : List ℕ} {words : List LexedWord} (end : Option Refusal) (r : Refusal) → Gives file s bytes words end → end ≡ Some r
+pub holds_of : {file : ℕ} {s : State} {bytes : List ℕ} {words : List PlainWord} (end : Option Refusal) (r : Refusal) → Gives file s bytes words end → end ≡ Some r
     → Holds file s bytes words r
 holds_of {file} _ r (ends s) e = absurd (cc)
 holds_of {file} _ r (stops s piece text rest whole n i x parts is first) e = record {
@@ -100,14 +101,14 @@ same_from {tight} {piece} {text} {rest} file p q n i x m j d e row other (inr (h
     same_refusal file m n (q + j) (p + i) d x numbers (omega arith) (row_extent here row)
 
 -- The refusal that was found is answered before a row that holds, or is that row's.
-pub record IsAnswered (file : ℕ) (words : List LexedWord) (end : Option Refusal) (before : List LexedWord) (other : Refusal) : Type 0 where
+pub record IsAnswered (file : ℕ) (words : List PlainWord) (end : Option Refusal) (before : List PlainWord) (other : Refusal) : Type 0 where
   pub refusal : Refusal
   pub is : end ≡ Some refusal
   pub precedes : Precedes refusal other
   pub only : Precedes other refusal → (other ≡ refusal) × (before ≡ words)
 
 -- where a row holds, a refusal was found that is answered before it
-pub answered : {file : ℕ} {s : State} {bytes : List ℕ} {words : List LexedWord} (end : Option Refusal) → Gives file s bytes words end
+pub answered : {file : ℕ} {s : State} {bytes : List ℕ} {words : List PlainWord} (end : Option Refusal) → Gives file s bytes words end
     → (t : State) → t ≡ s → (before : List Cut) (piece : Piece) (text rest : List ℕ) (n i e : ℕ) → Cuts t bytes before (text ++ rest)
     → IsPiece (is_include (state_after t before).line) piece text rest → Row (state_after t before).tight piece text rest n i e
     → IsAnswered file words end (words_of file t before) (refusal_at file n ((state_after t before).place + i) e)

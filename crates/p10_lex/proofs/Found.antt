@@ -10,8 +10,8 @@ use Rattle.p10_lex.specs.Bytes.{is_blank, is_nondigit, is_digit, is_quote, is_na
 use Rattle.p10_lex.specs.Splices.{joined, splice_length, AreSplices, on_one_line}
 use Rattle.p10_lex.specs.Lexemes.{begins_digit, begins_number, goes_on_number, all_go_on_number, is_quotable, is_punctuator, IsLexeme, IsLongest}
 use Rattle.p10_lex.specs.Pieces.{begins_comment, begins_byte, IsPiece}
-use Rattle.p10_lex.specs.Runs.{after_run, after_number, after_line, after_comment, after_literal, after_header, after_splices, punctuator_length}
-use Rattle.p10_lex.specs.Reading.{kind_of_quote, literal_at, comment_at, punctuator_at, header_at, cut_at}
+use Rattle.p10_lex.specs.private.Runs.{after_run, after_number, after_line, after_comment, after_literal, after_header, after_splices, punctuator_length}
+use Rattle.p10_lex.specs.private.Reading.{kind_of_quote, literal_at, comment_at, punctuator_at, header_at, cut_at}
 use Rattle.p10_lex.proofs.Classes.{decide, and_both, both_and, same_number, number_same, other_number, nondigit_is, number_head, number_not_blank, quote_is}
 use Rattle.p10_lex.proofs.RunLaws.{run_takes, number_takes, header_takes, header_again, comment_takes, comment_open, line_takes, begins_is}
 use Rattle.p10_lex.proofs.SpliceLaws.{literal_takes, literal_again, splices_takes, none_test, positive, is_either}

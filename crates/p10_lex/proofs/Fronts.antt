@@ -1,7 +1,7 @@
 -- What stands before the rest of a text.
 use Rattle.std.proofs.Common.{◌≡◌, ℕ, ◌-◌, List, ◌++◌, length, take, refl, ◌∙◌, ap, arith, length-append}
 use Rattle.std.proofs.lemmas.List.{take_at}
-use Rattle.p10_lex.specs.Values.{front_of}
+use Rattle.p10_lex.specs.private.Runs.{front_of}
 
 -- what stands before the rest is the rest's front
 pub front_is : (text rest whole : List ℕ) → whole ≡ text ++ rest → front_of whole rest ≡ text

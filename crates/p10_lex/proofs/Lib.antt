@@ -4,8 +4,11 @@ pub mod SpliceLaws
 pub mod Punctuation
 pub mod Longest
 pub mod Fronts
-pub mod IntegerLaws
+pub mod Digits
+pub mod Enclosing
 pub mod CharacterLaws
+pub mod LiteralLaws
+pub mod ScanLaws
 pub mod Found
 pub mod Again
 pub mod Marks

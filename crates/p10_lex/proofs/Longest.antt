@@ -7,8 +7,8 @@ use Rattle.p10_base.specs.declared.word.Kind.TheVariants.{Name, Number, Char, St
 use Rattle.p10_lex.specs.Bytes.{is_blank, is_nondigit, is_quote, is_name_byte}
 use Rattle.p10_lex.specs.Splices.{joined}
 use Rattle.p10_lex.specs.Lexemes.{begins_digit, begins_number, all_go_on_number, is_quotable, is_header_byte, is_punctuator, IsLexeme}
-use Rattle.p10_lex.specs.Constants.{begins_with}
-use Rattle.p10_lex.specs.Runs.{after_literal, after_header}
+use Rattle.p10_lex.specs.Characters.{begins_with}
+use Rattle.p10_lex.specs.private.Runs.{after_literal, after_header}
 use Rattle.p10_lex.proofs.Classes.{and_both, nondigit_is, number_head, number_not_blank, quote_is}
 use Rattle.p10_lex.proofs.RunLaws.{all_both, header_again}
 use Rattle.p10_lex.proofs.SpliceLaws.{literal_again}

@@ -8,10 +8,11 @@ use Rattle.p10_lex.specs.Bytes.{is_nondigit, is_digit, is_name_byte, is_sign}
 use Rattle.p10_lex.specs.Splices.{line_end_length, splice_length, joined_after, joined}
 use Rattle.p10_lex.specs.Lexemes.{goes_on_number, all_go_on_number, is_punctuator}
 use Rattle.p10_lex.specs.Refusals.{begins_trigraph}
-use Rattle.p10_lex.specs.Reading.{mark_at, fault_of}
+use Rattle.p10_lex.specs.private.Reading.{mark_at, fault_of}
 use Rattle.p10_lex.proofs.Classes.{decide, and_both, both_and, same_number, number_same, not_true}
 use Rattle.p10_lex.proofs.SpliceLaws.{is_either, positive, none_test, no_splice}
 use Rattle.p10_lex.proofs.Punctuation.{punctuator_rest}
+use Rattle.p10_base.specs.declared.codes.WordCode.TheVariants.{Trigraph, SpliceInWord}
 
 -- no byte of the text begins a trigraph
 abbrev pub HasNoMark : List ℕ → Type 0
@@ -137,7 +138,7 @@ at_or_past_under (suc j) n c t a b h more = more j (omega arith)
 pub record IsFirstMark (o k : ℕ) (t : List ℕ) (fault : Fault) : Type 0 where
   pub at : ℕ
   pub within : at < k
-  pub is : ((fault_of 6 (o + at) 1 ≡ fault) × (0 < splice_length (drop at t))) ⊎ ((fault_of 5 (o + at) 3 ≡ fault) × (splice_length (drop at t) ≡ 0) × (begins_trigraph (drop at t) ≡ true))
+  pub is : ((fault_of SpliceInWord (o + at) 1 ≡ fault) × (0 < splice_length (drop at t))) ⊎ ((fault_of Trigraph (o + at) 3 ≡ fault) × (splice_length (drop at t) ≡ 0) × (begins_trigraph (drop at t) ≡ true))
   pub before : (j : ℕ) → j < at → (splice_length (drop j t) ≡ 0) × (begins_trigraph (drop j t) ≡ false)
 
 -- where nothing is found, nothing stands
@@ -162,13 +163,13 @@ mark_some o (suc k) (c ∷ t) fault e =
     decide (λ (r : Option Fault). r ≡ Some fault → IsFirstMark o (suc k) (c ∷ t) fault) (nat_lt 0 (splice_length (c ∷ t))) _ _
     (λ h f.
     let z : o + 0 ≡ o = omega arith in
-    let p : fault_of 6 o 1 ≡ fault = cc in
-    record { at = 0; within = omega arith; is = inl (ap (λ (x : ℕ). fault_of 6 x 1) z ∙ p, positive _ h); before = λ j q. absurd (omega arith) })
+    let p : fault_of SpliceInWord o 1 ≡ fault = cc in
+    record { at = 0; within = omega arith; is = inl (ap (λ (x : ℕ). fault_of SpliceInWord x 1) z ∙ p, positive _ h); before = λ j q. absurd (omega arith) })
     (λ h. decide (λ (r : Option Fault). r ≡ Some fault → IsFirstMark o (suc k) (c ∷ t) fault) (begins_trigraph (c ∷ t)) _ _
     (λ g f.
     let z : o + 0 ≡ o = omega arith in
-    let p : fault_of 5 o 3 ≡ fault = cc in
-    record { at = 0; within = omega arith; is = inr (ap (λ (x : ℕ). fault_of 5 x 3) z ∙ p, none_test _ h, g); before = λ j q. absurd (omega arith) })
+    let p : fault_of Trigraph o 3 ≡ fault = cc in
+    record { at = 0; within = omega arith; is = inr (ap (λ (x : ℕ). fault_of Trigraph x 3) z ∙ p, none_test _ h, g); before = λ j q. absurd (omega arith) })
     (λ g f.
     let m = mark_some (o + 1) k t fault f in
     let z : o + suc m.at ≡ (o + 1) + m.at = omega arith in
@@ -176,7 +177,7 @@ mark_some o (suc k) (c ∷ t) fault e =
     record {
       at = suc m.at;
       within = omega arith;
-      is = elim m.is [ inl (p, q) ↦ inl (ap (λ (x : ℕ). fault_of 6 x 1) z ∙ p, q) | inr (p, q, r) ↦ inr (ap (λ (x : ℕ). fault_of 5 x 3) z ∙ p, q, r) ];
+      is = elim m.is [ inl (p, q) ↦ inl (ap (λ (x : ℕ). fault_of SpliceInWord x 1) z ∙ p, q) | inr (p, q, r) ↦ inr (ap (λ (x : ℕ). fault_of Trigraph x 3) z ∙ p, q, r) ];
       before = λ j q. at_or_past_under j m.at c t (none_test _ h) g q (λ i p. m.before i p);
     }))
     e

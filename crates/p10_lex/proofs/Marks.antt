@@ -3,7 +3,7 @@ use Rattle.std.proofs.Common.{◌≡◌, ℕ, zero, suc, ◌+◌, ◌-◌, ◌<�
 use Rattle.std.proofs.lemmas.List.{take_rest}
 use Rattle.p10_lex.specs.Splices.{splice_length}
 use Rattle.p10_lex.specs.Refusals.{begins_trigraph}
-use Rattle.p10_lex.specs.Reading.{mark_at}
+use Rattle.p10_lex.specs.private.Reading.{mark_at}
 
 -- one byte on
 one_step : (o k : ℕ) (c : ℕ) (t : List ℕ) → splice_length (c ∷ t) ≡ 0 → begins_trigraph (c ∷ t) ≡ false → mark_at (o + 1) k t ≡ mark_at o (suc k) (c ∷ t)

@@ -5,7 +5,7 @@ use Rattle.std.specs.List.{list_all, list_any}
 use Rattle.std.proofs.lemmas.Slice.Eq.{bytes_eq-Decides}
 use Rattle.p10_lex.specs.Bytes.{is_blank, is_nondigit, is_digit, is_quote}
 use Rattle.p10_lex.specs.Lexemes.{is_punctuator, single_punctuators, double_punctuators, triple_punctuators}
-use Rattle.p10_lex.specs.Runs.{is_double, is_triple, punctuator_length}
+use Rattle.p10_lex.specs.private.Runs.{is_double, is_triple, punctuator_length}
 use Rattle.p10_lex.proofs.Classes.{decide, and_both, or_either, same_number, number_same, not_true, any_byte}
 
 -- equal texts are the same

@@ -8,16 +8,16 @@ use Rattle.p10_base.specs.declared.word.Kind.TheVariants.{Name, Number, Char, St
 use Rattle.p10_lex.specs.declared.pieces.Piece.{Piece}
 use Rattle.p10_lex.specs.declared.pieces.Piece.TheVariants.{Blank, Splices, Comment, OpenComment, OpenLiteral, Stray, Lexeme}
 use Rattle.p10_lex.specs.declared.faults.Fault.{Fault}
-use Rattle.p10_lex.specs.Splices.{splice_length}
+use Rattle.p10_lex.specs.Splices.{splice_length, AreSplices, joined_after}
 use Rattle.p10_lex.specs.Constants.{IsConstant}
 use Rattle.p10_lex.specs.Bytes.{is_quote, is_blank}
 use Rattle.p10_lex.specs.Lexemes.{is_punctuator, single_punctuators}
-use Rattle.p10_lex.specs.Splices.{AreSplices, joined_after}
 use Rattle.p10_lex.specs.Pieces.{IsStray, IsOpenLiteral}
 use Rattle.p10_lex.specs.Refusals.{begins_trigraph, is_tight, is_literal, is_comment, Row, bad_byte, comment_without_end, literal_without_end, bad_constant, wide_literal, trigraph, splice_between, splice_in_literal, rank_of}
 use Rattle.p10_lex.proofs.Classes.{both_and}
 use Rattle.p10_lex.proofs.SpliceLaws.{is_either, splice_more, positive}
 use Rattle.p10_lex.proofs.Marked.{HasNoMark, trigraph_head, splice_head, no_trigraph, class_mark, all_splices_mark}
+use Rattle.p10_base.specs.Codes.{word_number}
 
 -- no row that holds at the piece is answered before this one
 pub record IsFirstRow (tight : Bool) (piece : Piece) (text rest : List ℕ) (n i e : ℕ) : Type 0 where
@@ -77,7 +77,7 @@ same_rank m n a b c d e = grind (arith, nat_tests)
 
 -- the first row that holds at a piece is this fault's
 abbrev pub IsFirst : Bool → Piece → List ℕ → List ℕ → Fault → Type 0
-IsFirst tight piece text rest fault = IsFirstRow tight piece text rest fault.number fault.offset fault.extent
+IsFirst tight piece text rest fault = IsFirstRow tight piece text rest (word_number fault.code) fault.offset fault.extent
 
 -- no row holds at a piece
 abbrev pub NoneHolds : Bool → Piece → List ℕ → List ℕ → Type 0

@@ -4,9 +4,9 @@ use Rattle.std.specs.Prelude.{◌==◌, ◌&&◌, ◌||◌, not, Option, Some, N
 use Rattle.std.specs.List.{list_all}
 use Rattle.p10_lex.specs.Splices.{is_spliced, on_one_line}
 use Rattle.p10_lex.specs.Lexemes.{goes_on_number, all_go_on_number, is_header_byte}
-use Rattle.p10_lex.specs.Constants.{begins_with}
+use Rattle.p10_lex.specs.Characters.{begins_with}
 use Rattle.p10_lex.specs.Pieces.{begins_byte, has_comment_end}
-use Rattle.p10_lex.specs.Runs.{after_run, after_number, after_line, after_comment, after_header}
+use Rattle.p10_lex.specs.private.Runs.{after_run, after_number, after_line, after_comment, after_header}
 use Rattle.p10_lex.proofs.Classes.{decide, and_both, both_and, or_neither, same_number, not_false, not_true}
 
 -- a test of all holds of both parts

@@ -8,15 +8,16 @@ use Rattle.p10_lex.specs.declared.pieces.Piece.{Piece}
 use Rattle.p10_lex.specs.declared.pieces.Piece.TheVariants.{Blank, Splices, Comment, OpenComment, OpenLiteral, Stray, Lexeme}
 use Rattle.p10_lex.specs.declared.fault.LexFault.{LexFault}
 use Rattle.p10_lex.specs.declared.fault.LexFault.TheVariants.{Refused, Over, Memory}
-use Rattle.p10_lex.specs.Pieces.{Cut, State, advance, beginning, state_after, Cuts, LexedWord, word_before, words_of, span_of, is_start}
+use Rattle.p10_lex.specs.Pieces.{Cut, State, advance, beginning, state_after, Cuts, word_before, words_of, is_start}
 use Rattle.p10_lex.specs.Refusals.{Holds}
 use Rattle.p10_lex.specs.Lexes.{Lexes, Answers}
 use Rattle.p10_lex.specs.Slices.{IsSlice, AreSlices, IsPlaced}
 use Rattle.p10_lex.proofs.Cutting.{piece_some}
 use Rattle.p10_lex.proofs.Rows.{row_within}
+use Rattle.p10_base.specs.Words.{PlainWord, span_of}
 
 -- slices behind a place are slices behind an earlier one
-earlier : (file : ℕ) (bytes : List ℕ) (place other : ℕ) (words : List LexedWord) → place ≤ other → AreSlices file bytes other words → AreSlices file bytes place words
+earlier : (file : ℕ) (bytes : List ℕ) (place other : ℕ) (words : List PlainWord) → place ≤ other → AreSlices file bytes other words → AreSlices file bytes place words
 earlier file bytes place other [] h are = tt
 earlier file bytes place other (word ∷ words) h (a, b, c) = (omega arith, b, c)
 
@@ -38,7 +39,7 @@ one_slice file s kind whole before text after parts place some = record {
 }
 
 -- a piece before slices gives slices
-word_slices : (file : ℕ) (s : State) (piece : Piece) (whole before text after : List ℕ) (words : List LexedWord)
+word_slices : (file : ℕ) (s : State) (piece : Piece) (whole before text after : List ℕ) (words : List PlainWord)
     → whole ≡ before ++ (text ++ after) → length before ≡ s.place → 0 < length text → AreSlices file whole (s.place + length text) words
     → AreSlices file whole s.place (word_before file s.place s.line piece text words)
 unfolding word_before
@@ -61,9 +62,9 @@ pieces_slices file whole (p ∷ ps) s before bytes rest parts place (after, e, i
     (pieces_slices file whole ps (advance s p.piece p.text) (before ++ p.text) after rest next (omega (arith, length-append before p.text)) cuts)
 
 -- the words of a file are slices
-lexes_slices : (file : ℕ) (bytes : List ℕ) (words : List LexedWord) → Lexes file bytes words → AreSlices file bytes 0 words
+lexes_slices : (file : ℕ) (bytes : List ℕ) (words : List PlainWord) → Lexes file bytes words → AreSlices file bytes 0 words
 lexes_slices file bytes words is =
-    subst (λ (x : List LexedWord). AreSlices file bytes 0 x) (sym is.are_words) (pieces_slices file bytes is.pieces beginning [] bytes [] refl refl is.cuts)
+    subst (λ (x : List PlainWord). AreSlices file bytes 0 x) (sym is.are_words) (pieces_slices file bytes is.pieces beginning [] bytes [] refl refl is.cuts)
 
 -- a place behind pieces is within the file
 place_after : (pieces : List Cut) (s : State) (bytes rest : List ℕ) → Cuts s bytes pieces rest → (state_after s pieces).place + length rest ≡ s.place + length bytes
@@ -73,7 +74,7 @@ place_after (p ∷ ps) s bytes rest (after, e, is, cuts) =
     omega (arith, ap length e, length-append p.text after)
 
 -- a refusal has its place in the file
-holds_place : (file : ℕ) (bytes : List ℕ) (words : List LexedWord) (refusal : Refusal) → Holds file beginning bytes words refusal
+holds_place : (file : ℕ) (bytes : List ℕ) (words : List PlainWord) (refusal : Refusal) → Holds file beginning bytes words refusal
     → (refusal.span.file ≡ file) × (refusal.span.start < length bytes)
 holds_place file bytes words refusal is =
     let place = place_after is.before beginning bytes (is.here.text ++ is.rest) is.cuts in
@@ -82,7 +83,7 @@ holds_place file bytes words refusal is =
     (ap (λ (r : Refusal). r.span.file) is.refused, omega (arith, length-append is.here.text is.rest))
 
 -- what an answer with words says of them
-pub answer_slices : (file : ℕ) (bytes : List ℕ) (words : List LexedWord) → Answers file bytes (Ok words) → AreSlices file bytes 0 words
+pub answer_slices : (file : ℕ) (bytes : List ℕ) (words : List PlainWord) → Answers file bytes (Ok words) → AreSlices file bytes 0 words
 answer_slices file bytes words (small, few, is) = lexes_slices file bytes words is
 
 -- what an answer with a refusal says of its place

@@ -4,7 +4,7 @@ use Rattle.std.specs.Prelude.{◌==◌, nat_lt, ◌&&◌, not, Option, Some}
 use Rattle.std.proofs.lemmas.Bool.Decides.{nat_tests}
 use Rattle.p10_lex.specs.Splices.{line_end_length, splice_length, joined_after}
 use Rattle.p10_lex.specs.Lexemes.{is_quotable}
-use Rattle.p10_lex.specs.Runs.{after_literal, after_splices}
+use Rattle.p10_lex.specs.private.Runs.{after_literal, after_splices}
 use Rattle.p10_lex.proofs.Classes.{decide, and_both, same_number, number_same, other_number, not_true}
 
 -- a test is true or false

@@ -1,8 +1,7 @@
 -- One turn of the loop over pieces.
 use Rattle.std.proofs.Common.{◌≡◌, ℕ, zero, suc, ◌+◌, ◌<◌, ◌≤◌, List, [], ◌∷◌, ◌++◌, length, refl, sym, ◌∙◌, ap, subst, arith, Bool, true, false, inr, append_assoc, length-append}
-use Rattle.std.specs.Prelude.{◌==◌}
+use Rattle.std.specs.Prelude.{◌==◌, Option, Some, None, Ok, Err}
 use Rattle.std.proofs.lemmas.Bool.Decides.{nat_tests}
-use Rattle.std.specs.Prelude.{Option, Some, None, Ok, Err}
 use Rattle.std.proofs.lemmas.List.{append-nil}
 use Rattle.p10_base.specs.declared.report.Refusal.{Refusal}
 use Rattle.p10_lex.specs.declared.pieces.Piece.{Piece}
@@ -11,15 +10,19 @@ use Rattle.p10_lex.specs.declared.pieces.Line.{Line}
 use Rattle.p10_lex.specs.declared.faults.Fault.{Fault}
 use Rattle.p10_lex.specs.declared.fault.LexFault.{LexFault}
 use Rattle.p10_lex.specs.declared.fault.LexFault.TheVariants.{Refused, Over, Memory}
-use Rattle.p10_lex.specs.Pieces.{IsPiece, State, advance, beginning, is_include, LexedWord, word_before}
+use Rattle.p10_lex.specs.Pieces.{IsPiece, State, advance, beginning, is_include, word_before}
 use Rattle.p10_lex.specs.Refusals.{refusal_at}
-use Rattle.p10_lex.specs.Lexes.{Answers, IsTooMany}
-use Rattle.p10_lex.specs.Reading.{cut_at, fault_at}
-use Rattle.p10_lex.specs.Values.{front_of}
+use Rattle.p10_lex.specs.Lexes.{Answers}
+use Rattle.p10_lex.specs.private.Adding.{IsTooMany}
+use Rattle.p10_lex.specs.private.Reading.{cut_at, fault_at}
+use Rattle.p10_lex.specs.private.Runs.{front_of}
 use Rattle.p10_lex.proofs.Fronts.{front_is}
 use Rattle.p10_lex.proofs.Cutting.{cut_takes, piece_some}
 use Rattle.p10_lex.proofs.FirstRefusal.{Gives, ends}
 use Rattle.p10_lex.proofs.Answering.{lexes_from, refuses_from, begins_from, stops_at, goes_on_at, total}
+use Rattle.p10_base.specs.Words.{PlainWord}
+use Rattle.p10_base.specs.Codes.{word_number}
+use Rattle.p10_base.specs.declared.report.TheConstants.Limit.{MOST_FILE_BYTES, MOST_FILE_WORDS}
 
 -- the piece that was cut off
 pub record IsFront (after_include : Bool) (piece : Piece) (whole rest : List ℕ) : Type 0 where
@@ -44,7 +47,7 @@ front_at after_include piece whole rest some e =
     }
 
 -- a word before others is that word and then the others
-word_joins : (file place : ℕ) (line : Line) (piece : Piece) (text : List ℕ) (words : List LexedWord)
+word_joins : (file place : ℕ) (line : Line) (piece : Piece) (text : List ℕ) (words : List PlainWord)
     → word_before file place line piece text words ≡ word_before file place line piece text [] ++ words
 unfolding word_before
 word_joins file place line Blank text words = refl
@@ -56,11 +59,11 @@ word_joins file place line Stray text words = refl
 word_joins file place line (Lexeme kind) text words = refl
 
 -- What the bytes give is `so`, and then what the rest gives.
-abbrev pub Continues : ℕ → List ℕ → List LexedWord → State → List ℕ → Type 0
-Continues file bytes so s rest = (words : List LexedWord) (end : Option Refusal) → Gives file s rest words end → Gives file beginning bytes (so ++ words) end
+abbrev pub Continues : ℕ → List ℕ → List PlainWord → State → List ℕ → Type 0
+Continues file bytes so s rest = (words : List PlainWord) (end : Option Refusal) → Gives file s rest words end → Gives file beginning bytes (so ++ words) end
 
 -- a turn that goes on
-pub next_turn : (file : ℕ) (bytes : List ℕ) (so now : List LexedWord) (s next : State) (piece : Piece) (whole rest : List ℕ)
+pub next_turn : (file : ℕ) (bytes : List ℕ) (so now : List PlainWord) (s next : State) (piece : Piece) (whole rest : List ℕ)
     → Continues file bytes so s whole → IsFront (is_include s.line) piece whole rest
     → fault_at s.tight piece (front_of whole rest) whole rest ≡ None
     → now ≡ so ++ word_before file s.place s.line piece (front_of whole rest) []
@@ -70,24 +73,24 @@ next_turn file bytes so now s next piece whole rest inv front none grown moved w
     let before = goes_on_at file s piece (front_of whole rest) rest whole words end front.parts front.is none here in
     let all = inv _ end before in
     let e : so ++ word_before file s.place s.line piece (front_of whole rest) words ≡ now ++ words =
-    ap (λ (x : List LexedWord). so ++ x) (word_joins file s.place s.line piece (front_of whole rest) words)
-    ∙ (sym (append_assoc so _ words) ∙ ap (λ (x : List LexedWord). x ++ words) (sym grown)) in
-    subst (λ (x : List LexedWord). Gives file beginning bytes x end) e all
+    ap (λ (x : List PlainWord). so ++ x) (word_joins file s.place s.line piece (front_of whole rest) words)
+    ∙ (sym (append_assoc so _ words) ∙ ap (λ (x : List PlainWord). x ++ words) (sym grown)) in
+    subst (λ (x : List PlainWord). Gives file beginning bytes x end) e all
 
 -- a turn that finds a refusal
-pub refused_turn : (file : ℕ) (bytes : List ℕ) (so : List LexedWord) (s : State) (piece : Piece) (whole rest : List ℕ) (fault : Fault) (outcome : LexFault)
-    → length bytes ≤ 1048576 → length so ≤ 262144 → Continues file bytes so s whole → IsFront (is_include s.line) piece whole rest
+pub refused_turn : (file : ℕ) (bytes : List ℕ) (so : List PlainWord) (s : State) (piece : Piece) (whole rest : List ℕ) (fault : Fault) (outcome : LexFault)
+    → length bytes ≤ MOST_FILE_BYTES → length so ≤ MOST_FILE_WORDS → Continues file bytes so s whole → IsFront (is_include s.line) piece whole rest
     → fault_at s.tight piece (front_of whole rest) whole rest ≡ Some fault
-    → outcome ≡ Refused (refusal_at file fault.number (s.place + fault.offset) fault.extent) → Answers file bytes (Err outcome)
+    → outcome ≡ Refused (refusal_at file (word_number fault.code) (s.place + fault.offset) fault.extent) → Answers file bytes (Err outcome)
 refused_turn file bytes so s piece whole rest fault outcome small few inv front found is =
-    let r = refusal_at file fault.number (s.place + fault.offset) fault.extent in
+    let r = refusal_at file (word_number fault.code) (s.place + fault.offset) fault.extent in
     let gives = inv [] (Some r) (stops_at file s piece (front_of whole rest) rest whole fault front.parts front.is found) in
-    let here = subst (λ (x : List LexedWord). Gives file beginning bytes x (Some r)) (append-nil so) gives in
+    let here = subst (λ (x : List PlainWord). Gives file beginning bytes x (Some r)) (append-nil so) gives in
     subst (λ (x : LexFault). Answers file bytes (Err x)) (sym is) (small, so, few, refuses_from file bytes so r here)
 
 -- a turn that finds too many words, or no memory
-pub full_turn : (file : ℕ) (bytes : List ℕ) (so : List LexedWord) (s : State) (piece : Piece) (whole rest : List ℕ) (outcome : LexFault)
-    → length bytes ≤ 1048576 → Continues file bytes so s whole → IsFront (is_include s.line) piece whole rest
+pub full_turn : (file : ℕ) (bytes : List ℕ) (so : List PlainWord) (s : State) (piece : Piece) (whole rest : List ℕ) (outcome : LexFault)
+    → length bytes ≤ MOST_FILE_BYTES → Continues file bytes so s whole → IsFront (is_include s.line) piece whole rest
     → fault_at s.tight piece (front_of whole rest) whole rest ≡ None
     → IsTooMany so (word_before file s.place s.line piece (front_of whole rest) []) outcome → Answers file bytes (Err outcome)
 full_turn file bytes so s piece whole rest (Refused refusal) small inv front none many = absurd many
@@ -101,11 +104,11 @@ full_turn file bytes so s piece whole rest (Over limit) small inv front none (is
 full_turn file bytes so s piece whole rest Memory small inv front none many = tt
 
 -- the end
-pub last_turn : (file : ℕ) (bytes : List ℕ) (so : List LexedWord) (s : State) (whole : List ℕ)
-    → length bytes ≤ 1048576 → length so ≤ 262144 → Continues file bytes so s whole → whole ≡ [] → Answers file bytes (Ok so)
+pub last_turn : (file : ℕ) (bytes : List ℕ) (so : List PlainWord) (s : State) (whole : List ℕ)
+    → length bytes ≤ MOST_FILE_BYTES → length so ≤ MOST_FILE_WORDS → Continues file bytes so s whole → whole ≡ [] → Answers file bytes (Ok so)
 last_turn file bytes so s whole small few inv e =
     let gives = inv [] None (subst (λ (x : List ℕ). Gives file s x [] None) (sym e) (ends s)) in
-    (small, few, lexes_from file bytes so (subst (λ (x : List LexedWord). Gives file beginning bytes x None) (append-nil so) gives))
+    (small, few, lexes_from file bytes so (subst (λ (x : List PlainWord). Gives file beginning bytes x None) (append-nil so) gives))
 
 -- a text that isn't empty has a byte
 has_byte : (n : ℕ) → false ≡ (n == 0) → 0 < n

@@ -6,15 +6,16 @@ use Rattle.p10_base.specs.declared.report.Limit.{Limit}
 use Rattle.p10_lex.specs.declared.pieces.Piece.{Piece}
 use Rattle.p10_lex.specs.declared.fault.LexFault.{LexFault}
 use Rattle.p10_lex.specs.declared.fault.LexFault.TheVariants.{Refused, Over, Memory}
-use Rattle.p10_lex.specs.Pieces.{IsPiece, Cut, State, advance, beginning, is_include, Cuts, LexedWord, word_before, words_of}
+use Rattle.p10_lex.specs.Pieces.{IsPiece, Cut, State, advance, beginning, is_include, Cuts, word_before, words_of}
 use Rattle.p10_lex.specs.Refusals.{Precedes}
 use Rattle.p10_lex.specs.Lexes.{Lexes, Refuses, Begins, Answers, HasWordsOrOneRefusal}
 use Rattle.p10_lex.proofs.Cutting.{same_piece, piece_some}
 use Rattle.p10_lex.proofs.FirstRefusal.{Gives, ends, stops, goes_on, holds_of, answered}
 use Rattle.p10_lex.proofs.Answering.{lexes_from, refuses_from, total}
+use Rattle.p10_base.specs.Words.{PlainWord}
 
 -- the words among the pieces of a whole file are those that were found
-cut_words : {file : ℕ} {s : State} {bytes : List ℕ} {words : List LexedWord} (end : Option Refusal) → Gives file s bytes words end → end ≡ None
+cut_words : {file : ℕ} {s : State} {bytes : List ℕ} {words : List PlainWord} (end : Option Refusal) → Gives file s bytes words end → end ≡ None
     → (t : State) → t ≡ s → (pieces : List Cut) → Cuts t bytes pieces [] → words_of file t pieces ≡ words
 cut_words {file} _ (ends s) e t same [] cuts = refl
 cut_words {file} _ (ends s) e t same (p ∷ ps) (after, parts, first, cuts) =
@@ -36,13 +37,13 @@ cut_words {file} end (goes_on s piece text rest whole words _ parts is none give
     ∙ ap (word_before file s.place s.line piece text) y))
 
 -- the words of a file are those that were found
-pub lexes_is : (file : ℕ) (bytes : List ℕ) (words found : List LexedWord) (end : Option Refusal) → Gives file beginning bytes found end → Lexes file bytes words
+pub lexes_is : (file : ℕ) (bytes : List ℕ) (words found : List PlainWord) (end : Option Refusal) → Gives file beginning bytes found end → Lexes file bytes words
     → (end ≡ None) × (words ≡ found)
 lexes_is file bytes words found None gives is = (refl, is.are_words ∙ cut_words None gives refl beginning refl is.pieces is.cuts)
 lexes_is file bytes words found (Some r) gives is = absurd (is.none_holds found r (holds_of (Some r) r gives refl))
 
 -- the refusal of a file is the one that was found
-pub refuses_is : (file : ℕ) (bytes : List ℕ) (words found : List LexedWord) (refusal : Refusal) (end : Option Refusal) → Gives file beginning bytes found end
+pub refuses_is : (file : ℕ) (bytes : List ℕ) (words found : List PlainWord) (refusal : Refusal) (end : Option Refusal) → Gives file beginning bytes found end
     → Refuses file bytes words refusal → (end ≡ Some refusal) × (words ≡ found)
 refuses_is file bytes words found refusal end gives is =
     let h = is.holds in
@@ -52,18 +53,18 @@ refuses_is file bytes words found refusal end gives is =
     (a.is ∙ ap (λ (r : Refusal). let o : Option Refusal = Some r in o) (sym same ∙ sym h.refused), h.words_before ∙ before)
 
 -- what a file begins with are the words that were found
-begins_is : (file : ℕ) (bytes : List ℕ) (words found : List LexedWord) (end : Option Refusal) → Gives file beginning bytes found end → Begins file bytes words → words ≡ found
+begins_is : (file : ℕ) (bytes : List ℕ) (words found : List PlainWord) (end : Option Refusal) → Gives file beginning bytes found end → Begins file bytes words → words ≡ found
 begins_is file bytes words found end gives (inl is) = (lexes_is file bytes words found end gives is).1
 begins_is file bytes words found end gives (inr (refusal, is)) = (refuses_is file bytes words found refusal end gives is).1
 
 -- the words of a file are unique
-pub same_words : (file : ℕ) (bytes : List ℕ) (words others : List LexedWord) → Lexes file bytes words → Lexes file bytes others → words ≡ others
+pub same_words : (file : ℕ) (bytes : List ℕ) (words others : List PlainWord) → Lexes file bytes words → Lexes file bytes others → words ≡ others
 same_words file bytes words others is are =
     let (found, end, gives) = total (length bytes) file beginning bytes (omega arith) in
     (lexes_is file bytes words found end gives is).1 ∙ sym (lexes_is file bytes others found end gives are).1
 
 -- words or one refusal, by how the file ends
-has_by_end : (file : ℕ) (bytes : List ℕ) (found : List LexedWord) (end : Option Refusal) → Gives file beginning bytes found end → HasWordsOrOneRefusal file bytes
+has_by_end : (file : ℕ) (bytes : List ℕ) (found : List PlainWord) (end : Option Refusal) → Gives file beginning bytes found end → HasWordsOrOneRefusal file bytes
 has_by_end file bytes found None gives = inl (found, lexes_from file bytes found gives)
 has_by_end file bytes found (Some refusal) gives =
     inr (
@@ -80,20 +81,20 @@ words_or_refusal file bytes =
     let (found, end, gives) = total (length bytes) file beginning bytes (omega arith) in has_by_end file bytes found end gives
 
 -- answers with equal words
-same_ok : (words others : List LexedWord) → words ≡ others → ◌≡◌ {A = Result (List LexedWord) LexFault} (Ok words) (Ok others)
-same_ok words others e = ap (λ (x : List LexedWord). let r : Result (List LexedWord) LexFault = Ok x in r) e
+same_ok : (words others : List PlainWord) → words ≡ others → ◌≡◌ {A = Result (List PlainWord) LexFault} (Ok words) (Ok others)
+same_ok words others e = ap (λ (x : List PlainWord). let r : Result (List PlainWord) LexFault = Ok x in r) e
 
 -- answers with equal refusals
-same_refused : (r q : Refusal) → r ≡ q → ◌≡◌ {A = Result (List LexedWord) LexFault} (Err (Refused r)) (Err (Refused q))
-same_refused r q e = ap (λ (x : Refusal). let o : Result (List LexedWord) LexFault = Err (Refused x) in o) e
+same_refused : (r q : Refusal) → r ≡ q → ◌≡◌ {A = Result (List PlainWord) LexFault} (Err (Refused r)) (Err (Refused q))
+same_refused r q e = ap (λ (x : Refusal). let o : Result (List PlainWord) LexFault = Err (Refused x) in o) e
 
 -- answers with equal limits
-same_over : (l m : Limit) → l ≡ m → ◌≡◌ {A = Result (List LexedWord) LexFault} (Err (Over l)) (Err (Over m))
-same_over l m e = ap (λ (x : Limit). let o : Result (List LexedWord) LexFault = Err (Over x) in o) e
+same_over : (l m : Limit) → l ≡ m → ◌≡◌ {A = Result (List PlainWord) LexFault} (Err (Over l)) (Err (Over m))
+same_over l m e = ap (λ (x : Limit). let o : Result (List PlainWord) LexFault = Err (Over x) in o) e
 
 -- two answers, each compared with what was found
-same_by : (file : ℕ) (bytes : List ℕ) (found : List LexedWord) (end : Option Refusal) → Gives file beginning bytes found end
-    → (a b : Result (List LexedWord) LexFault) → a ≢ Err Memory → b ≢ Err Memory → Answers file bytes a → Answers file bytes b → a ≡ b
+same_by : (file : ℕ) (bytes : List ℕ) (found : List PlainWord) (end : Option Refusal) → Gives file beginning bytes found end
+    → (a b : Result (List PlainWord) LexFault) → a ≢ Err Memory → b ≢ Err Memory → Answers file bytes a → Answers file bytes b → a ≡ b
 same_by file bytes found end gives (Err Memory) b x y is are = absurd (x refl)
 same_by file bytes found end gives (Ok words) (Err Memory) x y is are = absurd (y refl)
 same_by file bytes found end gives (Err (Refused r)) (Err Memory) x y is are = absurd (y refl)
@@ -130,6 +131,6 @@ same_by file bytes found end gives (Err (Over l)) (Err (Over m)) x y (inr (c, d,
 same_by file bytes found end gives (Err (Over l)) (Err (Over m)) x y (inr (a, b, words, h, is)) (inr (c, d, others, more, are)) = same_over l m (a ∙ sym c)
 
 -- a file has one answer
-pub same_answer : (file : ℕ) (bytes : List ℕ) (a b : Result (List LexedWord) LexFault) → a ≢ Err Memory → b ≢ Err Memory → Answers file bytes a → Answers file bytes b → a ≡ b
+pub same_answer : (file : ℕ) (bytes : List ℕ) (a b : Result (List PlainWord) LexFault) → a ≢ Err Memory → b ≢ Err Memory → Answers file bytes a → Answers file bytes b → a ≡ b
 same_answer file bytes a b x y is are =
     let (found, end, gives) = total (length bytes) file beginning bytes (omega arith) in same_by file bytes found end gives a b x y is are

@@ -1,6 +1,6 @@
 -- The first row that holds at a word, and so at any piece.
 use Rattle.std.proofs.Common.{◌≡◌, ◌≢◌, ℕ, zero, suc, ◌+◌, ◌-◌, ◌<◌, ◌≤◌, List, [], ◌∷◌, ◌++◌, length, take, drop, refl, sym, ◌∙◌, ap, subst, arith, Bool, true, false, ◌⊎◌, inl, inr, length-append}
-use Rattle.std.specs.Prelude.{◌==◌, ◌&&◌, ◌||◌, not, Option, Some, None, codes, bytes_eq}
+use Rattle.std.specs.Prelude.{is_some, ◌==◌, ◌&&◌, ◌||◌, not, Option, Some, None, codes, bytes_eq}
 use Rattle.std.specs.List.{list_all}
 use Rattle.std.proofs.lemmas.List.{take_at}
 use Rattle.p10_base.specs.declared.word.Kind.{Kind}
@@ -11,19 +11,23 @@ use Rattle.p10_lex.specs.declared.faults.Fault.{Fault}
 use Rattle.p10_lex.specs.Bytes.{is_quote, is_name_byte, is_nondigit, is_digit}
 use Rattle.p10_lex.specs.Splices.{splice_length}
 use Rattle.p10_lex.specs.Lexemes.{is_punctuator, begins_number, IsLexeme, IsName, IsNumber, IsQuoted, IsHeaderName}
-use Rattle.p10_lex.specs.Constants.{IsConstant, IsIntegerConstant, IsLiteral, begins_with}
+use Rattle.p10_lex.specs.Constants.{IsConstant}
+use Rattle.p10_lex.specs.Characters.{IsLiteral, begins_with}
+use Rattle.p10_lex.specs.Integers.{integer_constant}
+use Rattle.p10_lex.specs.declared.integers.Integer.{Integer}
 use Rattle.p10_lex.specs.Pieces.{IsPiece}
 use Rattle.p10_lex.specs.Refusals.{begins_trigraph, is_tight, is_literal, is_comment, Row, bad_byte, comment_without_end, literal_without_end, bad_constant, wide_literal, trigraph, splice_between, splice_in_literal, rank_of}
-use Rattle.p10_lex.specs.Values.{is_integer_constant, is_literal_constant, is_quoted_constant}
-use Rattle.p10_lex.specs.Reading.{fault_at, fault_of, word_fault, literal_fault}
+use Rattle.p10_lex.specs.private.Scanning.{is_literal_constant, is_quoted_constant}
+use Rattle.p10_lex.specs.private.Reading.{fault_at, fault_of, word_fault, literal_fault}
 use Rattle.p10_lex.proofs.Classes.{decide, and_both, both_and, same_number, number_head}
 use Rattle.p10_lex.proofs.SpliceLaws.{is_either}
 use Rattle.p10_lex.proofs.Punctuation.{same_is, is_same}
-use Rattle.p10_lex.proofs.IntegerLaws.{integer_yes_all, yes_integer_all}
-use Rattle.p10_lex.proofs.CharacterLaws.{literal_yes, yes_literal}
+use Rattle.p10_lex.proofs.CharacterLaws.{char_yes, yes_char, string_yes, yes_string}
 use Rattle.p10_lex.proofs.Longest.{head_is}
 use Rattle.p10_lex.proofs.Marked.{HasNoMark, trigraph_head, splice_head, no_trigraph, class_mark, number_mark, all_splices_mark, punctuator_mark, IsFirstMark, mark_none, mark_some}
 use Rattle.p10_lex.proofs.Rows.{IsFirstRow, IsFirst, NoneHolds, rank_is, trigraph_behind, splice_behind, blank_row, comment_row, open_comment_row, open_literal_row, stray_row, splices_row, splices_first}
+use Rattle.p10_base.specs.Codes.{word_number}
+use Rattle.p10_base.specs.declared.codes.WordCode.TheVariants.{BadByte, CommentWithoutEnd, LiteralWithoutEnd, BadConstant, Trigraph, SpliceInWord}
 
 -- what may hold at a name
 name_first : (tight : Bool) (text rest : List ℕ) → HasNoMark text → (m j d : ℕ) → Row tight (Lexeme Name) text rest m j d
@@ -45,7 +49,7 @@ name_first tight text rest a n i e (splice_in_literal j h k l) = absurd (cc)
 
 -- what may hold at a number
 number_first : (tight : Bool) (text rest : List ℕ) → HasNoMark text → (m j d : ℕ) → Row tight (Lexeme Number) text rest m j d
-    → (IsIntegerConstant text → ⊥) × ((0 < j) ⊎ ((0 ≡ j) × (rank_of 4 ≤ rank_of m)))
+    → (((constant : Integer) × (integer_constant text ≡ Some constant)) → ⊥) × ((0 < j) ⊎ ((0 ≡ j) × (rank_of 4 ≤ rank_of m)))
 unfolding is_literal
 number_first tight text rest a n i e (bad_byte h) = absurd (cc)
 number_first tight text rest a n i e (comment_without_end h) = absurd (cc)
@@ -164,7 +168,7 @@ marked_literal tight kind text rest fault is e mark = elim mark.is [
           ]
         ];
       } in
-      subst (λ (x : Fault). IsFirst tight (Lexeme kind) text rest x) (ap (λ (x : ℕ). fault_of 6 x 1) (sym at_zero) ∙ f) here)
+      subst (λ (x : Fault). IsFirst tight (Lexeme kind) text rest x) (ap (λ (x : ℕ). fault_of SpliceInWord x 1) (sym at_zero) ∙ f) here)
   | inr (f, none, some) ↦
       (let at_zero : 0 + mark.at ≡ mark.at = omega arith in
       let here : IsFirstRow tight (Lexeme kind) text rest 5 mark.at 3 = record {
@@ -183,7 +187,7 @@ marked_literal tight kind text rest fault is e mark = elim mark.is [
           ]
         ];
       } in
-      subst (λ (x : Fault). IsFirst tight (Lexeme kind) text rest x) (ap (λ (x : ℕ). fault_of 5 x 3) (sym at_zero) ∙ f) here)
+      subst (λ (x : Fault). IsFirst tight (Lexeme kind) text rest x) (ap (λ (x : ℕ). fault_of Trigraph x 3) (sym at_zero) ∙ f) here)
 ]
 
 -- the first row at a literal is found
@@ -193,7 +197,7 @@ unfolding literal_fault
 literal_first tight kind text rest fault is e =
     decide (λ (o : Option Fault). o ≡ Some fault → IsFirst tight (Lexeme kind) text rest fault) (is_literal_constant text) _ _
     (λ h f. marked_literal tight kind text rest fault is h (mark_some 0 (length text) (text ++ rest) fault f))
-    (λ h f. let g : fault_of 4 0 (length text) ≡ fault = cc in subst (λ (x : Fault). IsFirst tight (Lexeme kind) text rest x) g (bad_literal tight kind text rest is h))
+    (λ h f. let g : fault_of BadConstant 0 (length text) ≡ fault = cc in subst (λ (x : Fault). IsFirst tight (Lexeme kind) text rest x) g (bad_literal tight kind text rest is h))
     e
 
 -- where none is found, none holds
@@ -218,21 +222,35 @@ literal_of q inside =
     let n : length (inside ++ q ∷ []) - 1 ≡ length inside = omega (arith, length-append inside (q ∷ [])) in
     ap (λ (x : List ℕ). (q == 60) || is_quoted_constant q x) (ap (λ (k : ℕ). take k (inside ++ q ∷ [])) n ∙ take_at inside (q ∷ []) (length inside) refl)
 
--- whether a literal with this quote is well formed is read
-quoted_constant : (q : ℕ) (text : List ℕ) → (q == 60) ≡ false → IsQuoted q text → is_literal_constant text ≡ true → IsLiteral q text
-quoted_constant q text angle quoted e =
+-- a character constant that is read is one
+char_constant : (text : List ℕ) → IsQuoted 39 text → is_literal_constant text ≡ true → (value : ℕ) × IsLiteral 39 text (value ∷ [])
+char_constant text quoted e =
     let read = ap is_literal_constant (sym quoted.parts) ∙ e in
-    let both = sym (literal_of q quoted.inside) ∙ read in
-    let (n, one, characters) = literal_yes q quoted.inside (rw angle at both) in
-    record { inside = quoted.inside; parts = quoted.parts; count = n; single = one; characters = characters }
+    let both = sym (literal_of 39 quoted.inside) ∙ read in
+    let (value, characters) = char_yes quoted.inside both in
+    (value, record { inside = quoted.inside; parts = quoted.parts; characters = characters })
 
--- a literal that is read as none is none
-quoted_bad : (q : ℕ) (text : List ℕ) → (q == 60) ≡ false → is_literal_constant text ≡ false → IsLiteral q text → ⊥
-quoted_bad q text angle e is =
+-- one that is read as none is none
+char_bad : (text : List ℕ) → is_literal_constant text ≡ false → (value : ℕ) × IsLiteral 39 text (value ∷ []) → ⊥
+char_bad text e (value, is) =
     let read = ap is_literal_constant (sym is.parts) ∙ e in
-    let both = sym (literal_of q is.inside) ∙ read in
-    let h = rw angle at both in
-    let k = yes_literal q is.count is.inside is.single is.characters in cc
+    let both = sym (literal_of 39 is.inside) ∙ read in
+    let k = yes_char is.inside value is.characters in cc
+
+-- a string that is read is one
+string_constant : (text : List ℕ) → IsQuoted 34 text → is_literal_constant text ≡ true → (values : List ℕ) × IsLiteral 34 text values
+string_constant text quoted e =
+    let read = ap is_literal_constant (sym quoted.parts) ∙ e in
+    let both = sym (literal_of 34 quoted.inside) ∙ read in
+    let (values, characters) = string_yes quoted.inside both in
+    (values, record { inside = quoted.inside; parts = quoted.parts; characters = characters })
+
+-- one that is read as none is none
+string_bad : (text : List ℕ) → is_literal_constant text ≡ false → (values : List ℕ) × IsLiteral 34 text values → ⊥
+string_bad text e (values, is) =
+    let read = ap is_literal_constant (sym is.parts) ∙ e in
+    let both = sym (literal_of 34 is.inside) ∙ read in
+    let k = yes_string is.inside values is.characters in cc
 
 -- a character constant can be read
 readable_char : (text rest : List ℕ) → IsQuoted 39 text → IsReadable Char text rest
@@ -245,8 +263,8 @@ readable_char text rest quoted = record {
   no_splice = omega arith;
   no_name = λ h. cc;
   literal = refl;
-  constant = quoted_constant 39 text refl quoted;
-  bad = quoted_bad 39 text refl;
+  constant = char_constant text quoted;
+  bad = char_bad text;
 }
 
 -- a quote is no `<`
@@ -264,8 +282,8 @@ readable_string text rest quoted = record {
   no_splice = omega arith;
   no_name = λ h. cc;
   literal = refl;
-  constant = λ e. inl (quoted_constant 34 text refl quoted e);
-  bad = λ e is. elim is [ inl x ↦ quoted_bad 34 text refl e x | inr x ↦ no_quote_angle (quoted.inside ++ 34 ∷ []) (x.inside ++ 62 ∷ []) (sym quoted.parts ∙ x.parts) ];
+  constant = λ e. inl (string_constant text quoted e);
+  bad = λ e is. elim is [ inl x ↦ string_bad text e x | inr x ↦ no_quote_angle (quoted.inside ++ 34 ∷ []) (x.inside ++ 62 ∷ []) (sym quoted.parts ∙ x.parts) ];
 }
 
 -- an include name is read as well formed
@@ -324,21 +342,23 @@ name_row tight text rest is wide quote = record {
 }
 
 -- X4 holds at a number that is no constant
-number_row : (tight : Bool) (text rest : List ℕ) → IsNumber text → (IsIntegerConstant text → ⊥) → IsFirstRow tight (Lexeme Number) text rest 4 0 (length text)
+number_row : (tight : Bool) (text rest : List ℕ) → IsNumber text → (((constant : Integer) × (integer_constant text ≡ Some constant)) → ⊥) → IsFirstRow tight (Lexeme Number) text rest 4 0 (length text)
 number_row tight text rest is bad = record {
   row = bad_constant Number refl bad;
   first = λ m j d row. (number_first tight text rest (number_no_mark text is) m j d row).1;
 }
 
 -- a number that is read as none is none
-number_bad : (text : List ℕ) → IsNumber text → is_integer_constant text ≡ false → IsIntegerConstant text → ⊥
-number_bad [] is e constant = absurd is
-number_bad (c ∷ cs) is e constant = let f = yes_integer_all c cs constant in cc
+number_bad : (text : List ℕ) → is_some (integer_constant text) ≡ false → (constant : Integer) × (integer_constant text ≡ Some constant) → ⊥
+number_bad text e (constant, is) = let f = ap is_some is in cc
 
 -- a number that is read as a constant is one
-number_good : (text : List ℕ) → IsNumber text → is_integer_constant text ≡ true → IsIntegerConstant text
-number_good [] is e = absurd is
-number_good (c ∷ cs) is e = integer_yes_all (c ∷ cs) c cs refl is.0 e
+number_good : (text : List ℕ) → is_some (integer_constant text) ≡ true → (constant : Integer) × (integer_constant text ≡ Some constant)
+number_good text e = by (integer_constant text) refl e
+  where
+    by : (found : Option Integer) → integer_constant text ≡ found → is_some found ≡ true → (constant : Integer) × (integer_constant text ≡ Some constant)
+    by None is e = absurd (cc)
+    by (Some constant) is e = (constant, is)
 
 -- only a trigraph holds at a punctuator
 punct_marked : (tight : Bool) (text rest : List ℕ) → is_punctuator text ≡ true → (m j d : ℕ) → Row tight (Lexeme Punct) text rest m j d → begins_trigraph (text ++ rest) ≡ true
@@ -362,20 +382,20 @@ unfolding word_fault
 word_row b tight Name text rest fault is e =
     decide (λ (o : Option Fault). o ≡ Some fault → IsFirst tight (Lexeme Name) text rest fault) (bytes_eq text (codes "L") && begins_with is_quote rest) _ _
     (λ h f. let (x, y) = and_both (bytes_eq text (codes "L")) (begins_with is_quote rest) h in
-    let g : fault_of 4 0 1 ≡ fault = cc in
+    let g : fault_of BadConstant 0 1 ≡ fault = cc in
     subst (λ (z : Fault). IsFirst tight (Lexeme Name) text rest z) g (name_row tight text rest is (same_is text (codes "L") x) y))
     (λ h f. absurd (cc)) e
 word_row b tight Number text rest fault is e =
-    decide (λ (o : Option Fault). o ≡ Some fault → IsFirst tight (Lexeme Number) text rest fault) (is_integer_constant text) _ _
+    decide (λ (o : Option Fault). o ≡ Some fault → IsFirst tight (Lexeme Number) text rest fault) (is_some (integer_constant text)) _ _
     (λ h f. absurd (cc))
-    (λ h f. let g : fault_of 4 0 (length text) ≡ fault = cc in
-    subst (λ (z : Fault). IsFirst tight (Lexeme Number) text rest z) g (number_row tight text rest is (number_bad text is h))) e
+    (λ h f. let g : fault_of BadConstant 0 (length text) ≡ fault = cc in
+    subst (λ (z : Fault). IsFirst tight (Lexeme Number) text rest z) g (number_row tight text rest is (number_bad text h))) e
 word_row b tight Char text rest fault is e = literal_first tight Char text rest fault (readable_char text rest is) e
 word_row b tight Str text rest fault (inl is) e = literal_first tight Str text rest fault (readable_string text rest is) e
 word_row b tight Str text rest fault (inr (asked, is)) e = literal_first tight Str text rest fault (readable_header text rest is) e
 word_row b tight Punct text rest fault is e =
     decide (λ (o : Option Fault). o ≡ Some fault → IsFirst tight (Lexeme Punct) text rest fault) (begins_trigraph (text ++ rest)) _ _
-    (λ h f. let g : fault_of 5 0 3 ≡ fault = cc in
+    (λ h f. let g : fault_of Trigraph 0 3 ≡ fault = cc in
     subst (λ (z : Fault). IsFirst tight (Lexeme Punct) text rest z) g (punct_row tight text rest is h))
     (λ h f. absurd (cc)) e
 word_row b tight Mark text rest fault is e = absurd is
@@ -390,7 +410,7 @@ word_none b tight Name text rest is e n i d row =
     let g = rw f at e in cc
 word_none b tight Number text rest is e n i d row =
     let (x, y) = number_first tight text rest (number_no_mark text is) n i d row in
-    elim (is_either (is_integer_constant text)) [ inl h ↦ x (number_good text is h) | inr h ↦ (let g = rw h at e in cc) ]
+    elim (is_either (is_some (integer_constant text))) [ inl h ↦ x (number_good text h) | inr h ↦ (let g = rw h at e in cc) ]
 word_none b tight Char text rest is e n i d row = literal_none tight Char text rest (readable_char text rest is) e n i d row
 word_none b tight Str text rest (inl is) e n i d row = literal_none tight Str text rest (readable_string text rest is) e n i d row
 word_none b tight Str text rest (inr (asked, is)) e n i d row = literal_none tight Str text rest (readable_header text rest is) e n i d row
@@ -399,21 +419,21 @@ word_none b tight Mark text rest is e n i d row = absurd is
 
 -- the first row that holds is found
 pub first_row : (after_include tight : Bool) (piece : Piece) (text rest : List ℕ) (fault : Fault) → IsPiece after_include piece text rest
-    → fault_at tight piece text (text ++ rest) rest ≡ Some fault → IsFirstRow tight piece text rest fault.number fault.offset fault.extent
+    → fault_at tight piece text (text ++ rest) rest ≡ Some fault → IsFirstRow tight piece text rest (word_number fault.code) fault.offset fault.extent
 unfolding fault_at
 first_row b tight Blank text rest fault is e = absurd (cc)
 first_row b tight Comment text rest fault is e = absurd (cc)
 first_row b tight Splices text rest fault is e =
     decide (λ (o : Option Fault). o ≡ Some fault → IsFirst tight Splices text rest fault) (tight && is_tight rest) _ _
     (λ h f. let (x, y) = and_both tight (is_tight rest) h in
-    let g : fault_of 6 0 1 ≡ fault = cc in subst (λ (z : Fault). IsFirst tight Splices text rest z) g (splices_row tight text rest is.0 x y))
+    let g : fault_of SpliceInWord 0 1 ≡ fault = cc in subst (λ (z : Fault). IsFirst tight Splices text rest z) g (splices_row tight text rest is.0 x y))
     (λ h f. absurd (cc)) e
 first_row b tight OpenComment text rest fault is e =
-    let g : fault_of 2 0 2 ≡ fault = cc in subst (λ (z : Fault). IsFirst tight OpenComment text rest z) g (open_comment_row tight text rest)
+    let g : fault_of CommentWithoutEnd 0 2 ≡ fault = cc in subst (λ (z : Fault). IsFirst tight OpenComment text rest z) g (open_comment_row tight text rest)
 first_row b tight OpenLiteral text rest fault is e =
-    let g : fault_of 3 0 1 ≡ fault = cc in subst (λ (z : Fault). IsFirst tight OpenLiteral text rest z) g (open_literal_row tight text rest is)
+    let g : fault_of LiteralWithoutEnd 0 1 ≡ fault = cc in subst (λ (z : Fault). IsFirst tight OpenLiteral text rest z) g (open_literal_row tight text rest is)
 first_row b tight Stray text rest fault is e =
-    let g : fault_of 1 0 1 ≡ fault = cc in subst (λ (z : Fault). IsFirst tight Stray text rest z) g (stray_row b tight text rest is)
+    let g : fault_of BadByte 0 1 ≡ fault = cc in subst (λ (z : Fault). IsFirst tight Stray text rest z) g (stray_row b tight text rest is)
 first_row b tight (Lexeme kind) text rest fault (is, comment) e = word_row b tight kind text rest fault is.lexeme e
 
 -- where none is found, none holds

@@ -1,8 +1,6 @@
 -- The pieces that a file is cut into: words, comments, splices and white space, and what begins none of these.
-use Rattle.std.specs.Prelude.{◌≡◌, ℕ, ◌==◌, ◌+◌, Bool, true, false, ◌&&◌, ◌||◌, if◌then◌else◌, ◌⊎◌, List, [], ◌∷◌, ◌++◌, length, codes, bytes_eq}
+use Rattle.std.specs.Prelude.{ℕ, ◌≡◌, ◌==◌, ◌+◌, Bool, true, false, ◌&&◌, ◌||◌, if◌then◌else◌, ◌⊎◌, List, [], ◌∷◌, ◌++◌, length, codes, bytes_eq}
 use Rattle.p10_base.specs.declared.word.Kind.{Kind}
-use Rattle.p10_base.specs.declared.word.Word.{Word}
-use Rattle.p10_base.specs.declared.span.Span.{Span}
 use Rattle.p10_lex.specs.declared.pieces.Piece.{Piece}
 use Rattle.p10_lex.specs.declared.pieces.Piece.TheVariants.{Blank, Splices, Comment, OpenComment, OpenLiteral, Stray, Lexeme}
 use Rattle.p10_lex.specs.declared.pieces.Line.{Line}
@@ -10,6 +8,7 @@ use Rattle.p10_lex.specs.declared.pieces.Line.TheVariants.{Start, Hash, Include,
 use Rattle.p10_lex.specs.Bytes.{is_blank, is_quote}
 use Rattle.p10_lex.specs.Splices.{joined, splice_length, AreSplices, ReachesLineEnd}
 use Rattle.p10_lex.specs.Lexemes.{is_quotable, IsLexeme, IsLongest}
+use Rattle.p10_base.specs.Words.{PlainWord, span_of}
 
 -- whether `/*` or `//` stands at the front of a text
 unfoldable pub begins_comment : List ℕ → Bool
@@ -136,28 +135,13 @@ Cuts s bytes (p ∷ ps) rest =
     (after : List ℕ) × (bytes ≡ p.text ++ after) × IsPiece (is_include s.line) p.piece p.text after
     × Cuts (advance s p.piece p.text) after ps rest
 
--- a word without where it lies in memory
-pub record LexedWord : Type 0 where
-  pub kind : Kind
-  pub text : List ℕ
-  pub at : Span
-  pub first : Bool
-
--- a word of the code
-abbrev pub seen : Word → LexedWord
-seen w = record { kind = w.kind; text = w.text.now; at = w.at; first = w.first }
-
--- a run of bytes of a file
-abbrev pub span_of : ℕ → ℕ → ℕ → Span
-span_of file start end = record { file = file; start = start; end = end }
-
 -- a piece that is a word, before other words: it is the first of its line where no word stands before it there
-unfoldable pub word_before : ℕ → ℕ → Line → Piece → List ℕ → List LexedWord → List LexedWord
+unfoldable pub word_before : ℕ → ℕ → Line → Piece → List ℕ → List PlainWord → List PlainWord
 word_before file place line (Lexeme kind) text words =
     record { kind = kind; text = text; at = span_of file place (place + length text); first = is_start line } ∷ words
 word_before file place line _ text words = words
 
 -- the words among the pieces
-abbrev pub words_of : ℕ → State → List Cut → List LexedWord
+abbrev pub words_of : ℕ → State → List Cut → List PlainWord
 words_of file s [] = []
 words_of file s (p ∷ ps) = word_before file s.place s.line p.piece p.text (words_of file (advance s p.piece p.text) ps)

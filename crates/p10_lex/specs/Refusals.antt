@@ -1,5 +1,5 @@
 -- Where exactly each row of X1 to X6 holds.
-use Rattle.std.specs.Prelude.{◌≡◌, ℕ, ◌==◌, ◌+◌, ◌<◌, ◌≤◌, Bool, true, false, ◌&&◌, ◌||◌, not, if◌then◌else◌, ◌⊎◌, List, [], ◌∷◌, ◌++◌, length, drop, codes}
+use Rattle.std.specs.Prelude.{ℕ, ◌≡◌, ◌==◌, ◌+◌, ◌<◌, ◌≤◌, Bool, true, false, ◌&&◌, ◌||◌, not, if◌then◌else◌, ◌⊎◌, List, [], ◌∷◌, ◌++◌, length, drop, codes}
 use Rattle.std.specs.List.{list_any}
 use Rattle.p10_base.specs.declared.word.Kind.{Kind}
 use Rattle.p10_base.specs.declared.word.Kind.TheVariants.{Name, Char, Str}
@@ -9,8 +9,12 @@ use Rattle.p10_lex.specs.declared.pieces.Piece.{Piece}
 use Rattle.p10_lex.specs.declared.pieces.Piece.TheVariants.{Splices, Comment, OpenComment, OpenLiteral, Stray, Lexeme}
 use Rattle.p10_lex.specs.Bytes.{is_blank, is_quote}
 use Rattle.p10_lex.specs.Splices.{splice_length}
-use Rattle.p10_lex.specs.Constants.{begins_with, IsConstant}
-use Rattle.p10_lex.specs.Pieces.{begins_comment, IsPiece, Cut, State, state_after, is_include, Cuts, LexedWord, words_of, span_of}
+use Rattle.p10_lex.specs.Characters.{begins_with}
+use Rattle.p10_lex.specs.Constants.{IsConstant}
+use Rattle.p10_lex.specs.Pieces.{begins_comment, IsPiece, Cut, State, state_after, is_include, Cuts, words_of}
+use Rattle.p10_base.specs.Words.{PlainWord, span_of}
+use Rattle.p10_base.specs.Codes.{word_number}
+use Rattle.p10_base.specs.declared.codes.WordCode.TheVariants.{BadByte, CommentWithoutEnd, LiteralWithoutEnd, BadConstant, Trigraph, SpliceInWord}
 
 -- the bytes that end a trigraph
 unfoldable pub ends_trigraph : ℕ → Bool
@@ -42,22 +46,22 @@ is_comment _ = false
 -- A row of X1 to X6 holds at a piece: its number, how far from the piece's beginning, and over how many
 -- bytes. `tight` says that what stands nearest before the piece is neither white space nor the file's beginning.
 pub data Row (tight : Bool) (piece : Piece) (text rest : List ℕ) : ℕ → ℕ → ℕ → Type 0 where
-  bad_byte : piece ≡ Stray → Row tight piece text rest 1 0 1
-  comment_without_end : piece ≡ OpenComment → Row tight piece text rest 2 0 2
-  literal_without_end : piece ≡ OpenLiteral → Row tight piece text rest 3 0 1
-  bad_constant : (kind : Kind) → piece ≡ Lexeme kind → (IsConstant kind text → ⊥) → Row tight piece text rest 4 0 (length text)
-  wide_literal : piece ≡ Lexeme Name → text ≡ codes "L" → begins_with is_quote rest ≡ true → Row tight piece text rest 4 0 1
-  trigraph : (i : ℕ) → is_comment piece ≡ false → i < length text → begins_trigraph (drop i (text ++ rest)) ≡ true → Row tight piece text rest 5 i 3
+  bad_byte : piece ≡ Stray → Row tight piece text rest (word_number BadByte) 0 1
+  comment_without_end : piece ≡ OpenComment → Row tight piece text rest (word_number CommentWithoutEnd) 0 2
+  literal_without_end : piece ≡ OpenLiteral → Row tight piece text rest (word_number LiteralWithoutEnd) 0 1
+  bad_constant : (kind : Kind) → piece ≡ Lexeme kind → (IsConstant kind text → ⊥) → Row tight piece text rest (word_number BadConstant) 0 (length text)
+  wide_literal : piece ≡ Lexeme Name → text ≡ codes "L" → begins_with is_quote rest ≡ true → Row tight piece text rest (word_number BadConstant) 0 1
+  trigraph : (i : ℕ) → is_comment piece ≡ false → i < length text → begins_trigraph (drop i (text ++ rest)) ≡ true → Row tight piece text rest (word_number Trigraph) i 3
   splice_between : (i : ℕ) → piece ≡ Splices → tight ≡ true → is_tight rest ≡ true → i < length text
-      → 0 < splice_length (drop i (text ++ rest)) → Row tight piece text rest 6 i 1
-  splice_in_literal : (i : ℕ) → is_literal piece ≡ true → i < length text → 0 < splice_length (drop i (text ++ rest)) → Row tight piece text rest 6 i 1
+      → 0 < splice_length (drop i (text ++ rest)) → Row tight piece text rest (word_number SpliceInWord) i 1
+  splice_in_literal : (i : ℕ) → is_literal piece ≡ true → i < length text → 0 < splice_length (drop i (text ++ rest)) → Row tight piece text rest (word_number SpliceInWord) i 1
 
 -- the refusal of a row that holds at a place
 abbrev pub refusal_at : ℕ → ℕ → ℕ → ℕ → Refusal
 refusal_at file number start length = record { family = X; number = number; span = span_of file start (start + length) }
 
 -- A row holds at a piece of a file, from a state on, and these words stand before that piece.
-pub record Holds (file : ℕ) (s : State) (bytes : List ℕ) (words : List LexedWord) (refusal : Refusal) : Type 0 where
+pub record Holds (file : ℕ) (s : State) (bytes : List ℕ) (words : List PlainWord) (refusal : Refusal) : Type 0 where
   pub before : List Cut
   pub here : Cut
   pub rest : List ℕ
@@ -72,7 +76,7 @@ pub record Holds (file : ℕ) (s : State) (bytes : List ℕ) (words : List Lexed
 
 -- at one place X5 and X6 are answered before the others, and else the lower number
 unfoldable pub rank_of : ℕ → ℕ
-rank_of number = if number == 5 then 0 else (if number == 6 then 1 else number + 1)
+rank_of number = if number == word_number Trigraph then 0 else (if number == word_number SpliceInWord then 1 else number + 1)
 
 -- The first refusal is answered before the second: it stands at an earlier place, or at the same one with a rank as low.
 abbrev pub Precedes : Refusal → Refusal → Type 0

@@ -1,21 +1,20 @@
 //! The first refusal of a piece (rows X1 to X6).
 
 ghost use Rattle.std.specs.Prelude.{◌≡◌, ◌≤◌, ◌+◌, length, IfSome};
-ghost use Rattle.p10_lex.specs.Constants.{begins_with};
+ghost use Rattle.p10_lex.specs.Characters.{begins_with};
 ghost use Rattle.p10_lex.specs.Bytes.{is_quote};
 ghost use Rattle.p10_lex.specs.Refusals.{begins_trigraph, ends_trigraph, is_tight};
 ghost use Rattle.p10_lex.specs.Pieces.{begins_comment};
-ghost use Rattle.p10_lex.specs.Reading.{mark_at, literal_fault, word_fault, fault_at};
+ghost use Rattle.p10_lex.specs.private.Reading.{mark_at, literal_fault, word_fault, fault_at};
 
 use crate::pieces::Piece;
 use crate::{bytes, characters, integers, splices};
-use p10_base::Kind;
+use p10_base::{Kind, WordCode};
 
 /// A row that holds at a piece.
 #[derive(Clone, Copy)]
 pub(crate) struct Fault {
-    /// 1 to 6, for X1 to X6.
-    pub(crate) number: u8,
+    pub(crate) code: WordCode,
     /// How far from the piece's beginning.
     pub(crate) offset: usize,
     /// Over how many bytes.
@@ -61,7 +60,7 @@ fn is_tight(text: &[u8]) -> bool
 }
 
 /// Whether a quote stands at the front.
-#[tactic(auto, unfolding(crate::specs::Constants::begins_with))]
+#[tactic(auto, unfolding(crate::specs::Characters::begins_with))]
 fn begins_quote(text: &[u8]) -> bool
     ensures { result ≡ begins_with is_quote text.now }
 {
@@ -80,7 +79,7 @@ fn ends_trigraph(byte: u8) -> bool
 }
 
 /// The first splice or trigraph at the first `count` places of a text.
-#[tactic(auto, unfolding(crate::specs::Reading::mark_at))]
+#[tactic(auto, unfolding(crate::specs::private::Reading::mark_at))]
 fn mark_at(count: usize, text: &[u8]) -> Option<Fault>
     ensures value { result ≡ mark_at 0 count text.now }
     ensures small { IfSome result (λ fault. (fault.offset ≤ length text.now) × (fault.extent ≤ 3)) }
@@ -92,14 +91,14 @@ fn mark_at(count: usize, text: &[u8]) -> Option<Fault>
         if 0 < left {
             if 0 < splices::splice_length(rest) {
                 return Some(Fault {
-                    number: 6,
+                    code: WordCode::SpliceInWord,
                     offset,
                     extent: 1,
                 });
             }
             if begins_trigraph(rest) {
                 return Some(Fault {
-                    number: 5,
+                    code: WordCode::Trigraph,
                     offset,
                     extent: 3,
                 });
@@ -115,7 +114,7 @@ fn mark_at(count: usize, text: &[u8]) -> Option<Fault>
 }
 
 /// The first row that holds at a literal or an include name; `whole` is its text with what follows.
-#[tactic(auto, unfolding(crate::specs::Reading::literal_fault))]
+#[tactic(auto, unfolding(crate::specs::private::Reading::literal_fault))]
 fn literal_fault(text: &[u8], whole: &[u8]) -> Option<Fault>
     ensures value { result ≡ literal_fault text.now whole.now }
     ensures small { IfSome result (λ fault. (fault.offset ≤ length whole.now) × (fault.extent ≤ length text.now + 3)) }
@@ -124,7 +123,7 @@ fn literal_fault(text: &[u8], whole: &[u8]) -> Option<Fault>
         mark_at(text.len(), whole)
     } else {
         Some(Fault {
-            number: 4,
+            code: WordCode::BadConstant,
             offset: 0,
             extent: text.len(),
         })
@@ -132,7 +131,7 @@ fn literal_fault(text: &[u8], whole: &[u8]) -> Option<Fault>
 }
 
 /// The first row that holds at a piece; `whole` is its text with what follows, and `rest` what follows.
-#[tactic(auto, unfolding(crate::specs::Reading::fault_at))]
+#[tactic(auto, unfolding(crate::specs::private::Reading::fault_at))]
 pub(crate) fn fault_at(
     tight: bool,
     piece: Piece,
@@ -149,7 +148,7 @@ pub(crate) fn fault_at(
         Piece::Splices => {
             if tight && is_tight(rest) {
                 Some(Fault {
-                    number: 6,
+                    code: WordCode::SpliceInWord,
                     offset: 0,
                     extent: 1,
                 })
@@ -158,17 +157,17 @@ pub(crate) fn fault_at(
             }
         }
         Piece::OpenComment => Some(Fault {
-            number: 2,
+            code: WordCode::CommentWithoutEnd,
             offset: 0,
             extent: 2,
         }),
         Piece::OpenLiteral => Some(Fault {
-            number: 3,
+            code: WordCode::LiteralWithoutEnd,
             offset: 0,
             extent: 1,
         }),
         Piece::Stray => Some(Fault {
-            number: 1,
+            code: WordCode::BadByte,
             offset: 0,
             extent: 1,
         }),
@@ -177,7 +176,7 @@ pub(crate) fn fault_at(
 }
 
 /// The first row that holds at a word.
-#[tactic(auto, unfolding(crate::specs::Reading::word_fault))]
+#[tactic(auto, unfolding(crate::specs::private::Reading::word_fault))]
 fn word_fault(kind: Kind, text: &[u8], whole: &[u8], rest: &[u8]) -> Option<Fault>
     ensures value { result ≡ word_fault kind text.now whole.now rest.now }
     ensures small { IfSome result (λ fault. (fault.offset ≤ length whole.now) × (fault.extent ≤ length text.now + 3)) }
@@ -186,7 +185,7 @@ fn word_fault(kind: Kind, text: &[u8], whole: &[u8], rest: &[u8]) -> Option<Faul
         Kind::Name => {
             if text == b"L".as_slice() && begins_quote(rest) {
                 Some(Fault {
-                    number: 4,
+                    code: WordCode::BadConstant,
                     offset: 0,
                     extent: 1,
                 })
@@ -195,11 +194,11 @@ fn word_fault(kind: Kind, text: &[u8], whole: &[u8], rest: &[u8]) -> Option<Faul
             }
         }
         Kind::Number => {
-            if integers::is_integer_constant(text) {
+            if integers::integer_constant(text).is_some() {
                 None
             } else {
                 Some(Fault {
-                    number: 4,
+                    code: WordCode::BadConstant,
                     offset: 0,
                     extent: text.len(),
                 })
@@ -210,7 +209,7 @@ fn word_fault(kind: Kind, text: &[u8], whole: &[u8], rest: &[u8]) -> Option<Faul
         Kind::Punct => {
             if begins_trigraph(whole) {
                 Some(Fault {
-                    number: 5,
+                    code: WordCode::Trigraph,
                     offset: 0,
                     extent: 3,
                 })

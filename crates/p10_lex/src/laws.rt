@@ -1,16 +1,16 @@
 //! Laws of the definitions, each the contract of a function that does nothing.
 
 ghost use Rattle.std.specs.Prelude.{◌≡◌, ◌≢◌, ◌≤◌, ℕ, List, Result, Err};
+ghost use Rattle.p10_base.specs.Words.{PlainWord};
 ghost use Rattle.p10_lex.specs.declared.fault.LexFault.{LexFault};
 ghost use Rattle.p10_lex.specs.declared.fault.LexFault.TheVariants.{Memory, Refused};
 ghost use Rattle.p10_base.specs.declared.report.Family.TheVariants.{X};
 ghost use Rattle.p10_base.specs.declared.report.Refusal.{Refusal};
-ghost use Rattle.p10_lex.specs.Pieces.{LexedWord};
 ghost use Rattle.p10_lex.specs.Lexes.{Lexes, HasWordsOrOneRefusal, Answers};
 
 /// The words of a file are unique.
 pub fn words_are_unique()
-    ensures { (file : ℕ) (bytes : List ℕ) (words others : List LexedWord)
+    ensures { (file : ℕ) (bytes : List ℕ) (words others : List PlainWord)
         → Lexes file bytes words → Lexes file bytes others → words ≡ others }
 {}
 
@@ -21,7 +21,7 @@ pub fn each_file_has_words_or_one_refusal()
 
 /// Want of memory apart, a file has one answer.
 pub fn answers_are_unique()
-    ensures { (file : ℕ) (bytes : List ℕ) (a b : Result (List LexedWord) LexFault) → a ≢ Err Memory → b ≢ Err Memory
+    ensures { (file : ℕ) (bytes : List ℕ) (a b : Result (List PlainWord) LexFault) → a ≢ Err Memory → b ≢ Err Memory
         → Answers file bytes a → Answers file bytes b → a ≡ b }
 {}
 

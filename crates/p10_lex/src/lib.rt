@@ -5,8 +5,11 @@
 //! holds ends the work.
 //!
 //! Invariant: the words so far are those of the pieces so far, and no row holds at these. Words borrow
-//! the source: each one's text is the slice of the file at its span. Directives, macros and the values
-//! of constants are left to the crates above.
+//! the source: each one's text is the slice of the file at its span. Directives and macros are left to the
+//! crates above.
+//!
+//! What the words of constants mean, [`integer_constant`], [`character_value`] and [`string_bytes`] tell; [`between`]
+//! gives what a word encloses.
 #![tactic(auto)]
 
 mod bytes;
@@ -22,11 +25,10 @@ mod runs;
 mod splices;
 mod words;
 
+pub use characters::{between, character_value, string_bytes};
 pub use fault::LexFault;
+pub use integers::{Base, Integer, Suffix, integer_constant};
 pub use laws::{
     answers_are_unique, each_file_has_words_or_one_refusal, refusals_have_codes, words_are_unique,
 };
 pub use words::lex;
-
-#[cfg(test)]
-mod tests;

@@ -2,12 +2,12 @@
 
 ghost use Rattle.std.specs.Prelude.{◌≡◌, false};
 ghost use Rattle.std.specs.Option.{option_map};
-ghost use Rattle.p10_lex.specs.Runs.{after_literal};
+ghost use Rattle.p10_lex.specs.private.Runs.{after_literal};
 
 use crate::splices;
 
 /// What is left behind the closing quote of a literal, whose opening quote stands before the text.
-#[tactic(auto, unfolding(crate::specs::Runs::after_literal))]
+#[tactic(auto, unfolding(crate::specs::private::Runs::after_literal))]
 pub(crate) fn after_literal(quote: u8, text: &[u8]) -> Option<&[u8]>
     ensures { option_map (λ rest. rest.now) result ≡ after_literal quote 0 false text.now }
 {

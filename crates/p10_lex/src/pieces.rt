@@ -2,7 +2,7 @@
 
 ghost use Rattle.std.specs.Prelude.{◌≡◌};
 ghost use Rattle.p10_lex.specs.Pieces.{line_with, line_after, tight_after, is_include, is_start};
-ghost use Rattle.p10_lex.specs.Reading.{kind_of_quote, literal_at, comment_at, punctuator_at, header_at, cut_at};
+ghost use Rattle.p10_lex.specs.private.Reading.{kind_of_quote, literal_at, comment_at, punctuator_at, header_at, cut_at};
 
 use crate::{bytes, literals, punctuators, runs, splices};
 use p10_base::Kind;
@@ -40,7 +40,7 @@ pub(crate) enum Line {
 }
 
 /// The kind of a literal with this quote.
-#[tactic(auto, unfolding(crate::specs::Reading::kind_of_quote))]
+#[tactic(auto, unfolding(crate::specs::private::Reading::kind_of_quote))]
 fn kind_of_quote(quote: u8) -> Kind
     ensures { result ≡ kind_of_quote quote }
 {
@@ -52,7 +52,7 @@ fn kind_of_quote(quote: u8) -> Kind
 }
 
 /// A literal, or a line that doesn't close it.
-#[tactic(auto, unfolding(crate::specs::Reading::literal_at))]
+#[tactic(auto, unfolding(crate::specs::private::Reading::literal_at))]
 fn literal_at(quote: u8, body: &[u8]) -> (Piece, &[u8])
     ensures { (result.0, result.1.now) ≡ literal_at quote body.now }
 {
@@ -63,7 +63,7 @@ fn literal_at(quote: u8, body: &[u8]) -> (Piece, &[u8])
 }
 
 /// A comment that begins with `/*`.
-#[tactic(auto, unfolding(crate::specs::Reading::comment_at))]
+#[tactic(auto, unfolding(crate::specs::private::Reading::comment_at))]
 fn comment_at(body: &[u8]) -> (Piece, &[u8])
     ensures { (result.0, result.1.now) ≡ comment_at body.now }
 {
@@ -74,7 +74,7 @@ fn comment_at(body: &[u8]) -> (Piece, &[u8])
 }
 
 /// A punctuator, or a byte that begins nothing.
-#[tactic(auto, unfolding(crate::specs::Reading::punctuator_at))]
+#[tactic(auto, unfolding(crate::specs::private::Reading::punctuator_at))]
 fn punctuator_at(text: &[u8]) -> (Piece, &[u8])
     ensures { (result.0, result.1.now) ≡ punctuator_at text.now }
 {
@@ -89,7 +89,7 @@ fn punctuator_at(text: &[u8]) -> (Piece, &[u8])
 }
 
 /// An include name, or else a punctuator.
-#[tactic(auto, unfolding(crate::specs::Reading::header_at))]
+#[tactic(auto, unfolding(crate::specs::private::Reading::header_at))]
 fn header_at(text: &[u8]) -> (Piece, &[u8])
     ensures { (result.0, result.1.now) ≡ header_at text.now }
 {
@@ -103,7 +103,7 @@ fn header_at(text: &[u8]) -> (Piece, &[u8])
 }
 
 /// The piece at the front of a text, and what is left behind it.
-#[tactic(auto, unfolding(crate::specs::Reading::cut_at))]
+#[tactic(auto, unfolding(crate::specs::private::Reading::cut_at))]
 pub(crate) fn cut_at(after_include: bool, text: &[u8]) -> (Piece, &[u8])
     ensures { (result.0, result.1.now) ≡ cut_at after_include text.now }
 {

@@ -2,7 +2,7 @@
 
 ghost use Rattle.std.specs.Prelude.{◌≡◌, ◌≤◌, length, [], ◌∷◌};
 ghost use Rattle.p10_lex.specs.Lexemes.{is_punctuator};
-ghost use Rattle.p10_lex.specs.Runs.{is_double, is_triple, punctuator_length};
+ghost use Rattle.p10_lex.specs.private.Runs.{is_double, is_triple, punctuator_length};
 
 /// The punctuators of one byte.
 #[inline]
@@ -15,7 +15,7 @@ fn is_single(a: u8) -> bool
 
 /// The punctuators of two bytes: a doubled byte, an operator with `=`, or `->`.
 #[inline]
-#[tactic(auto, unfolding(crate::specs::Runs::is_double))]
+#[tactic(auto, unfolding(crate::specs::private::Runs::is_double))]
 fn is_double(a: u8, b: u8) -> bool
     ensures { result ≡ is_double a b }
 {
@@ -25,7 +25,7 @@ fn is_double(a: u8, b: u8) -> bool
 
 /// The punctuators of three bytes.
 #[inline]
-#[tactic(auto, unfolding(crate::specs::Runs::is_triple))]
+#[tactic(auto, unfolding(crate::specs::private::Runs::is_triple))]
 fn is_triple(a: u8, b: u8, c: u8) -> bool
     ensures { result ≡ is_triple a b c }
 {
@@ -34,7 +34,7 @@ fn is_triple(a: u8, b: u8, c: u8) -> bool
 }
 
 /// The length of the longest punctuator at the front, or 0.
-#[tactic(auto, unfolding(crate::specs::Runs::punctuator_length))]
+#[tactic(auto, unfolding(crate::specs::private::Runs::punctuator_length))]
 pub(crate) fn punctuator_length(text: &[u8]) -> usize
     ensures value { result ≡ punctuator_length text.now }
     ensures short { result ≤ length text.now }

@@ -4,12 +4,12 @@ ghost use Rattle.std.specs.Prelude.{◌≡◌};
 ghost use Rattle.std.specs.Option.{option_map};
 ghost use Rattle.p10_lex.specs.Bytes.{is_name_byte};
 ghost use Rattle.p10_lex.specs.Lexemes.{goes_on_number, begins_number};
-ghost use Rattle.p10_lex.specs.Runs.{after_run, after_number, after_comment, after_header};
+ghost use Rattle.p10_lex.specs.private.Runs.{after_run, after_number, after_comment, after_header};
 
 use crate::bytes;
 
 /// What is left behind letters, digits and `_`.
-#[tactic(auto, unfolding(crate::specs::Runs::after_run))]
+#[tactic(auto, unfolding(crate::specs::private::Runs::after_run))]
 pub(crate) fn after_name(text: &[u8]) -> &[u8]
     ensures { result.now ≡ after_run is_name_byte text.now }
 {
@@ -47,7 +47,7 @@ fn goes_on_number(old: u8, byte: u8) -> bool
 }
 
 /// What is left behind a number, whose first byte is `first`.
-#[tactic(auto, unfolding(crate::specs::Runs::after_number))]
+#[tactic(auto, unfolding(crate::specs::private::Runs::after_number))]
 pub(crate) fn after_number(first: u8, text: &[u8]) -> &[u8]
     ensures { result.now ≡ after_number first text.now }
 {
@@ -64,7 +64,7 @@ pub(crate) fn after_number(first: u8, text: &[u8]) -> &[u8]
 }
 
 /// What is left behind the first `*/`.
-#[tactic(auto, unfolding(crate::specs::Runs::after_comment))]
+#[tactic(auto, unfolding(crate::specs::private::Runs::after_comment))]
 pub(crate) fn after_comment(text: &[u8]) -> Option<&[u8]>
     ensures { option_map (λ rest. rest.now) result ≡ after_comment text.now }
 {
@@ -79,7 +79,7 @@ pub(crate) fn after_comment(text: &[u8]) -> Option<&[u8]>
 }
 
 /// What is left behind the `>` of an include name.
-#[tactic(auto, unfolding(crate::specs::Runs::after_header))]
+#[tactic(auto, unfolding(crate::specs::private::Runs::after_header))]
 pub(crate) fn after_header(text: &[u8]) -> Option<&[u8]>
     ensures { option_map (λ rest. rest.now) result ≡ after_header text.now }
 {

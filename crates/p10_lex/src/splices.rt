@@ -2,7 +2,7 @@
 
 ghost use Rattle.std.specs.Prelude.{◌≡◌, ◌≤◌, length};
 ghost use Rattle.p10_lex.specs.Splices.{line_end_length, splice_length, is_spliced};
-ghost use Rattle.p10_lex.specs.Runs.{after_splices, after_line};
+ghost use Rattle.p10_lex.specs.private.Runs.{after_splices, after_line};
 
 /// The length of the LF or CR LF at the front, or 0.
 #[tactic(auto, unfolding(crate::specs::Splices::line_end_length))]
@@ -44,7 +44,7 @@ pub(crate) fn splice_length(text: &[u8]) -> usize
 }
 
 /// What is left behind the splices at the front.
-#[tactic(auto, unfolding(crate::specs::Runs::after_splices))]
+#[tactic(auto, unfolding(crate::specs::private::Runs::after_splices))]
 pub(crate) fn after_splices(text: &[u8]) -> &[u8]
     ensures { result.now ≡ after_splices 0 text.now }
 {
@@ -76,7 +76,7 @@ fn is_spliced(older: u8, old: u8) -> bool
 
 /// What is left behind a line: the LF that ends it with what follows, or nothing. The byte `before` stands
 /// before the text.
-#[tactic(auto, unfolding(crate::specs::Runs::after_line))]
+#[tactic(auto, unfolding(crate::specs::private::Runs::after_line))]
 pub(crate) fn after_line(before: u8, text: &[u8]) -> &[u8]
     ensures { result.now ≡ after_line 0 before text.now }
 {

@@ -1,32 +1,29 @@
 //! All words of a file.
 
 ghost use Rattle.std.specs.Prelude.{◌≡◌, ◌+◌, ◌≤◌, ◌<◌, ◌^◌, ◌++◌, [], length, map, vec_len, Ok, Err, MatchResult, OnOk, IfOk, IfErr};
-ghost use Rattle.p10_lex.specs.Pieces.{seen, word_before};
+ghost use Rattle.p10_base.specs.Words.{plain_word};
+ghost use Rattle.p10_base.specs.Codes.{word_number};
+ghost use Rattle.p10_lex.specs.Pieces.{word_before};
 ghost use Rattle.p10_lex.specs.Refusals.{refusal_at};
 ghost use Rattle.p10_lex.specs.Slices.{AreSlices, IsPlaced};
-ghost use Rattle.p10_lex.specs.Lexes.{Answers, IsTooMany};
+ghost use Rattle.p10_lex.specs.Lexes.{Answers};
+ghost use Rattle.p10_lex.specs.private.Adding.{IsTooMany};
 
 use crate::LexFault;
 use crate::faults::{Fault, fault_at};
 use crate::pieces::{Line, Piece, cut_at, tight_after};
-use p10_base::{Family, Kind, Limit, Refusal, Span, Word};
+use p10_base::{Kind, Limit, Refusal, Span, Word};
 use std::alloc::Global;
-
-/// The most bytes of a source file (M1).
-const MOST_BYTES: usize = 1_048_576;
-
-/// The most words of a source file (M2).
-const MOST_WORDS: usize = 262_144;
 
 /// The words of a file, which borrow its bytes.
 ///
 /// `file` is the number that the words' spans give. A file of over 1,048,576 bytes is `Over` M1. Else the
 /// first row of X1 to X6 is `Refused`, unless over 262,144 words end before its place; these are `Over` M2,
-/// also without a refusal. `Memory` says that memory is wanting, and no clause says when it may.
+/// also without a refusal. `Memory` says that it is out of memory, and no clause says when it may.
 pub fn lex<'s>(alloc: Global, file: u32, text: &'s [u8]) -> Result<Vec<Word<'s>>, LexFault>
-    ensures answers { MatchResult result (λ v. Answers file text.now (Ok (map seen v.items))) (λ e. Answers file text.now (Err e)) }
-    // What follows for the words: each is the slice of the text at its span, behind the one before it.
-    ensures slices { IfOk result (λ v. AreSlices file text.now 0 (map seen v.items)) }
+    ensures answers { MatchResult result (λ v. Answers file text.now (Ok (map plain_word v.items))) (λ e. Answers file text.now (Err e)) }
+    // What follows for the words: each is the slice of the text at its span, after the one before it.
+    ensures slices { IfOk result (λ v. AreSlices file text.now 0 (map plain_word v.items)) }
     // What follows for a refusal: its place is in the text.
     ensures place { IfErr result (IsPlaced file text.now) }
 {
@@ -35,10 +32,10 @@ pub fn lex<'s>(alloc: Global, file: u32, text: &'s [u8]) -> Result<Vec<Word<'s>>
 
 /// The words of a file.
 fn words_in<'s>(alloc: Global, file: u32, text: &'s [u8]) -> Result<Vec<Word<'s>>, LexFault>
-    ensures { MatchResult result (λ v. Answers file text.now (Ok (map seen v.items))) (λ e. Answers file text.now (Err e)) }
+    ensures { MatchResult result (λ v. Answers file text.now (Ok (map plain_word v.items))) (λ e. Answers file text.now (Err e)) }
 {
-    if MOST_BYTES < text.len() {
-        return Err(LexFault::Over(Limit { number: 1 }));
+    if Limit::MOST_FILE_BYTES < text.len() as u64 {
+        return Err(LexFault::Over(Limit::FILE_BYTES));
     }
     let mut words = Vec::new(alloc);
     let mut rest = text;
@@ -71,14 +68,14 @@ fn add_word<'s>(
     text: &'s [u8],
 ) -> Result<(), LexFault>
     requires { place + length text.now < 2 ^ 32 }
-    ensures added { OnOk result (map seen words.new.items ≡ map seen words.old.items ++ word_before file place line piece text.now []) }
-    ensures count { OnOk result (vec_len words.old ≤ 262144 → vec_len words.new ≤ 262144) }
-    ensures full { IfErr result (IsTooMany (map seen words.old.items) (word_before file place line piece text.now [])) }
+    ensures added { OnOk result (map plain_word words.new.items ≡ map plain_word words.old.items ++ word_before file place line piece text.now []) }
+    ensures count { OnOk result (vec_len words.old ≤ Limit.MOST_FILE_WORDS → vec_len words.new ≤ Limit.MOST_FILE_WORDS) }
+    ensures full { IfErr result (IsTooMany (map plain_word words.old.items) (word_before file place line piece text.now [])) }
 {
     match piece {
         Piece::Lexeme(kind) => {
-            if MOST_WORDS <= words.len() {
-                return Err(LexFault::Over(Limit { number: 2 }));
+            if Limit::MOST_FILE_WORDS <= words.len() as u64 {
+                return Err(LexFault::Over(Limit::FILE_WORDS));
             }
             let end = place + text.len() as u32;
             let at = Span {
@@ -109,13 +106,9 @@ fn add_word<'s>(
 /// The refusal of a row that holds at a piece with this place.
 fn refused(file: u32, place: u32, fault: Fault) -> LexFault
     requires { (place + fault.offset) + fault.extent < 2 ^ 32 }
-    ensures { result ≡ LexFault.Refused (refusal_at file fault.number (place + fault.offset) fault.extent) }
+    ensures { result ≡ LexFault.Refused (refusal_at file (word_number fault.code) (place + fault.offset) fault.extent) }
 {
     let start = place + fault.offset as u32;
     let end = start + fault.extent as u32;
-    LexFault::Refused(Refusal {
-        family: Family::X,
-        number: fault.number,
-        span: Span { file, start, end },
-    })
+    LexFault::Refused(Refusal::word(fault.code, Span { file, start, end }))
 }

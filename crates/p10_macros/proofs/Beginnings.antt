@@ -2,7 +2,7 @@
 use Rattle.std.proofs.Common.{◌≡◌, ℕ, ◌+◌, ◌-◌, ◌<◌, ◌≤◌, List, [], ◌∷◌, length, take, Bool, true, false, Option, Some, None, Bor, inl, inr, refl, sym, subst, ap, ◌∙◌, arith}
 use Rattle.std.specs.Prelude.{reverse}
 use Rattle.std.proofs.lemmas.List.{length-reverse}
-use Rattle.p10_direct.specs.Spelling.{Text}
+use Rattle.p10_base.specs.Words.{Text}
 use Rattle.p10_direct.specs.Directives.{PlainMacro}
 use Rattle.p10_macros.specs.declared.origin.Origins.{Origins}
 use Rattle.p10_macros.specs.declared.pending.Traced.{Traced}
@@ -13,15 +13,15 @@ use Rattle.p10_macros.specs.declared.pending.Exits.{Exits}
 use Rattle.p10_macros.specs.declared.ahead.Ahead.{Ahead}
 use Rattle.p10_macros.specs.declared.replaced.ReplaceFault.{ReplaceFault}
 use Rattle.p10_macros.specs.declared.known.Known.{Known}
-use Rattle.p10_macros.specs.Known.{plain_known}
+use Rattle.p10_macros.specs.private.KnownMacros.{plain_known}
 use Rattle.p10_macros.specs.Table.{Table}
-use Rattle.p10_macros.specs.Uses.{Sourced, Wrong, Calls, use_of, use_as, called, next_opens, Arguments, arguments_in}
-use Rattle.p10_macros.specs.Running.{OpenUse}
-use Rattle.p10_macros.specs.Origins.{has_macro}
-use Rattle.p10_macros.specs.Traces.{IsTraced}
-use Rattle.p10_macros.specs.Standing.{Plays, Stands, StandsBy, Role, NextWord, EndsArgument, EndsCall, role_of, place_among, State, KeepsFor, LeadsTo, FaultComes, AtUse, AtCall, IsReplacedIn, IsTooLong, IsOpenedIn}
-use Rattle.p10_macros.specs.Links.{argument_end, call_end, commas, HasExits}
-use Rattle.p10_macros.specs.Looking.{refusal_at, macro_used}
+use Rattle.p10_macros.specs.Uses.{Sourced, Wrong, Calls, use_of, use_as, called, Arguments, arguments_in}
+use Rattle.p10_macros.specs.private.Looking.{next_opens, refusal_at, macro_used}
+use Rattle.p10_macros.specs.private.Running.{OpenUse}
+use Rattle.p10_macros.specs.private.Origins.{has_macro}
+use Rattle.p10_macros.specs.private.Traces.{IsTraced}
+use Rattle.p10_macros.specs.private.Standing.{Plays, Stands, StandsBy, Role, NextWord, EndsArgument, EndsCall, role_of, place_among, State, KeepsFor, LeadsTo, FaultComes, AtUse, AtCall, IsReplacedIn, IsTooLong, IsOpenedIn}
+use Rattle.p10_macros.specs.private.Links.{argument_end, call_end, commas, HasExits}
 use Rattle.p10_macros.proofs.Standings.{HasNext, has_next, next_opens_is, next_closes, closed_at_once, closed_later}
 use Rattle.p10_macros.proofs.Lookups.{IsUsed, used_where_found, as_recursive, as_object, as_function, called_none, called_open, called_wrong, called_with}
 use Rattle.p10_macros.proofs.Links.{below_last}

@@ -9,7 +9,7 @@ use Rattle.std.proofs.lemmas.Nat.Bits.{bit_at-lt, bit_at_or, bit_at-pow_same, bi
 use Rattle.std.proofs.lemmas.Bool.{cases_lt, cases_eq, cases_order}
 use Rattle.std.proofs.lemmas.Bool.Decides.{nat_tests}
 use Rattle.p10_macros.specs.declared.sets.Part.{Part}
-use Rattle.p10_macros.specs.Sets.{in_part, has_in, has, Grows, IsPart, HasOneMore, HasAll, AreBelow, BitsAreBelow}
+use Rattle.p10_macros.specs.private.Sets.{in_part, has_in, has, Grows, IsPart, HasOneMore, HasAll, AreBelow, BitsAreBelow}
 
 other_set : (set count : ℕ) → set ≤ count → (set == count + 1) ≡ false
 other_set set count less = grind (arith, nat_tests)

@@ -10,14 +10,14 @@ use Rattle.std.proofs.lemmas.Map.Text.{hash_map_updates_str}
 use Rattle.std.proofs.lemmas.Bool.Decides.{nat_tests}
 use Rattle.std.proofs.lemmas.Slice.Eq.{bytes_eq-Decides}
 use Rattle.p10_base.specs.declared.word.Word.{Word}
-use Rattle.p10_direct.specs.Names.{place_in}
-use Rattle.p10_direct.specs.Spelling.{Text, is_name_kind}
+use Rattle.p10_base.specs.Names.{place_in}
+use Rattle.p10_base.specs.Words.{Text, is_name_kind}
 use Rattle.p10_macros.specs.declared.origin.Origins.{Origins}
 use Rattle.p10_macros.specs.declared.pending.Traced.{Traced}
 use Rattle.p10_macros.specs.Uses.{Sourced, value_of, texts_of}
-use Rattle.p10_macros.specs.Traces.{AreValues}
+use Rattle.p10_macros.specs.private.Traces.{AreValues}
 use Rattle.p10_macros.proofs.Putting.{IsValue, texts_at}
-use Rattle.p10_macros.specs.Places.{place_named, at_place, at_text, IsBelow, places_of}
+use Rattle.p10_macros.specs.private.Places.{place_named, at_place, at_text, IsBelow, places_of}
 
 -- ## Places by texts
 

@@ -6,10 +6,10 @@ use Rattle.p10_macros.specs.declared.origin.Origins.{Origins}
 use Rattle.p10_macros.specs.declared.pending.Pending.{Pending}
 use Rattle.p10_macros.specs.declared.pending.Open.{Open}
 use Rattle.p10_macros.specs.Uses.{Sourced, Arguments, arguments_in, word_before, argument_before, closes, separates, depth_behind}
-use Rattle.p10_macros.specs.Running.{OpenUse}
-use Rattle.p10_macros.specs.Links.{argument_end, call_end, commas, IsLinked}
-use Rattle.p10_macros.specs.Standing.{IsOpen, Stands, StandsBy, Role, NextWord, EndsArgument, EndsCall, role_of}
-use Rattle.p10_macros.specs.Traces.{IsTraced}
+use Rattle.p10_macros.specs.private.Running.{OpenUse}
+use Rattle.p10_macros.specs.private.Links.{argument_end, call_end, commas, IsLinked}
+use Rattle.p10_macros.specs.private.Standing.{IsOpen, Stands, StandsBy, Role, NextWord, EndsArgument, EndsCall, role_of}
+use Rattle.p10_macros.specs.private.Traces.{IsTraced}
 use Rattle.p10_macros.proofs.Links.{separates_only, separates_no_end, as_deep, call_at_most, argument_at_most, linked_head, linked_tail}
 use Rattle.p10_macros.proofs.Standings.{stop_within, stands_word, at_stop, stands_empty}
 

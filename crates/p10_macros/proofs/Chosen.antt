@@ -10,9 +10,9 @@ use Rattle.std.proofs.lemmas.List.Sums.{sum_by-cons, sum_by-append}
 use Rattle.std.proofs.lemmas.List.Sorted.{sum_by-IsPermutation}
 use Rattle.std.proofs.lemmas.List.Elements.{All-weaker, All-from_get_or}
 use Rattle.p10_base.specs.declared.word.Word.{Word}
-use Rattle.p10_direct.specs.Spelling.{Text}
+use Rattle.p10_base.specs.Words.{Text}
 use Rattle.p10_macros.specs.declared.pending.Traced.{Traced}
-use Rattle.p10_macros.specs.Places.{place_named, places_of, places_that, names, is_put, IsBelow, part_there}
+use Rattle.p10_macros.specs.private.Places.{place_named, places_of, places_that, names, is_put, IsBelow, part_there}
 use Rattle.p10_macros.specs.Uses.{texts_of}
 use Rattle.p10_macros.proofs.PlacesThat.{places_agree, places_below, parts_chosen}
 

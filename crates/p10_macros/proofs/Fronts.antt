@@ -1,7 +1,7 @@
 -- The words before a refused use have a replacement.
 use Rattle.std.proofs.Common.{◌≡◌, ℕ, ◌+◌, ◌==◌, List, [], ◌∷◌, ◌++◌, map, length, Bool, true, false, ◌&&◌, cond, Option, Some, None, ◌⊎◌, inl, inr, refl, sym, subst, ap, ◌∙◌, append_assoc}
 use Rattle.p10_base.specs.declared.span.Span.{Span}
-use Rattle.p10_direct.specs.Spelling.{Text, is_name_kind}
+use Rattle.p10_base.specs.Words.{Text, is_name_kind}
 use Rattle.p10_direct.specs.Directives.{PlainMacro}
 use Rattle.p10_macros.specs.Table.{Table, macro_named}
 use Rattle.p10_macros.specs.Uses.{Sourced, Arguments, Stays, Wrong, Calls, use_of, use_by, use_as, called, fitted, fitting, arguments_in, argument_before, word_before, opens, closes, separates, depth_behind, given, replacement}

@@ -1,12 +1,12 @@
 -- What is kept with sets of macros stays right where more macros and sets come.
 use Rattle.std.proofs.Common.{List, [], ◌∷◌, ◌∙◌, ℕ}
-use Rattle.p10_direct.specs.Spelling.{Text}
+use Rattle.p10_base.specs.Words.{Text}
 use Rattle.p10_macros.specs.declared.origin.Origins.{Origins}
 use Rattle.p10_macros.specs.declared.pending.Traced.{Traced}
 use Rattle.p10_macros.specs.Uses.{Sourced}
-use Rattle.p10_macros.specs.Origins.{Extends}
-use Rattle.p10_macros.specs.Traces.{IsTraced, AreTraced, AreValues}
-use Rattle.p10_macros.specs.Putting.{IsBase}
+use Rattle.p10_macros.specs.private.Origins.{Extends}
+use Rattle.p10_macros.specs.private.Traces.{IsTraced, AreTraced, AreValues}
+use Rattle.p10_macros.specs.private.Putting.{IsBase}
 use Rattle.p10_macros.proofs.SetsOfMacros.{still_has, longer}
 
 pub traced_more : (old new : Origins) → Extends old new → (traced : Traced) (sourced : Sourced) → IsTraced old traced sourced → IsTraced new traced sourced

@@ -6,11 +6,11 @@ use Rattle.std.proofs.Math.Seq.{get_or-append_seam, take-append_seam, take-suc}
 use Rattle.std.proofs.lemmas.Bool.Decides.{nat_tests}
 use Rattle.std.proofs.lemmas.Slice.Eq.{bytes_eq-Decides}
 use Rattle.p10_base.specs.declared.word.Word.{Word}
-use Rattle.p10_direct.specs.Spelling.{Text, is_punctuator_kind}
+use Rattle.p10_base.specs.Words.{Text, is_punctuator_kind}
 use Rattle.p10_macros.specs.declared.pending.Pending.{Pending}
 use Rattle.p10_macros.specs.declared.pending.Exits.{Exits}
 use Rattle.p10_macros.specs.Uses.{opens, closes, separates, depth_behind}
-use Rattle.p10_macros.specs.Links.{argument_end, call_end, HasExits, IsLinked, exits_past, behind_place, nowhere}
+use Rattle.p10_macros.specs.private.Links.{argument_end, call_end, HasExits, IsLinked, exits_past, behind_place, nowhere}
 
 -- ## Words that part arguments
 

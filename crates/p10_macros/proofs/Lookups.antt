@@ -3,12 +3,12 @@ use Rattle.std.proofs.Common.{◌≡◌, ℕ, zero, suc, ◌==◌, List, [], ◌
 use Rattle.std.specs.Prelude.{is_none}
 use Rattle.std.proofs.lemmas.Bool.Decides.{nat_tests}
 use Rattle.p10_base.specs.declared.word.Word.{Word}
-use Rattle.p10_direct.specs.Spelling.{Text, is_name_kind}
+use Rattle.p10_base.specs.Words.{Text, is_name_kind}
 use Rattle.p10_direct.specs.Directives.{PlainMacro}
 use Rattle.p10_macros.specs.declared.pending.Pending.{Pending}
 use Rattle.p10_macros.specs.Table.{Table, macro_named}
-use Rattle.p10_macros.specs.Uses.{Sourced, Stays, Wrong, Calls, use_of, use_by, use_as, called, fitted, fitting, next_opens, opens, closes, Arguments, arguments_in, argument_before, word_before, separates, depth_behind}
-use Rattle.p10_macros.specs.Looking.{opens_on_top, used_where, macro_used}
+use Rattle.p10_macros.specs.Uses.{Sourced, Stays, Wrong, Calls, use_of, use_by, use_as, called, fitted, fitting, opens, closes, Arguments, arguments_in, argument_before, word_before, separates, depth_behind}
+use Rattle.p10_macros.specs.private.Looking.{next_opens, opens_on_top, used_where, macro_used}
 use Rattle.p10_macros.proofs.Standings.{next_closes}
 
 or_left : (a b : Bool) → (a || b) ≡ false → a ≡ false

@@ -14,16 +14,16 @@ use Rattle.p10_macros.specs.declared.ahead.Ahead.{Ahead}
 use Rattle.p10_macros.specs.declared.replaced.ReplaceFault.{ReplaceFault}
 use Rattle.p10_macros.specs.declared.replaced.ReplaceFault.TheVariants as fault
 use Rattle.p10_macros.specs.declared.known.Known.{Known}
-use Rattle.p10_macros.specs.Known.{plain_known}
+use Rattle.p10_macros.specs.private.KnownMacros.{plain_known}
 use Rattle.p10_macros.specs.Table.{Table}
-use Rattle.p10_macros.specs.Uses.{Sourced, closes, Stays, Wrong, Calls, use_of, replacement, Arguments, plain_words}
+use Rattle.p10_macros.specs.Uses.{Sourced, closes, Stays, Wrong, Calls, use_of, replacement, Arguments, sourced_words}
 use Rattle.p10_macros.specs.Endings.{Ending, Refused, TooMany, behind_word}
-use Rattle.p10_macros.specs.Running.{OpenUse, outer_of, Comes}
-use Rattle.p10_macros.specs.Origins.{Extends}
-use Rattle.p10_macros.specs.Traces.{IsTraced, AreTraced, AreValues}
-use Rattle.p10_macros.specs.Standing.{IsOpen, Stands, StandsBy, Role, NextWord, EndsArgument, EndsCall, role_of, place_among, State, Represents, Plays, NoneOutside, KeepsFor, given_with, done_with, LeadsTo, AdvancesBy, FaultComes, FailsBy, IsReplacedIn, IsTooLong, IsOpenedIn}
-use Rattle.p10_macros.specs.Putting.{Puts}
-use Rattle.p10_macros.specs.Looking.{macro_used, refusal_at}
+use Rattle.p10_macros.specs.private.Running.{OpenUse, outer_of, Comes}
+use Rattle.p10_macros.specs.private.Origins.{Extends}
+use Rattle.p10_macros.specs.private.Traces.{IsTraced, AreTraced, AreValues}
+use Rattle.p10_macros.specs.private.Standing.{IsOpen, Stands, StandsBy, Role, NextWord, EndsArgument, EndsCall, role_of, place_among, State, Represents, Plays, NoneOutside, KeepsFor, given_with, done_with, LeadsTo, AdvancesBy, FaultComes, FailsBy, IsReplacedIn, IsTooLong, IsOpenedIn}
+use Rattle.p10_macros.specs.private.Putting.{Puts}
+use Rattle.p10_macros.specs.private.Looking.{macro_used, refusal_at}
 use Rattle.p10_macros.proofs.Growing.{all_traced_more}
 use Rattle.p10_macros.proofs.Steps.{behind_one_more, step_given, step_stays, step_refused, step_replaced, step_too_long, step_opened, step_next, step_closed, step_closed_too_long, opened}
 use Rattle.p10_macros.proofs.Standings.{stop_within, at_stop, stands_more, stands_put, has_next, HasNext, next_opens_is, place_is, SamePlace, same_place}
@@ -68,7 +68,7 @@ module _ (table : Table) (old new : Run) (name : Traced) (words_are : new.words.
         stands = stands_still words [] stands;
         keeps = record {
           given = words_are ∙ ap (λ (l : List Open). given_with l old.words.items name.word) opens
-              ∙ ap (λ (l : List Word). l ++ name.word ∷ []) keeps.given ∙ ap (λ (w : Word). plain_words given ++ w ∷ []) traced.word ∙ sym (map-append (λ (s : Sourced). s.word) given (word ∷ []));
+              ∙ ap (λ (l : List Word). l ++ name.word ∷ []) keeps.given ∙ ap (λ (w : Word). sourced_words given ++ w ∷ []) traced.word ∙ sym (map-append (λ (s : Sourced). s.word) given (word ∷ []));
           done = traced_along _ _ _ _ _ origins_is (done_is ∙ ap (λ (l : List Open). done_with l old.done.items name) opens) keeps.done;
           outside = keeps.outside;
           left = left_is ∙ keeps.left;

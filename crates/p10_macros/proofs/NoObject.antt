@@ -1,7 +1,7 @@
 -- No name of an object-like macro is left.
 use Rattle.std.proofs.Common.{◌≡◌, ℕ, List, [], Bool, true, false, cond, Option, sym, subst, ap, ◌∙◌}
 use Rattle.p10_base.specs.declared.span.Span.{Span}
-use Rattle.p10_direct.specs.Spelling.{Text}
+use Rattle.p10_base.specs.Words.{Text}
 use Rattle.p10_direct.specs.Directives.{PlainMacro}
 use Rattle.p10_macros.specs.Table.{Table, macro_named}
 use Rattle.p10_macros.specs.Uses.{Sourced, Stays, Wrong, Calls, use_of, use_by, use_as}

@@ -1,7 +1,7 @@
 -- A use that is refused is refused by D6, D7 or D8.
 use Rattle.std.proofs.Common.{ℕ, ◌≤◌, List, [], ◌∷◌, length, Bool, true, false, if◌then◌else◌, Option, Some, None, sym, subst, arith}
 use Rattle.p10_base.specs.declared.span.Span.{Span}
-use Rattle.p10_direct.specs.Spelling.{Text, is_name_kind}
+use Rattle.p10_base.specs.Words.{Text, is_name_kind}
 use Rattle.p10_direct.specs.Directives.{PlainMacro}
 use Rattle.p10_macros.specs.Table.{Table, macro_named}
 use Rattle.p10_macros.specs.Uses.{Sourced, Arguments, opens, arguments_in, fitting, Use, Stays, Wrong, Calls, fitted, called, unless_recursive, use_as, use_by, use_of}

@@ -4,7 +4,7 @@ use Rattle.std.proofs.lemmas.Bool.Decides.{nat_tests}
 use Rattle.p10_macros.specs.declared.pending.Pending.{Pending}
 use Rattle.p10_macros.specs.declared.pending.Exits.{Exits}
 use Rattle.p10_macros.specs.Uses.{closes, separates, depth_behind}
-use Rattle.p10_macros.specs.Links.{argument_end, call_end, commas, HasExits, IsLinked, exits_past, behind_place}
+use Rattle.p10_macros.specs.private.Links.{argument_end, call_end, commas, HasExits, IsLinked, exits_past, behind_place}
 use Rattle.p10_macros.proofs.Links.{separates_only, separates_no_end, as_deep, call_at_most, argument_at_most, is_same, not_above}
 
 -- the first argument is the last one, or the others stand behind the comma at this place

@@ -4,7 +4,7 @@ use Rattle.std.specs.Prelude.{is_none}
 use Rattle.std.specs.List.{All, flat_map, slice_get}
 use Rattle.std.proofs.lemmas.List.{take_more, length-take-le, drop-drop}
 use Rattle.std.proofs.lemmas.List.Elements.{All-nil, All-cons, All-head, All-tail}
-use Rattle.p10_macros.specs.Places.{places_that, names, IsBelow, AreByParameter, IsPutInRow, part_there}
+use Rattle.p10_macros.specs.private.Places.{places_that, names, IsBelow, AreByParameter, IsPutInRow, part_there}
 
 module _ {A : Type 0} (test : A → Bool) where
   places_that-append : (start : ℕ) (xs ys : List A) → places_that test start (xs ++ ys) ≡ places_that test start xs ++ places_that test (start + length xs) ys

@@ -4,13 +4,13 @@ use Rattle.std.proofs.lemmas.List.{map-append, length-map}
 use Rattle.std.specs.List.{fold, list_all, zip, flat_map}
 use Rattle.p10_base.specs.declared.span.Span.{Span}
 use Rattle.p10_base.specs.declared.word.Word.{Word}
-use Rattle.p10_direct.specs.Spelling.{Text, is_name, is_name_kind}
+use Rattle.p10_base.specs.Words.{Text, is_name, is_name_kind, plain_word}
 use Rattle.p10_direct.specs.Directives.{PlainMacro}
 use Rattle.p10_direct.proofs.Plainly.{bare, bare_words, bare_macro, cond_map}
 use Rattle.p10_macros.specs.declared.table.Effect.{Effect}
 use Rattle.p10_macros.specs.declared.table.Effect.TheVariants.{New, Same, Other}
 use Rattle.p10_macros.specs.Table.{Entry, Table, macro_named, same_word, same_words, same_parameters, same_macro, without_macro, own_of}
-use Rattle.p10_macros.specs.Uses.{Sourced, written, plain_words, Arguments, opens, closes, separates, depth_behind, word_before, argument_before, arguments_in, fitting, Use, Stays, Wrong, Calls, fitted, called, unless_recursive, use_as, use_by, use_of, given, value_of, value_or, texts_of, replacement}
+use Rattle.p10_macros.specs.Uses.{Sourced, written, sourced_words, Arguments, opens, closes, separates, depth_behind, word_before, argument_before, arguments_in, fitting, Use, Stays, Wrong, Calls, fitted, called, unless_recursive, use_as, use_by, use_of, given, value_of, value_or, texts_of, replacement}
 use Rattle.p10_macros.specs.Endings.{Ending, Gives, Refused, TooMany, after, behind_word, behind_argument}
 use Rattle.p10_macros.specs.Ends.{place_of_use, Ends, EndsAll, Follows, no_words, word_stays, use_refused, use_replaced, no_arguments, argument_given, argument_refused, argument_too_long, replacement_made, replacement_too_long, values_refused, values_too_long}
 use Rattle.p10_macros.specs.Answers.{Defines}
@@ -79,7 +79,7 @@ bare_all words = map bare_sourced words
 abbrev pub bare_lists : List (List Sourced) → List (List Sourced)
 bare_lists lists = map bare_all lists
 
-pub plain_bare : (words : List Sourced) → plain_words (bare_all words) ≡ bare_words (plain_words words)
+pub plain_bare : (words : List Sourced) → sourced_words (bare_all words) ≡ bare_words (sourced_words words)
 plain_bare [] = refl
 plain_bare (word ∷ words) = ap (λ others. bare word.word ∷ others) (plain_bare words)
 
@@ -162,7 +162,7 @@ use_bare table name words =
 value_bare : (parameters : List Text) (values : List (List Sourced)) (word : Word) → value_of parameters (bare_lists values) (bare word) ≡ option_map bare_all (value_of parameters values word)
 value_bare [] values word = refl
 value_bare (parameter ∷ parameters) [] word = refl
-value_bare (parameter ∷ parameters) (value ∷ values) word = cond_map (option_map bare_all) (is_name parameter word) _ _ _ _ refl (value_bare parameters values word)
+value_bare (parameter ∷ parameters) (value ∷ values) word = cond_map (option_map bare_all) (is_name parameter (plain_word word)) _ _ _ _ refl (value_bare parameters values word)
 
 value_or_bare : (value : Option (List Sourced)) (word : Word) → value_or (option_map bare_all value) (bare word) ≡ bare_all (value_or value word)
 value_or_bare None word = refl

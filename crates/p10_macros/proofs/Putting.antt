@@ -5,7 +5,7 @@ use Rattle.std.specs.List.{flat_map, slice_get}
 use Rattle.std.proofs.lemmas.List.{reverse-append, map-append}
 use Rattle.p10_base.specs.declared.span.Span.{Span}
 use Rattle.p10_base.specs.declared.word.Word.{Word}
-use Rattle.p10_direct.specs.Spelling.{Text}
+use Rattle.p10_base.specs.Words.{Text}
 use Rattle.p10_direct.specs.Directives.{PlainMacro}
 use Rattle.p10_macros.specs.declared.origin.Origins.{Origins}
 use Rattle.p10_macros.specs.declared.pending.Traced.{Traced}
@@ -13,9 +13,9 @@ use Rattle.p10_macros.specs.declared.pending.Pending.{Pending}
 use Rattle.p10_macros.specs.declared.replaced.ReplaceFault.{ReplaceFault}
 use Rattle.p10_macros.specs.declared.replaced.ReplaceFault.TheVariants as fault
 use Rattle.p10_macros.specs.Uses.{Sourced, texts_of}
-use Rattle.p10_macros.specs.Places.{at_place, place_named, part_there, chosen_parts, chosen_count, chosen_place}
-use Rattle.p10_macros.specs.Traces.{AreTraced}
-use Rattle.p10_macros.specs.Putting.{fresh, IsPushed, PutsTraced, part_of, value_or_word, Short}
+use Rattle.p10_macros.specs.private.Places.{at_place, place_named, part_there, chosen_parts, chosen_count, chosen_place}
+use Rattle.p10_macros.specs.private.Traces.{AreTraced}
+use Rattle.p10_macros.specs.private.Putting.{fresh, IsPushed, PutsTraced, part_of, value_or_word, Short}
 
 pub short_by : (f : ReplaceFault) (P Q : Type 0) → Short f P → (P → Q) → Short f Q
 short_by (fault.Refused refusal) P Q short so = short

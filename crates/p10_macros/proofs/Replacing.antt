@@ -5,17 +5,17 @@ use Rattle.std.specs.List.{flat_map}
 use Rattle.std.proofs.lemmas.List.{map-append, length-map, length-reverse}
 use Rattle.p10_base.specs.declared.span.Span.{Span}
 use Rattle.p10_base.specs.declared.word.Word.{Word}
-use Rattle.p10_direct.specs.Spelling.{Text, is_name}
+use Rattle.p10_base.specs.Words.{Text, is_name, plain_word}
 use Rattle.p10_direct.specs.Directives.{PlainMacro}
 use Rattle.p10_macros.specs.declared.origin.Origins.{Origins}
 use Rattle.p10_macros.specs.declared.pending.Traced.{Traced}
 use Rattle.p10_macros.specs.declared.pending.Pending.{Pending}
 use Rattle.p10_macros.specs.declared.replaced.ReplaceFault.{ReplaceFault}
 use Rattle.p10_macros.specs.Uses.{Sourced, given, value_of, value_or, texts_of, replacement}
-use Rattle.p10_macros.specs.Places.{at_place, place_named, gives}
-use Rattle.p10_macros.specs.Origins.{Extends, HasOne}
-use Rattle.p10_macros.specs.Traces.{IsTraced, AreTraced, AreValues}
-use Rattle.p10_macros.specs.Putting.{fresh, ArePut, PutsTraced, PutsReplacement, IsBase, AreGiven, part_of, value_or_word, Short}
+use Rattle.p10_macros.specs.private.Places.{at_place, place_named, gives}
+use Rattle.p10_macros.specs.private.Origins.{Extends, HasOne}
+use Rattle.p10_macros.specs.private.Traces.{IsTraced, AreTraced, AreValues}
+use Rattle.p10_macros.specs.private.Putting.{fresh, ArePut, PutsTraced, PutsReplacement, IsBase, AreGiven, part_of, value_or_word, Short}
 use Rattle.p10_macros.proofs.Growing.{traced_more, values_more, base_more}
 use Rattle.p10_macros.proofs.Uniting.{base_of, traced_length, written_traced}
 use Rattle.p10_macros.proofs.Putting.{IsValue, short_by}
@@ -51,7 +51,7 @@ value_mapped : (f : List Sourced → List Sourced) (texts : List Text) (values :
 value_mapped f [] [] word = refl
 value_mapped f [] (value ∷ values) word = refl
 value_mapped f (text ∷ texts) [] word = refl
-value_mapped f (text ∷ texts) (value ∷ values) word = go (is_name text word) (value_mapped f texts values word)
+value_mapped f (text ∷ texts) (value ∷ values) word = go (is_name text (plain_word word)) (value_mapped f texts values word)
   where
     go : (b : Bool) → value_of texts (map f values) word ≡ option_map f (value_of texts values word) →
         cond b (Some (f value)) (value_of texts (map f values) word) ≡ option_map f (cond b (Some value) (value_of texts values word))

@@ -3,13 +3,13 @@ use Rattle.std.proofs.Common.{◌≡◌, ℕ, ◌≤◌, ◌==◌, List, [], ◌
 use Rattle.std.specs.List.{list_any}
 use Rattle.std.proofs.lemmas.Slice.Eq.{bytes_eq-Decides}
 use Rattle.std.proofs.lemmas.Bool.Decides.{nat_tests}
-use Rattle.p10_direct.specs.Spelling.{Text}
-use Rattle.p10_direct.specs.Names.{place_in, with_name}
-use Rattle.p10_direct.proofs.Naming.{place_stays, place_new, same_place}
+use Rattle.p10_base.specs.Words.{Text}
+use Rattle.p10_base.specs.Names.{place_in, with_name}
+use Rattle.p10_base.proofs.Naming.{place_stays, place_new, same_place}
 use Rattle.p10_macros.specs.declared.sets.Part.{Part}
 use Rattle.p10_macros.specs.declared.origin.Origins.{Origins}
-use Rattle.p10_macros.specs.Sets.{has, HasOneMore, HasAll, AreBelow}
-use Rattle.p10_macros.specs.Origins.{count_of, has_at, has_macro, Continues, Extends, HasBoth, HasOne}
+use Rattle.p10_macros.specs.private.Sets.{has, HasOneMore, HasAll, AreBelow}
+use Rattle.p10_macros.specs.private.Origins.{count_of, has_at, has_macro, Continues, Extends, HasBoth, HasOne}
 use Rattle.p10_macros.proofs.Blocks.{has_grown, has_nothing, grows_itself, grows_all, stays_known}
 
 -- ## More names

@@ -5,15 +5,15 @@ use Rattle.p10_macros.specs.declared.origin.Origins.{Origins}
 use Rattle.p10_macros.specs.declared.pending.Traced.{Traced}
 use Rattle.p10_macros.specs.declared.pending.Pending.{Pending}
 use Rattle.p10_macros.specs.declared.pending.Open.{Open}
-use Rattle.p10_macros.specs.Uses.{Sourced, next_opens, opens, closes, depth_behind}
+use Rattle.p10_macros.specs.Uses.{Sourced, opens, closes, depth_behind}
+use Rattle.p10_macros.specs.private.Looking.{next_opens, opens_on_top}
 use Rattle.p10_macros.specs.Ends.{place_of_use}
-use Rattle.p10_macros.specs.Running.{OpenUse, outer_of}
-use Rattle.p10_macros.specs.Origins.{Extends}
-use Rattle.p10_macros.specs.Traces.{IsTraced}
-use Rattle.p10_macros.specs.Standing.{IsOpen, Stands, StandsBy, Role, NextWord, EndsArgument, EndsCall, role_of, place_among}
-use Rattle.p10_macros.specs.Links.{call_end}
-use Rattle.p10_macros.specs.Putting.{ArePut}
-use Rattle.p10_macros.specs.Looking.{opens_on_top}
+use Rattle.p10_macros.specs.private.Running.{OpenUse, outer_of}
+use Rattle.p10_macros.specs.private.Origins.{Extends}
+use Rattle.p10_macros.specs.private.Traces.{IsTraced}
+use Rattle.p10_macros.specs.private.Standing.{IsOpen, Stands, StandsBy, Role, NextWord, EndsArgument, EndsCall, role_of, place_among}
+use Rattle.p10_macros.specs.private.Links.{call_end}
+use Rattle.p10_macros.specs.private.Putting.{ArePut}
 use Rattle.std.proofs.lemmas.Bool.Decides.{nat_tests}
 use Rattle.p10_macros.proofs.Links.{closes_only, separates_only, call_at_most}
 use Rattle.p10_macros.proofs.Growing.{traced_more, all_traced_more, values_more}

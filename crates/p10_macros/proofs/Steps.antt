@@ -6,7 +6,7 @@ use Rattle.p10_macros.specs.Table.{Table}
 use Rattle.p10_macros.specs.Uses.{Sourced, use_of, Stays, Wrong, Calls, replacement}
 use Rattle.p10_macros.specs.Endings.{Ending, Gives, Refused, TooMany, after, behind_word, behind_argument}
 use Rattle.p10_macros.specs.Ends.{Ends, EndsAll, place_of_use, no_words, word_stays, use_refused, use_replaced, no_arguments, argument_given, argument_refused, argument_too_long, replacement_made, replacement_too_long, values_refused, values_too_long}
-use Rattle.p10_macros.specs.Running.{OpenUse, outer_of, behind_words, Replaces, Returns, Closes, Comes}
+use Rattle.p10_macros.specs.private.Running.{OpenUse, outer_of, behind_words, Replaces, Returns, Closes, Comes}
 
 closes_refused : (table : Table) (uses : List OpenUse) (number : ℕ) (at : Span) → Closes table uses (Refused number at) (Refused number at)
 closes_refused table [] number at = refl

@@ -6,11 +6,12 @@ use Rattle.std.proofs.lemmas.Bool.Decides.{nat_tests}
 use Rattle.std.proofs.lemmas.List.Sums.{sum_by-cons}
 use Rattle.std.specs.List.{list_all, zip}
 use Rattle.indexmap.specs.IndexMap.{insert_entry, swap_remove_entry}
-use Rattle.p10_direct.specs.Spelling.{Text}
+use Rattle.p10_base.specs.Words.{Text}
 use Rattle.p10_direct.specs.Form.{plain_macro}
 use Rattle.p10_macros.specs.declared.known.Known.{Known}
 use Rattle.p10_macros.specs.Table.{Table, macro_named, with_macro, behind_first, last_first, without_macro, same_texts}
-use Rattle.p10_macros.specs.Known.{AreNamed, own_among, own_if, own_of_one}
+use Rattle.p10_macros.specs.Known.{AreNamed, own_among}
+use Rattle.p10_macros.specs.private.KnownMacros.{own_if, own_of_one}
 use Rattle.p10_macros.specs.Answers.{entry_of}
 use Rattle.p10_macros.proofs.LastFirst.{last_mapped, without_key, without_key_is}
 

@@ -2,7 +2,7 @@
 use Rattle.std.proofs.Common.{◌≡◌, ℕ, ◌+◌, [], ◌∷◌, Bool, true, false, cond, not, bytes_eq, Option, Some, None, refl, sym, subst, ap, ◌∙◌, arith}
 use Rattle.std.proofs.lemmas.List.Sums.{sum_by-cons}
 use Rattle.std.proofs.lemmas.Slice.Eq.{bytes_eq-Decides}
-use Rattle.p10_direct.specs.Spelling.{Text}
+use Rattle.p10_base.specs.Words.{Text}
 use Rattle.p10_direct.specs.Directives.{PlainMacro}
 use Rattle.p10_macros.specs.Table.{Entry, Table, macro_named, with_macro, behind_first, last_first, without_macro, own_of}
 use Rattle.p10_macros.specs.Undefining.{NamedOnce, entry_named, own_named, TakesOneName, TakesOneOwn, StaysNamedOnce}

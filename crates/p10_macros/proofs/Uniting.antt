@@ -3,14 +3,14 @@ use Rattle.std.proofs.Common.{◌≡◌, ℕ, zero, suc, ◌<◌, ◌≤◌, Lis
 use Rattle.std.proofs.lemmas.List.{map-set, get_or-map, length-map}
 use Rattle.p10_base.specs.declared.span.Span.{Span}
 use Rattle.p10_base.specs.declared.word.Word.{Word}
-use Rattle.p10_direct.specs.Spelling.{Text}
+use Rattle.p10_base.specs.Words.{Text}
 use Rattle.p10_direct.specs.Directives.{PlainMacro}
 use Rattle.p10_macros.specs.declared.origin.Origins.{Origins}
 use Rattle.p10_macros.specs.declared.pending.Traced.{Traced}
 use Rattle.p10_macros.specs.Uses.{Sourced, given, written}
-use Rattle.p10_macros.specs.Origins.{count_of, has_macro, Extends, HasBoth, HasOne}
-use Rattle.p10_macros.specs.Traces.{lists_of, IsTraced, AreTraced, AreValues}
-use Rattle.p10_macros.specs.Putting.{fresh, IsBase, IsJoined, IsGiven, AreGiven}
+use Rattle.p10_macros.specs.private.Origins.{count_of, has_macro, Extends, HasBoth, HasOne}
+use Rattle.p10_macros.specs.private.Traces.{lists_of, IsTraced, AreTraced, AreValues}
+use Rattle.p10_macros.specs.private.Putting.{fresh, IsBase, IsJoined, IsGiven, AreGiven}
 use Rattle.p10_macros.proofs.SetsOfMacros.{still_has, has_no_macro, longer, or_no_more}
 use Rattle.p10_macros.proofs.Growing.{traced_more, all_traced_more, values_more, base_more}
 

@@ -12,13 +12,13 @@ use Rattle.p10_macros.specs.declared.ahead.Ahead.{Ahead}
 use Rattle.p10_macros.specs.declared.replaced.ReplaceFault.{ReplaceFault}
 use Rattle.p10_macros.specs.declared.replaced.ReplaceFault.TheVariants as fault
 use Rattle.p10_macros.specs.Table.{Table}
-use Rattle.p10_macros.specs.Uses.{Sourced, written, plain_words}
+use Rattle.p10_macros.specs.Uses.{Sourced, written, sourced_words}
 use Rattle.p10_macros.specs.Endings.{Ending, Gives, Refused, TooMany}
 use Rattle.p10_macros.specs.Ends.{Ends}
-use Rattle.p10_macros.specs.Running.{OpenUse}
-use Rattle.p10_macros.specs.Traces.{IsTraced, AreTraced}
-use Rattle.p10_macros.specs.Standing.{Stands, State, NoneOutside, ComesOf, Represents, LeadsTo, Advances, FaultComes, Fails}
-use Rattle.p10_macros.specs.Beginning.{unread, traced_of, start_of, IsBegun}
+use Rattle.p10_macros.specs.private.Running.{OpenUse}
+use Rattle.p10_macros.specs.private.Traces.{IsTraced, AreTraced}
+use Rattle.p10_macros.specs.private.Standing.{Stands, State, NoneOutside, ComesOf, Represents, LeadsTo, Advances, FaultComes, Fails}
+use Rattle.p10_macros.specs.private.Beginning.{unread, traced_of, start_of, IsBegun}
 use Rattle.p10_macros.specs.Answers.{IsFault}
 use Rattle.p10_macros.proofs.SetsOfMacros.{has_no_macro}
 use Rattle.p10_macros.proofs.Steps.{behind_none, step_ended, step_begun}
@@ -95,7 +95,7 @@ done_at table given [] done (use' ∷ uses) left nothing none outside = cc
 
 -- when no word is left, what was given is what came of all words
 pub ended : (table : Table) (words : List Word) (left : ℕ) (run : Run) → run.pending.words.items ≡ [] → LeadsTo table (start_of words left) run →
-    (made : List Sourced) × Ends table None (map written words) left (Gives made run.left) × (plain_words made ≡ run.words.items)
+    (made : List Sourced) × Ends table None (map written words) left (Gives made run.left) × (sourced_words made ≡ run.words.items)
 ended table words left run none leads =
     let state = leads.behind in
     let empty = stands_empty run.origins run.stop (reverse run.open.items) state.todo state.uses

@@ -1,5 +1,5 @@
 -- What the functions of this crate answer.
-use Rattle.std.specs.Prelude.{◌≡◌, ℕ, List, map, Bool, true, false, None, IsSomeAnd}
+use Rattle.std.specs.Prelude.{ℕ, ◌≡◌, List, map, Bool, true, false, None, IsSomeAnd}
 use Rattle.p10_base.specs.declared.word.Word.{Word}
 use Rattle.p10_base.specs.declared.report.Family.TheVariants.{D}
 use Rattle.p10_direct.specs.Form.{plain_macro}
@@ -12,7 +12,7 @@ use Rattle.p10_macros.specs.declared.replaced.ReplaceFault.{ReplaceFault}
 use Rattle.p10_macros.specs.declared.replaced.ReplaceFault.TheVariants as fault
 use Rattle.p10_direct.specs.Directives.{PlainMacro}
 use Rattle.p10_macros.specs.Table.{Entry, Table, macro_named, same_macro, with_macro}
-use Rattle.p10_macros.specs.Uses.{Sourced, written, plain_words}
+use Rattle.p10_macros.specs.Uses.{Sourced, written, sourced_words}
 use Rattle.p10_macros.specs.Endings.{Gives, Refused, TooMany}
 use Rattle.p10_macros.specs.Ends.{Ends}
 
@@ -33,7 +33,7 @@ Defines old made builtin Other new = IsSomeAnd (macro_named made.name old) (λ k
 -- the words that come of the words of a source
 abbrev pub IsReplaced : Table → List Word → ℕ → Replaced → Type 0
 IsReplaced table words left replaced =
-    (made : List Sourced) × Ends table None (map written words) left (Gives made replaced.left) × (plain_words made ≡ replaced.words.items)
+    (made : List Sourced) × Ends table None (map written words) left (Gives made replaced.left) × (sourced_words made ≡ replaced.words.items)
 
 -- why there are none
 abbrev pub IsFault : Table → List Word → ℕ → ReplaceFault → Type 0

@@ -1,7 +1,7 @@
 -- What is left of the names of macros.
-use Rattle.std.specs.Prelude.{◌≡◌, ℕ, List, [], ◌∷◌, true, Option, Some, None}
+use Rattle.std.specs.Prelude.{ℕ, ◌≡◌, List, [], ◌∷◌, true, Option, Some, None}
 use Rattle.p10_base.specs.declared.span.Span.{Span}
-use Rattle.p10_direct.specs.Spelling.{is_name_kind}
+use Rattle.p10_base.specs.Words.{is_name_kind}
 use Rattle.p10_direct.specs.Directives.{PlainMacro}
 use Rattle.p10_macros.specs.Table.{Table, macro_named}
 use Rattle.p10_macros.specs.Uses.{Sourced}

@@ -1,6 +1,4 @@
--- The definitions that the contracts of this crate cite.
-
--- what the public functions promise
+-- The definitions that the contracts of this crate cite: those of public clauses, and in `private` those of private ones alone.
 pub mod Table
 pub mod Undefining
 pub mod Uses
@@ -9,15 +7,5 @@ pub mod Ends
 pub mod Left
 pub mod Fronts
 pub mod Answers
--- what holds of the private parts
 pub mod Known
-pub mod Places
-pub mod Running
-pub mod Sets
-pub mod Origins
-pub mod Traces
-pub mod Standing
-pub mod Links
-pub mod Putting
-pub mod Looking
-pub mod Beginning
+pub mod private

@@ -4,7 +4,7 @@ use Rattle.std.specs.List.{list_all, zip}
 use Rattle.p10_base.specs.declared.word.Word.{Word}
 use Rattle.p10_base.specs.declared.word.Kind.{Kind}
 use Rattle.p10_base.specs.declared.word.Kind.TheVariants.{Name, Number, Char, Str, Punct, Mark}
-use Rattle.p10_direct.specs.Spelling.{Text}
+use Rattle.p10_base.specs.Words.{Text}
 use Rattle.p10_direct.specs.Directives.{PlainMacro}
 
 -- a macro that is defined, and whether a built-in header defined it

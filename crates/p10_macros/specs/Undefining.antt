@@ -1,6 +1,6 @@
 -- What it is to undefine a macro: its name is taken away, and nothing else.
-use Rattle.std.specs.Prelude.{◌≡◌, ℕ, ◌+◌, [], ◌∷◌, Bool, Option, Some, None, bytes_eq, if◌then◌else◌}
-use Rattle.p10_direct.specs.Spelling.{Text}
+use Rattle.std.specs.Prelude.{ℕ, ◌≡◌, ◌+◌, [], ◌∷◌, Bool, Option, Some, None, bytes_eq, if◌then◌else◌}
+use Rattle.p10_base.specs.Words.{Text}
 use Rattle.p10_direct.specs.Directives.{PlainMacro}
 use Rattle.p10_macros.specs.Table.{Entry, Table, macro_named, with_macro, without_macro, own_of}
 

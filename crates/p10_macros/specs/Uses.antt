@@ -2,9 +2,11 @@
 use Rattle.std.specs.Prelude.{ℕ, zero, ◌+◌, ◌-◌, ◌==◌, List, [], ◌∷◌, length, map, Bool, false, ◌&&◌, ◌||◌, Option, Some, None, bytes_eq, codes, if◌then◌else◌}
 use Rattle.std.specs.List.{flat_map}
 use Rattle.p10_base.specs.declared.word.Word.{Word}
-use Rattle.p10_direct.specs.Spelling.{Text, is_name, is_name_kind, is_punctuator}
+use Rattle.p10_base.specs.Words.{Text, is_name, is_name_kind, is_punctuator, plain_word}
 use Rattle.p10_direct.specs.Directives.{PlainMacro}
 use Rattle.p10_macros.specs.Table.{Table, macro_named}
+use Rattle.p10_base.specs.Codes.{directive_number}
+use Rattle.p10_base.specs.declared.codes.DirectiveCode.TheVariants.{RecursiveMacro, WrongArguments, CallWithoutEnd}
 
 -- a word, and whether it comes from the replacement of the macro with a name
 pub record Sourced : Type 0 where
@@ -16,8 +18,8 @@ abbrev pub written : Word → Sourced
 written word = record { word = word; from = λ name. false }
 
 -- the words, without what they come from
-abbrev pub plain_words : List Sourced → List Word
-plain_words words = map (λ (sourced : Sourced). sourced.word) words
+abbrev pub sourced_words : List Sourced → List Word
+sourced_words words = map (λ (sourced : Sourced). sourced.word) words
 
 -- ## Arguments
 
@@ -29,20 +31,15 @@ pub record Arguments : Type 0 where
 
 -- whether a word is the `(` of arguments
 abbrev pub opens : Word → Bool
-opens word = is_punctuator (codes "(") word
+opens word = is_punctuator (codes "(") (plain_word word)
 
 -- whether a word is the `)` of arguments
 abbrev pub closes : Word → Bool
-closes word = is_punctuator (codes ")") word
+closes word = is_punctuator (codes ")") (plain_word word)
 
 -- whether a word is the comma between arguments
 abbrev pub separates : Word → Bool
-separates word = is_punctuator (codes ",") word
-
--- whether the first of the words is a `(`
-abbrev pub next_opens : List Sourced → Bool
-next_opens [] = false
-next_opens (word ∷ words) = opens word.word
+separates word = is_punctuator (codes ",") (plain_word word)
 
 -- how many parentheses are open behind a word
 abbrev pub depth_behind : ℕ → Word → ℕ
@@ -86,17 +83,17 @@ pub data Use : Type 0 where
 
 -- a use with these arguments, if there are as many as parameters, and the words behind it
 abbrev pub fitted : PlainMacro → List Sourced → Option (List (List Sourced)) → Use
-fitted plain rest None = Wrong 7
+fitted plain rest None = Wrong (directive_number WrongArguments)
 fitted plain rest (Some arguments) = Calls plain arguments rest
 
 -- a use with the arguments that were found, if they end
 abbrev pub called : PlainMacro → ℕ → Option Arguments → Use
-called plain parameters None = Wrong 8
+called plain parameters None = Wrong (directive_number CallWithoutEnd)
 called plain parameters (Some found) = fitted plain found.rest (fitting parameters (found.first ∷ found.others))
 
 -- a use whose name comes from the macro itself is refused (C99 6.10.3.4p2 would leave it)
 abbrev pub unless_recursive : PlainMacro → Sourced → Use → Use
-unless_recursive plain name use' = if name.from plain.name then Wrong 6 else use'
+unless_recursive plain name use' = if name.from plain.name then Wrong (directive_number RecursiveMacro) else use'
 
 -- the name of an object-like macro is a use; that of a function-like one is where `(` follows (C99 6.10.3p9, p10)
 abbrev pub use_as : PlainMacro → Option (List Text) → Sourced → List Sourced → Use
@@ -124,7 +121,7 @@ given plain name part =
 
 -- the value of the parameter with this name
 abbrev pub value_of : List Text → List (List Sourced) → Word → Option (List Sourced)
-value_of (parameter ∷ parameters) (value ∷ values) word = if is_name parameter word then Some value else value_of parameters values word
+value_of (parameter ∷ parameters) (value ∷ values) word = if is_name parameter (plain_word word) then Some value else value_of parameters values word
 value_of _ _ word = None
 
 -- the value of the parameter that a word names, or the word itself where it names none

@@ -5,10 +5,9 @@
 //! is passed again for each use around it.
 
 ghost use Rattle.std.specs.Prelude.{reverse};
-ghost use Rattle.p10_macros.specs.Links.{IsLinked};
+ghost use Rattle.p10_macros.specs.private.Links.{IsLinked};
 
 use crate::pending::{Exits, Pending, Traced};
-use p10_direct::punctuates;
 use std::alloc::{AllocError, Global};
 
 /// The ends in front of words of which none ends an argument.
@@ -27,9 +26,9 @@ pub struct Ahead<'s> {
 
 impl<'s> Ahead<'s> {
     ghost use Rattle.std.specs.Prelude.{◌≡◌, ◌+◌, ◌-◌, ◌<◌, ◌++◌, ◌∷◌, [], length, reverse, take, IfNone, IfSome, IfOk, OnOk};
-    ghost use Rattle.p10_macros.specs.Links.{HasExits, commas, exits_past};
-    ghost use Rattle.p10_macros.specs.Looking.{opens_on_top};
-    ghost use Rattle.p10_macros.specs.Putting.{IsPushed};
+    ghost use Rattle.p10_macros.specs.private.Links.{HasExits, commas, exits_past};
+    ghost use Rattle.p10_macros.specs.private.Looking.{opens_on_top};
+    ghost use Rattle.p10_macros.specs.private.Putting.{IsPushed};
 
     /// No words, and room for so many.
     pub fn with_room(alloc: Global, count: usize) -> Result<Ahead<'s>, AllocError>
@@ -52,7 +51,7 @@ impl<'s> Ahead<'s> {
         ensures { result ≡ opens_on_top (reverse self.now.words.items) }
     {
         match self.words.as_slice() {
-            [.., next] => punctuates(&next.traced.word, b"("),
+            [.., next] => next.traced.word.is_punctuator(b"("),
             [] => false,
         }
     }
@@ -106,17 +105,17 @@ impl<'s> Ahead<'s> {
     {
         match self.words.as_slice() {
             [] => NOWHERE,
-            [.., next] => if punctuates(&next.traced.word, b")") {
+            [.., next] => if next.traced.word.is_punctuator(b")") {
                 Exits {
                     argument: self.count(),
                     call: self.count(),
                 }
-            } else if punctuates(&next.traced.word, b",") {
+            } else if next.traced.word.is_punctuator(b",") {
                 Exits {
                     argument: self.count(),
                     call: next.exits.call,
                 }
-            } else if punctuates(&next.traced.word, b"(") {
+            } else if next.traced.word.is_punctuator(b"(") {
                 self.exits_behind(next.exits.call)
             } else {
                 next.exits

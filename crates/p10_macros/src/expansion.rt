@@ -1,7 +1,7 @@
 //! Replaces all uses of macros in a run of words.
 
 ghost use Rattle.std.specs.Prelude.{◌≡◌, map, reverse, IfOk, IfErr};
-ghost use Rattle.p10_macros.specs.Beginning.{unread, traced_of, IsBegun};
+ghost use Rattle.p10_macros.specs.private.Beginning.{unread, traced_of, IsBegun};
 ghost use Rattle.p10_macros.specs.Ends.{WordsEndInOneWay};
 ghost use Rattle.p10_macros.specs.Fronts.{FrontsGive};
 ghost use Rattle.p10_macros.specs.Left.{NoObjectIsLeft};

@@ -3,11 +3,11 @@
 //! It is done once a use, and not each time that a parameter is put, since sets of macros are united for it.
 
 ghost use Rattle.std.specs.Prelude.{◌≡◌, ◌≤◌, IfOk, OnOk};
-ghost use Rattle.p10_direct.specs.Spelling.{Text};
+ghost use Rattle.p10_base.specs.Words.{Text};
 ghost use Rattle.p10_macros.specs.Uses.{Sourced};
-ghost use Rattle.p10_macros.specs.Origins.{count_of, has_macro, Extends};
-ghost use Rattle.p10_macros.specs.Traces.{lists_of, IsTraced};
-ghost use Rattle.p10_macros.specs.Putting.{IsBase, IsJoined, IsGiven, AreGiven};
+ghost use Rattle.p10_macros.specs.private.Origins.{count_of, has_macro, Extends};
+ghost use Rattle.p10_macros.specs.private.Traces.{lists_of, IsTraced};
+ghost use Rattle.p10_macros.specs.private.Putting.{IsBase, IsJoined, IsGiven, AreGiven};
 
 use crate::origin::Origins;
 use crate::pending::Traced;

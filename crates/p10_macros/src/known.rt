@@ -2,7 +2,7 @@
 
 ghost use Rattle.std.specs.Prelude.{◌≡◌, length};
 ghost use Rattle.p10_direct.specs.Form.{plain_macro};
-ghost use Rattle.p10_macros.specs.Places.{places_of};
+ghost use Rattle.p10_macros.specs.private.Places.{places_of};
 ghost use Rattle.p10_macros.specs.Uses.{texts_of};
 
 use crate::pending::Traced;
@@ -28,9 +28,9 @@ impl<'w, 's> Known<'w, 's> {
     ghost use Rattle.std.specs.List.{All, flat_map};
     ghost use Rattle.p10_base.specs.declared.word.Word.{Word as BodyWord};
     ghost use Rattle.p10_macros.specs.declared.pending.Traced.{Traced as TracedWord};
-    ghost use Rattle.p10_macros.specs.Known.{plain_known};
-    ghost use Rattle.p10_macros.specs.Places.{place_named, places_of, places_that, at_place, gives, is_put, HaveWords, chosen_parts};
-    ghost use Rattle.p10_macros.specs.Traces.{lists_of};
+    ghost use Rattle.p10_macros.specs.private.KnownMacros.{plain_known};
+    ghost use Rattle.p10_macros.specs.private.Places.{place_named, places_of, places_that, at_place, gives, is_put, HaveWords, chosen_parts};
+    ghost use Rattle.p10_macros.specs.private.Traces.{lists_of};
     ghost use Rattle.p10_macros.specs.Uses.{texts_of};
 
     /// The place of the parameter that a word of the replacement list names, where the word stands at `place`.

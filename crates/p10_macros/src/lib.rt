@@ -26,6 +26,3 @@ mod values;
 pub use expansion::{front_gives, no_object_left, one_ending, replace};
 pub use replaced::{ReplaceFault, Replaced};
 pub use table::{Effect, Macros, undefines_one};
-
-#[cfg(test)]
-mod tests;

@@ -4,30 +4,30 @@
 //! such numbers.
 
 ghost use Rattle.std.specs.Prelude.{length};
-ghost use Rattle.p10_macros.specs.Sets.{AreBelow};
+ghost use Rattle.p10_macros.specs.private.Sets.{AreBelow};
 
 use crate::sets::{Part, contains, unite, with_number};
-use p10_direct::Names;
+use p10_base::NameList;
 use std::alloc::{AllocError, Global};
 
 /// The macros that words come from, and the sets of them. A set is a number among these, and 0 is the empty set.
 #[derive(Drop)]
 pub struct Origins<'s> {
-    names: Names<'s>,
+    names: NameList<'s>,
     sets: Vec<Part>,
     ghost below: { AreBelow (length names) sets.items },
 }
 
 impl<'s> Origins<'s> {
     ghost use Rattle.std.specs.Prelude.{◌≡◌, ◌≤◌, [], IfOk};
-    ghost use Rattle.p10_macros.specs.Origins.{count_of, has_macro, Extends, HasBoth, HasOne};
+    ghost use Rattle.p10_macros.specs.private.Origins.{count_of, has_macro, Extends, HasBoth, HasOne};
 
     /// No macros and no sets but the empty one.
     pub fn new(alloc: Global) -> Origins<'s>
         ensures { result.sets.items ≡ [] }
     {
         Origins {
-            names: Names::new(alloc),
+            names: NameList::new(alloc),
             sets: Vec::new(alloc),
         }
     }

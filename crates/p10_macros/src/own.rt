@@ -1,7 +1,7 @@
 //! How many macros no built-in header defined.
 
 ghost use Rattle.std.specs.Prelude.{◌≡◌};
-ghost use Rattle.p10_macros.specs.Known as specified;
+ghost use Rattle.p10_macros.specs.private.KnownMacros as specified;
 
 use crate::known::Known;
 

@@ -4,9 +4,9 @@
 
 ghost use Rattle.std.specs.Prelude.{◌≡◌, map, IfOk};
 ghost use Rattle.p10_direct.specs.Form.{plain_macro};
-ghost use Rattle.p10_direct.specs.Names.{place_in};
-ghost use Rattle.p10_direct.specs.Spelling.{Text};
-ghost use Rattle.p10_macros.specs.Places.{places_of, at_text, at_word};
+ghost use Rattle.p10_base.specs.Names.{place_in};
+ghost use Rattle.p10_base.specs.Words.{Text};
+ghost use Rattle.p10_macros.specs.private.Places.{places_of, at_text, at_word};
 
 use p10_base::{Kind, Word};
 use p10_direct::Macro;

@@ -15,7 +15,7 @@ pub struct Traced<'s> {
 
 impl<'s> Traced<'s> {
     ghost use Rattle.std.specs.Prelude.{◌≡◌};
-    ghost use Rattle.p10_macros.specs.Putting.{fresh};
+    ghost use Rattle.p10_macros.specs.private.Putting.{fresh};
 
     /// The word at the place of a use, where it comes from the set of macros with the number `from`.
     pub fn at_use(word: Word<'s>, at: Span, from: usize) -> Traced<'s>

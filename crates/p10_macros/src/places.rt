@@ -5,7 +5,7 @@
 
 ghost use Rattle.std.specs.Prelude.{◌≡◌, length, is_none};
 ghost use Rattle.std.specs.List.{All};
-ghost use Rattle.p10_macros.specs.Places.{places_that, IsBelow, AreByParameter};
+ghost use Rattle.p10_macros.specs.private.Places.{places_that, IsBelow, AreByParameter};
 
 use crate::parameters::places_in;
 use crate::pending::Traced;
@@ -31,8 +31,8 @@ impl Places {
     ghost use Rattle.std.specs.Prelude.{◌≡◌, [], ◌∷◌, ◌++◌, length, is_none, if◌then◌else◌, IfOk, OnOk};
     ghost use Rattle.std.specs.List.{All};
     ghost use Rattle.p10_direct.specs.Form.{plain_macro};
-    ghost use Rattle.p10_macros.specs.Places.{places_of, places_that, is_put, IsBelow, IsPutInRow};
-    ghost use Rattle.p10_macros.specs.Traces.{lists_of};
+    ghost use Rattle.p10_macros.specs.private.Places.{places_of, places_that, is_put, IsBelow, IsPutInRow};
+    ghost use Rattle.p10_macros.specs.private.Traces.{lists_of};
     ghost use Rattle.p10_macros.specs.Uses.{texts_of};
 
     /// Where the words of a macro's replacement list name its parameters.

@@ -2,12 +2,12 @@
 
 ghost use Rattle.std.specs.Prelude.{◌≡◌, ◌+◌, ◌<◌, ◌≤◌, List, All, [], ◌∷◌, length, option_copied, IfOk, IfErr, IfSome};
 ghost use Rattle.std.specs.List.{flat_map};
-ghost use Rattle.p10_macros.specs.Known.{plain_known};
-ghost use Rattle.p10_macros.specs.Places.{chosen_count, chosen_parts, chosen_place};
+ghost use Rattle.p10_macros.specs.private.KnownMacros.{plain_known};
+ghost use Rattle.p10_macros.specs.private.Places.{chosen_count, chosen_parts, chosen_place};
 ghost use Rattle.p10_macros.specs.Uses.{Sourced, replacement};
-ghost use Rattle.p10_macros.specs.Origins.{Extends};
-ghost use Rattle.p10_macros.specs.Traces.{lists_of, IsTraced, AreValues};
-ghost use Rattle.p10_macros.specs.Putting.{IsPushed, Short, PutsTraced, PutsReplacement, part_of, value_or_word};
+ghost use Rattle.p10_macros.specs.private.Origins.{Extends};
+ghost use Rattle.p10_macros.specs.private.Traces.{lists_of, IsTraced, AreValues};
+ghost use Rattle.p10_macros.specs.private.Putting.{IsPushed, Short, PutsTraced, PutsReplacement, part_of, value_or_word};
 
 use crate::ahead::Ahead;
 use crate::giving::give_all;

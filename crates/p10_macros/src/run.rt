@@ -1,15 +1,16 @@
 //! The steps of a replacement.
 
 ghost use Rattle.std.specs.Prelude.{◌≡◌, ◌≤◌, [], ◌∷◌, reverse, option_map, option_copied, OnOk, IfErr, None, Some, is_none, ◌||◌, ◌++◌};
+ghost use Rattle.p10_base.specs.Codes.{directive_number};
 ghost use Rattle.p10_direct.specs.Form.{plain_macro};
 ghost use Rattle.p10_macros.specs.Table.{Table};
-ghost use Rattle.p10_macros.specs.Known.{plain_known};
+ghost use Rattle.p10_macros.specs.private.KnownMacros.{plain_known};
 ghost use Rattle.p10_macros.specs.Answers.{table_of};
-ghost use Rattle.p10_macros.specs.Standing as roles;
-ghost use Rattle.p10_macros.specs.Standing.{given_with, done_with, State, Advances, AdvancesBy, Fails, FailsBy, FaultComes, LeadsTo, AtUse, AtCall, IsReplacedIn, IsTooLong, IsOpenedIn, place_among, weight};
-ghost use Rattle.p10_macros.specs.Links.{HasExits};
-ghost use Rattle.p10_macros.specs.Traces.{lists_of};
-ghost use Rattle.p10_macros.specs.Looking.{macro_used, opens_on_top, refusal_at};
+ghost use Rattle.p10_macros.specs.private.Standing as roles;
+ghost use Rattle.p10_macros.specs.private.Standing.{given_with, done_with, State, Advances, AdvancesBy, Fails, FailsBy, FaultComes, LeadsTo, AtUse, AtCall, IsReplacedIn, IsTooLong, IsOpenedIn, place_among, weight};
+ghost use Rattle.p10_macros.specs.private.Links.{HasExits};
+ghost use Rattle.p10_macros.specs.private.Traces.{lists_of};
+ghost use Rattle.p10_macros.specs.private.Looking.{macro_used, opens_on_top, refusal_at};
 ghost use Rattle.p10_macros.specs.declared.replaced.ReplaceFault.TheVariants as faults;
 ghost use Rattle.p10_macros.specs.declared.pending.Pending.{Pending as Next};
 
@@ -19,8 +20,8 @@ use crate::pending::{Exits, Open, Pending, Run, Traced};
 use crate::replaced::ReplaceFault;
 use crate::replacement::put_replacement;
 use crate::table::Macros;
-use p10_base::{Family, Kind, Refusal, Span};
-use p10_direct::{Macro, punctuates};
+use p10_base::{DirectiveCode, Kind, Refusal, Span};
+use p10_direct::Macro;
 use std::alloc::AllocError;
 use std::mem;
 
@@ -37,7 +38,7 @@ pub fn step<'m, 'w, 's>(
     // The place of the next word, which was taken, is one more than the words that are left.
     if run.pending.count() >= run.stop {
         look(run, macros, next)
-    } else if punctuates(&next.traced.word, b")") {
+    } else if next.traced.word.is_punctuator(b")") {
         end_call(run)
     } else {
         end_argument(run, next.exits.argument)
@@ -117,7 +118,7 @@ fn begin_use<'m, 'w, 's>(
     ensures lighter { OnOk result (weight run.new ≤ weight run.old) }
 {
     if run.origins.has(name.from, known.made.name) {
-        return Err(refused(run, &name, 6));
+        return Err(refused(run, &name, DirectiveCode::RecursiveMacro));
     }
     match &known.made.params {
         None => replace_use(run, known, name, Vec::new(run.alloc)),
@@ -144,7 +145,7 @@ fn begin_call<'m, 'w, 's>(
     ensures lighter { OnOk result (weight run.new ≤ weight run.old) }
 {
     if exits.call <= run.stop {
-        return Err(refused(run, &name, 8));
+        return Err(refused(run, &name, DirectiveCode::CallWithoutEnd));
     }
     if params == 0 && exits.call == run.pending.count() {
         let _ = run.pending.skip();
@@ -153,7 +154,7 @@ fn begin_call<'m, 'w, 's>(
     if params == run.pending.arguments(exits) {
         open_use(run, known, name, exits.argument)
     } else {
-        Err(refused(run, &name, 7))
+        Err(refused(run, &name, DirectiveCode::WrongArguments))
     }
 }
 
@@ -274,14 +275,10 @@ fn replace_use<'m, 'w, 's>(
 }
 
 /// A refusal of the use with this name.
-fn refused(run: &Run<'_, '_, '_>, name: &Traced<'_>, number: u8) -> ReplaceFault
-    ensures { result ≡ refusal_at number (place_among (reverse run.now.open.items) name.now) }
+fn refused(run: &Run<'_, '_, '_>, name: &Traced<'_>, code: DirectiveCode) -> ReplaceFault
+    ensures { result ≡ refusal_at (directive_number code) (place_among (reverse run.now.open.items) name.now) }
 {
-    ReplaceFault::Refused(Refusal {
-        family: Family::D,
-        number,
-        span: place_of(run.open.as_slice(), name),
-    })
+    ReplaceFault::Refused(Refusal::directive(code, place_of(run.open.as_slice(), name)))
 }
 
 /// The name in the use of the outermost macro, where a use with this name stands in these.

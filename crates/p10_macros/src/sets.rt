@@ -6,7 +6,7 @@
 
 ghost use Rattle.std.specs.Prelude.{◌≡◌, ◌==◌, ◌%◌, ◌^◌, ◌<◌, ◌≤◌, ℕ, false, length, IfOk, IfSome, IfNone};
 ghost use Rattle.std.specs.Int.{bit_at};
-ghost use Rattle.p10_macros.specs.Sets.{has, Grows, IsPart, HasOneMore, HasAll, AreBelow, BitsAreBelow};
+ghost use Rattle.p10_macros.specs.private.Sets.{has, Grows, IsPart, HasOneMore, HasAll, AreBelow, BitsAreBelow};
 
 use std::alloc::AllocError;
 

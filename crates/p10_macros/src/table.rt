@@ -35,7 +35,7 @@ pub struct Macros<'w, 's> {
 impl<'w, 's> Macros<'w, 's> {
     ghost use Rattle.std.specs.Prelude.{◌≡◌, [], option_map, option_copied, IfOk, OnOk, OnErr};
     ghost use Rattle.p10_direct.specs.Form.{plain_macro};
-    ghost use Rattle.p10_macros.specs.Known.{plain_known};
+    ghost use Rattle.p10_macros.specs.private.KnownMacros.{plain_known};
     ghost use Rattle.p10_macros.specs.Table.{macro_named, with_macro, without_macro, own_of};
     ghost use Rattle.p10_macros.specs.Answers.{table_of, Defines};
 

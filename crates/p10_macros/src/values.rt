@@ -1,8 +1,8 @@
 //! The values of the parameters of a use.
 
 ghost use Rattle.std.specs.Prelude.{◌≡◌, ◌↔◌, ◌<◌, All, Some, length, option_copied, IsTrue};
-ghost use Rattle.p10_macros.specs.Places.{at_place, is_put};
-ghost use Rattle.p10_macros.specs.Traces.{lists_of};
+ghost use Rattle.p10_macros.specs.private.Places.{at_place, is_put};
+ghost use Rattle.p10_macros.specs.private.Traces.{lists_of};
 
 use crate::pending::Traced;
 

@@ -4,14 +4,14 @@ use Rattle.std.specs.Prelude.{◌↔◌}
 use Rattle.std.specs.List.{Contains}
 use Rattle.std.proofs.lemmas.List.{take_more}
 use Rattle.std.proofs.lemmas.List.Elements.{Contains-append_left, Contains-push, Contains-push_cases}
-use Rattle.p10_direct.specs.Spelling.{Text}
+use Rattle.p10_base.specs.Words.{Text}
 use Rattle.p10_direct.specs.Directives.{Definition}
 use Rattle.p10_direct.specs.declared.form.Definition.{Definition as Borrowed}
 use Rattle.p10_direct.specs.Form.{plain_definition}
-use Rattle.p10_direct.specs.Names.{place_in}
+use Rattle.p10_base.specs.Names.{place_in}
 use Rattle.p10_graph.specs.Graphs.{Edge}
-use Rattle.p10_pprules.specs.Listing.{used_places}
-use Rattle.p10_pprules.specs.Graphs.{LeadsOn, AddsEdges, AddsUses, IsGraphOf}
+use Rattle.p10_pprules.specs.private.Listing.{used_places}
+use Rattle.p10_pprules.specs.private.Graphs.{LeadsOn, AddsEdges, AddsUses, IsGraphOf}
 use Rattle.p10_pprules.proofs.Members.{mapped_more}
 
 pub same_some : {A : Type 0} (x y : A) → Some x ≡ Some y → x ≡ y

@@ -7,17 +7,17 @@ use Rattle.std.proofs.lemmas.List.Elements.{Contains-append_left, Contains-appen
 use Rattle.p10_base.specs.declared.span.Span.{Span}
 use Rattle.p10_base.specs.declared.report.Sub.{Sub}
 use Rattle.p10_base.specs.declared.report.Violation.{Violation}
-use Rattle.p10_direct.specs.Spelling.{Text}
+use Rattle.p10_base.specs.Words.{Text}
 use Rattle.p10_direct.specs.Directives.{Definition}
 use Rattle.p10_direct.specs.declared.form.Definition.{Definition as Borrowed}
 use Rattle.p10_direct.specs.Form.{plain_definition}
 use Rattle.p10_expand.specs.declared.expanded.Obeyed.{Obeyed}
 use Rattle.p10_pprules.specs.Lines.{name_of, operands_of, begins_conditional, is_barred, pastes}
-use Rattle.p10_pprules.specs.Scanning.{is_unit, dereferences_behind}
-use Rattle.p10_pprules.specs.Listing.{violation_if, line_violations, returns_to, definition_violations}
+use Rattle.p10_pprules.specs.private.Scanning.{is_unit, dereferences_behind}
+use Rattle.p10_pprules.specs.private.Listing.{violation_if, line_violations, returns_to, definition_violations}
 use Rattle.p10_pprules.specs.Violations.{row, Violates, conditional_compilation, pasting, recursive_macro, incomplete_unit, barred_directive, hidden_dereference}
-use Rattle.p10_pprules.specs.Gathering.{AreDefined}
-use Rattle.p10_pprules.specs.Graphs.{HasNames, AreNumbersOf}
+use Rattle.p10_pprules.specs.private.Gathering.{AreDefined}
+use Rattle.p10_pprules.specs.private.Graphs.{HasNames, AreNumbersOf}
 use Rattle.p10_pprules.proofs.Booleans.{both, not_is, is_not, not_both_ways}
 use Rattle.p10_pprules.proofs.Members.{none_in, here, first_or_later, lone}
 use Rattle.p10_pprules.proofs.Forms.{unit_is, is_unit_one}

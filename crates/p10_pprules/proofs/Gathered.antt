@@ -11,14 +11,14 @@ use Rattle.p10_direct.specs.declared.keyword.Keyword.{Keyword}
 use Rattle.p10_direct.specs.declared.keyword.Keyword.TheVariants.{Include, Define, Undef, If, Ifdef, Ifndef, Elif, Else, Endif, Pragma}
 use Rattle.p10_direct.specs.declared.form.Definition.{Definition as Borrowed}
 use Rattle.p10_direct.specs.Form.{plain_definition}
-use Rattle.p10_direct.specs.Spelling.{Text}
+use Rattle.p10_base.specs.Words.{Text}
 use Rattle.p10_direct.specs.Directives.{Definition, Defines, IsDefinition, texts_of}
-use Rattle.p10_direct.specs.Names.{with_name}
-use Rattle.p10_direct.proofs.Naming.{has_after}
+use Rattle.p10_base.specs.Names.{with_name}
+use Rattle.p10_base.proofs.Naming.{has_after}
 use Rattle.p10_expand.specs.declared.expanded.Obeyed.{Obeyed}
 use Rattle.p10_pprules.specs.Lines.{name_of, operands_of}
-use Rattle.p10_pprules.specs.Gathering.{AreDefined, GathersWords, Gathers, is_define}
-use Rattle.p10_pprules.specs.Graphs.{HasNames}
+use Rattle.p10_pprules.specs.private.Gathering.{AreDefined, GathersWords, Gathers, is_define}
+use Rattle.p10_pprules.specs.private.Graphs.{HasNames}
 use Rattle.p10_pprules.proofs.Booleans.{or_false}
 use Rattle.p10_pprules.proofs.Members.{mapped_more}
 

@@ -5,17 +5,17 @@ use Rattle.std.specs.List.{Contains, list_any}
 use Rattle.std.proofs.lemmas.Bool.{and_parts, eqb-true, eq-eqb}
 use Rattle.std.proofs.lemmas.Slice.Eq.{bytes_eq-Decides}
 use Rattle.p10_base.specs.declared.word.Word.{Word}
-use Rattle.p10_direct.specs.Spelling.{Text, is_name_kind}
+use Rattle.p10_base.specs.Words.{Text, is_name_kind}
 use Rattle.p10_direct.specs.Directives.{Definition, texts_of}
-use Rattle.p10_direct.specs.Names.{place_in}
-use Rattle.p10_direct.proofs.Naming.{has_place, same_text, place_before, same_place}
+use Rattle.p10_base.specs.Names.{place_in}
+use Rattle.p10_base.proofs.Naming.{has_place, same_text, place_before, same_place}
 use Rattle.p10_expand.specs.declared.expanded.Obeyed.{Obeyed}
 use Rattle.p10_graph.specs.Graphs.{Edge, Walk, Reaches}
 use Rattle.p10_graph.specs.Components.{AreComponents}
 use Rattle.p10_pprules.specs.Recursion.{parameters_of, Uses, Leads, here as at_once, further, IsRecursive}
-use Rattle.p10_pprules.specs.Listing.{used_by, used_places, has_number, returns_from, returns_to}
-use Rattle.p10_pprules.specs.Gathering.{AreDefined}
-use Rattle.p10_pprules.specs.Graphs.{HasNames, IsGraphOf}
+use Rattle.p10_pprules.specs.private.Listing.{used_by, used_places, has_number, returns_from, returns_to}
+use Rattle.p10_pprules.specs.private.Gathering.{AreDefined}
+use Rattle.p10_pprules.specs.private.Graphs.{HasNames, IsGraphOf}
 use Rattle.p10_pprules.proofs.Booleans.{both, not_is, is_not, not_both_ways}
 use Rattle.p10_pprules.proofs.Members.{any_is, is_any, text_any, any_text, kept, came_from}
 use Rattle.p10_pprules.proofs.Edging.{same_some}

@@ -4,7 +4,7 @@ use Rattle.std.specs.List.{Contains, list_any, filter_map, cons_option}
 use Rattle.std.proofs.lemmas.List.{map-append, take_more}
 use Rattle.std.proofs.lemmas.List.Elements.{Contains-append_left, Contains-append_right, Contains-push, Contains-push_cases, Contains-append_cases}
 use Rattle.std.proofs.lemmas.Slice.Eq.{bytes_eq-Decides}
-use Rattle.p10_direct.specs.Spelling.{Text}
+use Rattle.p10_base.specs.Words.{Text}
 use Rattle.p10_pprules.proofs.Booleans.{or_true}
 
 pub none_in : {A : Type 0} (x : A) → Contains [] x → ⊥

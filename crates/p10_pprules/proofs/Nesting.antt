@@ -2,7 +2,7 @@
 use Rattle.std.proofs.Common.{◌≡◌, List, [], ◌∷◌, ◌++◌, Bool, true, false, cond, bytes_eq, codes, Option, Some, None, option_and_then, refl, sym, ◌∙◌, ap, subst, append_assoc}
 use Rattle.std.proofs.lemmas.List.{append-nil}
 use Rattle.p10_base.specs.declared.word.Word.{Word}
-use Rattle.p10_direct.specs.Spelling.{Text, is_punctuator}
+use Rattle.p10_base.specs.Words.{Text, is_punctuator, plain_word}
 use Rattle.p10_direct.proofs.Definitions.{other_punctuator}
 use Rattle.p10_pprules.proofs.Booleans.{or_left, or_right, neither, not_both_ways}
 use Rattle.p10_pprules.specs.declared.bracket.Bracket.{Bracket}
@@ -10,7 +10,7 @@ use Rattle.p10_pprules.specs.declared.bracket.Bracket.TheVariants.{Round, Square
 use Rattle.p10_pprules.specs.declared.bracket.Side.{Side}
 use Rattle.p10_pprules.specs.declared.bracket.Side.TheVariants.{Opening, Closing, Neither}
 use Rattle.p10_pprules.specs.Groups.{opens, closes, is_bracket, IsBalanced, empty, single, pair, IsGroup}
-use Rattle.p10_pprules.specs.Scanning.{side_of, is_same, open_behind, behind_open, behind_group, is_end, is_one_group}
+use Rattle.p10_pprules.specs.private.Scanning.{side_of, is_same, open_behind, behind_open, behind_group, is_end, is_one_group}
 
 -- ## What words are to groups
 
@@ -35,8 +35,8 @@ side_is word =
     neither _ _ (neither _ _ (neither _ _ (neither _ _ (neither _ _ a b) c) d) f) g))))))
 
 -- a word has one side
-one_text : (text other : Text) (word : Word) → bytes_eq text other ≡ false → is_punctuator text word ≡ true → is_punctuator other word ≡ true → ⊥
-one_text text other word differ first second = not_both_ways (is_punctuator other word) second (other_punctuator text other word differ first)
+one_text : (text other : Text) (word : Word) → bytes_eq text other ≡ false → is_punctuator text (plain_word word) ≡ true → is_punctuator other (plain_word word) ≡ true → ⊥
+one_text text other word differ first second = not_both_ways (is_punctuator other (plain_word word)) second (other_punctuator text other word differ first)
 
 opening_is : (bracket : Bracket) (word : Word) (side : Side) → opens bracket word ≡ true → SideIs word side → side ≡ Opening bracket
 opening_is Round word (Opening Round) e is = refl

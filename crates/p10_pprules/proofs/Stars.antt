@@ -4,7 +4,7 @@ use Rattle.std.specs.List.{Contains}
 use Rattle.std.proofs.lemmas.Bool.{and_parts}
 use Rattle.p10_base.specs.declared.word.Word.{Word}
 use Rattle.p10_pprules.specs.Dereferences.{ends_operand, is_star, is_arrow, Dereferences, arrow, first_star, later_star}
-use Rattle.p10_pprules.specs.Scanning.{dereferences_behind}
+use Rattle.p10_pprules.specs.private.Scanning.{dereferences_behind}
 use Rattle.p10_pprules.proofs.Members.{none_in, here, there, first_or_later}
 use Rattle.p10_pprules.proofs.Booleans.{or_left, or_right, either, not_is}
 

@@ -5,10 +5,10 @@ use Rattle.std.specs.List.{All, list_any, filter_map, cons_option}
 use Rattle.std.proofs.lemmas.List.{take_more}
 use Rattle.std.proofs.lemmas.List.Elements.{All-nil, All-cons, filter_map-append}
 use Rattle.p10_base.specs.declared.word.Word.{Word}
-use Rattle.p10_direct.specs.Spelling.{Text, is_name_kind}
-use Rattle.p10_direct.specs.Names.{place_in}
-use Rattle.p10_direct.proofs.Naming.{place_before}
-use Rattle.p10_pprules.specs.Listing.{used_by}
+use Rattle.p10_base.specs.Words.{Text, is_name_kind}
+use Rattle.p10_base.specs.Names.{place_in}
+use Rattle.p10_base.proofs.Naming.{place_before}
+use Rattle.p10_pprules.specs.private.Listing.{used_by}
 
 -- parameters count by their texts alone
 pub used_same : (names these those : List Text) → ((text : Text) → list_any (bytes_eq text) these ≡ list_any (bytes_eq text) those) → (words : List Word) → filter_map (used_by names these) words ≡ filter_map (used_by names those) words

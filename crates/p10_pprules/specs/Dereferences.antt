@@ -2,20 +2,20 @@
 use Rattle.std.specs.Prelude.{◌≡◌, List, ◌∷◌, ◌++◌, Bool, true, false, ◌||◌, codes}
 use Rattle.std.specs.List.{Contains}
 use Rattle.p10_base.specs.declared.word.Word.{Word}
-use Rattle.p10_direct.specs.Spelling.{is_name_kind, is_punctuator}
+use Rattle.p10_base.specs.Words.{is_name_kind, is_punctuator, plain_word}
 use Rattle.p10_pprules.specs.Units.{is_number_kind}
 
 -- whether a `*` behind the word may multiply: a name, a number, `)` or `]`
 abbrev pub ends_operand : Word → Bool
-ends_operand word = is_name_kind word.kind || is_number_kind word.kind || is_punctuator (codes ")") word || is_punctuator (codes "]") word
+ends_operand word = is_name_kind word.kind || is_number_kind word.kind || is_punctuator (codes ")") (plain_word word) || is_punctuator (codes "]") (plain_word word)
 
 -- whether a word is `*`, which may multiply or dereference (C99 6.5.5, 6.5.3.2)
 abbrev pub is_star : Word → Bool
-is_star word = is_punctuator (codes "*") word
+is_star word = is_punctuator (codes "*") (plain_word word)
 
 -- whether a word is `->`, which dereferences what stands before it (C99 6.5.2.3)
 abbrev pub is_arrow : Word → Bool
-is_arrow word = is_punctuator (codes "->") word
+is_arrow word = is_punctuator (codes "->") (plain_word word)
 
 -- The list has `->`, or a `*` that begins it or stands behind a word that ends no operand.
 pub data Dereferences (words : List Word) : Type 0 where

@@ -1,7 +1,7 @@
 -- Words in brackets that nest properly.
 use Rattle.std.specs.Prelude.{◌≡◌, List, [], ◌∷◌, ◌++◌, Bool, true, false, ◌||◌, codes}
 use Rattle.p10_base.specs.declared.word.Word.{Word}
-use Rattle.p10_direct.specs.Spelling.{Text, is_punctuator}
+use Rattle.p10_base.specs.Words.{Text, is_punctuator, plain_word}
 use Rattle.p10_pprules.specs.declared.bracket.Bracket.{Bracket}
 use Rattle.p10_pprules.specs.declared.bracket.Bracket.TheVariants.{Round, Square, Curly}
 
@@ -19,11 +19,11 @@ closing_text Curly = codes "}"
 
 -- whether a word begins a group in these brackets
 abbrev pub opens : Bracket → Word → Bool
-opens bracket word = is_punctuator (opening_text bracket) word
+opens bracket word = is_punctuator (opening_text bracket) (plain_word word)
 
 -- whether a word ends a group in these brackets
 abbrev pub closes : Bracket → Word → Bool
-closes bracket word = is_punctuator (closing_text bracket) word
+closes bracket word = is_punctuator (closing_text bracket) (plain_word word)
 
 -- whether a word is a bracket of any kind
 abbrev pub is_bracket : Word → Bool

@@ -4,7 +4,7 @@ use Rattle.std.specs.List.{Contains, list_any}
 use Rattle.p10_base.specs.declared.word.Word.{Word}
 use Rattle.p10_direct.specs.declared.keyword.Keyword.{Keyword}
 use Rattle.p10_direct.specs.declared.keyword.Keyword.TheVariants.{If, Ifdef, Ifndef, Define, Undef, Pragma}
-use Rattle.p10_direct.specs.Spelling.{Text, is_name}
+use Rattle.p10_base.specs.Words.{Text, is_name, plain_word}
 use Rattle.p10_direct.specs.Keywords.{keyword_of}
 use Rattle.p10_direct.specs.Directives.{Definition, Defines, is_refused, has_ellipsis}
 use Rattle.p10_expand.specs.declared.expanded.Obeyed.{Obeyed}
@@ -36,7 +36,7 @@ begins_conditional _ = false
 -- whether the words are names with these spellings
 abbrev pub are_names : List Text → List Word → Bool
 are_names [] [] = true
-are_names (text ∷ texts) (word ∷ words) = is_name text word && are_names texts words
+are_names (text ∷ texts) (word ∷ words) = is_name text (plain_word word) && are_names texts words
 are_names _ _ = false
 
 -- the pragmas that are allowed: `once`, `p10 init_done` and `p10 task_loop`

@@ -2,7 +2,7 @@
 use Rattle.std.specs.Prelude.{◌≡◌, List, [], unwrap_or}
 use Rattle.std.specs.List.{Contains}
 use Rattle.p10_base.specs.declared.word.Word.{Word}
-use Rattle.p10_direct.specs.Spelling.{Text}
+use Rattle.p10_base.specs.Words.{Text}
 use Rattle.p10_direct.specs.Directives.{Definition, IsNamed, texts_of}
 use Rattle.p10_expand.specs.declared.expanded.Obeyed.{Obeyed}
 use Rattle.p10_pprules.specs.Lines.{IsDefined}

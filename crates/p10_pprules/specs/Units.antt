@@ -3,7 +3,7 @@ use Rattle.std.specs.Prelude.{◌≡◌, List, [], ◌∷◌, ◌++◌, Bool, tr
 use Rattle.p10_base.specs.declared.word.Kind.{Kind}
 use Rattle.p10_base.specs.declared.word.Kind.TheVariants.{Number}
 use Rattle.p10_base.specs.declared.word.Word.{Word}
-use Rattle.p10_direct.specs.Spelling.{Text, is_name, is_name_kind, is_punctuator}
+use Rattle.p10_base.specs.Words.{Text, is_name, is_name_kind, is_punctuator, plain_word}
 use Rattle.p10_pprules.specs.declared.bracket.Bracket.TheVariants.{Round, Curly}
 use Rattle.p10_pprules.specs.Groups.{IsGroup}
 
@@ -19,7 +19,7 @@ is_number text word = is_number_kind word.kind && bytes_eq word.text.now text
 -- `while`, `(`, `0`, `)`
 abbrev pub is_while_zero : List Word → Bool
 is_while_zero (keyword ∷ opening ∷ zero ∷ closing ∷ []) =
-    is_name (codes "while") keyword && is_punctuator (codes "(") opening && is_number (codes "0") zero && is_punctuator (codes ")") closing
+    is_name (codes "while") (plain_word keyword) && is_punctuator (codes "(") (plain_word opening) && is_number (codes "0") zero && is_punctuator (codes ")") (plain_word closing)
 is_while_zero _ = false
 
 -- The words are a complete unit: nothing, one word, `-` and a number, one group in `( )` or `{ }`, a name and one group
@@ -27,9 +27,9 @@ is_while_zero _ = false
 pub data IsUnit : List Word → Type 0 where
   nothing : IsUnit []
   one_word : (word : Word) → IsUnit (word ∷ [])
-  negative : (minus number : Word) → is_punctuator (codes "-") minus ≡ true → is_number_kind number.kind ≡ true → IsUnit (minus ∷ number ∷ [])
+  negative : (minus number : Word) → is_punctuator (codes "-") (plain_word minus) ≡ true → is_number_kind number.kind ≡ true → IsUnit (minus ∷ number ∷ [])
   parentheses : (words : List Word) → IsGroup Round words → IsUnit words
   braces : (words : List Word) → IsGroup Curly words → IsUnit words
   call : (name : Word) (words : List Word) → is_name_kind name.kind ≡ true → IsGroup Round words → IsUnit (name ∷ words)
-  do_while : (keyword : Word) (group end words : List Word) → is_name (codes "do") keyword ≡ true → IsGroup Curly group → is_while_zero end ≡ true
+  do_while : (keyword : Word) (group end words : List Word) → is_name (codes "do") (plain_word keyword) ≡ true → IsGroup Curly group → is_while_zero end ≡ true
       → words ≡ group ++ end → IsUnit (keyword ∷ words)

@@ -1,5 +1,5 @@
 -- The rows of Holzmann's rules 8 and 9 on directives ("The Power of Ten", 2006).
-use Rattle.std.specs.Prelude.{◌≡◌, ℕ, List, true, false}
+use Rattle.std.specs.Prelude.{ℕ, ◌≡◌, List, true, false}
 use Rattle.std.specs.List.{Contains}
 use Rattle.p10_base.specs.declared.span.Span.{Span}
 use Rattle.p10_base.specs.declared.report.Sub.{Sub}

@@ -2,10 +2,9 @@
 
 ghost use Rattle.std.specs.Prelude.{◌≡◌};
 ghost use Rattle.p10_pprules.specs.Groups.{opens};
-ghost use Rattle.p10_pprules.specs.Scanning.{side_of, is_same};
+ghost use Rattle.p10_pprules.specs.private.Scanning.{side_of, is_same};
 
 use p10_base::Word;
-use p10_direct::punctuates;
 
 /// A kind of brackets.
 #[derive(Clone, Copy)]
@@ -33,17 +32,17 @@ pub enum Side {
 pub fn side_of_word(word: &Word<'_>) -> Side
     ensures { result ≡ side_of word.now }
 {
-    if punctuates(word, b"(") {
+    if word.is_punctuator(b"(") {
         Side::Opening(Bracket::Round)
-    } else if punctuates(word, b"[") {
+    } else if word.is_punctuator(b"[") {
         Side::Opening(Bracket::Square)
-    } else if punctuates(word, b"{") {
+    } else if word.is_punctuator(b"{") {
         Side::Opening(Bracket::Curly)
-    } else if punctuates(word, b")") {
+    } else if word.is_punctuator(b")") {
         Side::Closing(Bracket::Round)
-    } else if punctuates(word, b"]") {
+    } else if word.is_punctuator(b"]") {
         Side::Closing(Bracket::Square)
-    } else if punctuates(word, b"}") {
+    } else if word.is_punctuator(b"}") {
         Side::Closing(Bracket::Curly)
     } else {
         Side::Neither
@@ -55,9 +54,9 @@ pub fn begins(bracket: Bracket, word: &Word<'_>) -> bool
     ensures { result ≡ opens bracket word.now }
 {
     match bracket {
-        Bracket::Round => punctuates(word, b"("),
-        Bracket::Square => punctuates(word, b"["),
-        Bracket::Curly => punctuates(word, b"{"),
+        Bracket::Round => word.is_punctuator(b"("),
+        Bracket::Square => word.is_punctuator(b"["),
+        Bracket::Curly => word.is_punctuator(b"{"),
     }
 }
 

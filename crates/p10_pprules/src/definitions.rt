@@ -2,7 +2,7 @@
 
 ghost use Rattle.std.specs.Prelude.{◌≡◌, map, IfOk, OnOk};
 ghost use Rattle.p10_direct.specs.Form.{plain_definition};
-ghost use Rattle.p10_pprules.specs.Gathering.{AreDefined, Gathers, GathersWords, is_define};
+ghost use Rattle.p10_pprules.specs.private.Gathering.{AreDefined, Gathers, GathersWords, is_define};
 ghost use Rattle.p10_pprules.specs.Lines.{name_of};
 
 use crate::line::{directive_name, operands};

@@ -2,10 +2,9 @@
 
 ghost use Rattle.std.specs.Prelude.{◌≡◌, false};
 ghost use Rattle.p10_pprules.specs.Dereferences.{ends_operand};
-ghost use Rattle.p10_pprules.specs.Scanning.{dereferences_behind};
+ghost use Rattle.p10_pprules.specs.private.Scanning.{dereferences_behind};
 
 use p10_base::{Kind, Word};
-use p10_direct::punctuates;
 
 /// Whether the words have `->`, or a `*` that stands behind no operand.
 pub fn dereferences(words: &[Word<'_>]) -> bool
@@ -13,7 +12,7 @@ pub fn dereferences(words: &[Word<'_>]) -> bool
 {
     let mut operand = false;
     for word in words {
-        if punctuates(word, b"->") || (punctuates(word, b"*") && !operand) {
+        if word.is_punctuator(b"->") || (word.is_punctuator(b"*") && !operand) {
             return true;
         }
         operand = may_be_multiplied(word);
@@ -26,6 +25,6 @@ fn may_be_multiplied(word: &Word<'_>) -> bool
     ensures { result ≡ ends_operand word.now }
 {
     matches!(word.kind, Kind::Name | Kind::Number)
-        || punctuates(word, b")")
-        || punctuates(word, b"]")
+        || word.is_punctuator(b")")
+        || word.is_punctuator(b"]")
 }

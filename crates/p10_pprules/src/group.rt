@@ -1,7 +1,7 @@
 //! Groups of words in brackets.
 
 ghost use Rattle.std.specs.Prelude.{◌≡◌, [], ◌∷◌, IfOk, reverse, option_copied};
-ghost use Rattle.p10_pprules.specs.Scanning.{behind_open, behind_group, is_one_group, Opens};
+ghost use Rattle.p10_pprules.specs.private.Scanning.{behind_open, behind_group, is_one_group, Opens};
 
 use crate::bracket::{Bracket, Side, begins, is_same_kind, side_of_word};
 use p10_base::Word;

@@ -3,11 +3,11 @@
 ghost use Rattle.std.specs.Prelude.{◌≡◌, ◌++◌, OnOk};
 ghost use Rattle.std.specs.List.{flat_map};
 ghost use Rattle.p10_pprules.specs.Lines.{begins_conditional, is_barred, is_allowed_pragma, name_of, operands_of};
-ghost use Rattle.p10_pprules.specs.Listing.{line_violations};
+ghost use Rattle.p10_pprules.specs.private.Listing.{line_violations};
 
 use crate::listing::push_if;
 use p10_base::{Sub, Violation, Word};
-use p10_direct::{Keyword, directive_named, names};
+use p10_direct::{Keyword, directive_named};
 use p10_expand::Obeyed;
 use std::alloc::AllocError;
 
@@ -84,9 +84,9 @@ fn is_allowed(operands: &[Word<'_>]) -> bool
     ensures { result ≡ is_allowed_pragma operands.now }
 {
     match operands {
-        [once] => names(once, b"once"),
+        [once] => once.is_name(b"once"),
         [own, mark] => {
-            names(own, b"p10") && (names(mark, b"init_done") || names(mark, b"task_loop"))
+            own.is_name(b"p10") && (mark.is_name(b"init_done") || mark.is_name(b"task_loop"))
         }
         _ => false,
     }

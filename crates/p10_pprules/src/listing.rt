@@ -1,7 +1,7 @@
 //! Violations, one after the other.
 
 ghost use Rattle.std.specs.Prelude.{◌≡◌, ◌++◌, OnOk};
-ghost use Rattle.p10_pprules.specs.Listing.{violation_if};
+ghost use Rattle.p10_pprules.specs.private.Listing.{violation_if};
 
 use p10_base::{Span, Sub, Violation};
 use std::alloc::AllocError;

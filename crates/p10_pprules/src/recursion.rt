@@ -5,13 +5,13 @@ ghost use Rattle.std.specs.Option.{option_to_list};
 ghost use Rattle.std.specs.List.{All, list_any, filter_map};
 ghost use Rattle.p10_direct.specs.Directives.{texts_of};
 ghost use Rattle.p10_direct.specs.Form.{plain_definition};
-ghost use Rattle.p10_direct.specs.Names.{place_in};
+ghost use Rattle.p10_base.specs.Names.{place_in};
 ghost use Rattle.p10_pprules.specs.Recursion.{parameters_of};
-ghost use Rattle.p10_pprules.specs.Listing.{used_by, used_places, has_number, returns_to};
-ghost use Rattle.p10_pprules.specs.Graphs.{HasNames, AreNumbersOf, AddsUses, AddsEdges};
+ghost use Rattle.p10_pprules.specs.private.Listing.{used_by, used_places, has_number, returns_to};
+ghost use Rattle.p10_pprules.specs.private.Graphs.{HasNames, AreNumbersOf, AddsUses, AddsEdges};
 
-use p10_base::{Kind, Word};
-use p10_direct::{Definition, Names};
+use p10_base::{Kind, NameList, Word};
+use p10_direct::Definition;
 use p10_graph::{Graph, components};
 use std::alloc::{AllocError, Global};
 
@@ -19,11 +19,11 @@ use std::alloc::{AllocError, Global};
 pub fn macros_of<'s>(
     alloc: Global,
     definitions: &[Definition<'_, 's>],
-) -> Result<Names<'s>, AllocError>
+) -> Result<NameList<'s>, AllocError>
     ensures names { IfOk result (HasNames (map plain_definition definitions.now)) }
     ensures few { IfOk result (λ names. length names < 2 ^ 32) }
 {
-    let mut names = Names::new(alloc);
+    let mut names = NameList::new(alloc);
     for definition in definitions {
         names.add(definition.name.text)?;
     }
@@ -38,7 +38,7 @@ pub fn macros_of<'s>(
 /// macro to each that one of its definitions uses.
 pub fn component_numbers(
     alloc: Global,
-    names: &Names<'_>,
+    names: &NameList<'_>,
     definitions: &[Definition<'_, '_>],
 ) -> Result<Vec<u32>, AllocError>
     requires { length names.now < 2 ^ 32 }
@@ -54,7 +54,7 @@ pub fn component_numbers(
 /// Adds the edges from the macro of a definition to the macros that the definition uses.
 fn add_uses(
     alloc: Global,
-    names: &Names<'_>,
+    names: &NameList<'_>,
     definition: &Definition<'_, '_>,
     graph: &mut Graph,
 ) -> Result<(), AllocError>
@@ -87,7 +87,7 @@ fn add_edges(from: u32, ends: &[u32], graph: &mut Graph) -> Result<(), AllocErro
 /// the components of all macros.
 pub fn is_recursive(
     alloc: Global,
-    names: &Names<'_>,
+    names: &NameList<'_>,
     numbers: &[u32],
     definition: &Definition<'_, '_>,
 ) -> Result<bool, AllocError>
@@ -118,7 +118,7 @@ fn one_has(numbers: &[u32], number: u32, places: &[u32]) -> bool
 }
 
 /// The place of a name among the macros.
-fn place(names: &Names<'_>, name: &[u8]) -> Option<u32>
+fn place(names: &NameList<'_>, name: &[u8]) -> Option<u32>
     requires { length names.now < 2 ^ 32 }
     ensures value { result ≡ place_in names.now name.now }
     ensures within { IfSome result (λ place. place < length names.now) }
@@ -129,7 +129,7 @@ fn place(names: &Names<'_>, name: &[u8]) -> Option<u32>
 /// The places of the macros that a definition uses.
 fn used(
     alloc: Global,
-    names: &Names<'_>,
+    names: &NameList<'_>,
     definition: &Definition<'_, '_>,
 ) -> Result<Vec<u32>, AllocError>
     requires { length names.now < 2 ^ 32 }
@@ -143,8 +143,8 @@ fn used(
 /// The places of the macros that the words of a list use, where these are the parameters.
 fn used_in(
     alloc: Global,
-    names: &Names<'_>,
-    parameters: &Names<'_>,
+    names: &NameList<'_>,
+    parameters: &NameList<'_>,
     words: &[Word<'_>],
 ) -> Result<Vec<u32>, AllocError>
     requires { length names.now < 2 ^ 32 }
@@ -159,8 +159,8 @@ fn used_in(
 
 /// Puts the place of the macro that a word of a list uses behind the others.
 fn push_used(
-    names: &Names<'_>,
-    parameters: &Names<'_>,
+    names: &NameList<'_>,
+    parameters: &NameList<'_>,
     word: &Word<'_>,
     places: &mut Vec<u32>,
 ) -> Result<(), AllocError>
@@ -174,7 +174,7 @@ fn push_used(
 }
 
 /// The macro that a word of a list uses, unless it names a parameter.
-fn used_macro(names: &Names<'_>, parameters: &Names<'_>, word: &Word<'_>) -> Option<u32>
+fn used_macro(names: &NameList<'_>, parameters: &NameList<'_>, word: &Word<'_>) -> Option<u32>
     requires { length names.now < 2 ^ 32 }
     ensures { result ≡ used_by names.now parameters.now word.now }
 {
@@ -189,20 +189,20 @@ fn used_macro(names: &Names<'_>, parameters: &Names<'_>, word: &Word<'_>) -> Opt
 fn parameter_names<'s>(
     alloc: Global,
     definition: &Definition<'_, 's>,
-) -> Result<Names<'s>, AllocError>
+) -> Result<NameList<'s>, AllocError>
     ensures { IfOk result (λ names. (text : List ℕ) → list_any (bytes_eq text) names ≡ list_any (bytes_eq text) (texts_of (parameters_of (plain_definition definition.now)))) }
 {
     match &definition.parameters {
-        None => Ok(Names::new(alloc)),
+        None => Ok(NameList::new(alloc)),
         Some(words) => names_of(alloc, words.as_slice()),
     }
 }
 
 /// The texts of words, each once.
-fn names_of<'s>(alloc: Global, words: &[Word<'s>]) -> Result<Names<'s>, AllocError>
+fn names_of<'s>(alloc: Global, words: &[Word<'s>]) -> Result<NameList<'s>, AllocError>
     ensures { IfOk result (λ names. (text : List ℕ) → list_any (bytes_eq text) names ≡ list_any (bytes_eq text) (texts_of words.now)) }
 {
-    let mut names = Names::new(alloc);
+    let mut names = NameList::new(alloc);
     for word in words {
         names.add(word.text)?;
     }

@@ -4,21 +4,21 @@ ghost use Rattle.std.specs.Prelude.{◌≡◌, ◌<◌, ◌^◌, ◌++◌, lengt
 ghost use Rattle.std.specs.List.{flat_map};
 ghost use Rattle.p10_direct.specs.Form.{plain_definition};
 ghost use Rattle.p10_pprules.specs.Lines.{pastes};
-ghost use Rattle.p10_pprules.specs.Listing.{definition_violations};
+ghost use Rattle.p10_pprules.specs.private.Listing.{definition_violations};
 
 use crate::dereference::dereferences;
 use crate::listing::push_if;
 use crate::recursion::is_recursive;
 use crate::unit::is_complete;
-use p10_base::{Sub, Violation};
-use p10_direct::{Definition, Names, has_pasting, is_variadic};
+use p10_base::{NameList, Sub, Violation};
+use p10_direct::{Definition, has_pasting, is_variadic};
 use std::alloc::{AllocError, Global};
 
 /// Puts the violations of definitions behind the others. The numbers are those of the components of the
 /// macros with these names.
 pub fn push_definitions(
     alloc: Global,
-    names: &Names<'_>,
+    names: &NameList<'_>,
     numbers: &[u32],
     definitions: &[Definition<'_, '_>],
     violations: &mut Vec<Violation>,
@@ -36,7 +36,7 @@ pub fn push_definitions(
 /// Puts the violations of a definition behind the others.
 fn push_definition(
     alloc: Global,
-    names: &Names<'_>,
+    names: &NameList<'_>,
     numbers: &[u32],
     definition: &Definition<'_, '_>,
     violations: &mut Vec<Violation>,

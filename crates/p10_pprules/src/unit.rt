@@ -2,12 +2,11 @@
 
 ghost use Rattle.std.specs.Prelude.{◌≡◌, IfOk, codes};
 ghost use Rattle.p10_pprules.specs.Units.{is_number, is_while_zero};
-ghost use Rattle.p10_pprules.specs.Scanning.{is_unit, is_negative, is_call, is_do_while, is_short, is_long_unit};
+ghost use Rattle.p10_pprules.specs.private.Scanning.{is_unit, is_negative, is_call, is_do_while, is_short, is_long_unit};
 
 use crate::bracket::Bracket;
 use crate::group::{after_group, is_group};
 use p10_base::{Kind, Word};
-use p10_direct::{names, punctuates};
 use std::alloc::{AllocError, Global};
 
 /// Whether the words are one of the forms of a complete unit: nothing, one word, `-` and a number, one
@@ -49,7 +48,7 @@ fn is_negative_number(words: &[Word<'_>]) -> bool
     ensures { result ≡ is_negative words.now }
 {
     match words {
-        [minus, number] => punctuates(minus, b"-") && matches!(number.kind, Kind::Number),
+        [minus, number] => minus.is_punctuator(b"-") && matches!(number.kind, Kind::Number),
         _ => false,
     }
 }
@@ -73,7 +72,7 @@ fn is_single_pass(alloc: Global, words: &[Word<'_>]) -> Result<bool, AllocError>
     ensures { IfOk result (λ is. is ≡ is_do_while words.now) }
 {
     match words {
-        [keyword, others @ ..] if names(keyword, b"do") => {
+        [keyword, others @ ..] if keyword.is_name(b"do") => {
             match after_group(alloc, Bracket::Curly, others)? {
                 Some(rest) => Ok(ends_single_pass(rest)),
                 None => Ok(false),
@@ -89,10 +88,10 @@ fn ends_single_pass(words: &[Word<'_>]) -> bool
 {
     match words {
         [keyword, opening, zero, closing] => {
-            names(keyword, b"while")
-                && punctuates(opening, b"(")
+            keyword.is_name(b"while")
+                && opening.is_punctuator(b"(")
                 && is_zero(zero)
-                && punctuates(closing, b")")
+                && closing.is_punctuator(b")")
         }
         _ => false,
     }

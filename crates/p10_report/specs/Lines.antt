@@ -7,7 +7,7 @@ use Rattle.p10_base.specs.declared.report.Family.{Family}
 use Rattle.p10_base.specs.declared.report.Limit.{Limit}
 use Rattle.p10_base.specs.declared.report.Refusal.{Refusal}
 use Rattle.p10_base.specs.declared.span.Span.{Span}
-use Rattle.p10_report.specs.Codes.{code_text, letter_of}
+use Rattle.p10_base.specs.Codes.{code_text, letter_of}
 use Rattle.p10_report.specs.Stops.{◌then◌}
 
 -- a number in decimal behind the text that says which it is

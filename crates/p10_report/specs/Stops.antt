@@ -1,5 +1,5 @@
 -- Texts that are written piece by piece, and what a sink has taken of one when a write stops.
-use Rattle.std.specs.Prelude.{◌≡◌, ℕ, ◌<◌, List, ◌++◌, length, Option}
+use Rattle.std.specs.Prelude.{ℕ, ◌≡◌, ◌<◌, List, ◌++◌, length, Option}
 use Rattle.std.specs.Io.KnownBytes.{Appends}
 
 infixr 30 ◌then◌

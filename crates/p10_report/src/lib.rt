@@ -12,7 +12,7 @@ ghost use Rattle.std.specs.Prelude.{◌≤◌, OnErr, OnOk};
 ghost use Rattle.std.specs.Io.KnownBytes.{Appends};
 ghost use Rattle.p10_base.specs.Gathered.{LiesIn};
 ghost use Rattle.p10_world.specs.Faults.{Rose};
-ghost use Rattle.p10_report.specs.Codes.{IsCode};
+ghost use Rattle.p10_base.specs.Codes.{IsCode};
 ghost use Rattle.p10_report.specs.Lines.{accepted_line, failing_line, limit_line, refusal_line};
 ghost use Rattle.p10_report.specs.Stops.{StopsWithin};
 
@@ -21,7 +21,6 @@ use p10_base::{Bounds, Limit, Refusal, Sources, Span};
 use p10_world::{Sink, SinkFault};
 use pieces::{put_at, put_bytes, put_depths, put_labelled, put_place, put_reason, put_refused};
 
-mod codes;
 mod messages;
 mod pieces;
 #[cfg(test)]
@@ -44,8 +43,8 @@ pub fn put_refusal<O: Sink>(out: &mut O, s: &Sources, r: &Refusal) -> Result<(),
     ensures count { O.faults out.old ≤ O.faults out.new }
 {
     put_place(out, s, r.span)?;
-    put_refused(out, r.family, r.number)?;
-    put_reason(out, r.family, r.number)
+    put_refused(out, r)?;
+    put_reason(out, r)
 }
 
 /// Writes the line of an accepted program, `accepted: prefix P turn K calls C bytes B`: its bounds `b` in

@@ -4,13 +4,12 @@ ghost use Rattle.std.specs.Prelude.{◌≤◌, OnErr, OnOk};
 ghost use Rattle.std.specs.Io.KnownBytes.{Appends};
 ghost use Rattle.p10_base.specs.Gathered.{LiesIn};
 ghost use Rattle.p10_world.specs.Faults.{Rose};
-ghost use Rattle.p10_report.specs.Codes.{IsCode};
+ghost use Rattle.p10_base.specs.Codes.{IsCode};
 ghost use Rattle.p10_report.specs.Lines.{at_part, depths_part, labelled, place_text, reason_part, refused_part};
 ghost use Rattle.p10_report.specs.Stops.{StopsWithin};
 
-use crate::codes;
 use itoa::Buffer;
-use p10_base::{Bounds, Family, Sources, Span};
+use p10_base::{Bounds, Refusal, Sources, Span};
 use p10_world::{Sink, SinkFault};
 
 /// Writes bytes.
@@ -49,26 +48,26 @@ pub fn put_place<O: Sink>(out: &mut O, s: &Sources, at: Span) -> Result<(), Sink
 }
 
 /// Writes which refusal it is, by its code.
-pub fn put_refused<O: Sink>(out: &mut O, family: Family, number: u8) -> Result<(), SinkFault>
-    ensures ok { OnOk result (Appends (O.taken out.old) (O.taken out.new) (refused_part family number)) }
-    ensures stopped { OnErr result (StopsWithin (O.taken out.old) (O.taken out.new) (refused_part family number)) }
+pub fn put_refused<O: Sink>(out: &mut O, r: &Refusal) -> Result<(), SinkFault>
+    ensures ok { OnOk result (Appends (O.taken out.old) (O.taken out.new) (refused_part r.now.family r.now.number)) }
+    ensures stopped { OnErr result (StopsWithin (O.taken out.old) (O.taken out.new) (refused_part r.now.family r.now.number)) }
     ensures failed { OnErr result (Rose (O.faults out.old) (O.faults out.new)) }
     ensures count { O.faults out.old ≤ O.faults out.new }
 {
     put_bytes(out, b": refused ")?;
-    put_labelled(out, codes::letter(family).as_bytes(), u64::from(number))
+    put_labelled(out, r.family.letter().as_bytes(), u64::from(r.number))
 }
 
 /// Writes why a source is refused, by the code's text, and ends the line.
-pub fn put_reason<O: Sink>(out: &mut O, family: Family, number: u8) -> Result<(), SinkFault>
-    requires { IsCode family number }
-    ensures ok { OnOk result (Appends (O.taken out.old) (O.taken out.new) (reason_part family number)) }
-    ensures stopped { OnErr result (StopsWithin (O.taken out.old) (O.taken out.new) (reason_part family number)) }
+pub fn put_reason<O: Sink>(out: &mut O, r: &Refusal) -> Result<(), SinkFault>
+    requires { IsCode r.now.family r.now.number }
+    ensures ok { OnOk result (Appends (O.taken out.old) (O.taken out.new) (reason_part r.now.family r.now.number)) }
+    ensures stopped { OnErr result (StopsWithin (O.taken out.old) (O.taken out.new) (reason_part r.now.family r.now.number)) }
     ensures failed { OnErr result (Rose (O.faults out.old) (O.faults out.new)) }
     ensures count { O.faults out.old ≤ O.faults out.new }
 {
     put_bytes(out, b": ")?;
-    put_bytes(out, codes::text(family, number).as_bytes())?;
+    put_bytes(out, r.text().as_bytes())?;
     put_bytes(out, b"\n")
 }
 

@@ -1,7 +1,7 @@
 //! Each line once, as the worked examples of the command line show it, and the text of each code.
 
 ghost use Rattle.std.specs.Prelude.{IsTrue};
-ghost use Rattle.p10_report.specs.Codes.{IsCode};
+ghost use Rattle.p10_base.specs.Codes.{IsCode};
 
 use super::*;
 use p10_base::Family;

@@ -7,7 +7,8 @@ use Rattle.std.proofs.lemmas.Bool.{and_parts, and_from}
 use Rattle.std.proofs.lemmas.Option.{cond_some, none-some}
 use Rattle.p10_first.proofs.Spelling.{is_text}
 use Rattle.p10_top.specs.declared.command.Verify.{Verify}
-use Rattle.p10_top.specs.Command.{Names, names_of, is_file_name, directories_in, IncludeWords, has_some, IsVerify, rest_of, with_directories, options_of, verify_of}
+use Rattle.p10_top.specs.Command.{Names, is_file_name, IncludeWords, has_some, IsVerify, directories_in}
+use Rattle.p10_top.specs.private.CommandReading.{names_of, rest_of, with_directories, options_of, verify_of}
 
 -- the words behind the directories
 record IsRest (directories words : List (List ℕ)) (names : Names) : Type 0 where

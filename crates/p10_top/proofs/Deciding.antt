@@ -3,21 +3,21 @@ use Rattle.std.proofs.Common.{◌≡◌, ℕ, ◌+◌, ◌<◌, ◌≤◌, zero,
 use Rattle.p10_base.specs.Gathered.{Gathered, LiesIn}
 use Rattle.p10_world.specs.Files.{Named, file_of, Lacks}
 use Rattle.p10_base.specs.declared.report.Refusal.{Refusal}
-use Rattle.p10_report.specs.Codes.{IsCode}
+use Rattle.p10_base.specs.Codes.{IsCode}
 use Rattle.p10_first.specs.Certificate.{certificate_text}
 use Rattle.p10_top.specs.declared.answer.Answer.{Answer}
 use Rattle.p10_top.specs.declared.answer.Answer.TheVariants.{AbsentSource, Refused, SourcesOver, AbsentCertificate, Unexpanded, ExpansionOver, NotBuilt, CertificateTooLong, BadCertificate, Failing, Accepted, ReadFault, NoMemory}
 use Rattle.p10_top.specs.Command.{Names}
-use Rattle.p10_top.specs.Loading.{Gives, IsHeld, IsLonger, IsFront}
+use Rattle.p10_top.specs.Loading.{Gives, IsHeld, IsLonger}
+use Rattle.p10_top.specs.private.Deciding.{IsFront, Decides, decision_without}
 use Rattle.p10_top.specs.Answers.{HasCertificate, setting_of, certificate_limit}
-use Rattle.p10_top.specs.Judging.{IsJudged, JudgedPlace}
+use Rattle.p10_top.specs.private.Judging.{IsJudged, JudgedPlace}
 use Rattle.p10_top.proofs.Lexing.{refused_is_code}
 use Rattle.p10_expand.specs.declared.fault.GatherFault.{GatherFault}
 use Rattle.p10_expand.specs.declared.fault.GatherFault.TheVariants as gathering
 use Rattle.p10_expand.specs.Gathering.{Setting, Gathers, FailsBy, IsFault}
 use Rattle.p10_expand.proofs.RootCount.{absent_below, refused_placed}
 use Rattle.p10_top.specs.declared.decide.Decision.{Decision}
-use Rattle.p10_top.specs.Deciding.{Decides, decision_without}
 use Rattle.p10_top.specs.declared.load.Trouble.{Trouble}
 
 -- ## Files up to a limit

@@ -1,12 +1,11 @@
 -- Directories that are joined by `:`.
-use Rattle.std.proofs.Common.{◌≡◌, ℕ, ◌==◌, ◌<◌, List, [], ◌∷◌, ◌++◌, length, map, Bor, Option, Some, None, Bool, true, false, ◌&&◌, refl, ap, sym, ◌∙◌, arith}
+use Rattle.std.proofs.Common.{◌≡◌, ℕ, ◌==◌, ◌<◌, List, [], ◌∷◌, ◌++◌, length, map, Bor, Option, Some, None, Bool, true, false, ◌&&◌, refl, ap, sym, ◌∙◌, arith, lit<}
 use Rattle.std.specs.List.{list_all, slice_split, position_or_len, after_first}
 use Rattle.std.proofs.lemmas.List.{append_assoc, map-append}
 use Rattle.std.proofs.lemmas.List.Sums.{fails_before_first}
 use Rattle.std.proofs.lemmas.Option.{MatchOption-at_some, MatchOption-at_none}
 use Rattle.std.proofs.lemmas.List.Splits.{slice_split_first, slice_split_none}
 use Rattle.std.proofs.lemmas.Str.Pattern.{IsSplitOnceResult, split_once_first}
-use Rattle.std.proofs.Common.{lit<}
 use Rattle.p10_top.specs.Command.{is_file_name, directories_in}
 
 pub split_some : (text : List ℕ) (r : Option (Bor (List ℕ) × Bor (List ℕ))) (a b : Bor (List ℕ)) → IsSplitOnceResult 58 text r → r ≡ Some (a, b) → directories_in text ≡ a.now ∷ directories_in b.now

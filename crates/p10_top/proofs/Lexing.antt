@@ -5,7 +5,7 @@ use Rattle.p10_base.specs.declared.report.Refusal.{Refusal}
 use Rattle.p10_lex.specs.declared.fault.LexFault.TheVariants.{Refused}
 use Rattle.p10_lex.specs.Lexes.{Answers as LexAnswers}
 use Rattle.p10_lex.proofs.Codes.{refused_code}
-use Rattle.p10_report.specs.Codes.{IsCode}
+use Rattle.p10_base.specs.Codes.{IsCode}
 
 -- a refusal by lexing has a code whose text is known
 pub refused_is_code : (file : ℕ) (bytes : List ℕ) (refusal : Refusal) → LexAnswers file bytes (Err (Refused refusal)) → IsCode refusal.family refusal.number

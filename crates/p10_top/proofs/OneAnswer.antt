@@ -8,7 +8,7 @@ use Rattle.p10_base.specs.declared.report.Limit.{Limit}
 use Rattle.p10_base.specs.declared.span.Span.{Span}
 use Rattle.p10_base.specs.declared.report.Refusal.{Refusal}
 use Rattle.p10_base.specs.Gathered.{Gathered}
-use Rattle.p10_lex.specs.Pieces.{LexedWord}
+use Rattle.p10_base.specs.Words.{PlainWord}
 use Rattle.p10_world.specs.Files.{Named, file_of}
 use Rattle.p10_expand.specs.declared.fault.GatherFault.{GatherFault}
 use Rattle.p10_expand.specs.declared.fault.GatherFault.TheVariants as gathering
@@ -17,7 +17,7 @@ use Rattle.p10_expand.specs.Plain.{PlainObeyed, PlainExpansion, ExpandsTo, Expan
 use Rattle.p10_expand.proofs.Once.{ends_once}
 use Rattle.p10_first.specs.declared.program.Program.{Program}
 use Rattle.p10_first.specs.declared.conditions.Condition.{Condition}
-use Rattle.p10_first.specs.Form.{Spells}
+use Rattle.p10_first.specs.Form.{Spells, texts}
 use Rattle.p10_first.specs.Certificate.{Claims, certificate_text, IsCertificate, IsFirstWrongLine}
 use Rattle.p10_first.specs.Conditions.{Accepts, IsFirstFailure}
 use Rattle.p10_first.proofs.Spells.{Spells-unique}
@@ -27,7 +27,7 @@ use Rattle.p10_first.proofs.CertificateWrongLines.{one_wrong_line, no_wrong_line
 use Rattle.p10_top.specs.declared.answer.Answer.{Answer}
 use Rattle.p10_top.specs.declared.answer.Answer.TheVariants.{AbsentSource, Refused, SourcesOver, AbsentCertificate, Unexpanded, ExpansionOver, NotBuilt, CertificateTooLong, BadCertificate, Failing, Accepted, ReadFault, NoMemory}
 use Rattle.p10_top.specs.Command.{Names, IsVerify}
-use Rattle.p10_top.specs.Answers.{Seen, IsRight, RootWords, IsNoProgram, IsUnexpanded, SpellNone, HasProgram, setting_of, texts_of, place_of, certificate_limit}
+use Rattle.p10_top.specs.Answers.{Seen, IsRight, RootWords, IsNoProgram, IsUnexpanded, SpellNone, HasProgram, setting_of, place_of, certificate_limit}
 use Rattle.p10_top.specs.Told.{MaySay, Saying, SaysRight, saying_of, status_of}
 use Rattle.p10_top.proofs.CommandWords.{verify_again}
 
@@ -53,11 +53,11 @@ number_of NoMemory = 10
 record Passed (names : Names) (files : List Named) (number : ℕ) : Type 0 where
   gathered : 1 ≤ number → (g : Gathered) × Gathers (setting_of (Some files) names) g
   certificate : 2 ≤ number → IsSome (file_of names.certificate files)
-  expanded : 3 ≤ number → (g : Gathered) × (roots : List (List LexedWord)) × (obeyed : List PlainObeyed) × Gathers (setting_of (Some files) names) g × ExpandsTo g (Ok (record { roots = roots; obeyed = obeyed; refusal = None }))
-  program : 4 ≤ number → (g : Gathered) × (words : List LexedWord) × (p : Program) × HasProgram (Some files) names g words p
+  expanded : 3 ≤ number → (g : Gathered) × (roots : List (List PlainWord)) × (obeyed : List PlainObeyed) × Gathers (setting_of (Some files) names) g × ExpandsTo g (Ok (record { roots = roots; obeyed = obeyed; refusal = None }))
+  program : 4 ≤ number → (g : Gathered) × (words : List PlainWord) × (p : Program) × HasProgram (Some files) names g words p
   certificate_short : 5 ≤ number → (bytes : List ℕ) × (file_of names.certificate files ≡ Some bytes) × (length bytes ≤ certificate_limit)
   claims : 6 ≤ number → (c : Claims) × (file_of names.certificate files ≡ Some (certificate_text c)) × IsCertificate c
-  accepted : 7 ≤ number → (g : Gathered) × (words : List LexedWord) × (p : Program) × (c : Claims) × HasProgram (Some files) names g words p × (file_of names.certificate files ≡ Some (certificate_text c)) × IsCertificate c × Accepts p c
+  accepted : 7 ≤ number → (g : Gathered) × (words : List PlainWord) × (p : Program) × (c : Claims) × HasProgram (Some files) names g words p × (file_of names.certificate files ≡ Some (certificate_text c)) × IsCertificate c × Accepts p c
 
 -- a number that isn't reached
 never : {A : Type 0} (least number : ℕ) → number < least → least ≤ number → A
@@ -124,7 +124,7 @@ same_fault files names f h this that =
     cc
 
 -- what is common to expansions, where they have the same words or the same refusal
-abbrev first_root : List (List LexedWord) → List LexedWord
+abbrev first_root : List (List PlainWord) → List PlainWord
 first_root [] = []
 first_root (words ∷ roots) = words
 
@@ -132,19 +132,19 @@ abbrev refusal_of : Result PlainExpansion Limit → Option Refusal
 refusal_of (Ok expansion) = expansion.refusal
 refusal_of (Err limit) = None
 
-abbrev roots_of : Result PlainExpansion Limit → List (List LexedWord)
+abbrev roots_of : Result PlainExpansion Limit → List (List PlainWord)
 roots_of (Ok expansion) = expansion.roots
 roots_of (Err limit) = []
 
-root_words_once : ExpandsToOnce → (g : Gathered) (words others : List LexedWord) → RootWords g words → RootWords g others → words ≡ others
+root_words_once : ExpandsToOnce → (g : Gathered) (words others : List PlainWord) → RootWords g words → RootWords g others → words ≡ others
 root_words_once once g words others this that = ap (λ a. first_root (roots_of a)) (once g _ _ this.expands that.expands)
 
-refused_and_whole : ExpandsToOnce → (g : Gathered) (refusal : Refusal) (roots : List (List LexedWord)) (obeyed : List PlainObeyed) → IsUnexpanded g refusal → ExpandsTo g (Ok (record { roots = roots; obeyed = obeyed; refusal = None })) → ⊥
+refused_and_whole : ExpandsToOnce → (g : Gathered) (refusal : Refusal) (roots : List (List PlainWord)) (obeyed : List PlainObeyed) → IsUnexpanded g refusal → ExpandsTo g (Ok (record { roots = roots; obeyed = obeyed; refusal = None })) → ⊥
 refused_and_whole once g refusal roots obeyed refused whole =
     let same : ◌≡◌ {A = Option Refusal} (Some refusal) None = ap refusal_of (once g _ _ refused.expands whole) in
     cc
 
-over_and_whole : ExpandsToOnce → (g : Gathered) (limit : Limit) (roots : List (List LexedWord)) (obeyed : List PlainObeyed) → ExpandsTo g (Err limit) → ExpandsTo g (Ok (record { roots = roots; obeyed = obeyed; refusal = None })) → ⊥
+over_and_whole : ExpandsToOnce → (g : Gathered) (limit : Limit) (roots : List (List PlainWord)) (obeyed : List PlainObeyed) → ExpandsTo g (Err limit) → ExpandsTo g (Ok (record { roots = roots; obeyed = obeyed; refusal = None })) → ⊥
 over_and_whole once g limit roots obeyed over whole =
     let same : ◌≡◌ {A = Result PlainExpansion Limit} (Err limit) (Ok (record { roots = roots; obeyed = obeyed; refusal = None })) = once g _ _ over whole in
     cc
@@ -163,18 +163,18 @@ one_limit once g limit other this that =
     cc
 
 -- sources have one program, by one list of words
-record Same (g h : Gathered) (words others : List LexedWord) (p q : Program) : Type 0 where
+record Same (g h : Gathered) (words others : List PlainWord) (p q : Program) : Type 0 where
   sources_are : g ≡ h
   words_are : words ≡ others
   program_is : p ≡ q
 
-reads_once : ExpandsToOnce → (files : List Named) (names : Names) (g h : Gathered) (words others : List LexedWord) (p q : Program) → HasProgram (Some files) names g words p → HasProgram (Some files) names h others q → Same g h words others p q
+reads_once : ExpandsToOnce → (files : List Named) (names : Names) (g h : Gathered) (words others : List PlainWord) (p q : Program) → HasProgram (Some files) names g words p → HasProgram (Some files) names h others q → Same g h words others p q
 reads_once once files names g h words others p q this that =
     let sources : g ≡ h = same_sources files names g h this.gathers that.gathers in
     let same : words ≡ others = root_words_once once h words others (subst (λ x. RootWords x words) sources this.cut) that.cut in
-    record { sources_are = sources; words_are = same; program_is = Spells-unique (texts_of others) p q (subst (λ (ws : List LexedWord). Spells (texts_of ws) p) same this.spell) that.spell }
+    record { sources_are = sources; words_are = same; program_is = Spells-unique (texts others) p q (subst (λ (ws : List PlainWord). Spells (texts ws) p) same this.spell) that.spell }
 
-no_and_some : ExpandsToOnce → (g : Gathered) (words : List LexedWord) (p : Program) → IsNoProgram g → RootWords g words → Spells (texts_of words) p → ⊥
+no_and_some : ExpandsToOnce → (g : Gathered) (words : List PlainWord) (p : Program) → IsNoProgram g → RootWords g words → Spells (texts words) p → ⊥
 no_and_some once g words p none root spell =
     let same : none.roots ≡ words ∷ [] = ap roots_of (once g _ _ none.expands root.expands) in
     subst (λ roots. SpellNone roots) same none.none p spell
@@ -205,7 +205,7 @@ stops once files before after names g (BadCertificate line) (words, p, bytes, pr
 stops once files before after names g (Failing k place) (words, p, c, judges, fails, place_is) plain passed earlier =
     refuted (passed.accepted (omega arith))
   where
-    refuted : (h : Gathered) × (words : List LexedWord) × (p : Program) × (c : Claims) × HasProgram (Some files) names h words p × (file_of names.certificate files ≡ Some (certificate_text c)) × IsCertificate c × Accepts p c → ⊥
+    refuted : (h : Gathered) × (words : List PlainWord) × (p : Program) × (c : Claims) × HasProgram (Some files) names h words p × (file_of names.certificate files ≡ Some (certificate_text c)) × IsCertificate c × Accepts p c → ⊥
     refuted (h, others, q, d, program, certificate, is, accepts) =
         let same = reads_once once files names h g others words q p program judges.program in
         let same_claims : d ≡ c = certificate_text-injective d c is judges.is_certificate (same_bytes _ (certificate_text d) (certificate_text c) certificate judges.certificate.given) in
@@ -255,7 +255,7 @@ same_place once files before after names g h (Failing k at) (Failing l at') (wor
     let condition : k ≡ l = one_fails_first p c k l fails (subst (λ (d : Claims). IsFirstFailure p d l) claims (subst (λ (q : Program). IsFirstFailure q c' l) reads.program_is fails')) in
     ap (λ (s : Span). saying_of names g (Failing k s)) at_is
     ∙ ap (λ (j : Condition). saying_of names g (Failing j (place_of words j))) condition
-    ∙ ap (λ (ws : List LexedWord). saying_of names g (Failing l (place_of ws l))) (sym reads.words_are)
+    ∙ ap (λ (ws : List PlainWord). saying_of names g (Failing l (place_of ws l))) (sym reads.words_are)
     ∙ ap (λ (s : Span). saying_of names g (Failing l s)) (sym at_is')
     ∙ ap (λ (x : Gathered). saying_of names x (Failing l at')) (sym reads.sources_are)
 same_place once files before after names g h (Accepted bounds) (Accepted bounds') (words, p, c, judges, accepts, total) (words', p', c', judges', accepts', total') same plain =

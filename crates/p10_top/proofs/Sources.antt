@@ -4,36 +4,24 @@ use Rattle.std.proofs.lemmas.List.{get_or-map, length-map}
 use Rattle.p10_base.specs.declared.word.Word.{Word}
 use Rattle.p10_base.specs.declared.word.Kind.TheVariants.{Punct}
 use Rattle.p10_base.specs.declared.span.Span.{Span}
-use Rattle.p10_lex.specs.Pieces.{LexedWord, seen}
+use Rattle.p10_base.specs.Words.{PlainWord, plain_word, Text, plain_words}
 use Rattle.p10_first.specs.declared.program.Program.{Program}
 use Rattle.p10_first.specs.declared.conditions.Condition.{Condition}
 use Rattle.p10_first.specs.declared.conditions.Condition.TheVariants.{K1, K5, K11, K12, K14}
-use Rattle.p10_first.specs.Form.{Text, spelling, Spells, texts, program_words, items_words, return_words, head_words}
+use Rattle.p10_first.specs.Form.{spelling, Spells, texts, program_words, items_words, return_words, head_words}
 use Rattle.p10_top.specs.declared.answer.Answer.{Answer}
 use Rattle.p10_top.specs.declared.answer.Answer.TheVariants.{AbsentSource, Refused, SourcesOver, AbsentCertificate, Unexpanded, ExpansionOver, NotBuilt, CertificateTooLong, BadCertificate, Failing, Accepted, ReadFault, NoMemory}
 use Rattle.p10_base.specs.declared.report.Family.{Family}
 use Rattle.p10_base.specs.declared.report.Refusal.{Refusal}
 use Rattle.p10_base.specs.Gathered.{Gathered, count_of, LiesIn}
-use Rattle.p10_report.specs.Codes.{IsCode}
+use Rattle.p10_base.specs.Codes.{IsCode}
 use Rattle.p10_expand.specs.declared.expanded.Expanded.{Expanded}
-use Rattle.p10_expand.specs.Steps.{IsExpansion, expansion_of, lists_of}
+use Rattle.p10_expand.specs.Answers.{IsExpansion, expansion_of, lists_of}
 use Rattle.p10_expand.specs.Plain.{ExpandsTo, plain_expansion}
 use Rattle.p10_expand.proofs.PlainAnswers.{WordComes, expanded_to, refusal_lies, words_come}
-use Rattle.p10_top.specs.Answers.{texts_of, SpellsNone, SpellNone, RootWords, IsNoProgram, IsUnexpanded, place_at, place_of}
+use Rattle.p10_top.specs.Answers.{SpellsNone, SpellNone, RootWords, IsNoProgram, IsUnexpanded, place_at, place_of}
 use Rattle.p10_top.specs.Told.{beginning}
-use Rattle.p10_top.specs.Judging.{IsWeighed, AreJudged, IsJudged, JudgedPlace}
-
--- ## Texts
-
-pub texts_seen : (words : List Word) → texts_of (map seen words) ≡ texts words
-texts_seen [] = refl
-texts_seen (word ∷ words) = ap (λ (ts : List Text). spelling word.kind word.text.now ∷ ts) (texts_seen words)
-
-spells_seen : (words : List Word) (p : Program) → Spells (texts words) p → Spells (texts_of (map seen words)) p
-spells_seen words p spell = subst (λ (ts : List Text). Spells ts p) (sym (texts_seen words)) spell
-
-none_seen : (words : List Word) → ((other : Program) → Spells (texts words) other → ⊥) → SpellsNone (map seen words)
-none_seen words none p spell = none p (subst (λ (ts : List Text). Spells ts p) (texts_seen words) spell)
+use Rattle.p10_top.specs.private.Judging.{IsWeighed, AreJudged, IsJudged, JudgedPlace}
 
 -- ## How many words
 
@@ -44,33 +32,33 @@ spelled_many words p s =
     let body : length (items_words s.names p.items ++ return_words p.returned) ≡ length (items_words s.names p.items) + length (return_words p.returned) = length-append (items_words s.names p.items) (return_words p.returned) in
     omega (arith, whole, head, body)
 
-length_texts : (words : List LexedWord) → length (texts_of words) ≡ length words
+length_texts : (words : List PlainWord) → length (texts words) ≡ length words
 length_texts [] = refl
 length_texts (word ∷ words) = omega (arith, length_texts words)
 
-length_seen : (words : List Word) → length (map seen words) ≡ length words
+length_seen : (words : List Word) → length (map plain_word words) ≡ length words
 length_seen [] = refl
 length_seen (word ∷ words) = omega (arith, length_seen words)
 
-length_plain : (words : List Word) → length (texts words) ≡ length words
+length_plain : (words : List Word) → length (texts (plain_words words)) ≡ length words
 length_plain [] = refl
 length_plain (word ∷ words) = omega (arith, length_plain words)
 
-pub many_words : (words : List Word) (p : Program) → Spells (texts words) p → 4 ≤ length words
-many_words words p spell = omega (arith, spelled_many (texts words) p spell, length_plain words)
+pub many_words : (words : List Word) (p : Program) → Spells (texts (plain_words words)) p → 4 ≤ length words
+many_words words p spell = omega (arith, spelled_many (texts (plain_words words)) p spell, length_plain words)
 
-many_lexed : (words : List LexedWord) (p : Program) → Spells (texts_of words) p → 10 ≤ length words
-many_lexed words p spell = omega (arith, spelled_many (texts_of words) p spell, length_texts words)
+many_lexed : (words : List PlainWord) (p : Program) → Spells (texts words) p → 10 ≤ length words
+many_lexed words p spell = omega (arith, spelled_many (texts words) p spell, length_texts words)
 
 -- ## Places
 
-pub place_seen : (words : List Word) (i : ℕ) (d : Word) → i < length words → place_at (map seen words) i ≡ (get_or words i d).at
-place_seen words i d inside = ap (λ (w : LexedWord). w.at) (get_or-map seen words i d _ inside)
+pub place_seen : (words : List Word) (i : ℕ) (d : Word) → i < length words → place_at (map plain_word words) i ≡ (get_or words i d).at
+place_seen words i d inside = ap (λ (w : PlainWord). w.at) (get_or-map plain_word words i d _ inside)
 
-place_lies : (g : Gathered) (words : List LexedWord) → All (WordComes g) words → (i : ℕ) → i < length words → LiesIn g (place_at words i)
+place_lies : (g : Gathered) (words : List PlainWord) → All (WordComes g) words → (i : ℕ) → i < length words → LiesIn g (place_at words i)
 place_lies g words come i inside = (come i (record { kind = Punct; text = []; at = record { file = 0; start = 0; end = 0 }; first = false }) inside).place
 
-place_within : (g : Gathered) (words : List LexedWord) (p : Program) (k : Condition) → All (WordComes g) words → Spells (texts_of words) p → LiesIn g (place_of words k)
+place_within : (g : Gathered) (words : List PlainWord) (p : Program) (k : Condition) → All (WordComes g) words → Spells (texts words) p → LiesIn g (place_of words k)
 place_within g words p k come spell = by_condition k
   where
     count : 10 ≤ length words
@@ -88,11 +76,11 @@ begins_in g some = record { held = omega (arith, some); within = omega arith }
 
 -- ## What is judged
 
-are_judged : (words : List Word) (p : Program) (bytes : List ℕ) (answer : Answer) → Spells (texts words) p → IsWeighed (map seen words) p bytes answer → AreJudged (map seen words) bytes answer
-are_judged words p bytes CertificateTooLong spell w = (p, spells_seen words p spell, w)
-are_judged words p bytes (BadCertificate line) spell w = (p, spells_seen words p spell, w)
-are_judged words p bytes (Failing k at) spell w = (p, spells_seen words p spell, w)
-are_judged words p bytes (Accepted bounds) spell w = (p, spells_seen words p spell, w)
+are_judged : (words : List Word) (p : Program) (bytes : List ℕ) (answer : Answer) → Spells (texts (plain_words words)) p → IsWeighed (map plain_word words) p bytes answer → AreJudged (map plain_word words) bytes answer
+are_judged words p bytes CertificateTooLong spell w = (p, spell, w)
+are_judged words p bytes (BadCertificate line) spell w = (p, spell, w)
+are_judged words p bytes (Failing k at) spell w = (p, spell, w)
+are_judged words p bytes (Accepted bounds) spell w = (p, spell, w)
 are_judged words p bytes (AbsentSource place) spell w = absurd w
 are_judged words p bytes (Refused refusal) spell w = absurd w
 are_judged words p bytes (SourcesOver limit) spell w = absurd w
@@ -103,16 +91,16 @@ are_judged words p bytes NotBuilt spell w = absurd w
 are_judged words p bytes ReadFault spell w = absurd w
 are_judged words p bytes NoMemory spell w = absurd w
 
-pub judged : {E : Type 0} (words : List Word) (p : Program) (bytes : List ℕ) (r : Result Answer E) → Spells (texts words) p → IfOk r (IsWeighed (map seen words) p bytes) → IfOk r (AreJudged (map seen words) bytes)
+pub judged : {E : Type 0} (words : List Word) (p : Program) (bytes : List ℕ) (r : Result Answer E) → Spells (texts (plain_words words)) p → IfOk r (IsWeighed (map plain_word words) p bytes) → IfOk r (AreJudged (map plain_word words) bytes)
 judged words p bytes (Ok answer) spell w = are_judged words p bytes answer spell w
 judged words p bytes (Err e) spell w = tt
 
-pub judged_none : (words : List Word) (bytes : List ℕ) → ((other : Program) → Spells (texts words) other → ⊥) → AreJudged (map seen words) bytes NotBuilt
-judged_none words bytes none = none_seen words none
+pub judged_none : (words : List Word) (bytes : List ℕ) → ((other : Program) → Spells (texts (plain_words words)) other → ⊥) → AreJudged (map plain_word words) bytes NotBuilt
+judged_none words bytes none = none
 
 -- ## What sources are judged to be
 
-by_words : (g : Gathered) (words : List LexedWord) (bytes : List ℕ) (answer : Answer) → RootWords g words → AreJudged words bytes answer → IsJudged g bytes answer
+by_words : (g : Gathered) (words : List PlainWord) (bytes : List ℕ) (answer : Answer) → RootWords g words → AreJudged words bytes answer → IsJudged g bytes answer
 by_words g words bytes NotBuilt root none = record { roots = words ∷ []; obeyed = root.obeyed; expands = root.expands; none = none }
 by_words g words bytes CertificateTooLong root are = (words, root, are)
 by_words g words bytes (BadCertificate line) root are = (words, root, are)
@@ -127,7 +115,7 @@ by_words g words bytes (ExpansionOver limit) root are = absurd are.2
 by_words g words bytes ReadFault root are = absurd are.2
 by_words g words bytes NoMemory root are = absurd are.2
 
-by_place : (g : Gathered) (words : List LexedWord) (bytes : List ℕ) (answer : Answer) → 0 < count_of g → All (WordComes g) words → AreJudged words bytes answer → JudgedPlace g answer
+by_place : (g : Gathered) (words : List PlainWord) (bytes : List ℕ) (answer : Answer) → 0 < count_of g → All (WordComes g) words → AreJudged words bytes answer → JudgedPlace g answer
 by_place g words bytes NotBuilt some come none = begins_in g some
 by_place g words bytes CertificateTooLong some come are = tt
 by_place g words bytes (BadCertificate line) some come are = tt
@@ -145,16 +133,16 @@ by_place g words bytes NoMemory some come are = tt
 
 -- ### One root
 
-one_list : (all : List (Vec Word Global)) (d : Vec Word Global) → length all ≡ 1 → map (map seen) (lists_of all) ≡ map seen (get_or all 0 d).items ∷ []
+one_list : (all : List (Vec Word Global)) (d : Vec Word Global) → length all ≡ 1 → map (map plain_word) (lists_of all) ≡ map plain_word (get_or all 0 d).items ∷ []
 one_list [] d one = absurd (omega (arith, one))
 one_list (words ∷ []) d one = refl
 one_list (words ∷ other ∷ all) d one = absurd (omega (arith, one))
 
-root_words : (g : Gathered) (expanded : Expanded) (all : List (Vec Word Global)) (words : Vec Word Global) → IsExpansion g expanded → expanded.refusal ≡ None → all ≡ expanded.roots → length all ≡ 1 → words ≡ get_or all 0 words → RootWords g (map seen words.items)
+root_words : (g : Gathered) (expanded : Expanded) (all : List (Vec Word Global)) (words : Vec Word Global) → IsExpansion g expanded → expanded.refusal ≡ None → all ≡ expanded.roots → length all ≡ 1 → words ≡ get_or all 0 words → RootWords g (map plain_word words.items)
 root_words g expanded all words is none roots one first =
     let plain = plain_expansion (expansion_of expanded) in
-    let lists : plain.roots ≡ map seen words.items ∷ [] =
-    ap (λ xs. map (map seen) (lists_of xs)) (sym roots) ∙ (one_list all words one ∙ ap (λ (v : Vec Word Global). map seen v.items ∷ []) (sym first)) in
+    let lists : plain.roots ≡ map plain_word words.items ∷ [] =
+    ap (λ xs. map (map plain_word) (lists_of xs)) (sym roots) ∙ (one_list all words one ∙ ap (λ (v : Vec Word Global). map plain_word v.items ∷ []) (sym first)) in
     record {
       obeyed = plain.obeyed;
       expands = subst (λ xs. ExpandsTo g (Ok (record { roots = xs; obeyed = plain.obeyed; refusal = None }))) lists
@@ -162,21 +150,21 @@ root_words g expanded all words is none roots one first =
     }
 
 pub root_judged : {E : Type 0} (g : Gathered) (expanded : Expanded) (all : List (Vec Word Global)) (words : Vec Word Global) (read : List Word) (bytes : List ℕ) (r : Result Answer E) → IsExpansion g expanded → expanded.refusal ≡ None → all ≡ expanded.roots → length all ≡ 1 → words ≡ get_or all 0 words → read ≡ words.items →
-    IfOk r (AreJudged (map seen read) bytes) → IfOk r (IsJudged g bytes)
+    IfOk r (AreJudged (map plain_word read) bytes) → IfOk r (IsJudged g bytes)
 root_judged g expanded all words read bytes (Err e) is none roots one first same are = tt
 root_judged g expanded all words read bytes (Ok answer) is none roots one first same are =
-    by_words g (map seen words.items) bytes answer (root_words g expanded all words is none roots one first) (subst (λ ws. AreJudged (map seen ws) bytes answer) same are)
+    by_words g (map plain_word words.items) bytes answer (root_words g expanded all words is none roots one first) (subst (λ ws. AreJudged (map plain_word ws) bytes answer) same are)
 
 pub root_placed : {E : Type 0} (g : Gathered) (expanded : Expanded) (all : List (Vec Word Global)) (words : Vec Word Global) (read : List Word) (bytes : List ℕ) (r : Result Answer E) → 0 < count_of g → IsExpansion g expanded → expanded.refusal ≡ None → all ≡ expanded.roots → length all ≡ 1 → words ≡ get_or all 0 words → read ≡ words.items →
-    IfOk r (AreJudged (map seen read) bytes) → IfOk r (JudgedPlace g)
+    IfOk r (AreJudged (map plain_word read) bytes) → IfOk r (JudgedPlace g)
 root_placed g expanded all words read bytes (Err e) some is none roots one first same are = tt
 root_placed g expanded all words read bytes (Ok answer) some is none roots one first same are =
     let root = root_words g expanded all words is none roots one first in
-    by_place g (map seen words.items) bytes answer some (words_come g _ root.expands 0 (map seen words.items) (omega arith)) (subst (λ ws. AreJudged (map seen ws) bytes answer) same are)
+    by_place g (map plain_word words.items) bytes answer some (words_come g _ root.expands 0 (map plain_word words.items) (omega arith)) (subst (λ ws. AreJudged (map plain_word ws) bytes answer) same are)
 
 -- ### None, and several
 
-spell_none : (roots : List (List LexedWord)) → length roots ≢ 1 → SpellNone roots
+spell_none : (roots : List (List PlainWord)) → length roots ≢ 1 → SpellNone roots
 spell_none [] several = tt
 spell_none (words ∷ []) several = absurd (several refl)
 spell_none (words ∷ other ∷ roots) several = tt
@@ -188,7 +176,7 @@ several_judged g expanded all is none roots several =
       roots = plain.roots;
       obeyed = plain.obeyed;
       expands = subst (λ (r : Option Refusal). ExpandsTo g (Ok (record { roots = plain.roots; obeyed = plain.obeyed; refusal = r }))) none (expanded_to g expanded is);
-      none = spell_none plain.roots (λ one. several (ap length roots ∙ (sym (length-map expanded.roots _) ∙ (sym (length-map (lists_of expanded.roots) (map seen)) ∙ one))));
+      none = spell_none plain.roots (λ one. several (ap length roots ∙ (sym (length-map expanded.roots _) ∙ (sym (length-map (lists_of expanded.roots) (map plain_word)) ∙ one))));
     }
 
 pub several_placed : (g : Gathered) → 0 < count_of g → JudgedPlace g NotBuilt

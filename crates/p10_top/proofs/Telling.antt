@@ -12,8 +12,8 @@ use Rattle.p10_top.specs.declared.answer.Answer.{Answer}
 use Rattle.p10_top.specs.declared.answer.Answer.TheVariants.{AbsentSource, Refused, SourcesOver, AbsentCertificate, Unexpanded, ExpansionOver, NotBuilt, CertificateTooLong, BadCertificate, Failing, Accepted, ReadFault, NoMemory}
 use Rattle.p10_top.specs.Command.{Names, IsVerify}
 use Rattle.p10_top.specs.Answers.{Seen, IsRight}
-use Rattle.p10_top.specs.Told.{BothTake, BothTakeFronts, IsNoCommand, Saying, Told, Stopped, ToldFor, StoppedFor, err_text, out_text, saying_of, status_of, usage_saying}
-use Rattle.p10_top.specs.Deciding.{Answered}
+use Rattle.p10_top.specs.Told.{BothTake, BothTakeFronts, IsNoCommand, Saying, Told, Stopped, err_text, out_text, saying_of, status_of, usage_saying}
+use Rattle.p10_top.specs.private.Deciding.{ToldFor, StoppedFor, Answered}
 use Rattle.p10_top.specs.Headline.{Verified}
 
 pub told_for : (names : Names) (seen : Seen) (sources : Gathered) (answer : Answer) (out_old out_new err_old err_new : Option (List ℕ)) (status : ℕ) → Answered seen names sources answer → status ≡ status_of answer → BothTake out_old out_new err_old err_new (out_text sources answer) (err_text names sources answer) → ToldFor names seen out_old out_new err_old err_new status

@@ -1,31 +1,32 @@
 -- When each answer is right, in the order in which they are tried.
-use Rattle.std.specs.Prelude.{◌≡◌, ℕ, ◌-◌, ◌≤◌, false, List, [], ◌∷◌, length, map, Option, Some, None, Ok, Err, slice_index_or}
+use Rattle.std.specs.Prelude.{ℕ, ◌≡◌, ◌-◌, ◌≤◌, false, List, [], ◌∷◌, length, Option, Some, None, Ok, Err, slice_index_or}
 use Rattle.p10_base.specs.declared.word.Kind.TheVariants.{Punct}
 use Rattle.p10_base.specs.declared.span.Span.{Span}
 use Rattle.p10_base.specs.declared.report.Refusal.{Refusal}
 use Rattle.p10_base.specs.Gathered.{Gathered}
 use Rattle.p10_world.specs.Faults.{Rose}
 use Rattle.p10_world.specs.Files.{Named, Lacks}
-use Rattle.p10_lex.specs.Pieces.{LexedWord}
+use Rattle.p10_base.specs.Words.{PlainWord}
 use Rattle.p10_expand.specs.declared.fault.GatherFault.TheVariants as gathering
 use Rattle.p10_expand.specs.Gathering.{Setting, Gathers, FailsBy}
 use Rattle.p10_expand.specs.Plain.{PlainObeyed, ExpandsTo}
 use Rattle.p10_first.specs.declared.program.Program.{Program}
 use Rattle.p10_first.specs.declared.conditions.Condition.{Condition}
 use Rattle.p10_first.specs.declared.conditions.Condition.TheVariants.{K1, K5, K11, K12, K14}
-use Rattle.p10_first.specs.Form.{Text, spelling, Spells}
+use Rattle.p10_first.specs.Form.{Spells, texts}
 use Rattle.p10_first.specs.Certificate.{Claims, certificate_text, IsCertificate, IsFirstWrongLine}
 use Rattle.p10_first.specs.Conditions.{Accepts, IsFirstFailure}
 use Rattle.p10_top.specs.declared.answer.Answer.{Answer}
 use Rattle.p10_top.specs.declared.answer.Answer.TheVariants.{AbsentSource, Refused, SourcesOver, AbsentCertificate, Unexpanded, ExpansionOver, NotBuilt, CertificateTooLong, BadCertificate, Failing, Accepted, ReadFault, NoMemory}
 use Rattle.p10_top.specs.Command.{Names}
 use Rattle.p10_top.specs.Loading.{Gives, IsHeld, IsLonger}
+use Rattle.p10_base.specs.declared.report.TheConstants.Limit.{MOST_CERTIFICATE_BYTES}
 
 -- ## Limits
 
 -- the most bytes of a certificate
 abbrev pub certificate_limit : ℕ
-certificate_limit = 8388608
+certificate_limit = MOST_CERTIFICATE_BYTES
 
 -- ## The sources
 
@@ -34,41 +35,37 @@ abbrev pub setting_of : Option (List Named) → Names → Setting
 setting_of held names = record { held = held; roots = names.sources; dirs = names.directories }
 
 -- the words of the only root, after its directives are obeyed and its macros replaced
-pub record RootWords (g : Gathered) (words : List LexedWord) : Type 0 where
+pub record RootWords (g : Gathered) (words : List PlainWord) : Type 0 where
   pub obeyed : List PlainObeyed
   pub expands : ExpandsTo g (Ok (record { roots = words ∷ []; obeyed = obeyed; refusal = None }))
 
--- the texts that words spell
-abbrev pub texts_of : List LexedWord → List Text
-texts_of words = map (λ (word : LexedWord). spelling word.kind word.text) words
-
 -- words spell no program
-abbrev pub SpellsNone : List LexedWord → Type 0
-SpellsNone words = (p : Program) → Spells (texts_of words) p → ⊥
+abbrev pub SpellsNone : List PlainWord → Type 0
+SpellsNone words = (p : Program) → Spells (texts words) p → ⊥
 
 -- there are several roots, or the words of the only one spell no program
-abbrev pub SpellNone : List (List LexedWord) → Type 0
+abbrev pub SpellNone : List (List PlainWord) → Type 0
 SpellNone (words ∷ []) = SpellsNone words
 SpellNone roots = Unit {0}
 
 -- the sources are no program that can be verified yet
 pub record IsNoProgram (g : Gathered) : Type 0 where
-  pub roots : List (List LexedWord)
+  pub roots : List (List PlainWord)
   pub obeyed : List PlainObeyed
   pub expands : ExpandsTo g (Ok (record { roots = roots; obeyed = obeyed; refusal = None }))
   pub none : SpellNone roots
 
 -- a directive or a use of a macro in the sources is refused
 pub record IsUnexpanded (g : Gathered) (refusal : Refusal) : Type 0 where
-  pub roots : List (List LexedWord)
+  pub roots : List (List PlainWord)
   pub obeyed : List PlainObeyed
   pub expands : ExpandsTo g (Ok (record { roots = roots; obeyed = obeyed; refusal = Some refusal }))
 
 -- the program of gathered sources
-pub record HasProgram (held : Option (List Named)) (names : Names) (g : Gathered) (words : List LexedWord) (p : Program) : Type 0 where
+pub record HasProgram (held : Option (List Named)) (names : Names) (g : Gathered) (words : List PlainWord) (p : Program) : Type 0 where
   pub gathers : Gathers (setting_of held names) g
   pub cut : RootWords g words
-  pub spell : Spells (texts_of words) p
+  pub spell : Spells (texts words) p
 
 -- ## The certificate
 
@@ -80,13 +77,13 @@ pub record HasCertificate (held : Option (List Named)) (names : Names) (bytes : 
 -- ## Places
 
 -- the place of the word with a number
-abbrev pub place_at : List LexedWord → ℕ → Span
+abbrev pub place_at : List PlainWord → ℕ → Span
 place_at words number =
     (slice_index_or words number (record { kind = Punct; text = []; at = record { file = 0; start = 0; end = 0 }; first = false })).at
 
 -- where a condition is reported: the returned value at the word `return`, which is the fourth from
 -- the end, and the others at the name of `main`, which is the second word
-abbrev pub place_of : List LexedWord → Condition → Span
+abbrev pub place_of : List PlainWord → Condition → Span
 place_of words K1 = place_at words 1
 place_of words K5 = place_at words (length words - 4)
 place_of words K11 = place_at words 1
@@ -96,7 +93,7 @@ place_of words K14 = place_at words 1
 -- ## The answers
 
 -- a program and its certificate, on which the conditions are tried
-pub record Judges (held : Option (List Named)) (names : Names) (g : Gathered) (words : List LexedWord) (p : Program) (c : Claims) : Type 0 where
+pub record Judges (held : Option (List Named)) (names : Names) (g : Gathered) (words : List PlainWord) (p : Program) (c : Claims) : Type 0 where
   pub program : HasProgram held names g words p
   pub certificate : HasCertificate held names (certificate_text c)
   pub is_certificate : IsCertificate c
@@ -117,13 +114,13 @@ IsRight seen names g (Unexpanded refusal) = Gathers (setting_of seen.held names)
 IsRight seen names g (ExpansionOver limit) = Gathers (setting_of seen.held names) g × IsHeld seen.held names.certificate × ExpandsTo g (Err limit)
 IsRight seen names g NotBuilt = Gathers (setting_of seen.held names) g × IsHeld seen.held names.certificate × IsNoProgram g
 IsRight seen names g CertificateTooLong =
-    (words : List LexedWord) × (p : Program) × HasProgram seen.held names g words p × IsLonger seen.held names.certificate certificate_limit
+    (words : List PlainWord) × (p : Program) × HasProgram seen.held names g words p × IsLonger seen.held names.certificate certificate_limit
 IsRight seen names g (BadCertificate line) =
-    (words : List LexedWord) × (p : Program) × (bytes : List ℕ) × HasProgram seen.held names g words p × HasCertificate seen.held names bytes × IsFirstWrongLine bytes line
+    (words : List PlainWord) × (p : Program) × (bytes : List ℕ) × HasProgram seen.held names g words p × HasCertificate seen.held names bytes × IsFirstWrongLine bytes line
 IsRight seen names g (Failing k at) =
-    (words : List LexedWord) × (p : Program) × (c : Claims) × Judges seen.held names g words p c × IsFirstFailure p c k × (at ≡ place_of words k)
+    (words : List PlainWord) × (p : Program) × (c : Claims) × Judges seen.held names g words p c × IsFirstFailure p c k × (at ≡ place_of words k)
 IsRight seen names g (Accepted bounds) =
-    (words : List LexedWord) × (p : Program) × (c : Claims) × Judges seen.held names g words p c × Accepts p c × (bounds ≡ c.total)
+    (words : List PlainWord) × (p : Program) × (c : Claims) × Judges seen.held names g words p c × Accepts p c × (bounds ≡ c.total)
 IsRight seen names g ReadFault = Rose seen.faults_before seen.faults_after
 -- want of memory is the one free answer
 IsRight seen names g NoMemory = Unit {0}

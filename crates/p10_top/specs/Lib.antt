@@ -1,9 +1,8 @@
--- The definitions that the contracts of this crate cite.
+-- The definitions that the contracts of this crate cite: those of public clauses, and in `private` those of private ones alone.
 pub mod Command
 pub mod Loading
 pub mod Answers
-pub mod Judging
-pub mod Deciding
 pub mod Told
 pub mod Headline
 pub mod Laws
+pub mod private

@@ -1,5 +1,5 @@
 -- What is known of a file where its bytes were asked for up to a limit.
-use Rattle.std.specs.Prelude.{◌≡◌, ℕ, ◌+◌, ◌<◌, ◌≤◌, List, length, take, Option, Some, IfSome, IsSome, IsSomeAnd}
+use Rattle.std.specs.Prelude.{ℕ, ◌≡◌, ◌+◌, ◌<◌, ◌≤◌, List, length, Option, Some, IfSome, IsSome, IsSomeAnd}
 use Rattle.p10_world.specs.Files.{Named, file_of}
 
 -- where files are told, the one of that name has these bytes
@@ -13,8 +13,3 @@ IsHeld held name = IfSome held (λ files. IsSome (file_of name files))
 -- where files are told, the one of that name has more bytes than the limit
 abbrev pub IsLonger : Option (List Named) → List ℕ → ℕ → Type 0
 IsLonger held name limit = IfSome held (λ files. IsSomeAnd (file_of name files) (λ whole. limit < length whole))
-
--- bytes are the first of a file: all of it where it is no longer than the limit, else one more than the limit
-pub record IsFront (held : Option (List Named)) (name : List ℕ) (limit : ℕ) (bytes : List ℕ) : Type 0 where
-  pub front : IfSome held (λ files. IsSomeAnd (file_of name files) (λ whole. bytes ≡ take (limit + 1) whole))
-  pub most : length bytes ≤ limit + 1

@@ -1,8 +1,7 @@
 -- What is said for an answer: the status of the program, and the texts on its two outputs.
-use Rattle.std.specs.Prelude.{◌≡◌, ℕ, ◌⊎◌, List, [], slice_index_or, Option}
+use Rattle.std.specs.Prelude.{ℕ, ◌≡◌, ◌⊎◌, List, [], slice_index_or, Option}
 use Rattle.std.specs.Io.KnownBytes.{Appends}
 use Rattle.p10_base.specs.declared.span.Span.{Span}
-use Rattle.p10_base.specs.declared.report.Family.TheVariants.{S}
 use Rattle.p10_base.specs.declared.report.Refusal.{Refusal}
 use Rattle.p10_base.specs.Gathered.{Gathered}
 use Rattle.p10_world.specs.Sink.{TakesFront}
@@ -13,6 +12,10 @@ use Rattle.p10_top.specs.declared.answer.Answer.{Answer}
 use Rattle.p10_top.specs.declared.answer.Answer.TheVariants.{AbsentSource, Refused, SourcesOver, AbsentCertificate, Unexpanded, ExpansionOver, NotBuilt, CertificateTooLong, BadCertificate, Failing, Accepted, ReadFault, NoMemory}
 use Rattle.p10_top.specs.Command.{Names, IsVerify}
 use Rattle.p10_top.specs.Answers.{Seen, IsRight}
+use Rattle.p10_base.specs.Codes.{subset_refusal}
+use Rattle.p10_base.specs.declared.codes.SubsetCode.TheVariants as code
+use Rattle.p10_base.specs.declared.report.TheConstants.Limit.{CERTIFICATE_BYTES}
+use Rattle.p10_base.specs.Words.{Text}
 
 -- the status of an answer
 abbrev pub status_of : Answer → ℕ
@@ -36,7 +39,7 @@ beginning = record { file = 0; start = 0; end = 0 }
 
 -- the refusal S0 of sources that are no program that can be verified yet
 abbrev pub not_built : Refusal
-not_built = record { family = S; number = 0; span = beginning }
+not_built = subset_refusal code.NotBuilt beginning
 
 -- the text on the output, where the sources are these
 abbrev pub out_text : Gathered → Answer → List ℕ
@@ -53,7 +56,7 @@ err_text names sources AbsentCertificate = absent_line names.certificate
 err_text names sources (Unexpanded refusal) = refusal_line sources refusal
 err_text names sources (ExpansionOver limit) = limit_line limit
 err_text names sources NotBuilt = refusal_line sources not_built
-err_text names sources CertificateTooLong = limit_line (record { number = 10 })
+err_text names sources CertificateTooLong = limit_line CERTIFICATE_BYTES
 err_text names sources (BadCertificate line) = bad_certificate_line line
 err_text names sources ReadFault = read_fault_line
 err_text names sources NoMemory = out_of_memory_line
@@ -74,7 +77,7 @@ abbrev pub saying_of : Names → Gathered → Answer → Saying
 saying_of names sources answer = record { status = status_of answer; out = out_text sources answer; err = err_text names sources answer }
 
 -- no command has these words
-abbrev pub IsNoCommand : List (List ℕ) → Type 0
+abbrev pub IsNoCommand : List Text → Type 0
 IsNoCommand words = (names : Names) → IsVerify words names → ⊥
 
 -- something is said for a right answer to `verify` with these names
@@ -85,7 +88,7 @@ pub record SaysRight (names : Names) (seen : Seen) (saying : Saying) : Type 0 wh
   pub said : saying ≡ saying_of names sources answer
 
 -- what may be said to a command line
-abbrev pub MaySay : List (List ℕ) → Seen → Saying → Type 0
+abbrev pub MaySay : List Text → Seen → Saying → Type 0
 MaySay words seen saying = (IsNoCommand words × (saying ≡ usage_saying)) ⊎ ((names : Names) × IsVerify words names × SaysRight names seen saying)
 
 -- both outputs took all of their texts
@@ -99,27 +102,14 @@ pub record BothTakeFronts (out_old out_new err_old err_new : Option (List ℕ)) 
   pub on_err : TakesFront err_old err_new err
 
 -- the status and both texts of something that may be said were given, and nothing else
-pub record Told (words : List (List ℕ)) (seen : Seen) (out_old out_new err_old err_new : Option (List ℕ)) (status : ℕ) : Type 0 where
+pub record Told (words : List Text) (seen : Seen) (out_old out_new err_old err_new : Option (List ℕ)) (status : ℕ) : Type 0 where
   pub saying : Saying
   pub may : MaySay words seen saying
   pub status_is : status ≡ saying.status
   pub taken : BothTake out_old out_new err_old err_new saying.out saying.err
 
 -- each output has taken a front of something that may be said
-pub record Stopped (words : List (List ℕ)) (seen : Seen) (out_old out_new err_old err_new : Option (List ℕ)) : Type 0 where
+pub record Stopped (words : List Text) (seen : Seen) (out_old out_new err_old err_new : Option (List ℕ)) : Type 0 where
   pub saying : Saying
   pub may : MaySay words seen saying
-  pub taken : BothTakeFronts out_old out_new err_old err_new saying.out saying.err
-
--- the status and both texts of a right answer to `verify` with these names were given, and nothing else
-pub record ToldFor (names : Names) (seen : Seen) (out_old out_new err_old err_new : Option (List ℕ)) (status : ℕ) : Type 0 where
-  pub saying : Saying
-  pub may : SaysRight names seen saying
-  pub status_is : status ≡ saying.status
-  pub taken : BothTake out_old out_new err_old err_new saying.out saying.err
-
--- each output has taken a front of what is said for a right answer to `verify` with these names
-pub record StoppedFor (names : Names) (seen : Seen) (out_old out_new err_old err_new : Option (List ℕ)) : Type 0 where
-  pub saying : Saying
-  pub may : SaysRight names seen saying
   pub taken : BothTakeFronts out_old out_new err_old err_new saying.out saying.err

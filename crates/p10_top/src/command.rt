@@ -2,7 +2,8 @@
 
 ghost use Rattle.std.specs.Prelude.{◌≡◌, ◌≤◌, ◌<◌, length, map, string_bytes, ◌++◌, IfOk, OnOk, IfSome, IfNone, option_map};
 ghost use Rattle.std.specs.List.{list_all};
-ghost use Rattle.p10_top.specs.Command.{is_file_name, directories_in, directories_of, rest_of, options_of, verify_of, IsVerify, Names, names_of};
+ghost use Rattle.p10_top.specs.Command.{is_file_name, IsVerify, Names, directories_in};
+ghost use Rattle.p10_top.specs.private.CommandReading.{directories_of, rest_of, options_of, verify_of, names_of};
 
 use std::alloc::{AllocError, Global};
 
@@ -94,7 +95,7 @@ fn push_directories(alloc: Global, word: &str, found: &mut Vec<String>) -> Resul
 }
 
 /// The command whose words behind the option `--include` are these.
-#[tactic(auto, unfolding(crate::specs::Command::rest_of))]
+#[tactic(auto, unfolding(crate::specs::private::CommandReading::rest_of))]
 fn read_rest<'w>(include: Option<&'w str>, words: &'w [String]) -> Option<Verify<'w>>
     ensures { option_map names_of result ≡ rest_of (directories_of (option_map (λ word. word.now) include.entry)) (map string_bytes words.now) }
 {
@@ -117,7 +118,7 @@ fn read_rest<'w>(include: Option<&'w str>, words: &'w [String]) -> Option<Verify
 }
 
 /// The command whose words behind its name are these.
-#[tactic(auto, unfolding(crate::specs::Command::options_of))]
+#[tactic(auto, unfolding(crate::specs::private::CommandReading::options_of))]
 fn read_options(words: &[String]) -> Option<Verify<'_>>
     ensures { option_map names_of result ≡ options_of (map string_bytes words.now) }
 {
@@ -134,7 +135,7 @@ fn read_options(words: &[String]) -> Option<Verify<'_>>
 }
 
 /// The same as `read`, but for the number of words, stated by the reading function on lists.
-#[tactic(auto, unfolding(crate::specs::Command::verify_of))]
+#[tactic(auto, unfolding(crate::specs::private::CommandReading::verify_of))]
 fn parsed(words: &[String]) -> Option<Verify<'_>>
     ensures { option_map names_of result ≡ verify_of (map string_bytes words.now) }
 {

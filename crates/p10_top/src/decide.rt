@@ -2,8 +2,8 @@
 
 ghost use Rattle.std.specs.Prelude.{◌≡◌, ◌≤◌, ◌<◌, length, IfOk, IsErrOf};
 ghost use Rattle.p10_world.specs.Faults.{Rose};
-ghost use Rattle.p10_top.specs.Command.{names_of};
-ghost use Rattle.p10_top.specs.Deciding.{Decides, decision_without};
+ghost use Rattle.p10_top.specs.private.CommandReading.{names_of};
+ghost use Rattle.p10_top.specs.private.Deciding.{Decides, decision_without};
 
 use crate::answer::Answer;
 use crate::command::{Verify, directories};

@@ -3,25 +3,25 @@
 ghost use Rattle.std.specs.Prelude.{◌≡◌, ◌≤◌, ◌<◌, length, map, IfOk};
 ghost use Rattle.p10_base.specs.Gathered.{count_of};
 ghost use Rattle.p10_expand.specs.Gathering.{HaveWords};
-ghost use Rattle.p10_expand.specs.Steps.{IsExpansion};
-ghost use Rattle.p10_lex.specs.Pieces.{seen};
+ghost use Rattle.p10_expand.specs.Answers.{IsExpansion};
+ghost use Rattle.p10_base.specs.Words.{plain_word};
 ghost use Rattle.p10_top.specs.Answers.{place_of};
-ghost use Rattle.p10_top.specs.Judging.{AreJudged, IsJudged, IsWeighed, JudgedPlace};
+ghost use Rattle.p10_top.specs.private.Judging.{AreJudged, IsJudged, IsWeighed, JudgedPlace};
 
 use crate::answer::Answer;
-use p10_base::{Sources, Span, Word};
+use p10_base::{Limit, Sources, Span, Word};
 use p10_expand::{ExpandFault, Expanded, expand};
 use p10_first::{Condition, Program, certificate, failing};
 use std::alloc::{AllocError, Global};
 
 /// The most bytes of a certificate.
-pub const CERTIFICATE_LIMIT: u64 = 8_388_608;
+pub const CERTIFICATE_LIMIT: u64 = Limit::MOST_CERTIFICATE_BYTES;
 
 /// Where a condition is reported: at the word `return` for the returned value, and else at `main`.
 #[tactic(auto, using(crate::proofs::Sources::place_seen))]
 fn place(words: &[Word<'_>], condition: Condition) -> Span
     requires { 4 ≤ length words.now }
-    ensures { result ≡ place_of (map seen words.now) condition }
+    ensures { result ≡ place_of (map plain_word words.now) condition }
 {
     match condition {
         Condition::K5 => words[words.len() - 4].at,
@@ -37,7 +37,7 @@ fn weigh(
     certificate: &[u8],
 ) -> Result<Answer, AllocError>
     requires { 4 ≤ length words.now }
-    ensures { IfOk result (IsWeighed (map seen words.now) program.now certificate.now) }
+    ensures { IfOk result (IsWeighed (map plain_word words.now) program.now certificate.now) }
 {
     if certificate.len() as u64 > CERTIFICATE_LIMIT {
         return Ok(Answer::CertificateTooLong);
@@ -57,7 +57,7 @@ fn weigh(
 /// # Errors
 /// Want of memory alone.
 fn judge_words(alloc: Global, words: &[Word<'_>], certificate: &[u8]) -> Result<Answer, AllocError>
-    ensures { IfOk result (AreJudged (map seen words.now) certificate.now) }
+    ensures { IfOk result (AreJudged (map plain_word words.now) certificate.now) }
 {
     match p10_first::read(alloc, words)? {
         Some(program) => weigh(alloc, words, &program, certificate),

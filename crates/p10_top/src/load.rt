@@ -3,7 +3,7 @@
 ghost use Rattle.std.specs.Prelude.{◌≡◌, ◌+◌, ◌-◌, ◌^◌, ◌<◌, ◌≤◌, IfOk, IfSome, IfNone, IsErrOf};
 ghost use Rattle.p10_world.specs.Faults.{Rose};
 ghost use Rattle.p10_world.specs.Files.{Lacks};
-ghost use Rattle.p10_top.specs.Loading.{IsFront};
+ghost use Rattle.p10_top.specs.private.Deciding.{IsFront};
 
 use p10_world::{FileFault, Files};
 use std::alloc::{AllocError, AllocFailed, Global};

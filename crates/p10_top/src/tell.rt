@@ -2,28 +2,24 @@
 
 ghost use Rattle.std.specs.Prelude.{◌⊎◌, ◌≤◌, OnErr, OnOk};
 ghost use Rattle.p10_world.specs.Faults.{Rose};
-ghost use Rattle.p10_top.specs.Command.{names_of};
-ghost use Rattle.p10_top.specs.Deciding.{CanBeTold};
+ghost use Rattle.p10_top.specs.private.CommandReading.{names_of};
+ghost use Rattle.p10_top.specs.private.Deciding.{CanBeTold};
 ghost use Rattle.p10_top.specs.Told.{BothTake, BothTakeFronts, err_text, out_text};
 
 use crate::answer::Answer;
 use crate::command::Verify;
-use p10_base::{Family, Limit, Refusal, Sources, Span};
+use p10_base::{Limit, Refusal, Sources, Span, SubsetCode};
 use p10_report::{
     put_absent, put_accepted, put_bad_certificate, put_failing, put_limit, put_out_of_memory,
     put_read_fault, put_refusal,
 };
 use p10_world::{Sink, SinkFault};
 
-/// A source that is no program that can be verified yet is refused at its beginning.
-const NOT_BUILT: Refusal = Refusal {
-    family: Family::S,
-    number: 0,
-    span: Span {
-        file: 0,
-        start: 0,
-        end: 0,
-    },
+/// Where sources are refused that are no program that can be verified yet.
+const BEGINNING: Span = Span {
+    file: 0,
+    start: 0,
+    end: 0,
 };
 
 /// Writes both texts of an answer.
@@ -51,8 +47,12 @@ pub fn tell<O: Sink, E: Sink>(
         Answer::AbsentCertificate => put_absent(err, verify.certificate),
         Answer::Unexpanded(refusal) => put_refusal(err, sources, refusal),
         Answer::ExpansionOver(limit) => put_limit(err, *limit),
-        Answer::NotBuilt => put_refusal(err, sources, &NOT_BUILT),
-        Answer::CertificateTooLong => put_limit(err, Limit { number: 10 }),
+        Answer::NotBuilt => put_refusal(
+            err,
+            sources,
+            &Refusal::subset(SubsetCode::NotBuilt, BEGINNING),
+        ),
+        Answer::CertificateTooLong => put_limit(err, Limit::CERTIFICATE_BYTES),
         Answer::BadCertificate(line) => put_bad_certificate(err, *line),
         Answer::Failing(condition, at) => put_failing(out, sources, condition.number(), *at),
         Answer::Accepted(bounds) => put_accepted(out, bounds),

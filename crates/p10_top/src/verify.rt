@@ -2,9 +2,8 @@
 
 ghost use Rattle.std.specs.Prelude.{◌≡◌, ◌≢◌, ◌⊎◌, ◌≤◌, ◌<◌, length};
 ghost use Rattle.p10_world.specs.Faults.{Rose};
-ghost use Rattle.p10_top.specs.Command.{names_of};
-ghost use Rattle.p10_top.specs.Deciding.{Answered};
-ghost use Rattle.p10_top.specs.Told.{ToldFor, StoppedFor};
+ghost use Rattle.p10_top.specs.private.CommandReading.{names_of};
+ghost use Rattle.p10_top.specs.private.Deciding.{Answered, ToldFor, StoppedFor};
 
 use crate::answer::Answer;
 use crate::command::Verify;

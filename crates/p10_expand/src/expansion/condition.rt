@@ -3,15 +3,15 @@
 ghost use Rattle.std.specs.Prelude.{List, ◌≡◌, ◌+◌, ◌≤◌, length, IfOk, IfSome};
 ghost use Rattle.p10_macros.specs.Answers.{table_of};
 ghost use Rattle.p10_expand.specs.Conditionals.{is_defined, asked, asked_inside, asked_at, answered, digit_at, refusal_of, Judges, JudgesCondition};
-ghost use Rattle.p10_macros.specs.Uses.{Sourced, plain_words};
+ghost use Rattle.p10_macros.specs.Uses.{Sourced, sourced_words};
 ghost use Rattle.p10_macros.specs.Endings.{Gives};
-ghost use Rattle.p10_expand.specs.Judging.{as_asked, judged_by, Decides};
-ghost use Rattle.p10_expand.specs.Running.{PutsAnswer};
+ghost use Rattle.p10_expand.specs.private.Judging.{as_asked, judged_by, Decides};
+ghost use Rattle.p10_expand.specs.private.Running.{PutsAnswer};
 
 use crate::expansion::digits::Digits;
 use crate::expansion::fault::ExpandFault;
-use p10_base::{Family, Kind, Limit, Refusal, Span, Word};
-use p10_direct::{names, punctuates, truth};
+use p10_base::{DirectiveCode, Kind, Limit, Refusal, Span, Word};
+use p10_direct::truth;
 use p10_macros::{Macros, ReplaceFault, Replaced, replace};
 use std::alloc::{AllocError, Global};
 
@@ -40,32 +40,21 @@ pub fn judge<'s>(
     match replace(alloc, macros, &asked, left) {
         Ok(replaced) => Ok(judge_replaced(whole, &replaced)),
         Err(ReplaceFault::Refused(refusal)) => Ok(Verdict::Fails(refusal)),
-        Err(ReplaceFault::TooMany) => Err(ExpandFault::Over(Limit { number: 4 })),
+        Err(ReplaceFault::TooMany) => Err(ExpandFault::Over(Limit::EXPANDED_WORDS)),
         Err(ReplaceFault::Memory) => Err(ExpandFault::Memory),
-    }
-}
-
-/// The refusal with this number among those of directives and macros.
-pub fn refusal(number: u8, at: Span) -> Refusal
-    ensures { result ≡ refusal_of number at }
-{
-    Refusal {
-        family: Family::D,
-        number,
-        span: at,
     }
 }
 
 /// What comes of a condition after replacement.
 fn judge_replaced(whole: Span, replaced: &Replaced<'_>) -> Verdict
-    ensures { (made : List Sourced) → plain_words made ≡ replaced.now.words.items → Judges whole (Gives made replaced.now.left) (judged_by result) }
+    ensures { (made : List Sourced) → sourced_words made ≡ replaced.now.words.items → Judges whole (Gives made replaced.now.left) (judged_by result) }
 {
     match truth(replaced.words.as_slice()) {
         Some(truth) => Verdict::Holds {
             truth,
             left: replaced.left,
         },
-        None => Verdict::Fails(refusal(3, whole)),
+        None => Verdict::Fails(Refusal::directive(DirectiveCode::BadCondition, whole)),
     }
 }
 
@@ -140,7 +129,7 @@ fn asked_name<'s>(word: &Word<'s>, words: &[Word<'s>]) -> Option<(&'s [u8], usiz
     ensures value { as_asked result ≡ asked_at word.now words.now }
     ensures few { IfSome result (λ found. found.1 ≤ length words.now) }
 {
-    if names(word, b"defined") {
+    if word.is_name(b"defined") {
         asked_behind(words)
     } else {
         None
@@ -157,7 +146,7 @@ fn asked_behind<'s>(words: &[Word<'s>]) -> Option<(&'s [u8], usize)>
         [word, others @ ..] => {
             if matches!(word.kind, Kind::Name) {
                 Some((word.text, 1))
-            } else if punctuates(word, b"(") {
+            } else if word.is_punctuator(b"(") {
                 inside(others)
             } else {
                 None
@@ -173,7 +162,7 @@ fn inside<'s>(words: &[Word<'s>]) -> Option<(&'s [u8], usize)>
 {
     match words {
         [name, closing, ..] => {
-            if matches!(name.kind, Kind::Name) && punctuates(closing, b")") {
+            if matches!(name.kind, Kind::Name) && closing.is_punctuator(b")") {
                 Some((name.text, 3))
             } else {
                 None

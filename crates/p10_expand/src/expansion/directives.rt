@@ -3,14 +3,14 @@
 ghost use Rattle.std.specs.Prelude.{◌≡◌, ◌<◌, OnOk, IfOk};
 ghost use Rattle.p10_base.specs.Gathered.{candidate_of, count_of};
 ghost use Rattle.p10_direct.specs.Form.{plain, plain_macro, BeginsWithHash};
-ghost use Rattle.p10_direct.specs.Reading.{inside};
+ghost use Rattle.p10_lex.specs.Literals.{inside};
 ghost use Rattle.p10_expand.specs.Headers.{header_of};
 ghost use Rattle.p10_expand.specs.Skips.{stand_of_group, stand_of_else};
 ghost use Rattle.p10_expand.specs.Obeying.{Does, ConditionGives, DefineGives, DefinitionGives, included, is_some_text, operand_place, mark_word, with_words};
 ghost use Rattle.p10_expand.specs.Obeying as obeying;
-ghost use Rattle.p10_expand.specs.Steps.{Steps, EntersBelow, Lies, inner_of, inner_behind, state_of, file_of, next_of};
+ghost use Rattle.p10_expand.specs.private.Steps.{Steps, EntersBelow, Lies, inner_of, inner_behind, state_of, file_of, next_of};
 
-use crate::expansion::condition::{Verdict, defines, judge, refusal};
+use crate::expansion::condition::{Verdict, defines, judge};
 use crate::expansion::digits::Digits;
 use crate::expansion::fault::ExpandFault;
 use crate::expansion::items::among;
@@ -19,13 +19,14 @@ use crate::expansion::state::State;
 use crate::expansion::step::Step;
 use crate::expansion::texts::File;
 use crate::headers::built_in;
-use p10_base::{Kind, Limit, Sources, Span, Word};
-use p10_direct::{Directive, Macro, between, whole};
+use p10_base::{DirectiveCode, Kind, Limit, Refusal, Sources, Span, Word};
+use p10_direct::{Directive, Macro, whole};
+use p10_lex::between;
 use p10_macros::Effect;
 use std::alloc::{AllocError, Global};
 
 /// The most macros that are defined at once, without those of built-in headers (M6).
-const MOST_MACROS: usize = 8192;
+const MOST_MACROS: usize = Limit::MOST_MACROS as usize;
 
 /// Obeys the directive of a line that stands there.
 pub fn obey<'w, 's>(
@@ -145,7 +146,7 @@ fn include<'w, 's>(
     ensures gives { next_of result state.now ≡ included sources.now line.now name.now (state_of state.now) (candidate_of sources.now from name.now angle) }
 {
     match sources.candidate(from, name, angle) {
-        None => Step::Refused(refusal(5, operand(line))),
+        None => Step::Refused(Refusal::directive(DirectiveCode::IncludeNotFound, operand(line))),
         Some(number) => {
             if state.once.contains(sources.name(number).as_bytes()) {
                 Step::On(Stand::Obeyed)
@@ -232,13 +233,16 @@ fn define_macro<'w, 's>(
     match state.macros.define(made, built_in)? {
         Effect::New => {
             if MOST_MACROS < state.macros.own() {
-                Err(ExpandFault::Over(Limit { number: 6 }))
+                Err(ExpandFault::Over(Limit::MACROS))
             } else {
                 Ok(Step::On(Stand::Obeyed))
             }
         }
         Effect::Same => Ok(Step::On(Stand::Obeyed)),
-        Effect::Other => Ok(Step::Refused(refusal(4, operand(line)))),
+        Effect::Other => Ok(Step::Refused(Refusal::directive(
+            DirectiveCode::BadDefinition,
+            operand(line),
+        ))),
     }
 }
 

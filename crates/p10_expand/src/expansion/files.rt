@@ -3,7 +3,7 @@
 ghost use Rattle.std.specs.Prelude.{◌<◌};
 ghost use Rattle.p10_base.specs.Gathered.{count_of};
 ghost use Rattle.p10_expand.specs.Expands.{FileGives, IncludeGives, counted};
-ghost use Rattle.p10_expand.specs.Steps.{CountsTo, Reaches, AreTexts, layout_of, state_of};
+ghost use Rattle.p10_expand.specs.private.Steps.{CountsTo, Reaches, AreTexts, layout_of, state_of};
 
 use crate::expansion::fault::ExpandFault;
 use crate::expansion::line::expand_line;
@@ -50,7 +50,7 @@ pub fn expand_file<'w, 's>(
             Step::Refused(refusal) => return Ok(Some(refusal)),
             Step::Enter { number, built_in } => {
                 if nested == 0 {
-                    return Err(ExpandFault::Over(Limit { number: 3 }));
+                    return Err(ExpandFault::Over(Limit::NESTED_INCLUDES));
                 }
                 let within = expand_file(alloc, texts, state, number, built_in, nested - 1)?;
                 match within {
@@ -70,7 +70,7 @@ fn count<'w, 's>(state: &mut State<'w, 's>, built_in: bool, words: usize) -> Res
     if !built_in {
         let words = words as u64;
         if state.left < words {
-            return Err(ExpandFault::Over(Limit { number: 4 }));
+            return Err(ExpandFault::Over(Limit::EXPANDED_WORDS));
         }
         state.left -= words;
     }

@@ -6,7 +6,7 @@ ghost use Rattle.p10_direct.specs.Balance.{mark_of};
 ghost use Rattle.p10_expand.specs.Guards.{guarded_by_ifndef, guarded_by_if, guarded_name, defines_as_nothing, closes_last, is_lone_endif, ends_with_endif, guards, is_guarded};
 
 use p10_base::{Kind, Word};
-use p10_direct::{Line, Mark, names, part_of, punctuates};
+use p10_direct::{Line, Mark, part_of};
 
 /// Whether a file with these lines begins with an include guard: `#ifndef X` or `#if !defined(X)`, then `#define X` with an
 /// empty list; the `#endif` of that conditional, which has no `#elif` and no `#else`, is the last line.
@@ -59,7 +59,7 @@ fn asked_name<'s>(line: &[Word<'s>]) -> Option<&'s [u8]>
 fn asked_by_ifndef<'s>(word: &Word<'s>, name: &Word<'s>) -> Option<&'s [u8]>
     ensures { option_copied result ≡ guarded_by_ifndef word.now name.now }
 {
-    if names(word, b"ifndef") && matches!(name.kind, Kind::Name) {
+    if word.is_name(b"ifndef") && matches!(name.kind, Kind::Name) {
         Some(name.text)
     } else {
         None
@@ -77,12 +77,12 @@ fn asked_by_if<'s>(
 ) -> Option<&'s [u8]>
     ensures { option_copied result ≡ guarded_by_if word.now bang.now asks.now opening.now name.now closing.now }
 {
-    if names(word, b"if")
-        && punctuates(bang, b"!")
-        && names(asks, b"defined")
-        && punctuates(opening, b"(")
+    if word.is_name(b"if")
+        && bang.is_punctuator(b"!")
+        && asks.is_name(b"defined")
+        && opening.is_punctuator(b"(")
         && matches!(name.kind, Kind::Name)
-        && punctuates(closing, b")")
+        && closing.is_punctuator(b")")
     {
         Some(name.text)
     } else {
@@ -95,7 +95,7 @@ fn defines_nothing(name: &[u8], line: &[Word<'_>]) -> bool
     ensures { result ≡ defines_as_nothing name.now line.now }
 {
     match line {
-        [_, word, defined] => names(word, b"define") && names(defined, name),
+        [_, word, defined] => word.is_name(b"define") && defined.is_name(name),
         _ => false,
     }
 }
@@ -115,7 +115,7 @@ fn lone_endif(line: &Line<'_, '_>) -> bool
     ensures { result ≡ is_lone_endif (piece_of line.now) }
 {
     match line {
-        Line::Directive([_, word]) => names(word, b"endif"),
+        Line::Directive([_, word]) => word.is_name(b"endif"),
         _ => false,
     }
 }

@@ -2,8 +2,8 @@
 
 ghost use Rattle.std.specs.Prelude.{◌≡◌, ◌<◌, length, IfOk, OnOk};
 ghost use Rattle.p10_expand.specs.Items.{lines_of, item_name, is_among, given_after, new_words};
-ghost use Rattle.p10_expand.specs.Steps.{texts_in};
-ghost use Rattle.p10_expand.specs.Running.{PutsItem};
+ghost use Rattle.p10_expand.specs.private.Steps.{texts_in};
+ghost use Rattle.p10_expand.specs.private.Running.{PutsItem};
 
 use p10_base::Word;
 use p10_direct::split_line;

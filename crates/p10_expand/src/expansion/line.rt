@@ -2,6 +2,8 @@
 
 ghost use Rattle.std.specs.Prelude.{◌≡◌, ◌+◌, ◌<◌, ◌≤◌, ◌^◌, OnOk, IfOk};
 ghost use Rattle.p10_base.specs.Gathered.{count_of};
+ghost use Rattle.p10_base.specs.Codes.{directive_refusal};
+ghost use Rattle.p10_direct.specs.Directives.{place_of};
 ghost use Rattle.p10_direct.specs.Lines.{piece_of, words_of, DirectiveLine};
 ghost use Rattle.p10_direct.specs.Balance.{mark_of};
 ghost use Rattle.p10_direct.specs.Form.{BeginsWithHash};
@@ -9,10 +11,9 @@ ghost use Rattle.p10_expand.specs.Includes.{Begins};
 ghost use Rattle.p10_expand.specs.Skips.{is_obeyed, stand_behind};
 ghost use Rattle.p10_expand.specs.Obeying.{LineGives, DirectiveGives, ObeyedGives, listed, breaks_at};
 ghost use Rattle.p10_expand.specs.Before.{ComeInOrder};
-ghost use Rattle.p10_expand.specs.Steps.{Steps, state_of, file_of, KnowsBalance, EntersBelow, inner_of, inner_behind};
+ghost use Rattle.p10_expand.specs.private.Steps.{Steps, state_of, file_of, KnowsBalance, EntersBelow, inner_of, inner_behind};
 
 use crate::expanded::Obeyed;
-use crate::expansion::condition::refusal;
 use crate::expansion::digits::Digits;
 use crate::expansion::directives::obey;
 use crate::expansion::fault::ExpandFault;
@@ -22,7 +23,7 @@ use crate::expansion::stand::Stand;
 use crate::expansion::state::State;
 use crate::expansion::step::Step;
 use crate::expansion::texts::File;
-use p10_base::{ListBuf, Sources, Word};
+use p10_base::{DirectiveCode, ListBuf, Refusal, Sources, Word};
 use p10_direct::{DirectFault, Line, Mark, directive, part_of, whole};
 use std::alloc::{AllocError, Global};
 
@@ -92,10 +93,18 @@ fn expand_directive<'w, 's>(
         obey_line(alloc, sources, digits, file, state, stand, place, line)
     } else if breaks(file, place) {
         list(alloc, file, state, place, line)?;
-        Ok(Step::Refused(refusal(2, whole(line))))
+        Ok(Step::Refused(unbalanced(line)))
     } else {
         Ok(Step::On(behind(stand, part)))
     }
+}
+
+/// The refusal of a line whose conditional isn't balanced.
+fn unbalanced(line: &[Word<'_>]) -> Refusal
+    requires { BeginsWithHash line.now }
+    ensures { result ≡ directive_refusal DirectiveCode.UnbalancedConditional (place_of line.now) }
+{
+    Refusal::directive(DirectiveCode::UnbalancedConditional, whole(line))
 }
 
 /// Obeys a line that is listed.
@@ -119,7 +128,7 @@ fn obey_line<'w, 's>(
     match directive(alloc, line) {
         Ok(read) => {
             if breaks(file, place) {
-                Ok(Step::Refused(refusal(2, whole(line))))
+                Ok(Step::Refused(unbalanced(line)))
             } else {
                 obey(alloc, sources, digits, file, state, stand, line, read)
             }

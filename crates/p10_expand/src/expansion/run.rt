@@ -2,9 +2,9 @@
 
 ghost use Rattle.std.specs.Prelude.{◌≡◌, ◌++◌, ◌≤◌, length, take, OnOk, IfOk};
 ghost use Rattle.p10_expand.specs.Obeying.{words_before, RunGives, TextGives};
-ghost use Rattle.p10_expand.specs.Steps.{Steps, Stays, state_of};
+ghost use Rattle.p10_expand.specs.private.Steps.{Steps, Stays, state_of};
 ghost use Rattle.p10_expand.specs.Before.{ComeInOrder};
-ghost use Rattle.p10_expand.specs.Running.{GivesBefore};
+ghost use Rattle.p10_expand.specs.private.Running.{GivesBefore};
 
 use crate::expansion::fault::ExpandFault;
 use crate::expansion::items::new_items;
@@ -53,7 +53,7 @@ fn expand_text<'w, 's>(
             expand_before(alloc, state, words, refusal.span)?;
             Ok(Step::Refused(refusal))
         }
-        Err(ReplaceFault::TooMany) => Err(ExpandFault::Over(Limit { number: 4 })),
+        Err(ReplaceFault::TooMany) => Err(ExpandFault::Over(Limit::EXPANDED_WORDS)),
         Err(ReplaceFault::Memory) => Err(ExpandFault::Memory),
     }
 }

@@ -1,8 +1,7 @@
 //! What is known between two lines.
 
 use crate::expanded::Obeyed;
-use p10_base::{ListBuf, Word};
-use p10_direct::Names;
+use p10_base::{ListBuf, NameList, Word};
 use p10_macros::Macros;
 use std::alloc::Global;
 
@@ -12,7 +11,7 @@ pub struct State<'w, 's> {
     /// The macros that are defined.
     pub macros: Macros<'w, 's>,
     /// The names of the files that are included once only.
-    pub once: Names<'s>,
+    pub once: NameList<'s>,
     /// The names of the items of built-in headers that were given.
     pub given: Vec<&'s [u8]>,
     /// The words of the root so far.
@@ -26,7 +25,7 @@ pub struct State<'w, 's> {
 impl<'w, 's> State<'w, 's> {
     ghost use Rattle.std.specs.Prelude.{◌≡◌};
     ghost use Rattle.p10_expand.specs.Expands.{fresh};
-    ghost use Rattle.p10_expand.specs.Steps.{state_of};
+    ghost use Rattle.p10_expand.specs.private.Steps.{state_of};
 
     /// The state in which a root begins.
     pub fn fresh(alloc: Global, obeyed: ListBuf<Obeyed<'s>>, left: u64) -> State<'w, 's>
@@ -34,7 +33,7 @@ impl<'w, 's> State<'w, 's> {
     {
         State {
             macros: Macros::new(alloc),
-            once: Names::new(alloc),
+            once: NameList::new(alloc),
             given: Vec::new(alloc),
             words: Vec::new(alloc),
             obeyed,

@@ -1,7 +1,7 @@
 use Rattle.std.proofs.Common.{◌≡◌, [], map, drop, reverse}
 use Rattle.p10_direct.specs.Lines.{piece_of}
 use Rattle.p10_direct.specs.Balance.{mark_of}
-use Rattle.p10_direct.specs.Breaks.{stray_from}
+use Rattle.p10_direct.specs.private.Breaks.{stray_from}
 use Rattle.p10_direct.proofs.balance.first_stray.Given as goal
 
 -- the first stray line of all is the first one from here on

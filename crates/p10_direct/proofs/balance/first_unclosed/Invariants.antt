@@ -1,7 +1,7 @@
 use Rattle.std.proofs.Common.{◌≡◌, ◌+◌, ◌≤◌, length, map, drop}
 use Rattle.p10_direct.specs.Lines.{piece_of}
 use Rattle.p10_direct.specs.Balance.{mark_of}
-use Rattle.p10_direct.specs.Breaks.{read_back}
+use Rattle.p10_direct.specs.private.Breaks.{read_back}
 use Rattle.p10_direct.proofs.Breaking.{with_count}
 use Rattle.p10_direct.proofs.balance.first_unclosed.Given as goal
 

@@ -1,6 +1,6 @@
 use Rattle.std.proofs.Common.{◌≡◌, ◌+◌, ◌-◌, ◌*◌, ◌≤◌}
-use Rattle.p10_direct.specs.Climbing.{values, climb, behind_left}
-use Rattle.p10_direct.specs.Parts.{from, found_of}
+use Rattle.p10_direct.specs.private.Climbing.{values, climb, behind_left}
+use Rattle.p10_direct.specs.private.Parts.{from, found_of}
 use Rattle.p10_direct.proofs.condition.+condition.Given as goal
 
 abbrev pub decreases-read : goal.decreases-read

@@ -1,5 +1,5 @@
 use Rattle.std.proofs.Common.{◌≡◌, ◌-◌, ◌≤◌, [], length, drop}
-use Rattle.p10_direct.specs.Reading.{behind_parameters}
+use Rattle.p10_direct.specs.private.Reading.{behind_parameters}
 use Rattle.p10_direct.proofs.definition.read_further.Given as goal
 
 -- what is left goes on with the parameters so far

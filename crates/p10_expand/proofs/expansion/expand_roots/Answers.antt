@@ -1,6 +1,6 @@
 use Rattle.std.proofs.Common.{◌<◌, ◌-◌, length, arith}
 use Rattle.std.proofs.lemmas.Result.{err_from_is_err_and}
-use Rattle.p10_expand.specs.Steps.{layout_of, state_of, lists_in}
+use Rattle.p10_expand.specs.private.Steps.{layout_of, state_of, lists_in}
 use Rattle.p10_expand.proofs.Rooting.{root_fails, root_refused, root_goes, one_root_more}
 use Rattle.p10_expand.proofs.expansion.expand_roots.Goals as goal
 

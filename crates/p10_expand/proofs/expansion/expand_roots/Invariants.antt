@@ -1,7 +1,7 @@
 use Rattle.std.proofs.Common.{drop, Result}
 use Rattle.p10_base.specs.declared.report.Limit.{Limit}
 use Rattle.p10_expand.specs.Expands.{Expansion, RootsGive, Expands}
-use Rattle.p10_expand.specs.Steps.{layout_of, lists_in}
+use Rattle.p10_expand.specs.private.Steps.{layout_of, lists_in}
 use Rattle.p10_expand.proofs.expansion.expand_roots.Given as goal
 
 -- what comes of the roots that are left is what comes of all

@@ -1,5 +1,5 @@
 use Rattle.std.proofs.Common.{◌≡◌, [], ◌++◌, replicate}
-use Rattle.p10_expand.specs.Steps.{lists_in}
+use Rattle.p10_expand.specs.private.Steps.{lists_in}
 use Rattle.p10_expand.proofs.expansion.refused.Given as goal
 
 abbrev pub invariant-loop : goal.invariant-loop

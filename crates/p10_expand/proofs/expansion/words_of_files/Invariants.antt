@@ -1,5 +1,5 @@
 use Rattle.p10_expand.specs.Expands.{AreWords}
-use Rattle.p10_expand.specs.Steps.{lists_in}
+use Rattle.p10_expand.specs.private.Steps.{lists_in}
 use Rattle.p10_expand.proofs.expansion.words_of_files.Given as goal
 
 abbrev pub invariant-loop-number : goal.invariant-loop-number

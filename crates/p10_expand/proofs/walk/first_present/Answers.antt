@@ -1,6 +1,6 @@
 use Rattle.std.proofs.Common.{arith, rules, subst}
 use Rattle.std.proofs.lemmas.Result.{err_from_is_err_and}
-use Rattle.p10_expand.specs.Standing.{Stands}
+use Rattle.p10_expand.specs.private.Standing.{Stands}
 use Rattle.p10_expand.proofs.Searching.{absent_more, keeps_on, none_found, turn_fails, turn_finds, turn_goes_on}
 use Rattle.p10_expand.proofs.walk.first_present.Goals as goal
 

@@ -1,7 +1,7 @@
 use Rattle.std.proofs.Common.{◌≡◌, ◌≤◌, take}
 use Rattle.std.specs.Prelude.{All}
 use Rattle.p10_expand.specs.Finding.{IsAbsent}
-use Rattle.p10_expand.specs.Standing.{Stands, Keeps}
+use Rattle.p10_expand.specs.private.Standing.{Stands, Keeps}
 use Rattle.p10_expand.proofs.walk.first_present.Given as goal
 
 abbrev pub invariant-loop-place : goal.invariant-loop-place

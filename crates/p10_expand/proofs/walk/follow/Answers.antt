@@ -1,6 +1,6 @@
 use Rattle.std.proofs.Common.{arith, rules, refl, subst, map, string_bytes}
 use Rattle.std.proofs.lemmas.Result.{err_from_is_err_and}
-use Rattle.p10_expand.specs.Standing.{Stands}
+use Rattle.p10_expand.specs.private.Standing.{Stands}
 use Rattle.p10_expand.proofs.Steps.{follow_ends, follow_goes_on, follow_stops, grows_on}
 use Rattle.p10_expand.proofs.walk.follow.Goals as goal
 

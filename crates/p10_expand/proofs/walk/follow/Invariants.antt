@@ -1,6 +1,7 @@
 use Rattle.std.proofs.Common.{◌≡◌, ◌≤◌, ◌+◌, List, ℕ, ◌++◌, drop, map, string_bytes}
 use Rattle.p10_expand.specs.Gathering.{known_at, lines_of}
-use Rattle.p10_expand.specs.Standing.{Stands, Grows, Comes, ComesTo, lines_from, setting}
+use Rattle.p10_expand.specs.private.Standing.{Stands, Grows, Comes, ComesTo, lines_from}
+use Rattle.p10_expand.specs.Setting.{setting}
 use Rattle.p10_expand.proofs.walk.follow.Given as goal
 
 abbrev pub invariant-loop-at : goal.invariant-loop-at

@@ -1,6 +1,7 @@
 use Rattle.std.proofs.Common.{arith, ◌∙◌, rules, subst, map, string_bytes}
 use Rattle.std.proofs.lemmas.List.{length-map}
-use Rattle.p10_expand.specs.Standing.{Stands, setting}
+use Rattle.p10_expand.specs.private.Standing.{Stands}
+use Rattle.p10_expand.specs.Setting.{setting}
 use Rattle.p10_expand.proofs.Steps.{gathers, have_words, turn_absent, turn_comes, turn_ends}
 use Rattle.p10_expand.proofs.RootCount.{gathers_roots}
 use Rattle.p10_expand.proofs.walk.gather.Goals as goal

@@ -1,7 +1,8 @@
 use Rattle.std.proofs.Common.{◌≡◌, ◌≤◌, ◌-◌, ◌++◌, drop, map, string_bytes}
 use Rattle.p10_base.specs.Gathered.{root_count}
 use Rattle.p10_expand.specs.Gathering.{Root}
-use Rattle.p10_expand.specs.Standing.{Stands, Comes, ComesTo, lines_from, setting}
+use Rattle.p10_expand.specs.private.Standing.{Stands, Comes, ComesTo, lines_from}
+use Rattle.p10_expand.specs.Setting.{setting}
 use Rattle.p10_expand.proofs.walk.gather.Given as goal
 
 abbrev pub invariant-loop-root : goal.invariant-loop-root

@@ -1,5 +1,5 @@
 use Rattle.std.proofs.Common.{◌≡◌, ◌≤◌, length}
-use Rattle.p10_first.specs.Runs.{after_run}
+use Rattle.p10_first.specs.private.Runs.{after_run}
 use Rattle.p10_first.specs.Names.{is_word_byte}
 use Rattle.p10_first.proofs.bytes.after_word_bytes.Given as goal
 

@@ -1,5 +1,5 @@
 use Rattle.std.proofs.Common.{◌≡◌, ◌≤◌, length}
-use Rattle.p10_first.specs.Runs.{after_run}
+use Rattle.p10_first.specs.private.Runs.{after_run}
 use Rattle.std.specs.Char.{is_ascii_digit}
 use Rattle.p10_first.proofs.numerals.after_digits.Given as goal
 

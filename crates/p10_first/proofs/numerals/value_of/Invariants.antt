@@ -1,5 +1,5 @@
 use Rattle.std.proofs.Common.{◌≡◌, ◌≤◌, ◌+◌, ◌*◌, ◌^◌, take}
-use Rattle.p10_first.specs.Runs.{value_of}
+use Rattle.p10_first.specs.private.Runs.{value_of}
 use Rattle.p10_first.proofs.numerals.value_of.Given as goal
 
 abbrev pub invariant-loop-byte : goal.invariant-loop-byte

@@ -1,7 +1,7 @@
 use Rattle.std.proofs.Common.{◌≡◌, sym, subst, arith, map}
 use Rattle.std.proofs.lemmas.Result.{IfOk-weaker}
 use Rattle.p10_graph.specs.Components.{AreComponents}
-use Rattle.p10_graph.specs.Searching.{number_at, state_of}
+use Rattle.p10_graph.specs.private.Searching.{number_at, state_of}
 use Rattle.p10_graph.proofs.Found.{found_components}
 use Rattle.p10_graph.proofs.search.components.Goals as goal
 

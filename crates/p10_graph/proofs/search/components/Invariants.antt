@@ -1,5 +1,5 @@
 use Rattle.std.proofs.Common.{◌≡◌, []}
-use Rattle.p10_graph.specs.Searching.{IsSearch, state_of}
+use Rattle.p10_graph.specs.private.Searching.{IsSearch, state_of}
 use Rattle.p10_graph.proofs.search.components.Given as goal
 
 -- what holds between steps; no node is open, and so many nodes were covered

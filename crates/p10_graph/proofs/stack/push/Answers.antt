@@ -1,5 +1,5 @@
 use Rattle.std.proofs.Common.{◌∙◌, ap}
-use Rattle.p10_graph.specs.Searching.{stack_of}
+use Rattle.p10_graph.specs.private.Searching.{stack_of}
 use Rattle.p10_graph.proofs.Places.{stack_push}
 use Rattle.p10_graph.proofs.stack.push.Goals as goal
 

@@ -1,5 +1,5 @@
 use Rattle.std.proofs.Common.{◌≡◌, ◌+◌, length}
-use Rattle.p10_lex.specs.Reading.{mark_at}
+use Rattle.p10_lex.specs.private.Reading.{mark_at}
 use Rattle.p10_lex.proofs.faults.mark_at.Given as goal
 
 abbrev pub invariant-loop-rest : goal.invariant-loop-rest

@@ -1,5 +1,5 @@
 use Rattle.std.proofs.Common.{◌≡◌, length, false}
-use Rattle.p10_lex.specs.Runs.{after_literal}
+use Rattle.p10_lex.specs.private.Runs.{after_literal}
 use Rattle.p10_lex.proofs.literals.after_literal.Given as goal
 
 abbrev pub invariant-loop-rest : goal.invariant-loop-rest

@@ -1,5 +1,5 @@
 use Rattle.std.proofs.Common.{◌≡◌, length}
-use Rattle.p10_lex.specs.Runs.{after_comment}
+use Rattle.p10_lex.specs.private.Runs.{after_comment}
 use Rattle.p10_lex.proofs.runs.after_comment.Given as goal
 
 abbrev pub invariant-loop-rest : goal.invariant-loop-rest

@@ -1,6 +1,6 @@
 use Rattle.std.proofs.Common.{◌≡◌, length}
 use Rattle.p10_lex.specs.Bytes.{is_name_byte}
-use Rattle.p10_lex.specs.Runs.{after_run}
+use Rattle.p10_lex.specs.private.Runs.{after_run}
 use Rattle.p10_lex.proofs.runs.after_name.Given as goal
 
 abbrev pub invariant-loop-rest : goal.invariant-loop-rest

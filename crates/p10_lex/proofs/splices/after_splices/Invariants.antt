@@ -1,5 +1,5 @@
 use Rattle.std.proofs.Common.{◌≡◌, length}
-use Rattle.p10_lex.specs.Runs.{after_splices}
+use Rattle.p10_lex.specs.private.Runs.{after_splices}
 use Rattle.p10_lex.proofs.splices.after_splices.Given as goal
 
 abbrev pub invariant-loop-rest : goal.invariant-loop-rest

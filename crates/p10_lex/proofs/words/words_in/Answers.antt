@@ -2,9 +2,10 @@
 use Rattle.std.proofs.Common.{arith, sym, map}
 use Rattle.std.proofs.lemmas.List.{length-map}
 use Rattle.std.proofs.lemmas.Result.{err_from_is_err_and}
-use Rattle.p10_lex.specs.Pieces.{State, seen}
+use Rattle.p10_lex.specs.Pieces.{State}
 use Rattle.p10_lex.proofs.Stepping.{front_from, is_nil, next_turn, refused_turn, full_turn, last_turn, same_state}
 use Rattle.p10_lex.proofs.words.words_in.Goals as goal
+use Rattle.p10_base.specs.Words.{plain_word}
 
 pub slice_bounds-here-count : goal.slice_bounds-here-count
 slice_bounds-here-count c =
@@ -15,9 +16,9 @@ pub returns-in-Some : goal.returns-in-Some
 returns-in-Some c =
     let s : State = record { place = c.loop-rest.place; line = c.loop-rest.line; tight = c.loop-rest.tight } in
     let front = front_from _ c.loop-rest.line _ c.loop-rest.rest.now _ c.is_include.ensures c.cut_at-piece.ensures c.loop-rest-test.ensures in
-    refused_turn c.args.file c.args.text.now (map seen c.loop-rest.words.items) s c.cut_at-piece.result.0 c.loop-rest.rest.now
+    refused_turn c.args.file c.args.text.now (map plain_word c.loop-rest.words.items) s c.cut_at-piece.result.0 c.loop-rest.rest.now
     c.cut_at-piece.result.1.now c.in-Some.fault c.refused.result c.loop-rest.invariant.bytes
-    (omega (arith, length-map c.loop-rest.words.items seen, c.loop-rest.words.ok.0)) c.loop-rest.invariant.gives front
+    (omega (arith, length-map c.loop-rest.words.items plain_word, c.loop-rest.words.ok.0)) c.loop-rest.invariant.gives front
     (sym c.in-Some.ensures.value) c.refused.ensures
 
 pub returns-in_err-add_word : goal.returns-in_err-add_word
@@ -25,7 +26,7 @@ returns-in_err-add_word c =
     let s : State = record { place = c.loop-rest.place; line = c.loop-rest.line; tight = c.loop-rest.tight } in
     let front = front_from _ c.loop-rest.line _ c.loop-rest.rest.now _ c.is_include.ensures c.cut_at-piece.ensures c.loop-rest-test.ensures in
     let p = err_from_is_err_and c.from_residual.result c.from_residual.ensures.1 in
-    rw (p.1, p.2) (full_turn c.args.file c.args.text.now (map seen c.loop-rest.words.items) s c.cut_at-piece.result.0 c.loop-rest.rest.now
+    rw (p.1, p.2) (full_turn c.args.file c.args.text.now (map plain_word c.loop-rest.words.items) s c.cut_at-piece.result.0 c.loop-rest.rest.now
     c.cut_at-piece.result.1.now c.in_err-add_word.field-0.0 c.loop-rest.invariant.bytes c.loop-rest.invariant.gives front
     (sym c.in_default.ensures.value) c.in_err-add_word.ensures.full)
 
@@ -42,13 +43,13 @@ loop-rest-preserved c =
       places = omega (arith, front.shorter);
       bytes = c.loop-rest.invariant.bytes;
       count = c.in_ok-add_word.ensures.count c.loop-rest.invariant.count;
-      gives = next_turn c.args.file c.args.text.now (map seen c.loop-rest.words.items) (map seen c.add_word.new.words.items) s _ c.cut_at-piece.result.0
+      gives = next_turn c.args.file c.args.text.now (map plain_word c.loop-rest.words.items) (map plain_word c.add_word.new.words.items) s _ c.cut_at-piece.result.0
           c.loop-rest.rest.now c.cut_at-piece.result.1.now c.loop-rest.invariant.gives front (sym c.in_default.ensures.value)
           c.in_ok-add_word.ensures.added (same_state _ _ _ _ _ c.after-line.ensures c.tight_after-tight.ensures);
     }
 
 pub returns : goal.returns
 returns c =
-    last_turn c.args.file c.args.text.now (map seen c.loop-rest.words.items) (record { place = c.loop-rest.place; line = c.loop-rest.line; tight = c.loop-rest.tight })
-    c.loop-rest.rest.now c.loop-rest.invariant.bytes (omega (arith, length-map c.loop-rest.words.items seen, c.loop-rest.words.ok.0))
+    last_turn c.args.file c.args.text.now (map plain_word c.loop-rest.words.items) (record { place = c.loop-rest.place; line = c.loop-rest.line; tight = c.loop-rest.tight })
+    c.loop-rest.rest.now c.loop-rest.invariant.bytes (omega (arith, length-map c.loop-rest.words.items plain_word, c.loop-rest.words.ok.0))
     c.loop-rest.invariant.gives (is_nil c.loop-rest.rest.now c.loop-rest-test.ensures)

@@ -1,6 +1,6 @@
 use Rattle.std.proofs.Common.{◌≡◌, ◌≤◌, length, map, drop}
 use Rattle.std.specs.Prelude.{reverse}
-use Rattle.p10_macros.specs.Beginning.{unread, traced_of}
+use Rattle.p10_macros.specs.private.Beginning.{unread, traced_of}
 use Rattle.p10_macros.proofs.expansion.pending_of.Given as goal
 
 -- the words behind a place are pending

@@ -1,6 +1,6 @@
 use Rattle.p10_macros.specs.Answers.{table_of}
-use Rattle.p10_macros.specs.Beginning.{start_of}
-use Rattle.p10_macros.specs.Standing.{LeadsTo, weight}
+use Rattle.p10_macros.specs.private.Beginning.{start_of}
+use Rattle.p10_macros.specs.private.Standing.{LeadsTo, weight}
 use Rattle.p10_macros.proofs.expansion.replace.Given as goal
 
 -- whatever comes of the replacement now comes of the words

@@ -1,5 +1,5 @@
 use Rattle.std.proofs.Common.{◌≡◌, length}
-use Rattle.p10_macros.specs.Origins.{Extends}
+use Rattle.p10_macros.specs.private.Origins.{Extends}
 use Rattle.p10_macros.proofs.Uniting.{GivesTo}
 use Rattle.p10_macros.proofs.giving.give.Given as goal
 

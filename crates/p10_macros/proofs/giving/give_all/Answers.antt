@@ -1,7 +1,7 @@
 use Rattle.std.proofs.Common.{get_or, refl, ◌∙◌, arith}
 use Rattle.std.proofs.lemmas.List.{length-set, length-map, with_items_is}
 use Rattle.p10_macros.proofs.SetsOfMacros.{extends_all, extends_itself}
-use Rattle.p10_macros.specs.Traces.{lists_of}
+use Rattle.p10_macros.specs.private.Traces.{lists_of}
 use Rattle.p10_macros.proofs.Uniting.{no_value_given, one_vec_given, all_values_given}
 use Rattle.p10_macros.proofs.giving.give_all.Goals as goal
 

@@ -1,6 +1,6 @@
 use Rattle.std.proofs.Common.{◌≡◌, length}
-use Rattle.p10_macros.specs.Origins.{Extends}
-use Rattle.p10_macros.specs.Traces.{lists_of}
+use Rattle.p10_macros.specs.private.Origins.{Extends}
+use Rattle.p10_macros.specs.private.Traces.{lists_of}
 use Rattle.p10_macros.proofs.Uniting.{GiveTo}
 use Rattle.p10_macros.proofs.giving.give_all.Given as goal
 

@@ -1,5 +1,5 @@
 use Rattle.std.proofs.Common.{◌≡◌, map, take}
-use Rattle.p10_macros.specs.Places.{at_word}
+use Rattle.p10_macros.specs.private.Places.{at_word}
 use Rattle.p10_macros.proofs.parameters.places_by_text.Given as goal
 
 abbrev pub invariant-loop-word : goal.invariant-loop-word

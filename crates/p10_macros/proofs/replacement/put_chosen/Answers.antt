@@ -1,7 +1,7 @@
-use Rattle.p10_macros.specs.Known.{plain_known}
-use Rattle.p10_macros.specs.Putting.{part_of}
+use Rattle.p10_macros.specs.private.KnownMacros.{plain_known}
+use Rattle.p10_macros.specs.private.Putting.{part_of}
 use Rattle.p10_macros.proofs.Results.{if_ok_so, if_err_so}
-use Rattle.p10_macros.specs.Traces.{lists_of}
+use Rattle.p10_macros.specs.private.Traces.{lists_of}
 use Rattle.p10_macros.proofs.Putting.{puts_along, short_along}
 use Rattle.p10_macros.proofs.Replacing.{gives_none}
 use Rattle.p10_macros.proofs.replacement.put_chosen.Goals as goal

@@ -1,8 +1,8 @@
 use Rattle.std.proofs.Common.{arith}
 use Rattle.std.proofs.lemmas.Result.{err_from_is_err_and}
-use Rattle.p10_macros.specs.Known.{plain_known}
-use Rattle.p10_macros.specs.Putting.{part_of}
-use Rattle.p10_macros.specs.Traces.{lists_of}
+use Rattle.p10_macros.specs.private.KnownMacros.{plain_known}
+use Rattle.p10_macros.specs.private.Putting.{part_of}
+use Rattle.p10_macros.specs.private.Traces.{lists_of}
 use Rattle.p10_macros.proofs.Putting.{part_is, list_more, list_short}
 use Rattle.p10_macros.proofs.replacement.put_list.Goals as goal
 

@@ -1,8 +1,8 @@
 use Rattle.std.proofs.Common.{◌≤◌}
-use Rattle.p10_macros.specs.Known.{plain_known}
-use Rattle.p10_macros.specs.Places.{chosen_count}
-use Rattle.p10_macros.specs.Putting.{PutsTraced, part_of}
-use Rattle.p10_macros.specs.Traces.{lists_of}
+use Rattle.p10_macros.specs.private.KnownMacros.{plain_known}
+use Rattle.p10_macros.specs.private.Places.{chosen_count}
+use Rattle.p10_macros.specs.private.Putting.{PutsTraced, part_of}
+use Rattle.p10_macros.specs.private.Traces.{lists_of}
 use Rattle.p10_macros.proofs.Putting.{parts_behind}
 use Rattle.p10_macros.proofs.replacement.put_list.Given as goal
 

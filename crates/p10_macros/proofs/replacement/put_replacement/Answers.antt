@@ -1,7 +1,7 @@
-use Rattle.p10_macros.specs.Known.{plain_known}
+use Rattle.p10_macros.specs.private.KnownMacros.{plain_known}
 use Rattle.p10_macros.proofs.SetsOfMacros.{extends_all}
 use Rattle.p10_macros.proofs.Results.{if_ok_so, if_err_so}
-use Rattle.p10_macros.specs.Traces.{lists_of}
+use Rattle.p10_macros.specs.private.Traces.{lists_of}
 use Rattle.p10_macros.proofs.Replacing.{puts_lighter, is_replacement, is_short}
 use Rattle.p10_macros.proofs.replacement.put_replacement.Goals as goal
 

@@ -1,5 +1,5 @@
 use Rattle.std.proofs.Common.{◌≤◌, length, drop}
-use Rattle.p10_macros.specs.Putting.{PutsTraced}
+use Rattle.p10_macros.specs.private.Putting.{PutsTraced}
 use Rattle.p10_macros.proofs.replacement.put_words.Given as goal
 
 -- the words from a place on were put

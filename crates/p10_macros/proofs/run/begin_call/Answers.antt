@@ -1,11 +1,11 @@
 use Rattle.std.proofs.Common.{List, Vec, Global, sym, ◌∙◌, subst, arith}
-use Rattle.p10_macros.specs.Known.{plain_known}
+use Rattle.p10_macros.specs.private.KnownMacros.{plain_known}
 use Rattle.p10_macros.specs.declared.pending.Traced.{Traced}
 use Rattle.p10_macros.specs.declared.replaced.ReplaceFault.{ReplaceFault}
-use Rattle.p10_macros.specs.Standing.{FaultComes, IsReplacedIn, IsTooLong}
+use Rattle.p10_macros.specs.private.Standing.{FaultComes, IsReplacedIn, IsTooLong}
 use Rattle.p10_macros.proofs.Beginnings.{call_none, call_none_too_long, call_open, call_wrong, call_right}
 use Rattle.p10_macros.proofs.Results.{on_ok_so, if_err_so}
-use Rattle.p10_macros.specs.Traces.{lists_of}
+use Rattle.p10_macros.specs.private.Traces.{lists_of}
 use Rattle.p10_macros.proofs.run.begin_call.Goals as goal
 use Rattle.p10_macros.proofs.run.begin_call.Goals.{else-params-eq0-via-then-params-eq0+else-exits-count, else-params-eq0-via-else-params-eq0}
 

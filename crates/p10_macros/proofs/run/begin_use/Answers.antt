@@ -1,16 +1,16 @@
 use Rattle.std.proofs.Common.{◌≡◌, ℕ, List, Option, Bor, Vec, Global, sym, ap, ◌∙◌, subst}
 use Rattle.std.specs.Prelude.{option_map, length}
 use Rattle.std.proofs.lemmas.List.{length-map}
-use Rattle.p10_macros.specs.Known.{plain_known}
+use Rattle.p10_macros.specs.private.KnownMacros.{plain_known}
 use Rattle.p10_macros.specs.declared.replaced.ReplaceFault.{ReplaceFault}
-use Rattle.p10_direct.specs.Spelling.{Text}
+use Rattle.p10_base.specs.Words.{Text}
 use Rattle.p10_macros.specs.declared.pending.Traced.{Traced}
 use Rattle.p10_macros.specs.Table.{Table}
-use Rattle.p10_macros.specs.Standing.{FaultComes, IsReplacedIn, IsTooLong, AtUse, AtCall, State}
+use Rattle.p10_macros.specs.private.Standing.{FaultComes, IsReplacedIn, IsTooLong, AtUse, AtCall, State}
 use Rattle.p10_macros.proofs.Beginnings.{use_recursive, use_object, use_object_too_long, at_call}
 use Rattle.p10_macros.proofs.Results.{on_ok_so, if_err_so}
 use Rattle.p10_macros.proofs.Putting.{texts_at}
-use Rattle.p10_macros.specs.Traces.{lists_of}
+use Rattle.p10_macros.specs.private.Traces.{lists_of}
 use Rattle.p10_macros.proofs.run.begin_use.Goals as goal
 use Rattle.p10_macros.proofs.run.begin_use.Goals.{After-begin_call}
 

@@ -1,4 +1,4 @@
-use Rattle.p10_macros.specs.Known.{plain_known}
+use Rattle.p10_macros.specs.private.KnownMacros.{plain_known}
 use Rattle.p10_macros.specs.Answers.{table_of}
 use Rattle.p10_macros.proofs.Results.{on_ok_so, on_ok_both, if_err_so}
 use Rattle.p10_macros.proofs.Moves.{moved_stays}

@@ -2,7 +2,7 @@ use Rattle.std.proofs.Common.{List, refl, ap, ◌∙◌, Vec, Global}
 use Rattle.std.specs.Prelude.{reverse}
 use Rattle.p10_macros.specs.declared.pending.Open.{Open}
 use Rattle.p10_macros.specs.declared.pending.Traced.{Traced}
-use Rattle.p10_macros.specs.Standing.{place_among}
+use Rattle.p10_macros.specs.private.Standing.{place_among}
 use Rattle.p10_macros.proofs.run.open_use.Goals as goal
 
 pub returns-clause-ok : goal.returns-clause-ok

@@ -1,5 +1,5 @@
 use Rattle.std.proofs.Common.{◌≡◌}
-use Rattle.p10_macros.specs.Sets.{has}
+use Rattle.p10_macros.specs.private.Sets.{has}
 use Rattle.p10_macros.proofs.sets.contains.Given as goal
 
 -- the number is in the set where it is in the one on the way down

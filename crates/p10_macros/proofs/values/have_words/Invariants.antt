@@ -1,6 +1,6 @@
 use Rattle.std.proofs.Common.{◌<◌, ℕ, List, length, slice_index_or}
 use Rattle.p10_macros.specs.declared.pending.Traced.{Traced}
-use Rattle.p10_macros.specs.Traces.{lists_of}
+use Rattle.p10_macros.specs.private.Traces.{lists_of}
 use Rattle.p10_macros.proofs.values.have_words.Given as goal
 
 -- the values so far have words

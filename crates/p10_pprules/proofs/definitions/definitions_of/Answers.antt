@@ -1,7 +1,7 @@
 use Rattle.std.proofs.Common.{map, ◌∙◌, ap, subst}
 use Rattle.p10_direct.specs.Form.{plain_definition}
 use Rattle.p10_expand.specs.declared.expanded.Obeyed.{Obeyed}
-use Rattle.p10_pprules.specs.Gathering.{Gathers}
+use Rattle.p10_pprules.specs.private.Gathering.{Gathers}
 use Rattle.p10_pprules.proofs.Gathered.{defined_more, all_defined}
 use Rattle.p10_pprules.proofs.definitions.definitions_of.Goals as goal
 

@@ -1,6 +1,6 @@
 use Rattle.std.proofs.Common.{map, take}
 use Rattle.p10_direct.specs.Form.{plain_definition}
-use Rattle.p10_pprules.specs.Gathering.{AreDefined}
+use Rattle.p10_pprules.specs.private.Gathering.{AreDefined}
 use Rattle.p10_pprules.proofs.definitions.definitions_of.Given as goal
 
 -- the definitions among the lines so far

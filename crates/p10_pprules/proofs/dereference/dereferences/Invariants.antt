@@ -1,5 +1,5 @@
 use Rattle.std.proofs.Common.{◌≡◌, false, drop}
-use Rattle.p10_pprules.specs.Scanning.{dereferences_behind}
+use Rattle.p10_pprules.specs.private.Scanning.{dereferences_behind}
 use Rattle.p10_pprules.proofs.dereference.dereferences.Given as goal
 
 -- the words have a dereference where those that are left have one

@@ -1,5 +1,5 @@
 use Rattle.std.proofs.Common.{◌≡◌, ◌-◌, ◌<◌, ◌≤◌, [], ◌∷◌, length, drop, reverse, vec_len}
-use Rattle.p10_pprules.specs.Scanning.{behind_open}
+use Rattle.p10_pprules.specs.private.Scanning.{behind_open}
 use Rattle.p10_pprules.proofs.group.after_open.Given as goal
 
 -- the words behind all open groups are those behind the groups that are open now

@@ -1,6 +1,6 @@
 use Rattle.std.proofs.Common.{◌≡◌, ◌++◌, take}
 use Rattle.std.specs.List.{flat_map}
-use Rattle.p10_pprules.specs.Listing.{line_violations}
+use Rattle.p10_pprules.specs.private.Listing.{line_violations}
 use Rattle.p10_pprules.proofs.line.push_lines.Given as goal
 
 -- the violations of the lines so far were put behind the others

@@ -1,5 +1,5 @@
 use Rattle.std.proofs.Common.{take}
-use Rattle.p10_pprules.specs.Graphs.{AddsEdges}
+use Rattle.p10_pprules.specs.private.Graphs.{AddsEdges}
 use Rattle.p10_pprules.proofs.recursion.add_edges.Given as goal
 
 -- the edges to the ends so far were added

@@ -1,6 +1,6 @@
 use Rattle.std.proofs.Common.{map, take}
 use Rattle.p10_direct.specs.Form.{plain_definition}
-use Rattle.p10_pprules.specs.Graphs.{IsGraphOf}
+use Rattle.p10_pprules.specs.private.Graphs.{IsGraphOf}
 use Rattle.p10_pprules.proofs.recursion.component_numbers.Given as goal
 
 -- the edges of the definitions so far

@@ -1,6 +1,6 @@
 use Rattle.std.proofs.Common.{map, take}
 use Rattle.p10_direct.specs.Form.{plain_definition}
-use Rattle.p10_pprules.specs.Graphs.{HasNames}
+use Rattle.p10_pprules.specs.private.Graphs.{HasNames}
 use Rattle.p10_pprules.proofs.recursion.macros_of.Given as goal
 
 -- the names of the definitions so far

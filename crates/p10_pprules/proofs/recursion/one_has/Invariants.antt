@@ -1,5 +1,5 @@
 use Rattle.std.proofs.Common.{◌≡◌, drop}
-use Rattle.p10_pprules.specs.Listing.{has_number}
+use Rattle.p10_pprules.specs.private.Listing.{has_number}
 use Rattle.p10_pprules.proofs.recursion.one_has.Given as goal
 
 -- a place has the number where one of those that are left has it

@@ -1,6 +1,6 @@
 use Rattle.std.proofs.Common.{◌≡◌, take}
 use Rattle.std.specs.List.{filter_map}
-use Rattle.p10_pprules.specs.Listing.{used_by}
+use Rattle.p10_pprules.specs.private.Listing.{used_by}
 use Rattle.p10_pprules.proofs.recursion.used_in.Given as goal
 
 -- the places of the macros that the words so far use

@@ -1,7 +1,7 @@
 use Rattle.std.proofs.Common.{◌≡◌, ◌++◌, map, take}
 use Rattle.std.specs.List.{flat_map}
 use Rattle.p10_direct.specs.Form.{plain_definition}
-use Rattle.p10_pprules.specs.Listing.{definition_violations}
+use Rattle.p10_pprules.specs.private.Listing.{definition_violations}
 use Rattle.p10_pprules.proofs.rows.push_definitions.Given as goal
 
 -- the violations of the definitions so far were put behind the others

@@ -1,6 +1,6 @@
 use Rattle.std.proofs.Common.{◌∙◌, ap, map, string_bytes}
 use Rattle.std.proofs.lemmas.Option.{MatchOption-at_some}
-use Rattle.p10_top.specs.Command.{names_of}
+use Rattle.p10_top.specs.private.CommandReading.{names_of}
 use Rattle.p10_top.proofs.Deciding.{decides_judged, decides_without, gathers_named}
 use Rattle.p10_top.proofs.decide.decide.Goals as goal
 

@@ -4,7 +4,7 @@ use Rattle.std.proofs.lemmas.Result.{err_from_is_err_and}
 use Rattle.p10_direct.specs.declared.line.Line.{Line}
 use Rattle.p10_direct.specs.declared.line.Line.TheVariants.{Text}
 use Rattle.p10_expand.specs.Expands.{IncludeGives}
-use Rattle.p10_expand.specs.Steps.{layout_of, state_of, file_of}
+use Rattle.p10_expand.specs.private.Steps.{layout_of, state_of, file_of}
 use Rattle.p10_expand.proofs.Walking.{lines_begin, behind_ordered, cut_at, words_here, file_begins, goes_on, too_deep, within_refuses, within_goes, fails, within_fails}
 use Rattle.p10_expand.proofs.InOrder.{file_in_order}
 use Rattle.p10_expand.proofs.expansion.files.+expand_file.Goals as goal

@@ -2,7 +2,7 @@ use Rattle.std.proofs.Common.{◌≤◌, map, drop}
 use Rattle.p10_direct.specs.Lines.{piece_of}
 use Rattle.p10_expand.specs.Obeying.{Ended}
 use Rattle.p10_expand.specs.Expands.{LinesGive, FileGives, IncludeGives}
-use Rattle.p10_expand.specs.Steps.{layout_of, state_of, file_of, inner_of}
+use Rattle.p10_expand.specs.private.Steps.{layout_of, state_of, file_of, inner_of}
 use Rattle.p10_expand.proofs.InOrder.{PiecesInOrder}
 use Rattle.p10_expand.proofs.expansion.files.+expand_file.Given as goal
 

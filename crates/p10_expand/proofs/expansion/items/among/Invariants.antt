@@ -1,6 +1,6 @@
 use Rattle.std.proofs.Common.{◌≡◌, drop}
 use Rattle.p10_expand.specs.Items.{is_among}
-use Rattle.p10_expand.specs.Steps.{texts_in}
+use Rattle.p10_expand.specs.private.Steps.{texts_in}
 use Rattle.p10_expand.proofs.expansion.items.among.Given as goal
 
 abbrev pub invariant-loop-other : goal.invariant-loop-other

@@ -1,6 +1,6 @@
 use Rattle.std.proofs.Common.{◌≡◌, ◌-◌, ◌≤◌, length, drop, ◌++◌}
 use Rattle.p10_expand.specs.Items.{lines_of, given_after, new_words}
-use Rattle.p10_expand.specs.Steps.{texts_in}
+use Rattle.p10_expand.specs.private.Steps.{texts_in}
 use Rattle.p10_expand.proofs.expansion.items.new_items.Given as goal
 
 -- the lines so far, and those that are left

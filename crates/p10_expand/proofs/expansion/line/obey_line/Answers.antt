@@ -1,12 +1,12 @@
 use Rattle.std.proofs.Common.{sym, ◌∙◌}
 use Rattle.p10_direct.specs.Form.{plain}
-use Rattle.p10_expand.specs.Steps.{file_of, state_of}
+use Rattle.p10_expand.specs.private.Steps.{file_of, state_of}
 use Rattle.p10_expand.proofs.Answers.{broken, done, steps_map}
 use Rattle.p10_expand.proofs.expansion.line.obey_line.Goals as goal
 
 pub returns-then-breaks-clause-gives : goal.returns-then-breaks-clause-gives
 returns-then-breaks-clause-gives c =
-    rw (c.refusal.ensures, c.whole.ensures)
+    rw c.unbalanced.ensures
     (broken c.args.sources.now c.args.digits (file_of c.args.file.now) c.args.stand c.args.place c.args.line.now (state_of c.args.state.now) _ c.in-Ok.ensures.read (sym c.breaks.ensures ∙ c.if-breaks.true))
 
 pub returns-else-breaks-clause-gives : goal.returns-else-breaks-clause-gives

@@ -1,7 +1,7 @@
 use Rattle.std.proofs.Common.{List, ◌++◌, ◌∙◌, ap}
 use Rattle.p10_base.specs.declared.word.Word.{Word}
 use Rattle.p10_expand.specs.Obeying.{State}
-use Rattle.p10_expand.specs.Steps.{state_of}
+use Rattle.p10_expand.specs.private.Steps.{state_of}
 use Rattle.p10_expand.proofs.Before.{replaced_so, not_refused, not_too_many}
 use Rattle.p10_expand.proofs.expansion.run.expand_before.Goals as goal
 

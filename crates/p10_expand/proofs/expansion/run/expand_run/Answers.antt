@@ -1,5 +1,5 @@
 use Rattle.std.proofs.Common.{◌∙◌}
-use Rattle.p10_expand.specs.Steps.{state_of, texts_in}
+use Rattle.p10_expand.specs.private.Steps.{state_of, texts_in}
 use Rattle.p10_expand.proofs.InOrder.{items_run}
 use Rattle.p10_expand.proofs.expansion.run.expand_run.Goals as goal
 

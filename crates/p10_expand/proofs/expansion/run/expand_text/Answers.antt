@@ -1,5 +1,5 @@
 use Rattle.p10_macros.proofs.Fronts.{fronts_give}
-use Rattle.p10_expand.specs.Steps.{state_of}
+use Rattle.p10_expand.specs.private.Steps.{state_of}
 use Rattle.p10_expand.proofs.Before.{refused_so}
 use Rattle.p10_expand.proofs.expansion.run.expand_text.Goals as goal
 

@@ -1,6 +1,6 @@
 use Rattle.std.proofs.Common.{◌∙◌, ap, arith, sym}
 use Rattle.p10_graph.specs.declared.search.Search.{Search}
-use Rattle.p10_graph.specs.Searching.{settled, state_of}
+use Rattle.p10_graph.specs.private.Searching.{settled, state_of}
 use Rattle.p10_graph.proofs.Advancing.{finishes, is_last, last_within, late_enough, merges, place_within, settles, visits}
 use Rattle.p10_graph.proofs.Marks.{open_unseen}
 use Rattle.p10_graph.proofs.search.Search.advance.Goals as goal

@@ -1,5 +1,5 @@
 use Rattle.std.proofs.Common.{◌∙◌, ap, sym, subst}
-use Rattle.p10_graph.specs.Searching.{IsSearch, State, state_of}
+use Rattle.p10_graph.specs.private.Searching.{IsSearch, State, state_of}
 use Rattle.p10_graph.proofs.Found.{open_keeps}
 use Rattle.p10_graph.proofs.Groups.{none_open}
 use Rattle.p10_graph.proofs.search.Search.cover.Goals as goal

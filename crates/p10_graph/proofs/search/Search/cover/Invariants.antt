@@ -1,5 +1,5 @@
 use Rattle.std.proofs.Common.{◌≡◌, ◌+◌}
-use Rattle.p10_graph.specs.Searching.{IsSearch, state_of, work}
+use Rattle.p10_graph.specs.private.Searching.{IsSearch, state_of, work}
 use Rattle.p10_graph.proofs.search.Search.cover.Given as goal
 
 -- what holds between steps, and that the next node was covered

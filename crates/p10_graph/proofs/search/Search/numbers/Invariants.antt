@@ -1,5 +1,5 @@
 use Rattle.std.proofs.Common.{◌≡◌, map, take}
-use Rattle.p10_graph.specs.Searching.{number_at}
+use Rattle.p10_graph.specs.private.Searching.{number_at}
 use Rattle.p10_graph.proofs.search.Search.numbers.Given as goal
 
 -- the numbers so far

@@ -1,6 +1,6 @@
 use Rattle.std.proofs.Common.{◌∙◌, arith, sym, subst}
 use Rattle.std.proofs.lemmas.Option.{same_Some}
-use Rattle.p10_graph.specs.Searching.{IsStep, state_of}
+use Rattle.p10_graph.specs.private.Searching.{IsStep, state_of}
 use Rattle.p10_graph.proofs.Groups.{begin_within}
 use Rattle.p10_graph.proofs.Closing.{close_step}
 use Rattle.p10_graph.proofs.search.Search.step.Goals as goal

@@ -1,9 +1,9 @@
 use Rattle.std.proofs.Common.{◌<◌, length, arith}
 use Rattle.std.proofs.lemmas.Bool.Decides.{nat_tests}
-use Rattle.p10_macros.specs.Known.{plain_known}
-use Rattle.p10_macros.specs.Places.{is_put}
+use Rattle.p10_macros.specs.private.KnownMacros.{plain_known}
+use Rattle.p10_macros.specs.private.Places.{is_put}
 use Rattle.p10_macros.specs.Uses.{texts_of}
-use Rattle.p10_macros.specs.Traces.{lists_of}
+use Rattle.p10_macros.specs.private.Traces.{lists_of}
 use Rattle.p10_macros.proofs.Chosen.{chosen_below, parts_whole}
 use Rattle.p10_macros.proofs.known.Known.chosen.Goals as goal
 

@@ -1,6 +1,6 @@
 use Rattle.std.proofs.Common.{List, sym, ap, ◌∙◌, arith}
 use Rattle.p10_macros.specs.declared.sets.Part.{Part}
-use Rattle.p10_macros.specs.Sets as sets
+use Rattle.p10_macros.specs.private.Sets as sets
 use Rattle.p10_macros.proofs.SetsOfMacros.{has_no_macro, absent_at, present_at}
 use Rattle.p10_macros.proofs.origin.Origins.has.Goals as goal
 

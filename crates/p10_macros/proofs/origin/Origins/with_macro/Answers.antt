@@ -1,4 +1,4 @@
-use Rattle.p10_direct.proofs.Naming.{place_before}
+use Rattle.p10_base.proofs.Naming.{place_before}
 use Rattle.p10_macros.proofs.SetsOfMacros.{below_more, continues_with, has_one}
 use Rattle.p10_macros.proofs.Results.{if_ok_so}
 use Rattle.p10_macros.proofs.origin.Origins.with_macro.Goals as goal

@@ -2,7 +2,7 @@ use Rattle.std.proofs.Common.{ℕ, List, Vec, Global, ◌++◌, ap, sym, ◌∙�
 use Rattle.std.proofs.lemmas.List.Sorted.{IsNonDecreasingBy-from_sort}
 use Rattle.p10_macros.proofs.PlacesThat.{row_names}
 use Rattle.p10_macros.proofs.Chosen.{times, among_none, among_more, among_same, chosen_all}
-use Rattle.p10_macros.specs.Traces.{lists_of}
+use Rattle.p10_macros.specs.private.Traces.{lists_of}
 use Rattle.p10_macros.proofs.places.Places.chosen.Goals as goal
 use Rattle.p10_macros.proofs.places.Places.chosen.Goals.{then-puts_words+in_ok-extend_from_slice-2, else-puts_words}
 

@@ -1,6 +1,6 @@
-use Rattle.p10_macros.specs.Places.{places_that}
+use Rattle.p10_macros.specs.private.Places.{places_that}
 use Rattle.p10_macros.proofs.Chosen.{AreAsOften, is_among}
-use Rattle.p10_macros.specs.Traces.{lists_of}
+use Rattle.p10_macros.specs.private.Traces.{lists_of}
 use Rattle.p10_macros.proofs.places.Places.chosen.Given as goal
 
 -- the places of the words that name none of the parameters from one of them on were put, in some order

@@ -2,8 +2,8 @@ use Rattle.std.proofs.Common.{◌≡◌, ℕ, List, Option, option_map, Bor, len
 use Rattle.std.specs.List.{All}
 use Rattle.std.proofs.lemmas.List.{length-map}
 use Rattle.p10_direct.specs.Form.{plain_macro}
-use Rattle.p10_direct.specs.Spelling.{Text}
-use Rattle.p10_macros.specs.Places.{places_of, IsBelow}
+use Rattle.p10_base.specs.Words.{Text}
+use Rattle.p10_macros.specs.private.Places.{places_of, IsBelow}
 use Rattle.p10_macros.specs.Uses.{texts_of}
 use Rattle.p10_macros.proofs.ByParameter.{all_below}
 use Rattle.p10_macros.proofs.places.Places.of.Goals as goal

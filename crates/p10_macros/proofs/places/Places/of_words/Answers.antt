@@ -2,7 +2,7 @@ use Rattle.std.proofs.Common.{◌≡◌, ℕ, List, Option, take, ap, sym, subst
 use Rattle.std.specs.Prelude.{is_none}
 use Rattle.std.specs.List.{All}
 use Rattle.std.proofs.lemmas.List.{take_all}
-use Rattle.p10_macros.specs.Places.{places_that, IsBelow, AreByParameter}
+use Rattle.p10_macros.specs.private.Places.{places_that, IsBelow, AreByParameter}
 use Rattle.p10_macros.proofs.PlacesThat.{own_more, named_more, row_there, rows_begun}
 use Rattle.p10_macros.proofs.places.Places.of_words.Goals as goal
 

@@ -1,6 +1,6 @@
 use Rattle.std.proofs.Common.{◌≡◌, length, take}
 use Rattle.std.specs.Prelude.{is_none}
-use Rattle.p10_macros.specs.Places.{places_that, AreByParameter}
+use Rattle.p10_macros.specs.private.Places.{places_that, AreByParameter}
 use Rattle.p10_macros.proofs.places.Places.of_words.Given as goal
 
 -- the places of the words so far

@@ -1,6 +1,6 @@
 use Rattle.std.proofs.Common.{Option, option_map, ap, ◌∙◌}
 use Rattle.p10_macros.specs.declared.known.Known.{Known}
-use Rattle.p10_macros.specs.Known.{plain_known}
+use Rattle.p10_macros.specs.private.KnownMacros.{plain_known}
 use Rattle.p10_macros.proofs.Tables.{found_is}
 use Rattle.p10_macros.proofs.table.Macros.entry.Goals as goal
 
