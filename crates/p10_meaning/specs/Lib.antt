@@ -1,0 +1,3 @@
+-- The definitions of the meaning, each file on those above it.
+pub mod Pointers
+pub mod Objects
