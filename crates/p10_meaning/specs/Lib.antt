@@ -1,3 +1,10 @@
 -- The definitions of the meaning, each file on those above it.
 pub mod Pointers
 pub mod Objects
+pub mod States
+pub mod Scalars
+pub mod Values
+pub mod Statements
+pub mod Calling
+pub mod Opening
+pub mod Runs

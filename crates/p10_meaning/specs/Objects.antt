@@ -22,9 +22,9 @@ pub record Object : Type 0 where
   pub cells : List Cell
 
 -- one result after another: the first stop counts
-abbrev pub then : {A B : Type 0} → Result A Stop → (A → Result B Stop) → Result B Stop
-then (Ok x) go = go x
-then (Err stop) go = Err stop
+abbrev pub on_ok : {A B : Type 0} → Result A Stop → (A → Result B Stop) → Result B Stop
+on_ok (Ok x) go = go x
+on_ok (Err stop) go = Err stop
 
 -- something, or a stop in its place
 abbrev pub or_stop : {A : Type 0} → Option A → Stop → Result A Stop
@@ -55,7 +55,7 @@ scalar_at window n = if window.inside && ltb n window.count then Ok (window.star
 -- the cell at a pointer: U5, U7, U6 (C99 6.5.3.2p4)
 abbrev pub cell_at : List Object → Ptr → Result Cell Stop
 cell_at objects Null = Err U5
-cell_at objects (To o window n) = then (alive objects o) (λ object. then (scalar_at window n) (λ i. or_stop (slice_get object.cells i) U6))
+cell_at objects (To o window n) = on_ok (alive objects o) (λ object. on_ok (scalar_at window n) (λ i. or_stop (slice_get object.cells i) U6))
 
 -- a string literal may not be written (U12; C99 6.4.5p6)
 abbrev pub may_write : Origin → Result Origin Stop
@@ -67,7 +67,7 @@ may_write allocated = Ok allocated
 abbrev pub target_at : List Object → Ptr → Result Cell Stop
 target_at objects Null = Err U5
 target_at objects (To o window n) =
-    then (alive objects o) (λ object. then (scalar_at window n) (λ i. then (or_stop (slice_get object.cells i) U6) (λ cell. then (may_write object.origin) (λ _. Ok cell))))
+    on_ok (alive objects o) (λ object. on_ok (scalar_at window n) (λ i. on_ok (or_stop (slice_get object.cells i) U6) (λ cell. on_ok (may_write object.origin) (λ _. Ok cell))))
 
 -- the objects with one cell of one object set; all others stay
 abbrev pub put : List Object → ℕ → ℕ → Cell → List Object
@@ -82,7 +82,7 @@ put_at objects (To o window n) cell = put objects o (window.start + n) cell
 
 -- the objects after a write at a pointer: U5, U7, U6, U12
 abbrev pub write_at : List Object → Ptr → Cell → Result (List Object) Stop
-write_at objects pointer cell = then (target_at objects pointer) (λ _. Ok (put_at objects pointer cell))
+write_at objects pointer cell = on_ok (target_at objects pointer) (λ _. Ok (put_at objects pointer cell))
 
 -- ## Moving
 
@@ -94,13 +94,13 @@ placed o window (negsuc n) = Err U6
 -- a pointer moved by a number of elements: U5, U7, U6 (C99 6.5.6p8)
 abbrev pub shift : List Object → Ptr → ℤ → Result Ptr Stop
 shift objects Null by = Err U5
-shift objects (To o window n) by = then (alive objects o) (λ _. placed o window (pos n +ℤ by))
+shift objects (To o window n) by = on_ok (alive objects o) (λ _. placed o window (pos n +ℤ by))
 
 -- the pointer to the first element of the array of `count` elements of `stride` scalars that begins at scalar `at` of the
 -- element at a pointer: U5, U7 (C99 6.5.2.1, 6.5.2.3, 6.3.2.1p3)
 abbrev pub inner : List Object → Ptr → ℕ → ℕ → ℕ → Result Ptr Stop
 inner objects Null at stride count = Err U5
-inner objects (To o window n) at stride count = then (alive objects o) (λ _. Ok (To o (window_in window n at stride count) 0))
+inner objects (To o window n) at stride count = on_ok (alive objects o) (λ _. Ok (To o (window_in window n at stride count) 0))
 
 -- ## Comparing
 
@@ -109,15 +109,15 @@ abbrev pub positions : List Object → Ptr → Ptr → Result (ℕ × ℕ) Stop
 positions objects Null right = Err U5
 positions objects (To o a n) Null = Err U5
 positions objects (To o a n) (To k b m) =
-    then (alive objects o) (λ _. then (alive objects k) (λ _. if eqb o k && same_window a b then Ok (n, m) else Err U9))
+    on_ok (alive objects o) (λ _. on_ok (alive objects k) (λ _. if eqb o k && same_window a b then Ok (n, m) else Err U9))
 
 -- whether the first pointer stands before the second
 abbrev pub less : List Object → Ptr → Ptr → Result Bool Stop
-less objects left right = then (positions objects left right) (λ at. Ok (ltb at.0 at.1))
+less objects left right = on_ok (positions objects left right) (λ at. Ok (ltb at.0 at.1))
 
 -- how many elements the first pointer stands after the second (C99 6.5.6p9)
 abbrev pub distance : List Object → Ptr → Ptr → Result ℤ Stop
-distance objects left right = then (positions objects left right) (λ at. Ok (pos at.0 -ℤ pos at.1))
+distance objects left right = on_ok (positions objects left right) (λ at. Ok (pos at.0 -ℤ pos at.1))
 
 -- ## Opening and closing
 

@@ -43,12 +43,12 @@ last_number = 18446744073709551615
 -- No scalar of an object has a number over 2^64 - 1, so the bound of `start` changes no array that lies in its object
 abbrev pub window_in : Window → ℕ → ℕ → ℕ → ℕ → Window
 window_in window position at stride count = record {
-    start = min (window.start + position * window.stride + at) last_number;
-    stride = stride;
-    count = count;
-    inside = window.inside && ltb position window.count;
-    whole = false;
-  }
+  start = min (window.start + position * window.stride + at) last_number;
+  stride = stride;
+  count = count;
+  inside = window.inside && ltb position window.count;
+  whole = false;
+}
 
 -- ## Equality
 

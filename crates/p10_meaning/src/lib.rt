@@ -5,12 +5,14 @@
 //! and `call_at` say what a program does, `run_of` what a whole run gives, and `Within` what it is
 //! to stay within bounds. They know no ranges, ranks or bounds, and no way to prove anything; that
 //! is left to the crates above. Code stands here only where a definition needs a type of the
-//! program's own: pointers and scalars ([`Ptr`], [`Scalar`], [`Cell`]).
+//! program's own: pointers and scalars ([`Ptr`], [`Scalar`], [`Cell`]), and the world outside ([`World`]).
 //! Invariant: a run is one thing. The meaning is a function of the program, the world and the
 //! budgets.
 //! The module [`laws`] states what holds of it, as contracts of functions that do nothing.
 #![tactic(auto)]
 
 mod pointers;
+mod world;
 
 pub use pointers::{Cell, Ptr, Scalar, Window};
+pub use world::World;
