@@ -8,3 +8,7 @@ pub mod Statements
 pub mod Calling
 pub mod Opening
 pub mod Runs
+pub mod Examples
+pub mod Costs
+pub mod Stopping
+pub mod Tasks

@@ -11,6 +11,7 @@
 //! The module [`laws`] states what holds of it, as contracts of functions that do nothing.
 #![tactic(auto)]
 
+pub mod laws;
 mod pointers;
 mod world;
 
