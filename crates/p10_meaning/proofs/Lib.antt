@@ -1,1 +1,4 @@
 pub mod Computed
+pub mod Following
+pub mod Agreeing
+pub mod AgreeingValues
