@@ -49,7 +49,7 @@ granted_agrees k m stride n cells w l = agrees_if k m w (is_denied w.denied w.re
 requested_agrees : (k m : ℕ) (p : PlainProgram) (t : PlainType) (n : ℕ) (fill : List PlainType → List Cell) (w : State) → w.left ≤ m → Agrees k m w (requested p t n fill w) (requested p t n fill (with_more k w))
 requested_agrees k m p t n fill w l = agrees_if k m w (ltb 0 (n * size_of p.structures t) && leb (n * size_of p.structures t) 1048576) _ _ _ _
     (agrees_from k m w (record w { requests = suc w.requests }) _ _ (follows_requests w)
-        (granted_agrees k m (width p t) n (fill (repeated n (scalars_of p.structures t))) (record w { requests = suc w.requests }) l))
+    (granted_agrees k m (width p t) n (fill (repeated n (scalars_of p.structures t))) (record w { requests = suc w.requests }) l))
     (agrees_here k m _ w l)
 
 library_agrees : (k m : ℕ) (p : PlainProgram) (f : Library) (span : Span) (t : PlainType) (xs : List Scalar) (w : State) → w.left ≤ m → Agrees k m w (library p f span t xs w) (library p f span t xs (with_more k w))
@@ -64,7 +64,7 @@ library_agrees k m p Free span t xs w l = agrees_from k m w (counted w) _ _ (fol
 
 -- ## Values and places
 
-more_than : (n m : ℕ) → n ≤ m → n ≤ suc m
+pub more_than : (n m : ℕ) → n ≤ m → n ≤ suc m
 more_than n m l = omega (arith, l)
 
 module _ (k most : ℕ) (p : PlainProgram) (variables : List PlainVariable) (call1 call2 : Calls) (n1 n2 : ℕ) (calls : CallsAgree k most call1 call2) where
@@ -114,8 +114,8 @@ module _ (k most : ℕ) (p : PlainProgram) (variables : List PlainVariable) (cal
     perform_agrees held at t (conditional c x y) w m b l = agrees_step k m w _ _ l (λ n l.
         agrees_then k m m (record w { left = n }) _ _ _ _ (evaluate_agrees held c (record w { left = n }) m b (more_than n m l)) (λ i w l.
         agrees_then k m m w _ _ _ _
-            (agrees_if k m w (is_true i) _ _ _ _ (evaluate_agrees held x w m b (more_than w.left m l)) (evaluate_agrees held y w m b (more_than w.left m l)))
-            (λ j w l. give_agrees k m j w l)))
+        (agrees_if k m w (is_true i) _ _ _ _ (evaluate_agrees held x w m b (more_than w.left m l)) (evaluate_agrees held y w m b (more_than w.left m l)))
+        (λ j w l. give_agrees k m j w l)))
     perform_agrees held at t (call name f arguments) w m b l = agrees_step k m w _ _ l (λ n l.
         agrees_then k m m (record w { left = n }) _ _ _ _ (all_agree held arguments (record w { left = n }) m b l) (λ xs w l. calls.agree f xs w m b l))
     perform_agrees held at t (built_in name f arguments) w m b l = agrees_step k m w _ _ l (λ n l.

@@ -2,3 +2,5 @@ pub mod Computed
 pub mod Following
 pub mod Agreeing
 pub mod AgreeingValues
+pub mod Spent
+pub mod AgreeingStatements

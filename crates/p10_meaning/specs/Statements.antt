@@ -180,6 +180,11 @@ abbrev pub labelled : ℤ → List Label → Option ℕ → Option ℕ
 labelled z [] otherwise = otherwise
 labelled z (label ∷ cases) otherwise = if int_eq label.value z then Some label.place else labelled z cases otherwise
 
+-- the body is entered at that item, and is a block; without one it isn't entered
+abbrev pub from_label : Option ℕ → (ℕ → Frame → State → Progress Done) → Frame → State → Progress Done
+from_label None run frame w = goes frame w
+from_label (Some k) run frame w = in_block (λ frame w. run k frame w) frame w
+
 -- `break` ends the `switch`
 abbrev pub after_switch : Done → State → Progress Done
 after_switch done w = flows (leave done.flow) done.frame w
@@ -258,6 +263,17 @@ abbrev mutual
   enter s k (statement at form) frame w = enter_form s k form frame w
 
   pub enter_form : Setting → Option ℕ → PlainStatementForm → Frame → State → Progress Done
-  enter_form s None (block statements) frame w = goes frame w
-  enter_form s (Some k) (block statements) frame w = in_block (λ frame w. execute_from s k statements frame w) frame w
+  enter_form s k (block statements) frame w = from_label k (λ k frame w. execute_from s k statements frame w) frame w
   enter_form s k form frame w = goes frame w
+
+-- ## Parts of loops, by name
+
+-- one round of a loop: its body, and the third clause
+abbrev pub round : Setting → PlainStatements → PlainStatement → Frame → State → Progress Done
+round s third body frame w = and_then (execute s body frame w) (λ done w. before_third done.flow done.frame w (λ frame w. execute_from s 0 third frame w))
+
+-- a loop after its statement step, in its block
+abbrev pub looped : Setting → LoopKeyword → PlainStatements → Option PlainValue → PlainStatements → PlainStatement → Frame → State → Progress Done
+looped s keyword first tested third body frame w =
+    and_then (execute_from s 0 first frame w) (λ done w. go_on done.flow done.frame w (λ frame w.
+    loop_by keyword s.turns (λ frame w. test s tested frame w) (round s third body) frame w))
