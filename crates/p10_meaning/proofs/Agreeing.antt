@@ -5,7 +5,7 @@ use Rattle.p10_int.specs.declared.operators.Stop.{Stop}
 use Rattle.p10_meaning.specs.declared.pointers.Scalar.{Scalar}
 use Rattle.p10_meaning.specs.States.{State, End, AssertionFailed, Undefined, StepsSpent, Progress, gives, ends, step_at, step, and_then, or_undefined}
 use Rattle.p10_meaning.specs.Values.{Calls}
-use Rattle.p10_meaning.specs.Laws.{Follows, with_more}
+use Rattle.p10_meaning.specs.Laws.{Follows, EndsAfter, with_more}
 use Rattle.p10_meaning.proofs.Following.{follows_same, follows_trans, follows_left}
 
 -- the same with k more steps; for want of steps the other ends so too, where it has no more
@@ -20,21 +20,17 @@ abbrev pub Leaves : {A : Type 0} → ℕ → Progress A → Type 0
 Leaves m (gives a w) = w.left ≤ m
 Leaves m (ends end w) = Unit {0}
 
-abbrev pub After : {A : Type 0} → State → Progress A → Type 0
-After from (gives a w) = Follows from w
-After from (ends end w) = Follows from w
-
 pub record Agrees {A : Type 0} (k m : ℕ) (from : State) (one other : Progress A) : Type 0 where
   pub same : IsSame k one other
   pub leaves : Leaves m one
-  pub follows : After from one
+  pub follows : EndsAfter from one
 
 -- ## One after another
 
 pub no_more : (w : State) (k : ℕ) → k ≡ 0 → with_more k w ≡ w
 no_more w k e = ap (λ n. record w { left = n }) (let d : k ≡ 0 = e in omega (arith, d))
 
-pub after_trans : {A : Type 0} (u v : State) (o : Progress A) → Follows u v → After v o → After u o
+pub after_trans : {A : Type 0} (u v : State) (o : Progress A) → Follows u v → EndsAfter v o → EndsAfter u o
 after_trans u v (gives a w) f g = follows_trans u v w f g
 after_trans u v (ends end w) f g = follows_trans u v w f g
 

@@ -4,3 +4,4 @@ pub mod Agreeing
 pub mod AgreeingValues
 pub mod Spent
 pub mod AgreeingStatements
+pub mod AgreeingCalls
