@@ -8,13 +8,13 @@ use Rattle.p10_meaning.specs.Pointers.{holding}
 use Rattle.p10_meaning.specs.Objects.{Object, declared, all_closed}
 use Rattle.p10_meaning.specs.States.{State, AssertionFailed, Undefined, StepsSpent, Progress, gives, ends, step, and_then}
 use Rattle.p10_meaning.specs.Values.{Calls, Held, holds, stands, absent, open_object, evaluate}
-use Rattle.p10_meaning.specs.Statements.{Frame, Done, execute, execute_from}
+use Rattle.p10_meaning.specs.Statements.{Frame, Done, test, turns, execute, execute_from, round}
 use Rattle.p10_meaning.specs.Calling.{Depth, deeper, raised, Entered, with_variable, entered, given, leave_call, setting_of, enter_call, call_at}
-use Rattle.p10_meaning.specs.Laws.{Follows, EndsAfter, with_more, SameWithMore, CallsRun, StatementsRun, ValuesRun}
+use Rattle.p10_meaning.specs.Laws.{Follows, EndsAfter, with_more, SameWithMore, CallsRun, StatementsRun, ValuesRun, LoopsHaveNoBound}
 use Rattle.p10_meaning.proofs.Following.{follows_same, follows_trans, follows_objects, follows_open, follows_raised}
 use Rattle.p10_meaning.proofs.Agreeing.{IsSame, Agrees, CallsAgree, no_more, agrees_from, agrees_within, agrees_gives, agrees_here, agrees_spent, agrees_then, agrees_step}
 use Rattle.p10_meaning.proofs.AgreeingValues.{more_than, evaluate_agrees}
-use Rattle.p10_meaning.proofs.AgreeingStatements.{execute_agrees, from_agrees}
+use Rattle.p10_meaning.proofs.AgreeingStatements.{execute_agrees, from_agrees, these_turns_agree}
 use Rattle.p10_meaning.proofs.Spent.{step_none}
 
 -- ## Entry
@@ -28,14 +28,18 @@ entered_more k (v ∷ vs) (x ∷ xs) w = case (entered_more k vs xs w) (entered_
   where
     case : entered vs xs (with_more k w) ≡ record { frame = (entered vs xs w).frame; state = with_more k (entered vs xs w).state } →
         entered vs xs (open_object declared (holding x ∷ []) (with_more k w)) ≡ record {
-            frame = (entered vs xs (open_object declared (holding x ∷ []) w)).frame; state = with_more k (entered vs xs (open_object declared (holding x ∷ []) w)).state } →
+          frame = (entered vs xs (open_object declared (holding x ∷ []) w)).frame;
+          state = with_more k (entered vs xs (open_object declared (holding x ∷ []) w)).state;
+        } →
         (b : Bool) →
         cond b (with_variable (holds (holding x)) (entered vs xs (with_more k w)).frame.opened (entered vs xs (with_more k w)))
-            (with_variable (stands w.opened) (w.opened ∷ (entered vs xs (open_object declared (holding x ∷ []) (with_more k w))).frame.opened) (entered vs xs (open_object declared (holding x ∷ []) (with_more k w)))) ≡
-        record { frame = (cond b (with_variable (holds (holding x)) (entered vs xs w).frame.opened (entered vs xs w))
-            (with_variable (stands w.opened) (w.opened ∷ (entered vs xs (open_object declared (holding x ∷ []) w)).frame.opened) (entered vs xs (open_object declared (holding x ∷ []) w)))).frame;
-            state = with_more k (cond b (with_variable (holds (holding x)) (entered vs xs w).frame.opened (entered vs xs w))
-            (with_variable (stands w.opened) (w.opened ∷ (entered vs xs (open_object declared (holding x ∷ []) w)).frame.opened) (entered vs xs (open_object declared (holding x ∷ []) w)))).state }
+        (with_variable (stands w.opened) (w.opened ∷ (entered vs xs (open_object declared (holding x ∷ []) (with_more k w))).frame.opened) (entered vs xs (open_object declared (holding x ∷ []) (with_more k w)))) ≡
+        record {
+          frame = (cond b (with_variable (holds (holding x)) (entered vs xs w).frame.opened (entered vs xs w))
+              (with_variable (stands w.opened) (w.opened ∷ (entered vs xs (open_object declared (holding x ∷ []) w)).frame.opened) (entered vs xs (open_object declared (holding x ∷ []) w)))).frame;
+          state = with_more k (cond b (with_variable (holds (holding x)) (entered vs xs w).frame.opened (entered vs xs w))
+              (with_variable (stands w.opened) (w.opened ∷ (entered vs xs (open_object declared (holding x ∷ []) w)).frame.opened) (entered vs xs (open_object declared (holding x ∷ []) w)))).state;
+        }
     case e d true = ap (λ (r : Entered). with_variable (holds (holding x)) r.frame.opened r) e
     case e d false = ap (λ (r : Entered). with_variable (stands w.opened) (w.opened ∷ r.frame.opened) r) d
 
@@ -59,19 +63,19 @@ entered_is (v ∷ vs) (x ∷ xs) w = case (entered_is vs xs w) (entered_is vs xs
 module _ (k most : ℕ) (p : PlainProgram) (n o : ℕ) (call other : Depth → Calls) (calls : (depth : Depth) → CallsAgree k most (call depth) (other depth)) (enough : most ≤ n) (enough_other : most + k ≤ o) where
   enter_some : (depth : Depth) (f : PlainFunction) (xs : List Scalar) (w : State) → w.left ≤ most → (start : Entered) → IsEntry (raised (deeper f depth) w) start →
       Agrees k most w (and_then (execute_from (setting_of p n call (deeper f depth) f) 0 f.body start.frame start.state) leave_call)
-          (and_then (execute_from (setting_of p o other (deeper f depth) f) 0 f.body start.frame (with_more k start.state)) leave_call)
+      (and_then (execute_from (setting_of p o other (deeper f depth) f) 0 f.body start.frame (with_more k start.state)) leave_call)
   enter_some depth f xs w l start e =
       let there : Depth = deeper f depth in
       agrees_from k most w start.state _ _ (follows_trans w (raised there w) start.state (follows_raised w there) e.follows)
       (agrees_then k most most start.state _ _ _ _
-          (from_agrees k most p f.variables (call there) (other there) n o (calls there) enough enough_other 0 f.body start.frame start.state most (omega arith) (subst (λ i. i ≤ most) (sym e.left) l))
-          (λ done w l. agrees_gives k most w _ (record w { objects = all_closed done.frame.opened w.objects }) l (follows_objects w _)))
+      (from_agrees k most p f.variables (call there) (other there) n o (calls there) enough enough_other 0 f.body start.frame start.state most (omega arith) (subst (λ i. i ≤ most) (sym e.left) l))
+      (λ done w l. agrees_gives k most w _ (record w { objects = all_closed done.frame.opened w.objects }) l (follows_objects w _)))
 
   pub enter_agrees : (depth : Depth) (f : Option PlainFunction) (xs : List Scalar) (w : State) → w.left ≤ most → Agrees k most w (enter_call p n call depth f xs w) (enter_call p o other depth f xs (with_more k w))
   enter_agrees depth None xs w l = agrees_here k most None w l
   enter_agrees depth (Some f) xs w l =
       subst (λ (start : Entered). Agrees k most w (enter_call p n call depth (Some f) xs w)
-          (and_then (execute_from (setting_of p o other (deeper f depth) f) 0 f.body start.frame start.state) leave_call))
+      (and_then (execute_from (setting_of p o other (deeper f depth) f) 0 f.body start.frame start.state) leave_call))
       (sym (entered_more k f.variables xs (raised (deeper f depth) w)))
       (enter_some depth f xs w l (entered f.variables xs (raised (deeper f depth) w)) (entered_is f.variables xs (raised (deeper f depth) w)))
 
@@ -103,8 +107,10 @@ call_agrees k n o p deeper_ones (suc j) m depth f xs w e lm mn mo =
 pub calls_agree : (k n o : ℕ) (p : PlainProgram) → CallsUpTo k n o p
 calls_agree k zero o p most mn mo depth = record { agree = λ f xs w m b l. none_agrees k m zero o p depth f xs w (omega (arith, mn, b, l)) }
 calls_agree k (suc n) zero p most mn mo depth = record { agree = λ f xs w m b l. none_agrees k m (suc n) zero p depth f xs w (omega (arith, mo, b, l)) }
-calls_agree k (suc n) (suc o) p most mn mo depth = record { agree = λ f xs w m b l.
-    call_agrees k n o p (calls_agree k n o p) w.left m depth f xs w refl l (omega (arith, b, mn)) (omega (arith, b, mo)) }
+calls_agree k (suc n) (suc o) p most mn mo depth = record {
+  agree = λ f xs w m b l.
+      call_agrees k n o p (calls_agree k n o p) w.left m depth f xs w refl l (omega (arith, b, mn)) (omega (arith, b, mo));
+}
 
 -- ## The laws
 
@@ -176,3 +182,13 @@ values_run p depth f v held w = record { follows = follows; bound = bound; more 
     more : (n m k : ℕ) → w.left ≤ n → w.left + k ≤ m →
         SameWithMore k (evaluate (setting_of p n (call_at n p) depth f) held v w) (evaluate (setting_of p m (call_at m p) depth f) held v (with_more k w))
     more n m k ln lm = more_of k _ _ (agree k n m ln lm).same
+
+pub loops_have_no_bound : LoopsHaveNoBound
+loops_have_no_bound p depth f tested third body frame w n m i j ln lm li lj =
+    let agree : Agrees 0 w.left w (turns i (test (setting_of p n (call_at n p) depth f) tested) (round (setting_of p n (call_at n p) depth f) third body) frame w)
+    (turns j (test (setting_of p m (call_at m p) depth f) tested) (round (setting_of p m (call_at m p) depth f) third body) frame (with_more 0 w)) =
+    these_turns_agree 0 w.left p f.variables (call_at n p depth) (call_at m p depth) n m (calls_agree 0 n m p w.left ln (bounds w.left m lm) depth) ln (bounds w.left m lm)
+    i j tested third body frame w w.left (at_most w.left) (at_most w.left) li (bounds w.left j lj) in
+    same_of (turns i (test (setting_of p n (call_at n p) depth f) tested) (round (setting_of p n (call_at n p) depth f) third body) frame w)
+    (turns j (test (setting_of p m (call_at m p) depth f) tested) (round (setting_of p m (call_at m p) depth f) third body) frame (with_more 0 w)) agree.same ∙
+    ap (λ w. turns j (test (setting_of p m (call_at m p) depth f) tested) (round (setting_of p m (call_at m p) depth f) third body) frame w) (no_more w 0 refl)

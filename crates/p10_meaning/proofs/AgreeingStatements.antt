@@ -26,7 +26,7 @@ use Rattle.p10_meaning.proofs.Spent.{test_none, turns_none}
 
 -- ## Parts
 
-go_agrees : (k m : ℕ) (flow : Flow) (frame : Frame) (w : State) (rest other : Frame → State → Progress Done) → w.left ≤ m →
+pub go_agrees : (k m : ℕ) (flow : Flow) (frame : Frame) (w : State) (rest other : Frame → State → Progress Done) → w.left ≤ m →
     Agrees k m w (rest frame w) (other frame (with_more k w)) → Agrees k m w (go_on flow frame w rest) (go_on flow frame (with_more k w) other)
 go_agrees k m normal frame w rest other l h = h
 go_agrees k m broken frame w rest other l h = agrees_here k m _ w l
@@ -144,12 +144,12 @@ module _ (k most : ℕ) (p : PlainProgram) (variables : List PlainVariable) (cal
   place_agrees : (held : List Held) (q : PlainPlace) (w : State) (m : ℕ) → m ≤ most → w.left ≤ m → Agrees k m w (locate one held q w) (locate two held q (with_more k w))
   place_agrees held q w m b l = locate_agrees k most p variables call1 call2 n1 n2 calls held q w m b l
 
+  pub test_agrees : (tested : Option PlainValue) (frame : Frame) (w : State) (m : ℕ) → m ≤ most → w.left ≤ suc m → Agrees k m w (test one tested frame w) (test two tested frame (with_more k w))
+  test_agrees None frame w m b l = agrees_step k m w _ _ l (λ n l. agrees_here k m true (record w { left = n }) l)
+  test_agrees (Some v) frame w m b l = agrees_then k m m w _ _ _ _ (evaluate_agrees k most p variables call1 call2 n1 n2 calls frame.held v w m b l) (λ x w l. agrees_here k m (is_true x) w l)
+
   test_is : (tested : Option PlainValue) → IsTest k most (λ frame w. test one tested frame w) (λ frame w. test two tested frame w)
-  test_is tested = record { agree = λ frame w m b l. agree tested frame w m b l; none = λ frame w e. test_none one tested frame w e; none_other = λ frame w e. test_none two tested frame w e }
-    where
-      agree : (tested : Option PlainValue) (frame : Frame) (w : State) (m : ℕ) → m ≤ most → w.left ≤ suc m → Agrees k m w (test one tested frame w) (test two tested frame (with_more k w))
-      agree None frame w m b l = agrees_step k m w _ _ l (λ n l. agrees_here k m true (record w { left = n }) l)
-      agree (Some v) frame w m b l = agrees_then k m m w _ _ _ _ (evaluate_agrees k most p variables call1 call2 n1 n2 calls frame.held v w m b l) (λ x w l. agrees_here k m (is_true x) w l)
+  test_is tested = record { agree = test_agrees tested; none = λ frame w e. test_none one tested frame w e; none_other = λ frame w e. test_none two tested frame w e }
 
   -- initialisers
 
@@ -264,3 +264,13 @@ module _ (k most : ℕ) (p : PlainProgram) (variables : List PlainVariable) (cal
     enter_form_agrees i empty frame w m b l = agrees_here k m _ w l
     enter_form_agrees i (declare_static n) frame w m b l = agrees_here k m _ w l
     enter_form_agrees i (mark kind) frame w m b l = agrees_here k m _ w l
+
+  pub round_agrees : (third : PlainStatements) (body : PlainStatement) (frame : Frame) (w : State) (m : ℕ) → m ≤ most → w.left ≤ m → Agrees k m w (round one third body frame w) (round two third body frame (with_more k w))
+  round_agrees third body frame w m b l = agrees_then k m m w _ _ _ _ (execute_agrees body frame w m b l) (λ done w l.
+      third_agrees k m done.flow done.frame w (λ frame w. execute_from one 0 third frame w) (λ frame w. execute_from two 0 third frame w) l (from_agrees 0 third done.frame w m b l))
+
+  -- the turns of a loop, under two bounds of their own
+  pub these_turns_agree : (i j : ℕ) (tested : Option PlainValue) (third : PlainStatements) (body : PlainStatement) (frame : Frame) (w : State) (m : ℕ) → m ≤ most → w.left ≤ m → w.left ≤ i → w.left + k ≤ j →
+      Agrees k m w (turns i (test one tested) (round one third body) frame w) (turns j (test two tested) (round two third body) frame (with_more k w))
+  these_turns_agree i j tested third body frame w m b l li lj =
+      turns_agree k most (test one tested) (test two tested) (round one third body) (round two third body) (test_is tested) (round_agrees third body) i j frame w m b l li lj

@@ -5,3 +5,4 @@ pub mod AgreeingValues
 pub mod Spent
 pub mod AgreeingStatements
 pub mod AgreeingCalls
+pub mod Budgets

@@ -1,11 +1,11 @@
 -- What holds of the meaning of every program, whole or not.
 use Rattle.std.specs.Prelude.{◌≡◌, ◌≢◌, ℕ, suc, ◌+◌, ◌≤◌, true, false, List, ◌++◌, ℤ, Option, slice_get}
-use Rattle.p10_core.specs.Typed.{PlainValue, PlainStatement, PlainFunction, PlainProgram}
+use Rattle.p10_core.specs.Typed.{PlainValue, PlainStatement, PlainStatements, PlainFunction, PlainProgram}
 use Rattle.p10_meaning.specs.declared.pointers.Scalar.{Scalar}
 use Rattle.p10_meaning.specs.declared.world.World.{World}
 use Rattle.p10_meaning.specs.States.{State, End, AssertionFailed, Undefined, StepsSpent, Progress, gives, ends, step}
 use Rattle.p10_meaning.specs.Values.{Held, evaluate}
-use Rattle.p10_meaning.specs.Statements.{Frame, execute}
+use Rattle.p10_meaning.specs.Statements.{Frame, test, turns, execute, round}
 use Rattle.p10_meaning.specs.Calling.{Depth, setting_of, enter_call, call_at}
 use Rattle.p10_meaning.specs.Runs.{Ended, run_of}
 
@@ -78,6 +78,14 @@ pub record ValuesRun (p : PlainProgram) (depth : Depth) (f : PlainFunction) (v :
   pub bound : (n m : ℕ) → w.left ≤ n → w.left ≤ m → evaluate (setting_of p n (call_at n p) depth f) held v w ≡ evaluate (setting_of p m (call_at m p) depth f) held v w
   pub more : (n m k : ℕ) → w.left ≤ n → w.left + k ≤ m →
       SameWithMore k (evaluate (setting_of p n (call_at n p) depth f) held v w) (evaluate (setting_of p m (call_at m p) depth f) held v (with_more k w))
+
+-- a loop of a function, at each depth: neither the bound on calls nor that on turns counts
+abbrev pub LoopsHaveNoBound : Type 0
+LoopsHaveNoBound =
+    (p : PlainProgram) (depth : Depth) (f : PlainFunction) (tested : Option PlainValue) (third : PlainStatements) (body : PlainStatement) (frame : Frame) (w : State) (n m i j : ℕ) →
+    w.left ≤ n → w.left ≤ m → w.left ≤ i → w.left ≤ j →
+    turns i (test (setting_of p n (call_at n p) depth f) tested) (round (setting_of p n (call_at n p) depth f) third body) frame w ≡
+    turns j (test (setting_of p m (call_at m p) depth f) tested) (round (setting_of p m (call_at m p) depth f) third body) frame w
 
 -- the same of values
 abbrev pub ValuesHaveNoBound : Type 0

@@ -1,8 +1,25 @@
 //! What holds of the meaning. Nothing runs here: each function stands for the laws that its contract states.
 
+ghost use Rattle.p10_meaning.specs.Laws.{CallsHaveNoBound, StatementsHaveNoBound, LoopsHaveNoBound, ValuesHaveNoBound, RunsNeedNoMore};
 ghost use Rattle.p10_meaning.specs.Costs.{StepsAreCounted};
 ghost use Rattle.p10_meaning.specs.Stopping.{RunsStop};
 ghost use Rattle.p10_meaning.specs.Tasks.{RunsGive};
+
+/// What comes of a call, a statement, a loop or a value doesn't depend on the bound of the recursion, as long as that is no
+/// less than the steps that are left; so calls meet the plain recursion on trees and steps. More steps change no outcome but
+/// the want of steps. No step comes back, and objects, requests, greatest depths, the count after the mark and the output
+/// only grow; what is executed before the mark isn't counted.
+pub fn bound_never_counts()
+    ensures calls { CallsHaveNoBound }
+    ensures statements { StatementsHaveNoBound }
+    ensures loops { LoopsHaveNoBound }
+    ensures values { ValuesHaveNoBound }
+{}
+
+/// A run that doesn't end for want of steps gives the same with greater budgets.
+pub fn runs_need_no_more()
+    ensures { RunsNeedNoMore }
+{}
 
 /// What each row of the table of steps costs, at a small program: with a step fewer its run ends for want of steps.
 pub fn steps_are_counted()
