@@ -7,7 +7,6 @@ use Rattle.p10_core.specs.declared.statements.LoopKeyword.{LoopKeyword}
 use Rattle.p10_core.specs.declared.statements.LoopKeyword.TheVariants.{While, Do, For}
 use Rattle.p10_core.specs.declared.statements.MarkKind.TheVariants.{InitDone, TaskLoop}
 use Rattle.p10_core.specs.Types.{PlainType}
-use Rattle.p10_core.specs.Sizes.{scalars_of}
 use Rattle.p10_core.specs.Typed.{PlainValue, PlainPlace, place_at, place_type, PlainWritten, one_scalar, scalars_of_text, PlainItem, PlainInitializer, not_initialized, single, copied, listed, PlainStatement, statement, PlainStatementForm, set, update, copy, evaluate as expression, asserts, declare, declare_static, block, if_then, if_else, loop, switch, break, continue, return, empty, mark, PlainStatements, no_statements, more_statements, PlainVariable, PlainProgram}
 use Rattle.p10_meaning.specs.declared.pointers.Ptr.{Ptr}
 use Rattle.p10_meaning.specs.declared.pointers.Scalar.{Scalar}
@@ -16,7 +15,7 @@ use Rattle.p10_meaning.specs.Pointers.{first_of}
 use Rattle.p10_meaning.specs.Objects.{Object, declared, all_closed}
 use Rattle.p10_meaning.specs.States.{State, StepsSpent, Progress, gives, ends, step, and_then}
 use Rattle.p10_meaning.specs.Scalars.{is_true, number_of, unset_cells}
-use Rattle.p10_meaning.specs.Values.{Calls, Setting, Held, stands, width, open_object, Target, Variable, Sensor, Element, pointer_to, evaluate, discard, locate}
+use Rattle.p10_meaning.specs.Values.{Calls, Setting, Held, stands, scalars, width, open_object, Target, Variable, Sensor, Element, pointer_to, evaluate, discard, locate}
 use Rattle.p10_meaning.specs.Statements.{Frame, Flow, normal, broken, continued, returned, Done, flows, goes, go_on, leave_block, in_block, write_target, part_of, write_part, copy_scalars, text_scalars, written_scalars, listed_scalars, fill, initialize, declare_variable, test, next_turn, turns, loop_by, before_third, labelled, from_label, after_switch, execute, execute_form, execute_from, enter, enter_form, round, looped}
 use Rattle.p10_meaning.specs.Laws.{Follows, with_more}
 use Rattle.p10_meaning.proofs.Following.{follows_same, follows_trans, follows_objects, follows_open, follows_mark}
@@ -171,15 +170,15 @@ module _ (k most : ℕ) (p : PlainProgram) (variables : List PlainVariable) (cal
       agrees_then k m m (record w { left = n }) _ _ _ _ (place_agrees frame.held q (record w { left = n }) m b l) (λ source w l.
       copy_agrees k m (width p t) 0 span (pointer_to target) (place_at q).span (pointer_to source) frame w l))
   initialize_agrees span t target (listed at items) frame w m b l =
-      agrees_then k m m w _ _ _ _ (listed_agree frame.held items w m b l) (λ xs w l. fill_agrees k m span xs (scalars_of p.structures t) 0 (pointer_to target) frame w l)
+      agrees_then k m m w _ _ _ _ (listed_agree frame.held items w m b l) (λ xs w l. fill_agrees k m span xs (scalars p t) 0 (pointer_to target) frame w l)
 
   declare_agrees : (span : Span) (n : ℕ) (v : Option PlainVariable) (initializer : PlainInitializer) (frame : Frame) (w : State) (m : ℕ) → m ≤ most → w.left ≤ m →
       Agrees k m w (declare_variable one span n v initializer frame w) (declare_variable two span n v initializer frame (with_more k w))
   declare_agrees span n None initializer frame w m b l = agrees_here k m _ w l
   declare_agrees span n (Some v) initializer frame w m b l = agrees_if k m w v.frame _ _ _ _
       (initialize_agrees span v.type (Variable n) initializer _ w m b l)
-      (agrees_from k m w (open_object declared (unset_cells (scalars_of p.structures v.type)) w) _ _ (follows_open w declared _)
-      (initialize_agrees span v.type (Element (first_of w.opened (width p v.type) 1)) initializer (record { held = slice_set frame.held n (stands w.opened); opened = w.opened ∷ frame.opened }) (open_object declared (unset_cells (scalars_of p.structures v.type)) w) m b l))
+      (agrees_from k m w (open_object declared (unset_cells (scalars p v.type)) w) _ _ (follows_open w declared _)
+      (initialize_agrees span v.type (Element (first_of w.opened (width p v.type) 1)) initializer (record { held = slice_set frame.held n (stands w.opened); opened = w.opened ∷ frame.opened }) (open_object declared (unset_cells (scalars p v.type)) w) m b l))
 
   -- statements
 

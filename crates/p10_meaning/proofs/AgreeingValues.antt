@@ -6,7 +6,7 @@ use Rattle.p10_base.specs.declared.at.At.{At}
 use Rattle.p10_core.specs.declared.typed.Library.{Library}
 use Rattle.p10_core.specs.declared.typed.Library.TheVariants.{Assert, CAssert, Getchar, Putchar, Malloc, Calloc, Free}
 use Rattle.p10_core.specs.Types.{PlainType}
-use Rattle.p10_core.specs.Sizes.{size_of, scalars_of, repeated}
+use Rattle.p10_core.specs.Sizes.{repeated}
 use Rattle.p10_core.specs.Typed.{PlainValue, value, PlainForm, constant, read, sense, address, decay, convert, cast, unary, binary, logic, conditional, call, built_in, PlainPlace, place, PlainPlaceForm, variable, global, literal, index, member, dereference, PlainValues, no_values, more_values, place_at, PlainVariable, PlainProgram}
 use Rattle.p10_meaning.specs.declared.pointers.Scalar.{Scalar}
 use Rattle.p10_meaning.specs.declared.pointers.Scalar.TheVariants.{Int, Pointer}
@@ -16,7 +16,7 @@ use Rattle.p10_meaning.specs.Pointers.{first_of}
 use Rattle.p10_meaning.specs.Objects.{Object, allocated, release}
 use Rattle.p10_meaning.specs.States.{State, AssertionFailed, Progress, gives, ends, and_then, counted}
 use Rattle.p10_meaning.specs.Scalars.{is_true, truth_value, pointer_of, unset_cells, zero_cells}
-use Rattle.p10_meaning.specs.Values.{Calls, Setting, Held, width, open_object, Target, Variable, Sensor, Element, read_target, sensed_from, sensed, asserted, next_byte, put_byte, first_argument, is_denied, granted, requested, elements, pointee, library, give, is_void, is_structure, is_decided, evaluate, discard, perform, evaluate_all, locate, find_place}
+use Rattle.p10_meaning.specs.Values.{Calls, Setting, Held, scalars, width, size, open_object, Target, Variable, Sensor, Element, read_target, sensed_from, sensed, asserted, next_byte, put_byte, first_argument, is_denied, granted, requested, elements, pointee, library, give, is_void, is_structure, is_decided, evaluate, discard, perform, evaluate_all, locate, find_place}
 use Rattle.p10_meaning.specs.Laws.{Follows, with_more}
 use Rattle.p10_meaning.proofs.Following.{follows_same, follows_trans, follows_objects, follows_open, follows_requests, follows_input, follows_sensors, follows_output, follows_counted}
 use Rattle.p10_meaning.proofs.Agreeing.{Agrees, CallsAgree, agrees_from, agrees_within, agrees_gives, agrees_here, agrees_then, agrees_step, agrees_or, agrees_if}
@@ -47,9 +47,9 @@ granted_agrees k m stride n cells w l = agrees_if k m w (is_denied w.denied w.re
     (agrees_gives k m w (Some (Pointer (first_of w.opened stride n))) (open_object allocated cells w) l (follows_open w allocated cells))
 
 requested_agrees : (k m : ℕ) (p : PlainProgram) (t : PlainType) (n : ℕ) (fill : List PlainType → List Cell) (w : State) → w.left ≤ m → Agrees k m w (requested p t n fill w) (requested p t n fill (with_more k w))
-requested_agrees k m p t n fill w l = agrees_if k m w (ltb 0 (n * size_of p.structures t) && leb (n * size_of p.structures t) 1048576) _ _ _ _
+requested_agrees k m p t n fill w l = agrees_if k m w (ltb 0 (n * size p t) && leb (n * size p t) 1048576) _ _ _ _
     (agrees_from k m w (record w { requests = suc w.requests }) _ _ (follows_requests w)
-    (granted_agrees k m (width p t) n (fill (repeated n (scalars_of p.structures t))) (record w { requests = suc w.requests }) l))
+    (granted_agrees k m (width p t) n (fill (repeated n (scalars p t))) (record w { requests = suc w.requests }) l))
     (agrees_here k m _ w l)
 
 library_agrees : (k m : ℕ) (p : PlainProgram) (f : Library) (span : Span) (t : PlainType) (xs : List Scalar) (w : State) → w.left ≤ m → Agrees k m w (library p f span t xs w) (library p f span t xs (with_more k w))

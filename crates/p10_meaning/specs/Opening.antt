@@ -3,7 +3,6 @@ use Rattle.std.specs.Prelude.{ℕ, suc, ◌+◌, ◌^◌, if◌then◌else◌, L
 use Rattle.p10_int.specs.declared.types.IntType.TheVariants.{Char}
 use Rattle.p10_int.specs.Conversion.{converted}
 use Rattle.p10_core.specs.Types.{PlainType}
-use Rattle.p10_core.specs.Sizes.{scalars_of}
 use Rattle.p10_core.specs.Typed.{PlainInitializer, not_initialized, single, copied, listed, PlainObject, PlainLiteral, PlainProgram}
 use Rattle.p10_meaning.specs.declared.pointers.Scalar.{Scalar}
 use Rattle.p10_meaning.specs.declared.pointers.Scalar.TheVariants.{Int}
@@ -13,7 +12,7 @@ use Rattle.p10_meaning.specs.Pointers.{holding}
 use Rattle.p10_meaning.specs.Objects.{Object, declared, literal}
 use Rattle.p10_meaning.specs.States.{State, StepsSpent, Progress, gives, ends}
 use Rattle.p10_meaning.specs.Scalars.{zero_of, zero_cells}
-use Rattle.p10_meaning.specs.Values.{Setting, evaluate}
+use Rattle.p10_meaning.specs.Values.{Setting, scalars, evaluate}
 use Rattle.p10_meaning.specs.Statements.{listed_scalars, listed_scalar}
 
 -- the objects of static lifetime with these cells, from number n on; a sensor has no scalars, so nothing stands under its number
@@ -54,7 +53,7 @@ constant_setting p = record { program = p; variables = []; call = λ k xs w. end
 
 abbrev pub constant_state : PlainProgram → State
 constant_state p =
-    opening_with (λ object. zero_cells (scalars_of p.structures object.type)) p (record { input = []; denied = []; sensors = [] }) (2 ^ 64)
+    opening_with (λ object. zero_cells (scalars p object.type)) p (record { input = []; denied = []; sensors = [] }) (2 ^ 64)
 
 abbrev pub constant_scalar : PlainType → Progress Scalar → Scalar
 constant_scalar t (gives x w) = x
@@ -70,11 +69,11 @@ listed_cells i (t ∷ types) xs = holding (listed_scalar i t xs) ∷ listed_cell
 
 -- the cells that an object of static lifetime begins with: those of its initialiser, all others zero or null (C99 6.7.8p10)
 abbrev pub initial_cells : PlainProgram → PlainType → PlainInitializer → List Cell
-initial_cells p t not_initialized = zero_cells (scalars_of p.structures t)
+initial_cells p t not_initialized = zero_cells (scalars p t)
 initial_cells p t (single v) = holding (constant_scalar t (evaluate (constant_setting p) [] v (constant_state p))) ∷ []
-initial_cells p t (copied q) = zero_cells (scalars_of p.structures t)
+initial_cells p t (copied q) = zero_cells (scalars p t)
 initial_cells p t (listed at items) =
-    listed_cells 0 (scalars_of p.structures t) (constant_scalars (listed_scalars (constant_setting p) [] items (constant_state p)))
+    listed_cells 0 (scalars p t) (constant_scalars (listed_scalars (constant_setting p) [] items (constant_state p)))
 
 -- the opening state: static objects have their initial values (C99 5.1.2), and nothing was executed
 abbrev pub opening : PlainProgram → World → ℕ → State

@@ -17,12 +17,11 @@ use Rattle.p10_meaning.specs.declared.pointers.Ptr.{Ptr}
 use Rattle.p10_meaning.specs.declared.pointers.Scalar.{Scalar}
 use Rattle.p10_meaning.specs.declared.pointers.Scalar.TheVariants.{Int}
 use Rattle.p10_meaning.specs.declared.pointers.Cell.{Cell}
-use Rattle.p10_core.specs.Sizes.{scalars_of}
 use Rattle.p10_meaning.specs.Pointers.{unset, holding, first_of}
 use Rattle.p10_meaning.specs.Objects.{Object, declared, on_ok, cell_at, write_at, inner, all_closed}
 use Rattle.p10_meaning.specs.States.{State, StepsSpent, Progress, gives, ends, step, and_then, or_undefined}
 use Rattle.p10_meaning.specs.Scalars.{number_of, is_true, converted_to, zero_of, operated, unset_cells}
-use Rattle.p10_meaning.specs.Values.{Setting, Held, holds, stands, width, open_object, Target, Variable, Sensor, Element, pointer_to, read_target, asserted, evaluate, discard, locate}
+use Rattle.p10_meaning.specs.Values.{Setting, Held, holds, stands, scalars, width, open_object, Target, Variable, Sensor, Element, pointer_to, read_target, asserted, evaluate, discard, locate}
 
 -- ## Frames and flows
 
@@ -130,7 +129,7 @@ initialize s span t target (copied p) frame w =
     step w (λ w. and_then (locate s frame.held p w) (λ source w.
     copy_scalars (width s.program t) 0 span (pointer_to target) (place_at p).span (pointer_to source) frame w))
 initialize s span t target (listed at items) frame w =
-    and_then (listed_scalars s frame.held items w) (λ xs w. fill span xs (scalars_of s.program.structures t) 0 (pointer_to target) frame w)
+    and_then (listed_scalars s frame.held items w) (λ xs w. fill span xs (scalars s.program t) 0 (pointer_to target) frame w)
 
 -- a declaration first makes its variable unset, or opens an object of unset scalars (C99 6.2.4p5, p6), and then initialises it
 abbrev pub declare_variable : Setting → Span → ℕ → Option PlainVariable → PlainInitializer → Frame → State → Progress Done
@@ -140,7 +139,7 @@ declare_variable s span n (Some v) initializer frame w =
     then initialize s span v.type (Variable n) initializer (holding_at frame n (holds unset)) w
     else initialize s span v.type (Element (first_of w.opened (width s.program v.type) 1)) initializer
     (record { held = slice_set frame.held n (stands w.opened); opened = w.opened ∷ frame.opened })
-    (open_object declared (unset_cells (scalars_of s.program.structures v.type)) w)
+    (open_object declared (unset_cells (scalars s.program v.type)) w)
 
 -- ## Loops and `switch`
 

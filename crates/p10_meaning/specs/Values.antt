@@ -10,7 +10,7 @@ use Rattle.p10_core.specs.declared.typed.Library.{Library}
 use Rattle.p10_core.specs.declared.typed.Library.TheVariants.{Assert, CAssert, Getchar, Putchar, Malloc, Calloc, Free}
 use Rattle.p10_core.specs.declared.typed.LogicOp.{LogicOp}
 use Rattle.p10_core.specs.declared.typed.LogicOp.TheVariants.{And, Or}
-use Rattle.p10_core.specs.Types.{PlainType, PlainStructure, PlainMember, void, integer, pointer, array, structure, members_of}
+use Rattle.p10_core.specs.Types.{PlainType, PlainMember, void, integer, pointer, array, structure, bare, members_of}
 use Rattle.p10_core.specs.Typed.{PlainValue, value, PlainForm, constant, read, sense, address, decay, convert, cast, unary, binary, logic, conditional, call, built_in, PlainPlace, place, PlainPlaceForm, variable, global, literal, index, member, dereference, PlainValues, no_values, more_values, place_at, place_type, PlainVariable, PlainObject, PlainLiteral, PlainProgram}
 use Rattle.p10_meaning.specs.declared.pointers.Ptr.{Ptr}
 use Rattle.p10_meaning.specs.declared.pointers.Ptr.TheVariants.{Null}
@@ -44,9 +44,17 @@ pub data Held : Type 0 where
   stands : ℕ → Held
   absent : Held
 
--- how many scalars an object of a type has
+-- the types of the scalars of an object of a type, in order. Structures of several roots that are compatible are one: that
+-- which stands for them (C99 6.2.7)
+abbrev pub scalars : PlainProgram → PlainType → List PlainType
+scalars p t = scalars_of p.structures (bare p.structures t)
+
 abbrev pub width : PlainProgram → PlainType → ℕ
-width p t = length (scalars_of p.structures t)
+width p t = length (scalars p t)
+
+-- the size of a type in bytes
+abbrev pub size : PlainProgram → PlainType → ℕ
+size p t = size_of p.structures (bare p.structures t)
 
 -- ## Objects that are opened
 
@@ -157,9 +165,9 @@ granted stride n cells w =
 -- isn't counted
 abbrev pub requested : PlainProgram → PlainType → ℕ → (List PlainType → List Cell) → State → Progress (Option Scalar)
 requested p t n fill w =
-    let bytes : ℕ = n * size_of p.structures t in
+    let bytes : ℕ = n * size p t in
     if ltb 0 bytes && leb bytes 1048576
-    then granted (width p t) n (fill (repeated n (scalars_of p.structures t))) (record w { requests = suc w.requests })
+    then granted (width p t) n (fill (repeated n (scalars p t))) (record w { requests = suc w.requests })
     else gives (Some (Pointer Null)) w
 
 -- a call of a library function with its arguments; its span is that of the call, and its type that of the value
@@ -201,9 +209,9 @@ element_count (array c t n) = n
 element_count t = 1
 
 -- how many scalars of a structure stand before a member (C99 6.7.2.1p13)
-abbrev pub scalars_before : List PlainStructure → PlainType → ℕ → ℕ
-scalars_before structures (structure c k) m = length (flat_map (λ (x : PlainMember). scalars_of structures x.type) (take m (members_of structures k)))
-scalars_before structures t m = 0
+abbrev pub scalars_before : PlainProgram → PlainType → ℕ → ℕ
+scalars_before p (structure c k) m = length (flat_map (λ (x : PlainMember). scalars p x.type) (take m (members_of p.structures k)))
+scalars_before p t m = 0
 
 -- whether `&&` or `||` is decided by its left operand, and what it is then (C99 6.5.13p4, 6.5.14p4)
 abbrev pub is_decided : LogicOp → Bool → Bool
@@ -292,7 +300,7 @@ abbrev mutual
   -- a member: 1 and the structure's place: U5, U7 (C99 6.5.2.3)
   find_place s held at t (member p m) w =
       step w (λ w. and_then (locate s held p w) (λ target w.
-      or_undefined (inner w.objects (pointer_to target) (scalars_before s.program.structures (place_type p) m) (width s.program t) 1) at.span w
+      or_undefined (inner w.objects (pointer_to target) (scalars_before s.program (bare s.program.structures (place_type p)) m) (width s.program t) 1) at.span w
       (λ q. gives (Element q) w)))
   -- a dereference: 1 and the pointer: U5, U7 (C99 6.5.3.2p4)
   find_place s held at t (dereference v) w =
