@@ -6,3 +6,6 @@ pub mod Spent
 pub mod AgreeingStatements
 pub mod AgreeingCalls
 pub mod Budgets
+pub mod Geometry
+pub mod Fitting
+pub mod Moves

@@ -8,6 +8,7 @@ pub mod Statements
 pub mod Calling
 pub mod Opening
 pub mod Runs
+pub mod Sound
 pub mod Laws
 pub mod Examples
 pub mod Costs

@@ -1,0 +1,170 @@
+-- Sound states: each value is one of its type, and each pointer points where a path through its object's type leads.
+use Rattle.std.specs.Prelude.{◌≡◌, ℕ, ◌+◌, ◌<◌, ◌≤◌, leb, if◌then◌else◌, Bool, false, List, [], ◌∷◌, ◌++◌, length, slice_get, ℤ, Option, Some, None}
+use Rattle.std.specs.List.{All}
+use Rattle.p10_int.specs.declared.types.IntType.TheVariants.{Char}
+use Rattle.p10_int.specs.Types.{InRange}
+use Rattle.p10_core.specs.Types.{PlainType, void, integer, pointer, array, structure, bare, PlainMember, members_of}
+use Rattle.p10_core.specs.Sizes.{scalars_of, repeated}
+use Rattle.p10_core.specs.Typed.{PlainVariable, PlainObject, PlainLiteral, PlainProgram}
+use Rattle.p10_meaning.specs.declared.pointers.Window.{Window}
+use Rattle.p10_meaning.specs.declared.pointers.Ptr.{Ptr}
+use Rattle.p10_meaning.specs.declared.pointers.Ptr.TheVariants.{Null, To}
+use Rattle.p10_meaning.specs.declared.pointers.Scalar.{Scalar}
+use Rattle.p10_meaning.specs.declared.pointers.Scalar.TheVariants.{Int, Pointer}
+use Rattle.p10_meaning.specs.declared.pointers.Cell.{Cell}
+use Rattle.p10_meaning.specs.Pointers.{last_number, whole_window, window_in}
+use Rattle.p10_meaning.specs.Objects.{Object}
+use Rattle.p10_meaning.specs.States.{IsSensorValue, State, Progress, gives, ends}
+use Rattle.p10_meaning.specs.Values.{Held, holds, stands, absent, width, scalars_before}
+
+-- ## The arrays of an object
+
+-- what an object was opened as: elements of a type, marks aside, and how many
+pub record Kind : Type 0 where
+  pub elem : PlainType
+  pub count : ℕ
+
+-- an array in an object, with the type of its elements
+pub record View : Type 0 where
+  pub window : Window
+  pub elem : PlainType
+
+-- the object as an array
+abbrev pub own : PlainProgram → Kind → View
+own p k = record { window = whole_window (length (scalars_of p.structures k.elem)) k.count; elem = k.elem }
+
+-- an object of a type, as an array of one
+abbrev pub single_of : PlainProgram → PlainType → Kind
+single_of p t = record { elem = bare p.structures t; count = 1 }
+
+-- a step of a path: into the element at a position, which is an array, or to a member of it
+pub data Step : Type 0 where
+  into : ℕ → Step
+  to_member : ℕ → ℕ → Step
+
+abbrev pub view_of_row : PlainProgram → Window → ℕ → PlainType → Option View
+view_of_row p window n (array c t count) =
+    Some (record { window = window_in window n 0 (length (scalars_of p.structures t)) count; elem = t })
+view_of_row p window n t = None
+
+abbrev pub view_of_entry : PlainProgram → Window → ℕ → ℕ → Option PlainMember → Option View
+view_of_entry p window n at None = None
+view_of_entry p window n at (Some x) = Some (record { window = window_in window n at (width p x.type) 1; elem = bare p.structures x.type })
+
+abbrev pub view_of_member : PlainProgram → Window → ℕ → ℕ → PlainType → Option View
+view_of_member p window n m (structure c k) = view_of_entry p window n (scalars_before p (structure c k) m) (slice_get (members_of p.structures k) m)
+view_of_member p window n m t = None
+
+-- one step: a one-past position counts as an element
+abbrev pub stepped : PlainProgram → View → Step → Option View
+stepped p v (into n) = if leb n v.window.count then view_of_row p v.window n v.elem else None
+stepped p v (to_member n m) = if leb n v.window.count then view_of_member p v.window n m v.elem else None
+
+abbrev pub on_some : {A B : Type 0} → Option A → (A → Option B) → Option B
+on_some None f = None
+on_some (Some x) f = f x
+
+abbrev pub walk : PlainProgram → View → List Step → Option View
+walk p v [] = Some v
+walk p v (s ∷ path) = on_some (stepped p v s) (λ v. walk p v path)
+
+-- a path leads to an array of an object
+pub record Leads (p : PlainProgram) (k : Kind) (v : View) : Type 0 where
+  pub path : List Step
+  pub leads : walk p (own p k) path ≡ Some v
+
+-- ## Values of a type
+
+-- the object was opened, a path leads to an array of elements of the type, and the position is from 0 to its length
+pub record IsAt (p : PlainProgram) (ks : List Kind) (t : PlainType) (o : ℕ) (window : Window) (n : ℕ) : Type 0 where
+  pub kind : Kind
+  pub opened : slice_get ks o ≡ Some kind
+  pub leads : Leads p kind (record { window = window; elem = bare p.structures t })
+  pub position : n ≤ window.count
+
+abbrev pub FitsPointer : PlainProgram → List Kind → PlainType → Ptr → Type 0
+FitsPointer p ks t Null = Unit {0}
+FitsPointer p ks t (To o window n) = IsAt p ks t o window n
+
+-- a scalar is one of a type: a number in its range, or a pointer to the type that it points to; `const` is left aside
+abbrev pub Fits : PlainProgram → List Kind → PlainType → Scalar → Type 0
+Fits p ks (integer c i) (Int z) = InRange i z
+Fits p ks (pointer c t) (Pointer q) = FitsPointer p ks t q
+Fits p ks t x = ⊥
+
+-- an unset scalar has any type
+abbrev pub MaybeFits : PlainProgram → List Kind → PlainType → Option Scalar → Type 0
+MaybeFits p ks t None = Unit {0}
+MaybeFits p ks t (Some x) = Fits p ks t x
+
+abbrev pub AllFit : PlainProgram → List Kind → List PlainType → List Cell → Type 0
+AllFit p ks [] [] = Unit {0}
+AllFit p ks (t ∷ types) (cell ∷ cells) = MaybeFits p ks t cell.value × AllFit p ks types cells
+AllFit p ks [] (cell ∷ cells) = ⊥
+AllFit p ks (t ∷ types) [] = ⊥
+
+-- ## Objects
+
+-- the types of the scalars of an object
+abbrev pub kind_scalars : PlainProgram → Kind → List PlainType
+kind_scalars p k = repeated k.count (scalars_of p.structures k.elem)
+
+-- a live object was opened as something, and its scalars have the types of that
+pub record ObjectFits (p : PlainProgram) (ks : List Kind) (x : Object) : Type 0 where
+  pub kind : Kind
+  pub opened : slice_get ks x.number ≡ Some kind
+  pub cells : AllFit p ks (kind_scalars p kind) x.cells
+
+abbrev pub AllObjects : PlainProgram → List Kind → List Object → Type 0
+AllObjects p ks [] = Unit {0}
+AllObjects p ks (x ∷ xs) = ObjectFits p ks x × AllObjects p ks xs
+
+-- an array of `char` with so many elements, as a string literal has it
+abbrev pub text_type : ℕ → PlainType
+text_type n = array false (integer false Char) n
+
+-- what has to hold of the parts of a state where `ks` are the kinds of all objects that were opened: the objects of static
+-- lifetime and the string literals were opened first, as what they are; every live object fits; input and sensors are a world's
+pub record SoundParts (p : PlainProgram) (ks : List Kind) (objects : List Object) (opened : ℕ) (input : List ℕ) (sensors : List ℤ) : Type 0 where
+  pub count : length ks ≡ opened
+  pub sizes : (o : ℕ) (k : Kind) → slice_get ks o ≡ Some k → length (kind_scalars p k) ≤ last_number
+  pub statics : (n : ℕ) (object : PlainObject) → slice_get p.objects n ≡ Some object → slice_get ks n ≡ Some (single_of p object.type)
+  pub literals : (n : ℕ) (l : PlainLiteral) → slice_get p.literals n ≡ Some l → slice_get ks (length p.objects + n) ≡ Some (single_of p (text_type (length l.bytes)))
+  pub all : AllObjects p ks objects
+  pub input_bytes : All (λ byte. byte < 256) input
+  pub sensor_values : All IsSensorValue sensors
+
+abbrev pub Sound : PlainProgram → List Kind → State → Type 0
+Sound p ks w = SoundParts p ks w.objects w.opened w.input w.sensors
+
+-- ## Frames
+
+-- what stands for a variable is a scalar of its type, or an object of it
+abbrev pub VariableFits : PlainProgram → List Kind → PlainVariable → Held → Type 0
+VariableFits p ks v (holds cell) = MaybeFits p ks v.type cell.value
+VariableFits p ks v (stands o) = slice_get ks o ≡ Some (single_of p v.type)
+VariableFits p ks v absent = Unit {0}
+
+abbrev pub FrameFits : PlainProgram → List Kind → List PlainVariable → List Held → Type 0
+FrameFits p ks [] [] = Unit {0}
+FrameFits p ks (v ∷ vs) (h ∷ hs) = VariableFits p ks v h × FrameFits p ks vs hs
+FrameFits p ks [] (h ∷ hs) = ⊥
+FrameFits p ks (v ∷ vs) [] = ⊥
+
+-- ## Outcomes
+
+-- objects are only added
+pub record Grows (ks js : List Kind) : Type 0 where
+  pub more : List Kind
+  pub is : js ≡ ks ++ more
+
+pub record Kept (p : PlainProgram) (ks : List Kind) (w : State) (P : List Kind → Type 0) : Type 0 where
+  pub kinds : List Kind
+  pub grows : Grows ks kinds
+  pub sound : Sound p kinds w
+  pub value : P kinds
+
+-- what comes of a piece leaves a sound state, and where it gives something, P holds of that
+abbrev pub Keeps : {A : Type 0} → PlainProgram → List Kind → (List Kind → A → Type 0) → Progress A → Type 0
+Keeps p ks P (gives a w) = Kept p ks w (λ ks. P ks a)
+Keeps p ks P (ends end w) = Kept p ks w (λ ks. Unit {0})
