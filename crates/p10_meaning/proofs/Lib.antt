@@ -9,3 +9,5 @@ pub mod Budgets
 pub mod Geometry
 pub mod Fitting
 pub mod Moves
+pub mod LaidOut
+pub mod SoundScalars
