@@ -10,7 +10,7 @@ use Rattle.p10_int.specs.declared.types.IntType.{IntType}
 use Rattle.p10_int.specs.declared.types.IntType.TheVariants.{Bool as Truth, Char, SChar, UChar, Short, UShort, Int, UInt, Long, ULong, LLong, ULLong}
 use Rattle.p10_core.specs.Types.{PlainType, void, integer, pointer, array, structure, bare, PlainMember, PlainBody, PlainStructure, body_of, members_in, members_of, representative_of}
 use Rattle.p10_core.specs.Sizes.{Layout, integer_bytes, aligned, repeated, past_members, greatest_alignment, scalars_of_members, layout_of_members, with_mark, layout_by, structure_layout, layout_of, size_of, scalars_of}
-use Rattle.p10_core.specs.Rows.{is_complete}
+use Rattle.p10_core.specs.Rows.{is_complete, is_scalar}
 use Rattle.p10_core.specs.Typed.{PlainProgram}
 use Rattle.p10_core.specs.Laws.{LiesLike}
 use Rattle.p10_core.specs.WholePrograms.{IsWholeType, IsObjectType, IsWholeMember, IsWholeBody, AreWholeStructures, bare_member, IsWholeProgram, most_bytes}
@@ -130,7 +130,7 @@ integer_few ULong = omega arith
 integer_few LLong = omega arith
 integer_few ULLong = omega arith
 
-repeated_few : (n b : ℕ) (xs : List PlainType) → length xs ≤ b → length (repeated n xs) ≤ n * b
+pub repeated_few : (n b : ℕ) (xs : List PlainType) → length xs ≤ b → length (repeated n xs) ≤ n * b
 repeated_few zero b xs l = omega arith
 repeated_few (suc n) b xs l =
     let h : length (repeated n xs) ≤ n * b = repeated_few n b xs l in
@@ -173,3 +173,65 @@ structure_few (suc d) ss n = members_few (layout_by ss (structure_layout d ss)) 
 pub scalars_few : (ss : List PlainStructure) (t : PlainType) → length (scalars_of ss t) ≤ size_of ss t
 unfolding layout_of
 scalars_few ss t = (layout_few ss (structure_layout (length ss) ss) (structure_few (length ss) ss) t).scalars
+
+-- ## Scalars are scalars
+
+abbrev pub AreScalar : List PlainType → Type 0
+AreScalar [] = Unit {0}
+AreScalar (t ∷ ts) = (is_scalar t ≡ true) × AreScalar ts
+
+scalar_append : (xs ys : List PlainType) → AreScalar xs → AreScalar ys → AreScalar (xs ++ ys)
+scalar_append [] ys f g = g
+scalar_append (x ∷ xs) ys f g = (f.0, scalar_append xs ys f.1 g)
+
+pub scalar_repeated : (n : ℕ) (xs : List PlainType) → AreScalar xs → AreScalar (repeated n xs)
+scalar_repeated zero xs f = tt
+scalar_repeated (suc n) xs f = scalar_append xs (repeated n xs) f (scalar_repeated n xs f)
+
+layout_scalar : (ss : List PlainStructure) (f : ℕ → Layout) → ((n : ℕ) → AreScalar (f n).scalars) → (t : PlainType) → AreScalar (layout_by ss f t).scalars
+layout_scalar ss f h (void c) = tt
+layout_scalar ss f h (integer c i) = (refl, tt)
+layout_scalar ss f h (pointer c t) = (refl, tt)
+layout_scalar ss f h (array c t n) = scalar_repeated n (layout_by ss f t).scalars (layout_scalar ss f h t)
+layout_scalar ss f h (structure c n) = h n
+
+members_scalar : (f : PlainType → Layout) → ((t : PlainType) → AreScalar (f t).scalars) → (ms : List PlainMember) → AreScalar (scalars_of_members f ms)
+members_scalar f h [] = tt
+members_scalar f h (m ∷ ms) = scalar_append (f m.type).scalars (scalars_of_members f ms) (h m.type) (members_scalar f h ms)
+
+structure_scalar : (d : ℕ) (ss : List PlainStructure) (n : ℕ) → AreScalar (structure_layout d ss n).scalars
+structure_scalar zero ss n = tt
+structure_scalar (suc d) ss n = members_scalar (layout_by ss (structure_layout d ss)) (layout_scalar ss (structure_layout d ss) (structure_scalar d ss)) (members_of ss n)
+
+pub scalars_scalar : (ss : List PlainStructure) (t : PlainType) → AreScalar (scalars_of ss t)
+unfolding layout_of
+scalars_scalar ss t = layout_scalar ss (structure_layout (length ss) ss) (structure_scalar (length ss) ss) t
+
+-- ## Members
+
+map_get : {A B : Type 0} (f : A → B) (xs : List A) (i : ℕ) (x : A) → slice_get xs i ≡ Some x → slice_get (map f xs) i ≡ Some (f x)
+map_get f [] i x e = absurd (none-some _ e)
+map_get f (y ∷ xs) zero x e = ap (λ x. Some (f x)) (same_Some _ _ e)
+map_get f (y ∷ xs) (suc i) x e = map_get f xs i x e
+
+pub record HasMapped {A B : Type 0} (f : A → B) (xs : List A) (i : ℕ) (y : B) : Type 0 where
+  pub one : A
+  pub there : slice_get xs i ≡ Some one
+  pub is : f one ≡ y
+
+map_back : {A B : Type 0} (f : A → B) (xs : List A) (i : ℕ) (y : B) → slice_get (map f xs) i ≡ Some y → HasMapped f xs i y
+map_back f [] i y e = absurd (none-some _ e)
+map_back f (x ∷ xs) zero y e = record { one = x; there = refl; is = same_Some _ _ e }
+map_back f (x ∷ xs) (suc i) y e = let h : HasMapped f xs i y = map_back f xs i y e in record { one = h.one; there = h.there; is = h.is }
+
+body_of_member : {P : Type 0} (o : Option PlainBody) (m : ℕ) (x : PlainMember) → slice_get (members_in o) m ≡ Some x → ((b : PlainBody) → o ≡ Some b → P) → P
+body_of_member None m x e go = absurd (none-some _ e)
+body_of_member (Some b) m x e go = go b refl
+
+-- the member of the structure that stands for a structure
+pub member_like : (p : PlainProgram) → AreWholeStructures p.structures → (k m : ℕ) (x : PlainMember) → slice_get (members_of p.structures k) m ≡ Some x →
+    HasMapped (bare_member p.structures) (members_of p.structures (representative_of p.structures k)) m (bare_member p.structures x)
+member_like p w k m x e = body_of_member (body_of p.structures k) m x e (λ b is.
+    let there : slice_get b.members m ≡ Some x = subst (λ o. slice_get (members_in o) m ≡ Some x) is e in
+    map_back (bare_member p.structures) (members_of p.structures (representative_of p.structures k)) m (bare_member p.structures x)
+    (ap (λ xs. slice_get xs m) (w.bodies k b is).same_members ∙ map_get (bare_member p.structures) b.members m x there))

@@ -11,3 +11,4 @@ pub mod Fitting
 pub mod Moves
 pub mod LaidOut
 pub mod SoundScalars
+pub mod Keeping

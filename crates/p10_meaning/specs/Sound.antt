@@ -5,7 +5,9 @@ use Rattle.p10_int.specs.declared.types.IntType.TheVariants.{Char}
 use Rattle.p10_int.specs.Types.{InRange}
 use Rattle.p10_core.specs.Types.{PlainType, void, integer, pointer, array, structure, bare, PlainMember, members_of}
 use Rattle.p10_core.specs.Sizes.{scalars_of, repeated}
-use Rattle.p10_core.specs.Typed.{PlainVariable, PlainObject, PlainLiteral, PlainProgram}
+use Rattle.p10_core.specs.Typed.{PlainVariable, PlainFunction, PlainObject, PlainLiteral, PlainProgram}
+use Rattle.p10_core.specs.Whole.{SeenVariable}
+use Rattle.p10_core.specs.WholePrograms.{seen_variable, parameter_types}
 use Rattle.p10_meaning.specs.declared.pointers.Window.{Window}
 use Rattle.p10_meaning.specs.declared.pointers.Ptr.{Ptr}
 use Rattle.p10_meaning.specs.declared.pointers.Ptr.TheVariants.{Null, To}
@@ -15,7 +17,7 @@ use Rattle.p10_meaning.specs.declared.pointers.Cell.{Cell}
 use Rattle.p10_meaning.specs.Pointers.{last_number, whole_window, window_in}
 use Rattle.p10_meaning.specs.Objects.{Object}
 use Rattle.p10_meaning.specs.States.{IsSensorValue, State, Progress, gives, ends}
-use Rattle.p10_meaning.specs.Values.{Held, holds, stands, absent, width, scalars_before}
+use Rattle.p10_meaning.specs.Values.{Calls, Held, holds, stands, absent, width, scalars_before}
 
 -- ## The arrays of an object
 
@@ -168,3 +170,21 @@ pub record Kept (p : PlainProgram) (ks : List Kind) (w : State) (P : List Kind �
 abbrev pub Keeps : {A : Type 0} → PlainProgram → List Kind → (List Kind → A → Type 0) → Progress A → Type 0
 Keeps p ks P (gives a w) = Kept p ks w (λ ks. P ks a)
 Keeps p ks P (ends end w) = Kept p ks w (λ ks. Unit {0})
+
+-- ## Calls
+
+-- scalars fit types, one by one
+abbrev pub ScalarsFit : PlainProgram → List Kind → List PlainType → List Scalar → Type 0
+ScalarsFit p ks [] [] = Unit {0}
+ScalarsFit p ks (t ∷ types) (x ∷ xs) = Fits p ks t x × ScalarsFit p ks types xs
+ScalarsFit p ks [] (x ∷ xs) = ⊥
+ScalarsFit p ks (t ∷ types) [] = ⊥
+
+-- calls keep sound states: on arguments that fit the parameters, what a call gives fits the result
+pub record KeepSound (p : PlainProgram) (calls : Calls) : Type 0 where
+  pub keeps : (f : ℕ) (g : PlainFunction) (xs : List Scalar) (w : State) (ks : List Kind) → slice_get p.functions f ≡ Some g → ScalarsFit p ks (parameter_types g) xs → Sound p ks w →
+      Keeps p ks (λ ks x. MaybeFits p ks g.result x) (calls f xs w)
+
+-- what stands round the values of a function: the variables that are in scope are among its variables
+pub record AreSeen (variables : List PlainVariable) (seen_at : ℕ → Option SeenVariable) : Type 0 where
+  pub seen : (n : ℕ) (v : SeenVariable) → seen_at n ≡ Some v → (variable : PlainVariable) × (slice_get variables n ≡ Some variable) × (v ≡ seen_variable variable)
