@@ -198,7 +198,7 @@ same_target : (s t : PlainType) → pointer false s ≡ pointer false t → s �
 unfolding target_in
 same_target s t e = ap (λ u. target_in u s) e
 
-pointer_same : (p : PlainProgram) (ks : List Kind) (s t : PlainType) (q : Ptr) → bare p.structures s ≡ bare p.structures t → FitsPointer p ks s q → FitsPointer p ks t q
+pub pointer_same : (p : PlainProgram) (ks : List Kind) (s t : PlainType) (q : Ptr) → bare p.structures s ≡ bare p.structures t → FitsPointer p ks s q → FitsPointer p ks t q
 pointer_same p ks s t Null e f = tt
 pointer_same p ks s t (To o a n) e f = record { kind = f.kind; opened = f.opened; leads = subst (λ u. Leads p f.kind (record { window = a; elem = u })) e f.leads; position = f.position }
 

@@ -12,3 +12,5 @@ pub mod Moves
 pub mod LaidOut
 pub mod SoundScalars
 pub mod Keeping
+pub mod SoundParts
+pub mod SoundValues
