@@ -14,3 +14,4 @@ pub mod SoundScalars
 pub mod Keeping
 pub mod SoundParts
 pub mod SoundValues
+pub mod SoundStatements

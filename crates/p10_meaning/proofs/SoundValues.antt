@@ -43,12 +43,12 @@ use Rattle.p10_meaning.proofs.SoundParts.{HasType, TargetFits, integer_alike, va
 structure_same : (p : PlainProgram) (t : PlainType) (c : Bool) (k : ℕ) → t ≡ structure c k → bare p.structures t ≡ structure false (representative_of p.structures k)
 structure_same p t c k e = ap (bare p.structures) e
 
-target_grown : (p : PlainProgram) (variables : List PlainVariable) (t : PlainType) (ks js : List Kind) (target : Target) → Grows ks js → TargetFits p variables t ks target → TargetFits p variables t js target
+pub target_grown : (p : PlainProgram) (variables : List PlainVariable) (t : PlainType) (ks js : List Kind) (target : Target) → Grows ks js → TargetFits p variables t ks target → TargetFits p variables t js target
 target_grown p variables t ks js (Variable n) g f = f
 target_grown p variables t ks js Sensor g f = f
 target_grown p variables t ks js (Element q) g f = pointer_grown p ks js t q g f
 
-pointer_to_fits : (p : PlainProgram) (variables : List PlainVariable) (t : PlainType) (ks : List Kind) (target : Target) → TargetFits p variables t ks target → FitsPointer p ks t (pointer_to target)
+pub pointer_to_fits : (p : PlainProgram) (variables : List PlainVariable) (t : PlainType) (ks : List Kind) (target : Target) → TargetFits p variables t ks target → FitsPointer p ks t (pointer_to target)
 pointer_to_fits p variables t ks (Variable n) f = tt
 pointer_to_fits p variables t ks Sensor f = tt
 pointer_to_fits p variables t ks (Element q) f = f
