@@ -151,7 +151,7 @@ pub put_fits : (p : PlainProgram) (ks : List Kind) (n i : ℕ) (k : Kind) (t : P
 put_fits p ks n i k t c [] f e d g = tt
 put_fits p ks n i k t c (x ∷ xs) f e d g = cond_both (eqb x.number n) _ _ (AllObjects p ks)
     (λ b. let same : f.0.kind ≡ k = same_Some _ _ (sym f.0.opened ∙ (ap (slice_get ks) (eqb-true x.number n b) ∙ e)) in
-        (record { kind = f.0.kind; opened = f.0.opened; cells = all_set p ks (kind_scalars p f.0.kind) x.cells i t c f.0.cells (subst (λ k. slice_get (kind_scalars p k) i ≡ Some t) (sym same) d) g }, f.1))
+    (record { kind = f.0.kind; opened = f.0.opened; cells = all_set p ks (kind_scalars p f.0.kind) x.cells i t c f.0.cells (subst (λ k. slice_get (kind_scalars p k) i ≡ Some t) (sym same) d) g }, f.1))
     (λ b. (f.0, put_fits p ks n i k t c xs f.1 e d g))
 
 pub closed_fits : (p : PlainProgram) (ks : List Kind) (n : ℕ) (xs : List Object) → AllObjects p ks xs → AllObjects p ks (closed n xs)

@@ -111,7 +111,7 @@ element p types v n laid e =
     let b : (v.window.inside ≡ true) × (ltb n v.window.count ≡ true) = and_true v.window.inside (ltb n v.window.count) e in
     subst (λ m. IsPart types (v.window.start + n * m) (scalars_of p.structures v.elem)) (sym laid.stride)
     (part_trans types (repeated v.window.count (scalars_of p.structures v.elem)) (scalars_of p.structures v.elem) v.window.start (n * length (scalars_of p.structures v.elem)) (laid.part b.0)
-        (part_repeat v.window.count n (scalars_of p.structures v.elem) (ltb-true n v.window.count b.1)))
+    (part_repeat v.window.count n (scalars_of p.structures v.elem) (ltb-true n v.window.count b.1)))
 
 -- no scalar of an object has a number over the last
 pub capped : (types part : List PlainType) (n : ℕ) → length types ≤ last_number → IsPart types n part → IsPart types (min n last_number) part
@@ -126,21 +126,27 @@ at_zero types part n h = subst (λ k. IsPart types k part) (omega arith) h
 
 row_laid : (p : PlainProgram) (types : List PlainType) (v : View) (n : ℕ) (c : Bool) (t : PlainType) (len : ℕ) → length types ≤ last_number → v.elem ≡ array c t len → IsLaid p types v →
     IsLaid p types (record { window = window_in v.window n 0 (length (scalars_of p.structures t)) len; elem = t })
-row_laid p types v n c t len few e laid = record { stride = refl; part = λ inside.
-    capped types (repeated len (scalars_of p.structures t)) (v.window.start + n * v.window.stride + 0) few
-    (at_zero types (repeated len (scalars_of p.structures t)) (v.window.start + n * v.window.stride)
-    (subst (λ ts. IsPart types (v.window.start + n * v.window.stride) ts) (scalars_array p c t len)
-    (subst (λ u. IsPart types (v.window.start + n * v.window.stride) (scalars_of p.structures u)) e (element p types v n laid inside)))) }
+row_laid p types v n c t len few e laid = record {
+  stride = refl;
+  part = λ inside.
+      capped types (repeated len (scalars_of p.structures t)) (v.window.start + n * v.window.stride + 0) few
+      (at_zero types (repeated len (scalars_of p.structures t)) (v.window.start + n * v.window.stride)
+      (subst (λ ts. IsPart types (v.window.start + n * v.window.stride) ts) (scalars_array p c t len)
+      (subst (λ u. IsPart types (v.window.start + n * v.window.stride) (scalars_of p.structures u)) e (element p types v n laid inside))));
+}
 
 member_laid : (p : PlainProgram) → IsLaidOut p → (types : List PlainType) (v : View) (n : ℕ) (c : Bool) (k m : ℕ) (x : PlainMember) → length types ≤ last_number → v.elem ≡ structure c k → slice_get (members_of p.structures k) m ≡ Some x →
     IsLaid p types v → IsLaid p types (record { window = window_in v.window n (scalars_before p (structure c k) m) (width p x.type) 1; elem = bare p.structures x.type })
-member_laid p out types v n c k m x few e there laid = record { stride = refl; part = λ inside.
-    let at : ℕ = v.window.start + n * v.window.stride in
-    let h : IsPart types at (scalars_of p.structures (structure c k)) = subst (λ u. IsPart types at (scalars_of p.structures u)) e (element p types v n laid inside) in
-    let g : IsPart types at (flat_map (λ (x : PlainMember). scalars p x.type) (members_of p.structures k)) = subst (λ ts. IsPart types at ts) (out.members c k) h in
-    capped types (scalars p x.type ++ []) (at + scalars_before p (structure c k) m) few
-    (subst (λ ts. IsPart types (at + scalars_before p (structure c k) m) ts) (sym (append-nil (scalars p x.type)))
-    (part_trans types _ (scalars p x.type) at (scalars_before p (structure c k) m) g (part_member (λ (x : PlainMember). scalars p x.type) (members_of p.structures k) m x there))) }
+member_laid p out types v n c k m x few e there laid = record {
+  stride = refl;
+  part = λ inside.
+      let at : ℕ = v.window.start + n * v.window.stride in
+      let h : IsPart types at (scalars_of p.structures (structure c k)) = subst (λ u. IsPart types at (scalars_of p.structures u)) e (element p types v n laid inside) in
+      let g : IsPart types at (flat_map (λ (x : PlainMember). scalars p x.type) (members_of p.structures k)) = subst (λ ts. IsPart types at ts) (out.members c k) h in
+      capped types (scalars p x.type ++ []) (at + scalars_before p (structure c k) m) few
+      (subst (λ ts. IsPart types (at + scalars_before p (structure c k) m) ts) (sym (append-nil (scalars p x.type)))
+      (part_trans types _ (scalars p x.type) at (scalars_before p (structure c k) m) g (part_member (λ (x : PlainMember). scalars p x.type) (members_of p.structures k) m x there)));
+}
 
 -- ## Paths
 

@@ -151,7 +151,7 @@ past_few f h n (m ∷ ms) =
     let k : IsFew (f m.type) = h m.type in
     let up : n ≤ aligned n (f m.type).alignment = aligned_up n (f m.type).alignment k.alignment in
     let rest : (aligned n (f m.type).alignment + (f m.type).bytes) + length (scalars_of_members f ms) ≤ past_members f (aligned n (f m.type).alignment + (f m.type).bytes) ms =
-            past_few f h (aligned n (f m.type).alignment + (f m.type).bytes) ms in
+    past_few f h (aligned n (f m.type).alignment + (f m.type).bytes) ms in
     let e : length ((f m.type).scalars ++ scalars_of_members f ms) ≡ length (f m.type).scalars + length (scalars_of_members f ms) = length-append (f m.type).scalars (scalars_of_members f ms) in
     let s : length (f m.type).scalars ≤ (f m.type).bytes = k.scalars in
     omega (arith, up, rest, e, s)
@@ -162,9 +162,10 @@ greatest_few f (m ∷ ms) = let h : 1 ≤ greatest_alignment f ms = greatest_few
 
 members_few : (f : PlainType → Layout) → ((t : PlainType) → IsFew (f t)) → (ms : List PlainMember) → IsFew (layout_of_members f ms)
 members_few f h ms = record {
-    scalars = let a : 0 + length (scalars_of_members f ms) ≤ past_members f 0 ms = past_few f h 0 ms in
-        let b : past_members f 0 ms ≤ aligned (past_members f 0 ms) (greatest_alignment f ms) = aligned_up (past_members f 0 ms) (greatest_alignment f ms) (greatest_few f ms) in omega (arith, a, b);
-    alignment = greatest_few f ms }
+  scalars = let a : 0 + length (scalars_of_members f ms) ≤ past_members f 0 ms = past_few f h 0 ms in
+      let b : past_members f 0 ms ≤ aligned (past_members f 0 ms) (greatest_alignment f ms) = aligned_up (past_members f 0 ms) (greatest_alignment f ms) (greatest_few f ms) in omega (arith, a, b);
+  alignment = greatest_few f ms;
+}
 
 structure_few : (d : ℕ) (ss : List PlainStructure) (n : ℕ) → IsFew (structure_layout d ss n)
 structure_few zero ss n = record { scalars = omega arith; alignment = omega arith }

@@ -15,3 +15,4 @@ pub mod Keeping
 pub mod SoundParts
 pub mod SoundValues
 pub mod SoundStatements
+pub mod SoundCalls

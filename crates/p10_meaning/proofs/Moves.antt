@@ -93,9 +93,9 @@ cell_typed : (p : PlainProgram) (ks : List Kind) (objects : List Object) (o : �
 cell_typed p ks objects o a n k s all opened there =
     on_then (IsFound p ks o) (λ (c : Cell). MaybeFits p ks s c.value) (alive objects o) _ (alive_is p ks o (find o objects) (find_is p ks o objects all)) (λ x e.
     on_then (λ j. slice_get (kind_scalars p k) j ≡ Some s) (λ (c : Cell). MaybeFits p ks s c.value) (scalar_at a n) _ there (λ j g.
-        let same : k ≡ e.fits.kind = same_Some _ _ (sym opened ∙ (sym (ap (slice_get ks) e.number) ∙ e.fits.opened)) in
-        let h : HasCell p ks s x.cells j = all_get p ks (kind_scalars p e.fits.kind) x.cells j s e.fits.cells (subst (λ k. slice_get (kind_scalars p k) j ≡ Some s) same g) in
-        subst (λ (c : Option Cell). OnOk (λ (c : Cell). MaybeFits p ks s c.value) (or_stop c U6)) (sym h.there) h.fits))
+    let same : k ≡ e.fits.kind = same_Some _ _ (sym opened ∙ (sym (ap (slice_get ks) e.number) ∙ e.fits.opened)) in
+    let h : HasCell p ks s x.cells j = all_get p ks (kind_scalars p e.fits.kind) x.cells j s e.fits.cells (subst (λ k. slice_get (kind_scalars p k) j ≡ Some s) same g) in
+    subst (λ (c : Option Cell). OnOk (λ (c : Cell). MaybeFits p ks s c.value) (or_stop c U6)) (sym h.there) h.fits))
 
 write_typed : (p : PlainProgram) (ks : List Kind) (objects : List Object) (o : ℕ) (a : Window) (n : ℕ) (k : Kind) (s : PlainType) (c : Cell) → AllObjects p ks objects → slice_get ks o ≡ Some k →
     OnOk (λ j. (j ≡ a.start + n) × (slice_get (kind_scalars p k) j ≡ Some s)) (scalar_at a n) → MaybeFits p ks s c.value → OnOk (AllObjects p ks) (write_at objects (To o a n) c)
@@ -123,7 +123,7 @@ cell_fits p out ks w t Null s f scalar = tt
 cell_fits p out ks w t (To o a n) s f scalar =
     on_weaker (λ (c : Cell). MaybeFits p ks (bare p.structures t) c.value) (λ (c : Cell). MaybeFits p ks t c.value) (cell_at w.objects (To o a n)) (λ c h. maybe_same p ks (bare p.structures t) t c.value (out.bare_again t) h)
     (cell_typed p ks w.objects o a n f.kind (bare p.structures t) s.all f.opened
-        (on_weaker _ _ (scalar_at a n) (λ j h. h.1) (scalar_place p out f.kind a n t (s.sizes o f.kind f.opened) f.leads scalar)))
+    (on_weaker _ _ (scalar_at a n) (λ j h. h.1) (scalar_place p out f.kind a n t (s.sizes o f.kind f.opened) f.leads scalar)))
 
 pub write_fits : (p : PlainProgram) → IsLaidOut p → (ks : List Kind) (w : State) (t : PlainType) (q : Ptr) (c : Cell) → Sound p ks w → FitsPointer p ks t q → is_scalar t ≡ true → MaybeFits p ks t c.value → OnOk (AllObjects p ks) (write_at w.objects q c)
 write_fits p out ks w t Null c s f scalar g = tt
@@ -148,7 +148,7 @@ part_fits p out ks w t Null i s so f there = tt
 part_fits p out ks w t (To o a n) i s so f there =
     on_then (λ (q : Ptr). OnOk (λ (c : Cell). MaybeFits p ks s c.value) (cell_at w.objects q)) (λ (c : Cell). MaybeFits p ks s c.value) (inner w.objects (To o a n) i 1 1) _
     (on_then (λ _. Unit {0}) (λ (q : Ptr). OnOk (λ (c : Cell). MaybeFits p ks s c.value) (cell_at w.objects q)) (alive w.objects o) _ (any_ok (alive w.objects o)) (λ _ _.
-        cell_typed p ks w.objects o (window_in a n i 1 1) 0 f.kind s so.all f.opened (on_weaker _ _ (scalar_at (window_in a n i 1 1) 0) (λ j h. h.1) (part_place p out f.kind a n i t s (so.sizes o f.kind f.opened) f.leads there))))
+    cell_typed p ks w.objects o (window_in a n i 1 1) 0 f.kind s so.all f.opened (on_weaker _ _ (scalar_at (window_in a n i 1 1) 0) (λ j h. h.1) (part_place p out f.kind a n i t s (so.sizes o f.kind f.opened) f.leads there))))
     (λ q h. h)
 
 pub write_part_fits : (p : PlainProgram) → IsLaidOut p → (ks : List Kind) (w : State) (t : PlainType) (q : Ptr) (i : ℕ) (s : PlainType) (c : Cell) → Sound p ks w → FitsPointer p ks t q → slice_get (scalars p t) i ≡ Some s → MaybeFits p ks s c.value →
@@ -157,7 +157,7 @@ write_part_fits p out ks w t Null i s c so f there g = tt
 write_part_fits p out ks w t (To o a n) i s c so f there g =
     on_then (λ (q : Ptr). OnOk (AllObjects p ks) (write_at w.objects q c)) (AllObjects p ks) (inner w.objects (To o a n) i 1 1) _
     (on_then (λ _. Unit {0}) (λ (q : Ptr). OnOk (AllObjects p ks) (write_at w.objects q c)) (alive w.objects o) _ (any_ok (alive w.objects o)) (λ _ _.
-        write_typed p ks w.objects o (window_in a n i 1 1) 0 f.kind s c so.all f.opened (part_place p out f.kind a n i t s (so.sizes o f.kind f.opened) f.leads there) g))
+    write_typed p ks w.objects o (window_in a n i 1 1) 0 f.kind s c so.all f.opened (part_place p out f.kind a n i t s (so.sizes o f.kind f.opened) f.leads there) g))
     (λ q h. h)
 
 -- ## Pointers
@@ -190,20 +190,26 @@ member_step p v n c k m x l e there =
 pub inner_row_fits : (p : PlainProgram) (ks : List Kind) (objects : List Object) (c : Bool) (t : PlainType) (len : ℕ) (q : Ptr) → FitsPointer p ks (array c t len) q → OnOk (FitsPointer p ks t) (inner objects q 0 (width p t) len)
 inner_row_fits p ks objects c t len Null f = tt
 inner_row_fits p ks objects c t len (To o a n) f = on_then (λ x. Unit {0}) (FitsPointer p ks t) (alive objects o) _ (any_ok (alive objects o)) (λ x _.
-    record { kind = f.kind; opened = f.opened;
-        leads = leads_on p f.kind (record { window = a; elem = array false (bare p.structures t) len }) _ (into n) f.leads (row_step p (record { window = a; elem = array false (bare p.structures t) len }) n false (bare p.structures t) len f.position refl);
-        position = omega arith })
+    record {
+      kind = f.kind;
+      opened = f.opened;
+      leads = leads_on p f.kind (record { window = a; elem = array false (bare p.structures t) len }) _ (into n) f.leads (row_step p (record { window = a; elem = array false (bare p.structures t) len }) n false (bare p.structures t) len f.position refl);
+      position = omega arith;
+    })
 
 pub inner_member_fits : (p : PlainProgram) (ks : List Kind) (objects : List Object) (u t : PlainType) (c : Bool) (k m : ℕ) (x : PlainMember) (q : Ptr) → bare p.structures u ≡ structure c k → slice_get (members_of p.structures k) m ≡ Some x →
     bare p.structures x.type ≡ bare p.structures t → FitsPointer p ks u q → OnOk (FitsPointer p ks t) (inner objects q (scalars_before p (bare p.structures u) m) (width p t) 1)
 inner_member_fits p ks objects u t c k m x Null same there type_is f = tt
 inner_member_fits p ks objects u t c k m x (To o a n) same there type_is f = on_then (λ x. Unit {0}) (FitsPointer p ks t) (alive objects o) _ (any_ok (alive objects o)) (λ _ _.
-    record { kind = f.kind; opened = f.opened;
-        leads = leads_on p f.kind (record { window = a; elem = bare p.structures u }) _ (to_member n m) f.leads
-            (member_step p (record { window = a; elem = bare p.structures u }) n c k m x f.position same there ∙
-            (ap (λ (y : PlainType). Some (record { window = window_in a n (scalars_before p (structure c k) m) (length (scalars_of p.structures y)) 1; elem = y })) type_is ∙
-            ap (λ (y : PlainType). Some (record { window = window_in a n (scalars_before p y m) (width p t) 1; elem = bare p.structures t })) (sym same)));
-        position = omega arith })
+    record {
+      kind = f.kind;
+      opened = f.opened;
+      leads = leads_on p f.kind (record { window = a; elem = bare p.structures u }) _ (to_member n m) f.leads
+          (member_step p (record { window = a; elem = bare p.structures u }) n c k m x f.position same there ∙
+          (ap (λ (y : PlainType). Some (record { window = window_in a n (scalars_before p (structure c k) m) (length (scalars_of p.structures y)) 1; elem = y })) type_is ∙
+          ap (λ (y : PlainType). Some (record { window = window_in a n (scalars_before p y m) (width p t) 1; elem = bare p.structures t })) (sym same)));
+      position = omega arith;
+    })
 
 -- ## `free`
 

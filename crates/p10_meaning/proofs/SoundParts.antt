@@ -200,7 +200,7 @@ pub read_keeps : (p : PlainProgram) → IsLaidOut p → (ks : List Kind) (variab
 read_keeps p out ks variables held span t (Variable n) w scalar f fits s =
     keeps_or p ks (Fits p ks t) (λ ks. Fits p ks t) (read_of (held_cell (slice_get held n))) span w _ s
     (read_cell p ks t (held_cell (slice_get held n)).value (maybe_same p ks fits.variable.type t (held_cell (slice_get held n)).value fits.same
-        (held_fits p ks fits.variable (slice_get held n) (λ h e. frame_get p ks variables held n fits.variable h f fits.there e))))
+    (held_fits p ks fits.variable (slice_get held n) (λ h e. frame_get p ks variables held n fits.variable h f fits.there e))))
     (λ x fx. kept p ks (λ ks. Fits p ks t) x w s fx)
 read_keeps p out ks variables held span t Sensor w scalar f fits s = sensed_keeps p ks t w fits s
 read_keeps p out ks variables held span t (Element q) w scalar f fits s =
@@ -253,10 +253,11 @@ zero_fill p = record { fits = λ ks ts f. zeros_fit p ks ts f }
 pub opened_keeps : {A : Type 0} (p : PlainProgram) (ks : List Kind) (P : List Kind → A → Type 0) (k : Kind) (origin : Origin) (cells : List Cell) (a : A) (w : State) → Sound p ks w → length (kind_scalars p k) ≤ last_number → AllFit p (ks ++ k ∷ []) (kind_scalars p k) cells →
     (slice_get (ks ++ k ∷ []) w.opened ≡ Some k → P (ks ++ k ∷ []) a) → Keeps p ks P (gives a (open_object origin cells w))
 opened_keeps p ks P k origin cells a w s few fits value = record {
-    kinds = ks ++ k ∷ [];
-    grows = grown ks k;
-    sound = sound_push p ks w.objects w.opened w.input w.sensors k origin cells s few fits;
-    value = value (subst (λ m. slice_get (ks ++ k ∷ []) m ≡ Some k) s.count (get_last ks k)) }
+  kinds = ks ++ k ∷ [];
+  grows = grown ks k;
+  sound = sound_push p ks w.objects w.opened w.input w.sensors k origin cells s few fits;
+  value = value (subst (λ m. slice_get (ks ++ k ∷ []) m ≡ Some k) s.count (get_last ks k));
+}
 
 granted_keeps : (p : PlainProgram) (ks : List Kind) (t : PlainType) (n : ℕ) (fill : List PlainType → List Cell) (w : State) → IsFill p fill → length (repeated n (scalars p t)) ≤ last_number → Sound p ks w →
     Keeps p ks (λ ks. MaybeFits p ks (pointer false t)) (granted (width p t) n (fill (repeated n (scalars p t))) w)
@@ -265,8 +266,8 @@ granted_keeps p ks t n fill w is few s =
     keeps_if p ks (λ ks. MaybeFits p ks (pointer false t)) (is_denied w.denied w.requests) _ _
     (λ e. kept p ks (λ ks. MaybeFits p ks (pointer false t)) (Some (Pointer Null)) w s tt)
     (λ e. opened_keeps p ks (λ ks. MaybeFits p ks (pointer false t)) k allocated (fill (repeated n (scalars p t))) (Some (Pointer (first_of w.opened (width p t) n))) w s few
-        (is.fits (ks ++ k ∷ []) (repeated n (scalars p t)) (scalar_repeated n (scalars p t) (scalars_scalar p.structures (bare p.structures t))))
-        (λ e. record { kind = k; opened = e; leads = record { path = []; leads = refl }; position = omega arith }))
+    (is.fits (ks ++ k ∷ []) (repeated n (scalars p t)) (scalar_repeated n (scalars p t) (scalars_scalar p.structures (bare p.structures t))))
+    (λ e. record { kind = k; opened = e; leads = record { path = []; leads = refl }; position = omega arith }))
 
 small : (m b : ℕ) → m ≤ b → b ≤ 1048576 → m ≤ last_number
 small m b l c = omega (arith, l, c)
@@ -278,7 +279,7 @@ both_true false b e = absurd cc
 pub requested_keeps : (p : PlainProgram) (ks : List Kind) (t : PlainType) (n : ℕ) (fill : List PlainType → List Cell) (w : State) → IsFill p fill → Sound p ks w → Keeps p ks (λ ks. MaybeFits p ks (pointer false t)) (requested p t n fill w)
 requested_keeps p ks t n fill w is s = keeps_if p ks (λ ks. MaybeFits p ks (pointer false t)) (ltb 0 (n * size p t) && leb (n * size p t) 1048576) _ _
     (λ e. granted_keeps p ks t n fill (record w { requests = suc w.requests }) is
-        (small _ (n * size p t) (repeated_few n (size p t) (scalars p t) (scalars_few p.structures (bare p.structures t))) (leb-true (n * size p t) 1048576 (both_true (ltb 0 (n * size p t)) (leb (n * size p t) 1048576) e).1)) s)
+    (small _ (n * size p t) (repeated_few n (size p t) (scalars p t) (scalars_few p.structures (bare p.structures t))) (leb-true (n * size p t) 1048576 (both_true (ltb 0 (n * size p t)) (leb (n * size p t) 1048576) e).1)) s)
     (λ e. kept p ks (λ ks. MaybeFits p ks (pointer false t)) (Some (Pointer Null)) w s tt)
 
 pub free_keeps : (p : PlainProgram) (ks : List Kind) (t : PlainType) (span : Span) (q : Ptr) (w : State) → Sound p ks w → Keeps p ks (λ ks. MaybeFits p ks t) (or_undefined (release w.objects q) span w (λ objects. gives None (record w { objects = objects })))

@@ -311,7 +311,6 @@ integer_same i j e = sym (int_of_number i) ∙ (ap int_of (eqb-true (number_in i
 number_same : (m n : ℕ) → eqb m n ≡ true → m ≡ n
 number_same m n e = eqb-true m n e
 
-
 both : (a b : Bool) → (a && b) ≡ true → (a ≡ true) × (b ≡ true)
 both true b e = (refl, e)
 both false b e = absurd cc

@@ -27,7 +27,7 @@ use Rattle.p10_meaning.specs.States.{State, StepsSpent, Progress, gives, ends, s
 use Rattle.p10_meaning.specs.Scalars.{number_of, is_true, converted_to, zero_of, operated, unset_cells}
 use Rattle.p10_meaning.specs.Values.{Calls, Setting, Held, holds, stands, absent, scalars, width, open_object, Target, Variable, Sensor, Element, pointer_to, read_target, asserted, evaluate, discard, locate}
 use Rattle.p10_meaning.specs.Statements.{Frame, Flow, normal, broken, continued, returned, Done, flows, goes, go_on, holding_at, leave_block, in_block, write_target, part_of, write_part, copy_scalars, text_scalars, written_scalars, listed_scalars, listed_scalar, fill, initialize, declare_variable, test, next_turn, turns, loop_by, before_third, labelled, from_label, after_switch, execute, execute_form, execute_from, enter, enter_form, round, looped}
-use Rattle.p10_meaning.specs.Sound.{Kind, single_of, FitsPointer, Fits, MaybeFits, AllFit, kind_scalars, AllObjects, Sound, VariableFits, FrameFits, Grows, Kept, Keeps, KeepSound, AreSeen}
+use Rattle.p10_meaning.specs.Sound.{Kind, single_of, FitsPointer, Fits, MaybeFits, AllFit, kind_scalars, AllObjects, Sound, VariableFits, FrameFits, Grows, Kept, Keeps, KeepSound, AreSeen, FlowFits, DoneFits}
 use Rattle.p10_meaning.proofs.Geometry.{IsLaidOut}
 use Rattle.p10_meaning.proofs.LaidOut.{lies_bare, AreScalar, scalars_scalar}
 use Rattle.p10_meaning.proofs.Fitting.{grows_same, grows_trans, grown, get_last, fits_grown, maybe_grown, pointer_grown, frame_grown, frame_set, sound_with, sound_push, all_unset, all_closed_fits, fits_same, maybe_same, bare_unqualified}
@@ -37,17 +37,7 @@ use Rattle.p10_meaning.proofs.Keeping.{keeps_from, kept, ended, keeps_step, keep
 use Rattle.p10_meaning.proofs.SoundParts.{HasType, TargetFits, single_fits, read_keeps, asserted_keeps, opened_keeps}
 use Rattle.p10_meaning.proofs.SoundValues.{pointer_to_fits, target_grown, evaluate_keeps, discard_keeps, locate_keeps}
 
--- ## Flows
-
-abbrev pub FlowFits : PlainProgram → PlainType → List Kind → Flow → Type 0
-FlowFits p result ks normal = Unit {0}
-FlowFits p result ks broken = Unit {0}
-FlowFits p result ks continued = Unit {0}
-FlowFits p result ks (returned x) = MaybeFits p ks result x
-
-pub record DoneFits (p : PlainProgram) (variables : List PlainVariable) (result : PlainType) (ks : List Kind) (d : Done) : Type 0 where
-  pub frame : FrameFits p ks variables d.frame.held
-  pub flow : FlowFits p result ks d.flow
+-- ## Variables
 
 -- the declarations of a function's variables fit
 pub record AreFew (p : PlainProgram) (variables : List PlainVariable) : Type 0 where
@@ -55,9 +45,6 @@ pub record AreFew (p : PlainProgram) (variables : List PlainVariable) : Type 0 w
   pub object : (n : ℕ) (v : PlainVariable) → slice_get variables n ≡ Some v → IsObjectType p.structures v.type
 
 -- ## Regions
-
-region : PlainProgram → ℕ → PlainFunction → List ℕ → Bool → Bool → Region
-region p number f scope in_loop in_switch = record { program = p; number = number; function = f; scope = scope; in_loop = in_loop; in_switch = in_switch }
 
 abbrev scope_after : PlainStatement → List ℕ → List ℕ
 scope_after (statement at (declare n i)) scope = n ∷ scope
@@ -148,10 +135,10 @@ module _ (p : PlainProgram) (out : IsLaidOut p) (whole : IsWholeProgram p) (call
   abbrev s : Setting
   s = record { program = p; variables = f.variables; call = calls; turns = n }
 
-  abbrev seen_by : List ℕ → ℕ → Option SeenVariable
+  abbrev pub seen_by : List ℕ → ℕ → Option SeenVariable
   seen_by scope = λ n. if is_among n scope then option_map seen_variable (slice_get f.variables n) else None
 
-  seen : (scope : List ℕ) → AreSeen f.variables (seen_by scope)
+  pub seen : (scope : List ℕ) → AreSeen f.variables (seen_by scope)
   seen scope = record { seen = λ n v e. is_among_nothing n scope f v e }
 
   abbrev c : List ℕ → Surroundings
@@ -220,7 +207,7 @@ module _ (p : PlainProgram) (out : IsLaidOut p) (whole : IsWholeProgram p) (call
       keeps_or p ks (λ (c : Cell). MaybeFits p ks here.0 c.value) Fine (part_of w.objects from i) from_span (record w { left = left }) _ so (part_fits p out ks (record w { left = left }) u from i here.0 so fu (subst (λ ts. slice_get ts i ≡ Some here.0) same at_i)) (λ cell fc.
       keeps_or p ks (AllObjects p ks) Fine (write_part w.objects to i cell) to_span (record w { left = left }) _ so (write_part_fits p out ks (record w { left = left }) t to i here.0 cell so ft at_i fc) (λ objects all.
       copy_keeps t u m (suc i) to_span to from_span from same (λ j l. let h = there (suc j) (omega (arith, l)) in (h.0, subst (λ j. slice_get (scalars p t) j ≡ Some h.0) (one_more i j) h.1)) frame (record w { left = left; objects = objects }) ks ft fu
-          (sound_with p ks w.objects objects w.opened w.input w.sensors so all) h)))
+      (sound_with p ks w.objects objects w.opened w.input w.sensors so all) h)))
     where
       no_more : (i : ℕ) → i + 0 ≡ i
       no_more i = omega arith
@@ -235,9 +222,9 @@ module _ (p : PlainProgram) (out : IsLaidOut p) (whole : IsWholeProgram p) (call
       let at_i : slice_get (scalars p t) i ≡ Some u = subst (λ j. slice_get (scalars p t) j ≡ Some u) (no_more i) (there 0 u refl) in
       keeps_step p ks Fine w _ so (λ left.
       keeps_or p ks (AllObjects p ks) Fine (write_part w.objects q i (holding (listed_scalar i u xs))) span (record w { left = left }) _ so
-          (write_part_fits p out ks (record w { left = left }) t q i u (holding (listed_scalar i u xs)) so fq at_i (listed_fits p (scalars p t) ks i u xs scalar.0 at_i fx)) (λ objects all.
+      (write_part_fits p out ks (record w { left = left }) t q i u (holding (listed_scalar i u xs)) so fq at_i (listed_fits p (scalars p t) ks i u xs scalar.0 at_i fx)) (λ objects all.
       fill_keeps span t xs ts (suc i) q (λ j v e. subst (λ j. slice_get (scalars p t) j ≡ Some v) (one_more i j) (there (suc j) v e)) scalar.1 frame (record w { left = left; objects = objects }) ks fq fx
-          (sound_with p ks w.objects objects w.opened w.input w.sensors so all) h))
+      (sound_with p ks w.objects objects w.opened w.input w.sensors so all) h))
     where
       no_more : (i : ℕ) → i + 0 ≡ i
       no_more i = omega arith
@@ -291,11 +278,11 @@ module _ (p : PlainProgram) (out : IsLaidOut p) (whole : IsWholeProgram p) (call
   initialize_keeps scope span t target (copied q) object i frame w ks fits so h = keeps_step p ks Fine w _ so (λ left.
       keeps_then p ks (TargetFits p f.variables (place_type q)) Fine (locate s frame.held q (record w { left = left })) _ (place_keeps scope q i.whole frame (record w { left = left }) ks so h) (λ source w js so g fs.
       copy_keeps t (place_type q) (width p t) 0 span (pointer_to target) (place_at q).span (pointer_to source) (structures_same t (place_type q) i.number i.target_is i.source_is) (all_there (scalars p t)) frame w js
-          (pointer_to_fits p f.variables t js target (target_grown p f.variables t ks js target g fits)) (pointer_to_fits p f.variables (place_type q) js source fs) so (later ks js frame g h)))
+      (pointer_to_fits p f.variables t js target (target_grown p f.variables t ks js target g fits)) (pointer_to_fits p f.variables (place_type q) js source fs) so (later ks js frame g h)))
   initialize_keeps scope span t target (listed at items) object i frame w ks fits so h =
       keeps_then p ks (ItemsFit p (scalars p t)) Fine (listed_scalars s frame.held items w) _ (listed_keeps scope (scalars p t) 0 items (scalars_scalar p.structures (bare p.structures t)) (subst (λ ts. AreWholeItems (c scope) ts 0 items) (sym (lies_bare p.structures whole.structures t object).same_scalars) i.whole) frame w ks so h) (λ xs w js so g fx.
       fill_keeps span t xs (scalars p t) 0 (pointer_to target) (λ j u e. subst (λ k. slice_get (scalars p t) k ≡ Some u) (zero_plus j) e) (scalars_scalar p.structures (bare p.structures t)) frame w js
-          (pointer_to_fits p f.variables t js target (target_grown p f.variables t ks js target g fits)) fx so (later ks js frame g h))
+      (pointer_to_fits p f.variables t js target (target_grown p f.variables t ks js target g fits)) fx so (later ks js frame g h))
     where
       zero_plus : (j : ℕ) → j ≡ 0 + j
       zero_plus j = omega arith
@@ -310,11 +297,11 @@ module _ (p : PlainProgram) (out : IsLaidOut p) (whole : IsWholeProgram p) (call
       let next : Frame = record { held = slice_set frame.held k (stands w.opened); opened = w.opened ∷ frame.opened } in
       keeps_if p ks Fine v.frame _ _
       (λ e. initialize_keeps scope span v.type (Variable k) initializer (few.object k v there) i (holding_at frame k (holds unset)) w ks (record { variable = v; there = there; same = refl }) so
-          (frame_set p ks f.variables frame.held k v (holds unset) h there tt))
+      (frame_set p ks f.variables frame.held k v (holds unset) h there tt))
       (λ e. keeps_from p ks js Fine _ (grown ks kind)
-          (initialize_keeps scope span v.type (Element (first_of w.opened (width p v.type) 1)) initializer (few.object k v there) i next opened js (single_fits p js w.opened v.type is_there)
-              (sound_push p ks w.objects w.opened w.input w.sensors kind declared (unset_cells (scalars p v.type)) so (few.few k v there) (unset_single js v.type))
-              (frame_set p js f.variables frame.held k v (stands w.opened) (frame_grown p ks js f.variables frame.held (grown ks kind) h) there is_there)))
+      (initialize_keeps scope span v.type (Element (first_of w.opened (width p v.type) 1)) initializer (few.object k v there) i next opened js (single_fits p js w.opened v.type is_there)
+      (sound_push p ks w.objects w.opened w.input w.sensors kind declared (unset_cells (scalars p v.type)) so (few.few k v there) (unset_single js v.type))
+      (frame_set p js f.variables frame.held k v (stands w.opened) (frame_grown p ks js f.variables frame.held (grown ks kind) h) there is_there)))
     where
       one_list : (ts : List PlainType) → ts ≡ ts ++ []
       one_list [] = refl
@@ -414,34 +401,34 @@ module _ (p : PlainProgram) (out : IsLaidOut p) (whole : IsWholeProgram p) (call
         keeps_then p ks (TargetFits p f.variables (place_type q)) Fine (locate s frame.held q (record w { left = left })) _ (place_keeps scope q i.place frame (record w { left = left }) ks so h) (λ target w js so g ft.
         keeps_then p js (λ ks. Fits p ks (type_of v)) Fine (evaluate s frame.held v w) _ (value_keeps scope v i.value frame w js so (later ks js frame g h)) (λ x w ls so k fx.
         write_keeps (place_at q).span (place_type q) target (holding x) frame w ls i.scalar (target_grown p f.variables (place_type q) js ls target k ft)
-            (fits_same p ls (type_of v) (place_type q) x (ap (bare p.structures) i.type_is ∙ bare_unqualified p.structures (place_type q)) fx) so (later js ls frame k (later ks js frame g h)))))
+        (fits_same p ls (type_of v) (place_type q) x (ap (bare p.structures) i.type_is ∙ bare_unqualified p.structures (place_type q)) fx) so (later js ls frame k (later ks js frame g h)))))
     form_keeps at (update kind op t q v) scope l b i frame w ks so h = keeps_step p ks Fine w _ so (λ left.
         keeps_then p ks (TargetFits p f.variables (place_type q)) Fine (locate s frame.held q (record w { left = left })) _ (place_keeps scope q i.place frame (record w { left = left }) ks so h) (λ target w js so g ft.
         keeps_step p js Fine w _ so (λ left.
         keeps_then p js (λ ks. Fits p ks (place_type q)) Fine (read_target (place_at q).span (place_type q) frame.held target (record w { left = left })) _
-            (read_keeps p out js f.variables frame.held (place_at q).span (place_type q) target (record w { left = left }) i.scalar (later ks js frame g h) ft so) (λ x w ls so k fx.
+        (read_keeps p out js f.variables frame.held (place_at q).span (place_type q) target (record w { left = left }) i.scalar (later ks js frame g h) ft so) (λ x w ls so k fx.
         keeps_then p ls (λ ks. Fits p ks (type_of v)) Fine (evaluate s frame.held v w) _ (value_keeps scope v i.value frame w ls so (later js ls frame k (later ks js frame g h))) (λ y w ms so m fy.
         keeps_step p ms Fine w _ so (λ left.
         let row : IsRow op (unqualified (place_type q)) i.entry = binary_row_is p.structures op (unqualified (place_type q)) i.right_type i.entry i.is in
         let read : Fits p ms (unqualified (place_type q)) x = fits_same p ms (place_type q) (unqualified (place_type q)) x (sym (bare_unqualified p.structures (place_type q))) (fits_grown p ls ms (place_type q) x m fx) in
         keeps_or p ms (Fits p ms i.entry.result) Fine (operated op t w.objects (converted_to t x) y) at.span (record w { left = left }) _ so
-            (subst (λ t. OnOk (Fits p ms i.entry.result) (operated op t w.objects (converted_to t x) y)) (sym i.type_is)
-                (update_fits p ms op (unqualified (place_type q)) i.right_type i.entry i.is row.kind i.result_fits w.objects (converted_to i.entry.left x) y (left_fits p ms (unqualified (place_type q)) i.entry.left x row.left read) (subst (λ t. Fits p ms t y) i.value_is fy)))
-            (λ z fz. write_keeps (place_at q).span (place_type q) target (holding (converted_to (place_type q) z)) frame (record w { left = left }) ms i.scalar
-                (target_grown p f.variables (place_type q) ls ms target m (target_grown p f.variables (place_type q) js ls target k ft))
-                (result_fits p ms i.entry.result (place_type q) z (fits_unmarked i.entry.result (place_type q) i.result_fits) fz) so (later ls ms frame m (later js ls frame k (later ks js frame g h))))))))))
+        (subst (λ t. OnOk (Fits p ms i.entry.result) (operated op t w.objects (converted_to t x) y)) (sym i.type_is)
+        (update_fits p ms op (unqualified (place_type q)) i.right_type i.entry i.is row.kind i.result_fits w.objects (converted_to i.entry.left x) y (left_fits p ms (unqualified (place_type q)) i.entry.left x row.left read) (subst (λ t. Fits p ms t y) i.value_is fy)))
+        (λ z fz. write_keeps (place_at q).span (place_type q) target (holding (converted_to (place_type q) z)) frame (record w { left = left }) ms i.scalar
+        (target_grown p f.variables (place_type q) ls ms target m (target_grown p f.variables (place_type q) js ls target k ft))
+        (result_fits p ms i.entry.result (place_type q) z (fits_unmarked i.entry.result (place_type q) i.result_fits) fz) so (later ls ms frame m (later js ls frame k (later ks js frame g h))))))))))
     form_keeps at (copy q r) scope l b i frame w ks so h = keeps_step p ks Fine w _ so (λ left.
         keeps_then p ks (TargetFits p f.variables (place_type q)) Fine (locate s frame.held q (record w { left = left })) _ (place_keeps scope q i.target frame (record w { left = left }) ks so h) (λ target w js so g ft.
         keeps_then p js (TargetFits p f.variables (place_type r)) Fine (locate s frame.held r w) _ (place_keeps scope r i.source.whole frame w js so (later ks js frame g h)) (λ source w ls so k fs.
         copy_keeps (place_type q) (place_type r) (width p (place_type q)) 0 (place_at q).span (pointer_to target) (place_at r).span (pointer_to source)
-            (structures_same (place_type q) (place_type r) i.source.number i.source.target_is i.source.source_is) (all_there (scalars p (place_type q))) frame w ls
-            (pointer_to_fits p f.variables (place_type q) ls target (target_grown p f.variables (place_type q) js ls target k ft)) (pointer_to_fits p f.variables (place_type r) ls source fs) so (later js ls frame k (later ks js frame g h)))))
+        (structures_same (place_type q) (place_type r) i.source.number i.source.target_is i.source.source_is) (all_there (scalars p (place_type q))) frame w ls
+        (pointer_to_fits p f.variables (place_type q) ls target (target_grown p f.variables (place_type q) js ls target k ft)) (pointer_to_fits p f.variables (place_type r) ls source fs) so (later js ls frame k (later ks js frame g h)))))
     form_keeps at (asserts call v) scope l b i frame w ks so h = keeps_step p ks Fine w _ so (λ left.
         keeps_then p ks (λ ks. Fits p ks (type_of v)) Fine (evaluate s frame.held v (record w { left = left })) _ (value_keeps scope v i.whole frame (record w { left = left }) ks so h) (λ x w js so g fx.
         keeps_then p js (λ ks. MaybeFits p ks int_type) Fine (asserted call.span x w) _ (asserted_keeps p js int_type call.span x w so) (λ none w ls so k _. goes_keeps frame w ls so (later js ls frame k (later ks js frame g h)))))
     form_keeps at (expression v) scope l b i frame w ks so h = keeps_step p ks Fine w _ so (λ left.
         keeps_then p ks (λ ks. MaybeFits p ks (type_of v)) Fine (discard s frame.held v (record w { left = left })) _
-            (discard_keeps p out whole calls meaning n f.variables (seen_by scope) (seen scope) frame.held v i (record w { left = left }) ks so h) (λ x w js so g _. goes_keeps frame w js so (later ks js frame g h)))
+        (discard_keeps p out whole calls meaning n f.variables (seen_by scope) (seen scope) frame.held v i (record w { left = left }) ks so h) (λ x w js so g _. goes_keeps frame w js so (later ks js frame g h)))
     form_keeps at (if_then v x) scope l b i frame w ks so h = keeps_step p ks Fine w _ so (λ left.
         keeps_then p ks (λ ks. Fits p ks (type_of v)) Fine (evaluate s frame.held v (record w { left = left })) _ (value_keeps scope v i.0.whole frame (record w { left = left }) ks so h) (λ y w js so g fy.
         keeps_if p js Fine (is_true y) _ _ (λ e. execute_keeps x scope l b i.1 frame w js so (later ks js frame g h)) (λ e. goes_keeps frame w js so (later ks js frame g h))))
@@ -452,16 +439,16 @@ module _ (p : PlainProgram) (out : IsLaidOut p) (whole : IsWholeProgram p) (call
         block_keeps (looped s head.keyword first tested third body) (λ frame w ks so h.
         keeps_then p ks Fine Fine (execute_from s 0 first frame w) _ (from_keeps 0 first scope l b i.0 frame w ks so h) (λ d w js so g fits.
         go_keeps (λ frame w. loop_by head.keyword n (λ frame w. test s tested frame w) (round s third body) frame w)
-            (loop_keeps head.keyword n (λ frame w. test s tested frame w) (round s third body)
-                (test_keeps (scope_after_all first scope) tested (subst (λ r. IsMaybeTest (around r) tested) (after_all_is first scope l b) i.1))
-                (λ frame w ks so h. keeps_then p ks Fine Fine (execute s body frame w) _
-                    (execute_keeps body (scope_after_all first scope) true b (subst (λ (r : Region). IsWholeStatement (record r { in_loop = true }) body) (after_all_is first scope l b) i.3) frame w ks so h) (λ d w js so g fits.
-                    third_keeps (λ frame w. execute_from s 0 third frame w) (from_keeps 0 third (scope_after_all first scope) l b (subst (λ r. AreWholeStatements r third) (after_all_is first scope l b) i.2)) d w js so fits)))
-            d w js so fits)) frame (record w { left = left }) ks so h)
+        (loop_keeps head.keyword n (λ frame w. test s tested frame w) (round s third body)
+        (test_keeps (scope_after_all first scope) tested (subst (λ r. IsMaybeTest (around r) tested) (after_all_is first scope l b) i.1))
+        (λ frame w ks so h. keeps_then p ks Fine Fine (execute s body frame w) _
+        (execute_keeps body (scope_after_all first scope) true b (subst (λ (r : Region). IsWholeStatement (record r { in_loop = true }) body) (after_all_is first scope l b) i.3) frame w ks so h) (λ d w js so g fits.
+        third_keeps (λ frame w. execute_from s 0 third frame w) (from_keeps 0 third (scope_after_all first scope) l b (subst (λ r. AreWholeStatements r third) (after_all_is first scope l b) i.2)) d w js so fits)))
+        d w js so fits)) frame (record w { left = left }) ks so h)
     form_keeps at (switch keyword v labels body) scope l b i frame w ks so h = keeps_step p ks Fine w _ so (λ left.
         keeps_then p ks (λ ks. Fits p ks (type_of v)) Fine (evaluate s frame.held v (record w { left = left })) _ (value_keeps scope v i.0.whole frame (record w { left = left }) ks so h) (λ x w js so g fx.
         keeps_then p js Fine Fine (enter s (labelled (number_of x) labels.cases labels.otherwise) body frame w) after_switch
-            (enter_keeps (labelled (number_of x) labels.cases labels.otherwise) body scope l true i.1 frame w js so (later ks js frame g h)) (λ d w ls so k fits. switch_keeps d w ls so fits)))
+        (enter_keeps (labelled (number_of x) labels.cases labels.otherwise) body scope l true i.1 frame w js so (later ks js frame g h)) (λ d w ls so k fits. switch_keeps d w ls so fits)))
     form_keeps at (return keyword None) scope l b i frame w ks so h = keeps_step p ks Fine w _ so (λ left. kept p ks Fine _ (record w { left = left }) so (record { frame = h; flow = tt }))
     form_keeps at (return keyword (Some v)) scope l b i frame w ks so h = keeps_step p ks Fine w _ so (λ left.
         keeps_then p ks (λ ks. Fits p ks (type_of v)) Fine (evaluate s frame.held v (record w { left = left })) _ (value_keeps scope v i.0 frame (record w { left = left }) ks so h) (λ x w js so g fx.

@@ -235,39 +235,39 @@ module _ (p : PlainProgram) (out : IsLaidOut p) (whole : IsWholeProgram p) (call
         let d : Decays c t q = i.1 in
         let at_array : FitsPointer p js (array d.mark d.element d.count) (pointer_to target) = subst (λ t. FitsPointer p js t (pointer_to target)) d.place_is (pointer_to_fits p variables (place_type q) js target fits) in
         keeps_or p js (FitsPointer p js d.element) (λ ks. MaybeFits p ks t) _ at.span w _ so
-            (subst (λ t. OnOk (FitsPointer p js d.element) (inner w.objects (pointer_to target) 0 (width p (element_type t)) (element_count t))) (sym d.place_is) (inner_row_fits p js w.objects d.mark d.element d.count (pointer_to target) at_array))
-            (λ r fr. give_keeps t (Pointer r) w js so (subst (λ t. Fits p js t (Pointer r)) (sym d.type_is) fr))))
+        (subst (λ t. OnOk (FitsPointer p js d.element) (inner w.objects (pointer_to target) 0 (width p (element_type t)) (element_count t))) (sym d.place_is) (inner_row_fits p js w.objects d.mark d.element d.count (pointer_to target) at_array))
+        (λ r fr. give_keeps t (Pointer r) w js so (subst (λ t. Fits p js t (Pointer r)) (sym d.type_is) fr))))
     perform_keeps at t (convert v) i w ks so f =
         keeps_then p ks (λ ks. Fits p ks (type_of v)) (λ ks. MaybeFits p ks t) (evaluate s held v w) _ (evaluate_keeps v i.0 w ks so f) (λ x w js so g fx. give_keeps t (converted_to t x) w js so (converted_keeps t v x js i.1 fx))
     perform_keeps at t (cast v) i w ks so f = keeps_step p ks (λ ks. MaybeFits p ks t) w _ so (λ m.
         keeps_if p ks (λ ks. MaybeFits p ks t) (is_void t) _ _
         (λ e. keeps_then p ks (λ ks. MaybeFits p ks (type_of v)) (λ ks. MaybeFits p ks t) (discard s held v (record w { left = m })) _ (discard_keeps v i.0 (record w { left = m }) ks so f) (λ x w js so g fx. none_keeps t w js so))
         (λ e. keeps_then p ks (λ ks. Fits p ks (type_of v)) (λ ks. MaybeFits p ks t) (evaluate s held v (record w { left = m })) _ (evaluate_keeps v i.0 (record w { left = m }) ks so f) (λ x w js so g fx.
-            give_keeps t (converted_to t x) w js so (cast_keeps t v x js i.1 e fx))))
+        give_keeps t (converted_to t x) w js so (cast_keeps t v x js i.1 e fx))))
     perform_keeps at t (unary op v) i w ks so f = keeps_step p ks (λ ks. MaybeFits p ks t) w _ so (λ m.
         keeps_then p ks (λ ks. Fits p ks (type_of v)) (λ ks. MaybeFits p ks t) (evaluate s held v (record w { left = m })) _ (evaluate_keeps v i.0 (record w { left = m }) ks so f) (λ x w js so g fx.
         keeps_or p js (Fits p js t) (λ ks. MaybeFits p ks t) (operated_unary op t x) at.span w _ so
-            (subst (λ t. OnOk (Fits p js t) (operated_unary op t x)) (sym i.1.result_is) (unary_fits p js op i.1.of_type i.1.entry i.1.is x (subst (λ t. Fits p js t x) i.1.operand_is fx)))
-            (λ z fz. give_keeps t z w js so fz)))
+        (subst (λ t. OnOk (Fits p js t) (operated_unary op t x)) (sym i.1.result_is) (unary_fits p js op i.1.of_type i.1.entry i.1.is x (subst (λ t. Fits p js t x) i.1.operand_is fx)))
+        (λ z fz. give_keeps t z w js so fz)))
     perform_keeps at t (binary op a b) i w ks so f = keeps_step p ks (λ ks. MaybeFits p ks t) w _ so (λ m.
         two_keep a b (evaluate_keeps a i.0) (evaluate_keeps b i.1) (record w { left = m }) ks so f (λ ks. MaybeFits p ks t) _ (λ x y w js so fx fy.
         keeps_or p js (Fits p js t) (λ ks. MaybeFits p ks t) (operated op t w.objects x y) at.span w _ so
-            (subst (λ t. OnOk (Fits p js t) (operated op t w.objects x y)) (sym i.2.result_is)
-                (binary_fits p js op i.2.left_null i.2.right_null i.2.left_type i.2.right_type i.2.entry i.2.is w.objects x y (subst (λ t. Fits p js t x) i.2.left_is fx) (subst (λ t. Fits p js t y) i.2.right_is fy)))
-            (λ z fz. give_keeps t z w js so fz)))
+        (subst (λ t. OnOk (Fits p js t) (operated op t w.objects x y)) (sym i.2.result_is)
+        (binary_fits p js op i.2.left_null i.2.right_null i.2.left_type i.2.right_type i.2.entry i.2.is w.objects x y (subst (λ t. Fits p js t x) i.2.left_is fx) (subst (λ t. Fits p js t y) i.2.right_is fy)))
+        (λ z fz. give_keeps t z w js so fz)))
     perform_keeps at t (logic op a b) i w ks so f = keeps_step p ks (λ ks. MaybeFits p ks t) w _ so (λ m.
         keeps_then p ks (λ ks. Fits p ks (type_of a)) (λ ks. MaybeFits p ks t) (evaluate s held a (record w { left = m })) _ (evaluate_keeps a i.0 (record w { left = m }) ks so f) (λ x w js so g fx.
         keeps_if p js (λ ks. MaybeFits p ks t) (is_decided op (is_true x)) _ _
         (λ e. give_keeps t (truth_value (is_true x)) w js so (subst (λ t. Fits p js t (truth_value (is_true x))) (sym i.2) (truth_fits p js (is_true x))))
         (λ e. keeps_then p js (λ ks. Fits p ks (type_of b)) (λ ks. MaybeFits p ks t) (evaluate s held b w) _ (evaluate_keeps b i.1 w js so (later ks js g f)) (λ y w ls so h fy.
-            give_keeps t (truth_value (is_true y)) w ls so (subst (λ t. Fits p ls t (truth_value (is_true y))) (sym i.2) (truth_fits p ls (is_true y)))))))
+        give_keeps t (truth_value (is_true y)) w ls so (subst (λ t. Fits p ls t (truth_value (is_true y))) (sym i.2) (truth_fits p ls (is_true y)))))))
     perform_keeps at t (conditional v a b) i w ks so f = keeps_step p ks (λ ks. MaybeFits p ks t) w _ so (λ m.
         keeps_then p ks (λ ks. Fits p ks (type_of v)) (λ ks. MaybeFits p ks t) (evaluate s held v (record w { left = m })) _ (evaluate_keeps v i.0 (record w { left = m }) ks so f) (λ x w js so g fx.
         keeps_then p js (λ ks. Fits p ks t) (λ ks. MaybeFits p ks t) (if is_true x then evaluate s held a w else evaluate s held b w) give
-            (keeps_if p js (λ ks. Fits p ks t) (is_true x) (evaluate s held a w) (evaluate s held b w)
-                (λ e. arm_keeps a w js so (later ks js g f) (evaluate_keeps a i.1) (ap (bare p.structures) i.4.left_is ∙ ((conditional_types p i.4.left_null i.4.right_null i.4.left_type i.4.right_type i.4.entry i.4.is).0 ∙ sym (ap (bare p.structures) i.4.result_is))))
-                (λ e. arm_keeps b w js so (later ks js g f) (evaluate_keeps b i.2) (ap (bare p.structures) i.4.right_is ∙ ((conditional_types p i.4.left_null i.4.right_null i.4.left_type i.4.right_type i.4.entry i.4.is).1 ∙ sym (ap (bare p.structures) i.4.result_is)))))
-            (λ y w ls so h fy. give_keeps t y w ls so fy)))
+        (keeps_if p js (λ ks. Fits p ks t) (is_true x) (evaluate s held a w) (evaluate s held b w)
+        (λ e. arm_keeps a w js so (later ks js g f) (evaluate_keeps a i.1) (ap (bare p.structures) i.4.left_is ∙ ((conditional_types p i.4.left_null i.4.right_null i.4.left_type i.4.right_type i.4.entry i.4.is).0 ∙ sym (ap (bare p.structures) i.4.result_is))))
+        (λ e. arm_keeps b w js so (later ks js g f) (evaluate_keeps b i.2) (ap (bare p.structures) i.4.right_is ∙ ((conditional_types p i.4.left_null i.4.right_null i.4.left_type i.4.right_type i.4.entry i.4.is).1 ∙ sym (ap (bare p.structures) i.4.result_is)))))
+        (λ y w ls so h fy. give_keeps t y w ls so fy)))
       where
         arm_keeps : (a : PlainValue) (w : State) (ks : List Kind) → Sound p ks w → FrameAt ks → Evaluates a → bare p.structures (type_of a) ≡ bare p.structures t → Keeps p ks (λ ks. Fits p ks t) (evaluate s held a w)
         arm_keeps a w ks so f k e = same_outcome ks (evaluate s held a w) (k w ks so f)
@@ -313,16 +313,16 @@ module _ (p : PlainProgram) (out : IsLaidOut p) (whole : IsWholeProgram p) (call
     find_keeps at t (index a b) i w ks so f = keeps_step p ks (TargetFits p variables t) w _ so (λ m.
         two_keep a b (evaluate_keeps a i.0) (evaluate_keeps b i.1) (record w { left = m }) ks so f (TargetFits p variables t) _ (λ x y w js so fx fy.
         keeps_or p js (FitsPointer p js t) (TargetFits p variables t) (shift w.objects (pointer_of x) (number_of y)) at.span w _ so
-            (shift_fits p js w.objects t (pointer_of x) (number_of y) (pointer_of_fits p js t x (subst (λ u. Fits p js u x) i.2.pointer_is fx)))
-            (λ q fq. kept p js (TargetFits p variables t) (Element q) w so fq)))
+        (shift_fits p js w.objects t (pointer_of x) (number_of y) (pointer_of_fits p js t x (subst (λ u. Fits p js u x) i.2.pointer_is fx)))
+        (λ q fq. kept p js (TargetFits p variables t) (Element q) w so fq)))
     find_keeps at t (member q k) i w ks so f = keeps_step p ks (TargetFits p variables t) w _ so (λ m.
         keeps_then p ks (TargetFits p variables (place_type q)) (TargetFits p variables t) (locate s held q (record w { left = m })) _ (locate_keeps q i.0 (record w { left = m }) ks so f) (λ target w js so g fits.
         let x : HasMapped (bare_member p.structures) _ k _ = member_like p whole.structures i.1.number k i.1.entry i.1.there in
         let type_same : bare p.structures x.one.type ≡ bare p.structures t = ap (λ (m : PlainMember). m.type) x.is ∙ sym (ap (bare p.structures) i.1.type_is ∙ bare_qualified p.structures i.1.mark i.1.entry.type) in
         keeps_or p js (FitsPointer p js t) (TargetFits p variables t) _ at.span w _ so
-            (inner_member_fits p js w.objects (place_type q) t false (representative_of p.structures i.1.number) k x.one (pointer_to target) (structure_same p (place_type q) i.1.mark i.1.number i.1.whole_is) x.there type_same
-                (pointer_to_fits p variables (place_type q) js target fits))
-            (λ r fr. kept p js (TargetFits p variables t) (Element r) w so fr)))
+        (inner_member_fits p js w.objects (place_type q) t false (representative_of p.structures i.1.number) k x.one (pointer_to target) (structure_same p (place_type q) i.1.mark i.1.number i.1.whole_is) x.there type_same
+        (pointer_to_fits p variables (place_type q) js target fits))
+        (λ r fr. kept p js (TargetFits p variables t) (Element r) w so fr)))
     find_keeps at t (dereference v) i w ks so f = keeps_step p ks (TargetFits p variables t) w _ so (λ m.
         keeps_then p ks (λ ks. Fits p ks (type_of v)) (TargetFits p variables t) (evaluate s held v (record w { left = m })) _ (evaluate_keeps v i.0 (record w { left = m }) ks so f) (λ x w js so g fx.
         keeps_or p js (λ _. Unit {0}) (TargetFits p variables t) (reach w.objects (pointer_of x)) at.span w _ so (any_ok (reach w.objects (pointer_of x))) (λ object _.

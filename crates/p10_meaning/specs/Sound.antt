@@ -5,9 +5,9 @@ use Rattle.p10_int.specs.declared.types.IntType.TheVariants.{Char}
 use Rattle.p10_int.specs.Types.{InRange}
 use Rattle.p10_core.specs.Types.{PlainType, void, integer, pointer, array, structure, bare, PlainMember, members_of}
 use Rattle.p10_core.specs.Sizes.{scalars_of, repeated}
-use Rattle.p10_core.specs.Typed.{PlainVariable, PlainFunction, PlainObject, PlainLiteral, PlainProgram}
-use Rattle.p10_core.specs.Whole.{SeenVariable}
-use Rattle.p10_core.specs.WholePrograms.{seen_variable, parameter_types}
+use Rattle.p10_core.specs.Typed.{PlainValue, type_of, PlainStatement, PlainVariable, PlainFunction, PlainObject, PlainLiteral, PlainProgram}
+use Rattle.p10_core.specs.Whole.{SeenVariable, IsWholeValue}
+use Rattle.p10_core.specs.WholePrograms.{seen_variable, parameter_types, Region, around, IsWholeStatement, IsWholeProgram}
 use Rattle.p10_meaning.specs.declared.pointers.Window.{Window}
 use Rattle.p10_meaning.specs.declared.pointers.Ptr.{Ptr}
 use Rattle.p10_meaning.specs.declared.pointers.Ptr.TheVariants.{Null, To}
@@ -17,7 +17,9 @@ use Rattle.p10_meaning.specs.declared.pointers.Cell.{Cell}
 use Rattle.p10_meaning.specs.Pointers.{last_number, whole_window, window_in}
 use Rattle.p10_meaning.specs.Objects.{Object}
 use Rattle.p10_meaning.specs.States.{IsSensorValue, State, Progress, gives, ends}
-use Rattle.p10_meaning.specs.Values.{Calls, Held, holds, stands, absent, width, scalars_before}
+use Rattle.p10_meaning.specs.Values.{Calls, Held, holds, stands, absent, width, scalars_before, evaluate}
+use Rattle.p10_meaning.specs.Statements.{Frame, Flow, returned, Done, execute}
+use Rattle.p10_meaning.specs.Calling.{Depth, setting_of, call_at}
 
 -- ## The arrays of an object
 
@@ -188,3 +190,39 @@ pub record KeepSound (p : PlainProgram) (calls : Calls) : Type 0 where
 -- what stands round the values of a function: the variables that are in scope are among its variables
 pub record AreSeen (variables : List PlainVariable) (seen_at : ℕ → Option SeenVariable) : Type 0 where
   pub seen : (n : ℕ) (v : SeenVariable) → seen_at n ≡ Some v → (variable : PlainVariable) × (slice_get variables n ≡ Some variable) × (v ≡ seen_variable variable)
+
+-- ## Statements
+
+-- a value that is returned fits the function's result
+abbrev pub FlowFits : PlainProgram → PlainType → List Kind → Flow → Type 0
+FlowFits p result ks (returned x) = MaybeFits p ks result x
+FlowFits p result ks flow = Unit {0}
+
+-- an executed statement leaves a frame that fits
+pub record DoneFits (p : PlainProgram) (variables : List PlainVariable) (result : PlainType) (ks : List Kind) (d : Done) : Type 0 where
+  pub frame : FrameFits p ks variables d.frame.held
+  pub flow : FlowFits p result ks d.flow
+
+-- ## The laws
+
+-- a place in a function of a program, where a tree stands: what stands round it
+abbrev pub region_at : PlainProgram → ℕ → PlainFunction → List ℕ → Bool → Bool → Region
+region_at p number f scope in_loop in_switch = record { program = p; number = number; function = f; scope = scope; in_loop = in_loop; in_switch = in_switch }
+
+-- calls of the functions of a whole program keep sound states, and give values that fit the results
+abbrev pub CallsKeepSound : Type 0
+CallsKeepSound = (p : PlainProgram) → IsWholeProgram p → (n : ℕ) (depth : Depth) → KeepSound p (call_at n p depth)
+
+-- a whole tree of a function, executed in a frame that fits, keeps sound states and frames that fit
+abbrev pub StatementsKeepSound : Type 0
+StatementsKeepSound =
+    (p : PlainProgram) → IsWholeProgram p → (n : ℕ) (depth : Depth) (number : ℕ) (f : PlainFunction) → slice_get p.functions number ≡ Some f → (scope : List ℕ) (in_loop in_switch : Bool) (x : PlainStatement) →
+    IsWholeStatement (region_at p number f scope in_loop in_switch) x → (frame : Frame) (w : State) (ks : List Kind) → Sound p ks w → FrameFits p ks f.variables frame.held →
+    Keeps p ks (DoneFits p f.variables f.result) (execute (setting_of p n (call_at n p) depth f) x frame w)
+
+-- a whole value of a function, evaluated in a frame that fits, keeps sound states and gives a value that fits its type
+abbrev pub ValuesKeepSound : Type 0
+ValuesKeepSound =
+    (p : PlainProgram) → IsWholeProgram p → (n : ℕ) (depth : Depth) (number : ℕ) (f : PlainFunction) → slice_get p.functions number ≡ Some f → (scope : List ℕ) (v : PlainValue) →
+    IsWholeValue (around (region_at p number f scope false false)) v → (held : List Held) (w : State) (ks : List Kind) → Sound p ks w → FrameFits p ks f.variables held →
+    Keeps p ks (λ ks. Fits p ks (type_of v)) (evaluate (setting_of p n (call_at n p) depth f) held v w)

@@ -1,6 +1,7 @@
 //! What holds of the meaning. Nothing runs here: each function stands for the laws that its contract states.
 
 ghost use Rattle.p10_meaning.specs.Laws.{CallsHaveNoBound, StatementsHaveNoBound, LoopsHaveNoBound, ValuesHaveNoBound, RunsNeedNoMore};
+ghost use Rattle.p10_meaning.specs.Sound.{CallsKeepSound, StatementsKeepSound, ValuesKeepSound};
 ghost use Rattle.p10_meaning.specs.Costs.{StepsAreCounted};
 ghost use Rattle.p10_meaning.specs.Stopping.{RunsStop};
 ghost use Rattle.p10_meaning.specs.Tasks.{RunsGive};
@@ -19,6 +20,14 @@ pub fn bound_never_counts()
 /// A run that doesn't end for want of steps gives the same with greater budgets.
 pub fn runs_need_no_more()
     ensures { RunsNeedNoMore }
+{}
+
+/// Runs of a whole program keep sound states: each value stays one of its type, and each pointer points into an object that was
+/// opened, where a path by its type leads.
+pub fn sound_states_stay_sound()
+    ensures calls { CallsKeepSound }
+    ensures statements { StatementsKeepSound }
+    ensures values { ValuesKeepSound }
 {}
 
 /// What each row of the table of steps costs, at a small program: with a step fewer its run ends for want of steps.
