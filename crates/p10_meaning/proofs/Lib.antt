@@ -16,3 +16,4 @@ pub mod SoundParts
 pub mod SoundValues
 pub mod SoundStatements
 pub mod SoundCalls
+pub mod Quiet
