@@ -33,7 +33,7 @@ grows_trans ks js ls x y = record { more = x.more ++ y.more; is = y.is ∙ (ap (
 pub grown : (ks : List Kind) (k : Kind) → Grows ks (ks ++ k ∷ [])
 grown ks k = record { more = k ∷ []; is = refl }
 
-get_before : {A : Type 0} (xs ys : List A) (i : ℕ) (x : A) → slice_get xs i ≡ Some x → slice_get (xs ++ ys) i ≡ Some x
+pub get_before : {A : Type 0} (xs ys : List A) (i : ℕ) (x : A) → slice_get xs i ≡ Some x → slice_get (xs ++ ys) i ≡ Some x
 get_before [] ys i x e = absurd (none-some _ e)
 get_before (y ∷ xs) ys zero x e = e
 get_before (y ∷ xs) ys (suc i) x e = get_before xs ys i x e

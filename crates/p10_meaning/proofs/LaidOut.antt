@@ -48,7 +48,7 @@ void_bare ss (structure c n) e = e
 alike_of : (ss : List PlainStructure) → AreWholeStructures ss → (s t : PlainType) → IsObjectType ss s → IsObjectType ss t → bare ss s ≡ bare ss t → LiesLike (layout_of ss s) (layout_of ss t)
 alike_of ss w s t a b e = compatible_types_lie_alike ss w s t a b e
 
-array_bytes : (ss : List PlainStructure) (c : Bool) (t : PlainType) (n : ℕ) → size_of ss (array c t n) ≡ n * size_of ss t
+pub array_bytes : (ss : List PlainStructure) (c : Bool) (t : PlainType) (n : ℕ) → size_of ss (array c t n) ≡ n * size_of ss t
 unfolding layout_of
 array_bytes ss c t n = refl
 
@@ -210,7 +210,7 @@ scalars_scalar ss t = layout_scalar ss (structure_layout (length ss) ss) (struct
 
 -- ## Members
 
-map_get : {A B : Type 0} (f : A → B) (xs : List A) (i : ℕ) (x : A) → slice_get xs i ≡ Some x → slice_get (map f xs) i ≡ Some (f x)
+pub map_get : {A B : Type 0} (f : A → B) (xs : List A) (i : ℕ) (x : A) → slice_get xs i ≡ Some x → slice_get (map f xs) i ≡ Some (f x)
 map_get f [] i x e = absurd (none-some _ e)
 map_get f (y ∷ xs) zero x e = ap (λ x. Some (f x)) (same_Some _ _ e)
 map_get f (y ∷ xs) (suc i) x e = map_get f xs i x e
@@ -220,7 +220,7 @@ pub record HasMapped {A B : Type 0} (f : A → B) (xs : List A) (i : ℕ) (y : B
   pub there : slice_get xs i ≡ Some one
   pub is : f one ≡ y
 
-map_back : {A B : Type 0} (f : A → B) (xs : List A) (i : ℕ) (y : B) → slice_get (map f xs) i ≡ Some y → HasMapped f xs i y
+pub map_back : {A B : Type 0} (f : A → B) (xs : List A) (i : ℕ) (y : B) → slice_get (map f xs) i ≡ Some y → HasMapped f xs i y
 map_back f [] i y e = absurd (none-some _ e)
 map_back f (x ∷ xs) zero y e = record { one = x; there = refl; is = same_Some _ _ e }
 map_back f (x ∷ xs) (suc i) y e = let h : HasMapped f xs i y = map_back f xs i y e in record { one = h.one; there = h.there; is = h.is }

@@ -17,3 +17,4 @@ pub mod SoundValues
 pub mod SoundStatements
 pub mod SoundCalls
 pub mod Quiet
+pub mod SoundOpening

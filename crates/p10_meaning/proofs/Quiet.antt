@@ -7,6 +7,9 @@ use Rattle.p10_int.specs.declared.operators.Stop.{Stop}
 use Rattle.p10_int.specs.declared.operators.BinOp.TheVariants.{Add, Sub, Mul, Div, Rem, Shl, Shr, And, Or, Xor, Lt, Gt, Le, Ge, Eq, Ne}
 use Rattle.p10_core.specs.Types.{PlainType, void, integer, pointer, array, structure}
 use Rattle.p10_core.specs.Typed.{PlainValue, value, type_of, at_of, PlainForm, constant, read, sense, address, decay, convert, cast, unary, binary, logic, conditional, call, built_in, PlainPlace, place, place_type, PlainPlaceForm, variable, global, literal, index, member, dereference, PlainWritten, one_scalar, scalars_of_text, PlainItem}
+use Rattle.std.specs.List.{All}
+use Rattle.std.proofs.lemmas.List.Elements.{All-head, All-tail}
+use Rattle.p10_core.specs.WholePrograms.{IsStaticWritten}
 use Rattle.p10_core.specs.Rows.{is_integer, is_pointer}
 use Rattle.p10_core.specs.Constants.{first_of_parts, converted_part, inconstant_part, is_constant, fold, gives_zero, is_null}
 use Rattle.p10_core.specs.Addresses.{Target as Aim, nowhere, in_array, moved, single_at, row_at, reached, constant_of, target_of, place_target, is_static_value}
@@ -50,7 +53,7 @@ abbrev mutual
 
 -- ## They open nothing
 
-abbrev OpensBy : {A : Type 0} → ℕ → Progress A → Type 0
+abbrev pub OpensBy : {A : Type 0} → ℕ → Progress A → Type 0
 OpensBy n (gives a w) = w.opened ≡ n
 OpensBy n (ends end w) = w.opened ≡ n
 
@@ -269,3 +272,14 @@ static_quiet v e = case (is_integer (type_of v)) e
     case : (b : Bool) → (if b then is_ok (constant_of v) else is_some (target_of v)) ≡ true → IsQuiet v
     case true e = ok_of (constant_of v) refl e
     case false e = target_quiet v e
+
+-- a list of such values opens nothing
+written_opens : (s : Setting) (held : List Held) (n i : ℕ) (written : PlainWritten) → IsStaticWritten written → (w : State) → w.opened ≡ n → Opens n (written_scalars s held i written w)
+written_opens s held n i (one_scalar v) q w e = opens_then n (evaluate s held v w) _ (evaluate_opens s held n v (static_quiet v q) w e) (λ x w e. here n _ w e)
+written_opens s held n i (scalars_of_text bytes) q w e = here n _ w e
+
+pub listed_opens : (s : Setting) (held : List Held) (n : ℕ) (items : List PlainItem) → All (λ (i : PlainItem). IsStaticWritten i.written) items → (w : State) → w.opened ≡ n → Opens n (listed_scalars s held items w)
+listed_opens s held n [] q w e = here n _ w e
+listed_opens s held n (item ∷ items) q w e =
+    opens_then n (written_scalars s held item.scalar item.written w) _ (written_opens s held n item.scalar item.written (All-head (λ (i : PlainItem). IsStaticWritten i.written) item items q) w e) (λ xs w e.
+    opens_then n (listed_scalars s held items w) _ (listed_opens s held n items (All-tail (λ (i : PlainItem). IsStaticWritten i.written) item items q) w e) (λ ys w e. here n _ w e))

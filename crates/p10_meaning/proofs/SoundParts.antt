@@ -235,7 +235,7 @@ put_keeps p ks z w s = kept p ks (λ ks. MaybeFits p ks int_type) (Some (Int (po
 pub asserted_keeps : (p : PlainProgram) (ks : List Kind) (t : PlainType) (span : Span) (x : Scalar) (w : State) → Sound p ks w → Keeps p ks (λ ks. MaybeFits p ks t) (asserted span x w)
 asserted_keeps p ks t span x w s = keeps_if p ks (λ ks. MaybeFits p ks t) (is_true x) (gives None w) (ends (AssertionFailed span) w) (λ e. kept p ks (λ ks. MaybeFits p ks t) None w s tt) (λ e. ended p ks w s)
 
-zeros_fit : (p : PlainProgram) (ks : List Kind) (ts : List PlainType) → AreScalar ts → AllFit p ks ts (zero_cells ts)
+pub zeros_fit : (p : PlainProgram) (ks : List Kind) (ts : List PlainType) → AreScalar ts → AllFit p ks ts (zero_cells ts)
 zeros_fit p ks [] f = tt
 zeros_fit p ks (t ∷ ts) f = (zero_fits p ks t f.0, zeros_fit p ks ts f.1)
 

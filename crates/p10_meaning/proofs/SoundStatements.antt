@@ -246,7 +246,7 @@ module _ (p : PlainProgram) (out : IsLaidOut p) (whole : IsWholeProgram p) (call
           subst (λ t. Fits p js t (converted_to t x)) same (kept_fits p js (bare p.structures (type_of v)) x (fits_same p js (type_of v) (bare p.structures (type_of v)) x (sym (out.bare_again (type_of v))) fx))
   written_keeps scope ts i (scalars_of_text bytes) scalar iw frame w ks so h = kept p ks (ItemsFit p ts) (text_scalars i bytes) w so (text_fits p ts ks i bytes scalar)
 
-  listed_keeps : (scope : List ℕ) (ts : List PlainType) (from : ℕ) (items : List PlainItem) → AreScalar ts → AreWholeItems (c scope) ts from items → (frame : Frame) (w : State) (ks : List Kind) → Sound p ks w → FrameAt ks frame →
+  pub listed_keeps : (scope : List ℕ) (ts : List PlainType) (from : ℕ) (items : List PlainItem) → AreScalar ts → AreWholeItems (c scope) ts from items → (frame : Frame) (w : State) (ks : List Kind) → Sound p ks w → FrameAt ks frame →
       Keeps p ks (ItemsFit p ts) (listed_scalars s frame.held items w)
   listed_keeps scope ts from [] scalar i frame w ks so h = kept p ks (ItemsFit p ts) [] w so tt
   listed_keeps scope ts from (item ∷ items) scalar i frame w ks so h =

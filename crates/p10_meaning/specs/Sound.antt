@@ -1,5 +1,5 @@
 -- Sound states: each value is one of its type, and each pointer points where a path through its object's type leads.
-use Rattle.std.specs.Prelude.{◌≡◌, ℕ, ◌+◌, ◌<◌, ◌≤◌, leb, if◌then◌else◌, Bool, false, List, [], ◌∷◌, ◌++◌, length, slice_get, ℤ, Option, Some, None}
+use Rattle.std.specs.Prelude.{◌≡◌, ℕ, ◌+◌, ◌<◌, ◌≤◌, leb, if◌then◌else◌, Bool, false, List, [], ◌∷◌, ◌++◌, length, map, slice_get, ℤ, Option, Some, None}
 use Rattle.std.specs.List.{All}
 use Rattle.p10_int.specs.declared.types.IntType.TheVariants.{Char}
 use Rattle.p10_int.specs.Types.{InRange}
@@ -14,12 +14,14 @@ use Rattle.p10_meaning.specs.declared.pointers.Ptr.TheVariants.{Null, To}
 use Rattle.p10_meaning.specs.declared.pointers.Scalar.{Scalar}
 use Rattle.p10_meaning.specs.declared.pointers.Scalar.TheVariants.{Int, Pointer}
 use Rattle.p10_meaning.specs.declared.pointers.Cell.{Cell}
+use Rattle.p10_meaning.specs.declared.world.World.{World}
 use Rattle.p10_meaning.specs.Pointers.{last_number, whole_window, window_in}
 use Rattle.p10_meaning.specs.Objects.{Object}
-use Rattle.p10_meaning.specs.States.{IsSensorValue, State, Progress, gives, ends}
+use Rattle.p10_meaning.specs.States.{IsWorld, IsSensorValue, State, Progress, gives, ends}
 use Rattle.p10_meaning.specs.Values.{Calls, Held, holds, stands, absent, width, scalars_before, evaluate}
 use Rattle.p10_meaning.specs.Statements.{Frame, Flow, returned, Done, execute}
 use Rattle.p10_meaning.specs.Calling.{Depth, setting_of, call_at}
+use Rattle.p10_meaning.specs.Opening.{opening}
 
 -- ## The arrays of an object
 
@@ -226,3 +228,11 @@ ValuesKeepSound =
     (p : PlainProgram) → IsWholeProgram p → (n : ℕ) (depth : Depth) (number : ℕ) (f : PlainFunction) → slice_get p.functions number ≡ Some f → (scope : List ℕ) (v : PlainValue) →
     IsWholeValue (around (region_at p number f scope false false)) v → (held : List Held) (w : State) (ks : List Kind) → Sound p ks w → FrameFits p ks f.variables held →
     Keeps p ks (λ ks. Fits p ks (type_of v)) (evaluate (setting_of p n (call_at n p) depth f) held v w)
+
+-- what the objects of the opening state are: the objects of static lifetime, and the string literals
+abbrev pub opening_kinds : PlainProgram → List Kind
+opening_kinds p = map (λ (object : PlainObject). single_of p object.type) p.objects ++ map (λ (l : PlainLiteral). single_of p (text_type (length l.bytes))) p.literals
+
+-- the opening state of a whole program is sound in every world
+abbrev pub OpeningIsSound : Type 0
+OpeningIsSound = (p : PlainProgram) → IsWholeProgram p → (world : World) → IsWorld world → (left : ℕ) → Sound p (opening_kinds p) (opening p world left)

@@ -1,4 +1,5 @@
 use Rattle.p10_meaning.proofs.SoundCalls.{calls_keep, statements_keep, values_keep}
+use Rattle.p10_meaning.proofs.SoundOpening.{opening_sound}
 use Rattle.p10_meaning.proofs.laws.sound_states_stay_sound.Goals as goal
 
 pub returns-clause-calls : goal.returns-clause-calls
@@ -9,3 +10,6 @@ returns-clause-statements c = statements_keep
 
 pub returns-clause-values : goal.returns-clause-values
 returns-clause-values c = values_keep
+
+pub returns-clause-opening : goal.returns-clause-opening
+returns-clause-opening c = opening_sound
