@@ -1,9 +1,9 @@
 -- Two runs of one piece, the other with k more steps: what comes of them agrees.
-use Rattle.std.proofs.Common.{◌≡◌, ℕ, zero, suc, ◌+◌, ◌≤◌, cond, Bool, true, false, List, refl, sym, ◌∙◌, ap, subst, arith, Result, Ok, Err}
+use Rattle.std.proofs.Common.{◌≡◌, ℕ, zero, suc, ◌+◌, ◌≤◌, cond, Bool, true, false, List, refl, sym, ap, subst, arith, Result, Ok, Err}
 use Rattle.p10_base.specs.declared.span.Span.{Span}
 use Rattle.p10_int.specs.declared.operators.Stop.{Stop}
 use Rattle.p10_meaning.specs.declared.pointers.Scalar.{Scalar}
-use Rattle.p10_meaning.specs.States.{State, End, AssertionFailed, Undefined, StepsSpent, Progress, gives, ends, step_at, step, and_then, or_undefined}
+use Rattle.p10_meaning.specs.States.{State, AssertionFailed, Undefined, StepsSpent, Progress, gives, ends, step_at, step, and_then, or_undefined}
 use Rattle.p10_meaning.specs.Values.{Calls}
 use Rattle.p10_meaning.specs.Laws.{Follows, EndsAfter, with_more}
 use Rattle.p10_meaning.proofs.Following.{follows_same, follows_trans, follows_left}

@@ -1,15 +1,13 @@
 -- Calls agree, whatever the bound, and so do the trees of every function.
 use Rattle.std.proofs.Common.{◌≡◌, ℕ, zero, suc, ◌+◌, ◌≤◌, cond, Bool, true, false, List, [], ◌∷◌, refl, sym, ◌∙◌, ap, subst, arith, Option, Some, None, slice_get}
-use Rattle.p10_base.specs.declared.span.Span.{Span}
-use Rattle.p10_int.specs.declared.operators.Stop.{Stop}
-use Rattle.p10_core.specs.Typed.{PlainValue, PlainStatement, PlainStatements, PlainVariable, PlainFunction, PlainProgram}
+use Rattle.p10_core.specs.Typed.{PlainValue, PlainStatement, PlainVariable, PlainFunction, PlainProgram}
 use Rattle.p10_meaning.specs.declared.pointers.Scalar.{Scalar}
 use Rattle.p10_meaning.specs.Pointers.{holding}
-use Rattle.p10_meaning.specs.Objects.{Object, declared, all_closed}
-use Rattle.p10_meaning.specs.States.{State, AssertionFailed, Undefined, StepsSpent, Progress, gives, ends, step, and_then}
+use Rattle.p10_meaning.specs.Objects.{declared, all_closed}
+use Rattle.p10_meaning.specs.States.{State, AssertionFailed, Undefined, StepsSpent, Progress, gives, ends, and_then}
 use Rattle.p10_meaning.specs.Values.{Calls, Held, holds, stands, absent, open_object, evaluate}
-use Rattle.p10_meaning.specs.Statements.{Frame, Done, test, turns, execute, execute_from, round}
-use Rattle.p10_meaning.specs.Calling.{Depth, deeper, raised, Entered, with_variable, entered, given, leave_call, setting_of, enter_call, call_at}
+use Rattle.p10_meaning.specs.Statements.{Frame, test, turns, execute, execute_from, round}
+use Rattle.p10_meaning.specs.Calling.{Depth, deeper, raised, Entered, with_variable, entered, leave_call, setting_of, enter_call, call_at}
 use Rattle.p10_meaning.specs.Laws.{Follows, EndsAfter, with_more, SameWithMore, CallsRun, StatementsRun, ValuesRun, LoopsHaveNoBound}
 use Rattle.p10_meaning.proofs.Following.{follows_same, follows_trans, follows_objects, follows_open, follows_raised}
 use Rattle.p10_meaning.proofs.Agreeing.{IsSame, Agrees, CallsAgree, no_more, agrees_from, agrees_within, agrees_gives, agrees_here, agrees_spent, agrees_then, agrees_step}

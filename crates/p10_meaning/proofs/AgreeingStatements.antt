@@ -1,5 +1,5 @@
 -- Statements agree, where calls do.
-use Rattle.std.proofs.Common.{◌≡◌, ℕ, zero, suc, ◌+◌, ◌≤◌, cond, Bool, true, false, List, [], ◌∷◌, ◌++◌, refl, sym, ◌∙◌, ap, subst, arith, Option, Some, None, Result, Ok, Err, slice_get, ℤ}
+use Rattle.std.proofs.Common.{◌≡◌, ℕ, zero, suc, ◌+◌, ◌≤◌, Bool, true, List, [], ◌∷◌, ◌++◌, refl, sym, ◌∙◌, ap, subst, arith, Option, Some, None, slice_get}
 use Rattle.std.specs.Prelude.{slice_set}
 use Rattle.p10_base.specs.declared.span.Span.{Span}
 use Rattle.p10_base.specs.declared.at.At.{At}
@@ -12,13 +12,13 @@ use Rattle.p10_meaning.specs.declared.pointers.Ptr.{Ptr}
 use Rattle.p10_meaning.specs.declared.pointers.Scalar.{Scalar}
 use Rattle.p10_meaning.specs.declared.pointers.Cell.{Cell}
 use Rattle.p10_meaning.specs.Pointers.{first_of}
-use Rattle.p10_meaning.specs.Objects.{Object, declared, all_closed}
-use Rattle.p10_meaning.specs.States.{State, StepsSpent, Progress, gives, ends, step, and_then}
+use Rattle.p10_meaning.specs.Objects.{declared, all_closed}
+use Rattle.p10_meaning.specs.States.{State, StepsSpent, Progress, ends}
 use Rattle.p10_meaning.specs.Scalars.{is_true, number_of, unset_cells}
-use Rattle.p10_meaning.specs.Values.{Calls, Setting, Held, stands, scalars, width, open_object, Target, Variable, Sensor, Element, pointer_to, evaluate, discard, locate}
-use Rattle.p10_meaning.specs.Statements.{Frame, Flow, normal, broken, continued, returned, Done, flows, goes, go_on, leave_block, in_block, write_target, part_of, write_part, copy_scalars, text_scalars, written_scalars, listed_scalars, fill, initialize, declare_variable, test, next_turn, turns, loop_by, before_third, labelled, from_label, after_switch, execute, execute_form, execute_from, enter, enter_form, round, looped}
-use Rattle.p10_meaning.specs.Laws.{Follows, with_more}
-use Rattle.p10_meaning.proofs.Following.{follows_same, follows_trans, follows_objects, follows_open, follows_mark}
+use Rattle.p10_meaning.specs.Values.{Calls, Setting, Held, stands, scalars, width, open_object, Target, Variable, Sensor, Element, pointer_to, evaluate, locate}
+use Rattle.p10_meaning.specs.Statements.{Frame, Flow, normal, broken, continued, returned, Done, go_on, in_block, write_target, part_of, write_part, copy_scalars, written_scalars, listed_scalars, fill, initialize, declare_variable, test, next_turn, turns, loop_by, before_third, labelled, from_label, execute, execute_form, execute_from, enter, enter_form, round, looped}
+use Rattle.p10_meaning.specs.Laws.{with_more}
+use Rattle.p10_meaning.proofs.Following.{follows_objects, follows_open, follows_mark}
 use Rattle.p10_meaning.proofs.Agreeing.{Agrees, CallsAgree, no_more, agrees_from, agrees_within, agrees_gives, agrees_here, agrees_spent, agrees_then, agrees_step, agrees_or, agrees_if}
 use Rattle.p10_meaning.proofs.AgreeingValues.{more_than, read_agrees, asserted_agrees, evaluate_agrees, discard_agrees, locate_agrees}
 use Rattle.p10_meaning.proofs.Spent.{test_none, turns_none}

@@ -1,6 +1,5 @@
 -- Values agree, where calls do: they take a step, and a place takes none or more.
-use Rattle.std.proofs.Common.{◌≡◌, ℕ, zero, suc, ◌+◌, ◌*◌, ◌≤◌, ltb, leb, ◌&&◌, cond, Bool, true, false, List, [], ◌∷◌, ◌++◌, length, refl, sym, ◌∙◌, ap, subst, arith, Option, Some, None, Result, Ok, Err, slice_get, ℤ, pos}
-use Rattle.std.specs.Prelude.{if◌then◌else◌}
+use Rattle.std.proofs.Common.{◌≡◌, ℕ, suc, ◌*◌, ◌≤◌, ltb, leb, ◌&&◌, List, [], ◌∷◌, ◌++◌, refl, arith, Some, None, ℤ}
 use Rattle.p10_base.specs.declared.span.Span.{Span}
 use Rattle.p10_base.specs.declared.at.At.{At}
 use Rattle.p10_core.specs.declared.typed.Library.{Library}
@@ -10,16 +9,15 @@ use Rattle.p10_core.specs.Sizes.{repeated}
 use Rattle.p10_core.specs.Typed.{PlainValue, value, PlainForm, constant, read, sense, address, decay, convert, cast, unary, binary, logic, conditional, call, built_in, PlainPlace, place, PlainPlaceForm, variable, global, literal, index, member, dereference, PlainValues, no_values, more_values, place_at, PlainVariable, PlainProgram}
 use Rattle.p10_meaning.specs.declared.pointers.Scalar.{Scalar}
 use Rattle.p10_meaning.specs.declared.pointers.Scalar.TheVariants.{Int, Pointer}
-use Rattle.p10_meaning.specs.declared.pointers.Ptr.TheVariants.{Null}
 use Rattle.p10_meaning.specs.declared.pointers.Cell.{Cell}
 use Rattle.p10_meaning.specs.Pointers.{first_of}
-use Rattle.p10_meaning.specs.Objects.{Object, allocated, release}
-use Rattle.p10_meaning.specs.States.{State, AssertionFailed, Progress, gives, ends, and_then, counted}
-use Rattle.p10_meaning.specs.Scalars.{is_true, truth_value, pointer_of, unset_cells, zero_cells}
-use Rattle.p10_meaning.specs.Values.{Calls, Setting, Held, scalars, width, size, open_object, Target, Variable, Sensor, Element, read_target, sensed_from, sensed, asserted, next_byte, put_byte, first_argument, is_denied, granted, requested, elements, pointee, library, give, is_void, is_structure, is_decided, evaluate, discard, perform, evaluate_all, locate, find_place}
-use Rattle.p10_meaning.specs.Laws.{Follows, with_more}
-use Rattle.p10_meaning.proofs.Following.{follows_same, follows_trans, follows_objects, follows_open, follows_requests, follows_input, follows_sensors, follows_output, follows_counted}
-use Rattle.p10_meaning.proofs.Agreeing.{Agrees, CallsAgree, agrees_from, agrees_within, agrees_gives, agrees_here, agrees_then, agrees_step, agrees_or, agrees_if}
+use Rattle.p10_meaning.specs.Objects.{allocated, release}
+use Rattle.p10_meaning.specs.States.{State, counted}
+use Rattle.p10_meaning.specs.Scalars.{is_true, pointer_of, unset_cells, zero_cells}
+use Rattle.p10_meaning.specs.Values.{Calls, Setting, Held, scalars, width, size, open_object, Target, Variable, Sensor, Element, read_target, sensed_from, asserted, next_byte, first_argument, is_denied, granted, requested, elements, pointee, library, give, is_void, is_structure, is_decided, evaluate, discard, perform, evaluate_all, locate, find_place}
+use Rattle.p10_meaning.specs.Laws.{with_more}
+use Rattle.p10_meaning.proofs.Following.{follows_same, follows_objects, follows_open, follows_requests, follows_input, follows_sensors, follows_output, follows_counted}
+use Rattle.p10_meaning.proofs.Agreeing.{Agrees, CallsAgree, agrees_from, agrees_gives, agrees_here, agrees_then, agrees_step, agrees_or, agrees_if}
 
 -- ## Parts
 

@@ -1,18 +1,16 @@
 -- A run that doesn't end for want of steps gives the same with greater budgets.
-use Rattle.std.proofs.Common.{◌≡◌, ◌≢◌, ℕ, zero, suc, ◌+◌, ◌≤◌, cond, Bool, true, false, List, [], refl, sym, ◌∙◌, ap, subst, arith, Option, Some, None, slice_get, take, pos}
-use Rattle.p10_core.specs.Typed.{PlainValue, PlainStatement, statements_list, statements_of_list, PlainFunction, PlainProgram}
+use Rattle.std.proofs.Common.{◌≡◌, ◌≢◌, ℕ, zero, suc, ◌+◌, ◌≤◌, true, [], refl, sym, ◌∙◌, ap, subst, arith, Option, Some, None, slice_get, take}
+use Rattle.p10_core.specs.Typed.{PlainValue, statements_list, statements_of_list, PlainFunction, PlainProgram}
 use Rattle.p10_meaning.specs.declared.pointers.Scalar.{Scalar}
-use Rattle.p10_meaning.specs.declared.world.World.{World}
-use Rattle.p10_meaning.specs.States.{State, End, AssertionFailed, Undefined, StepsSpent, Progress, gives, ends, step, and_then}
-use Rattle.p10_meaning.specs.Values.{Setting}
-use Rattle.p10_meaning.specs.Statements.{Frame, Flow, normal, broken, continued, returned, Done, flows, goes, go_on, test, execute, execute_from}
+use Rattle.p10_meaning.specs.States.{State, AssertionFailed, Undefined, StepsSpent, Progress, gives, ends, step, and_then}
+use Rattle.p10_meaning.specs.Statements.{Frame, Flow, normal, broken, continued, returned, Done, goes, go_on, execute_from}
 use Rattle.p10_meaning.specs.Calling.{Depth, no_depth, deeper, raised, Entered, entered, setting_of, call_at}
 use Rattle.p10_meaning.specs.Opening.{opening}
-use Rattle.p10_meaning.specs.Runs.{Outcome, Returned, Turns, Ended, Ran, ran, status, ran_call, Task, task_in, task_test, task_turn, after_turn, run_turns, before_task, after_part, run_task, run_main, run_of}
+use Rattle.p10_meaning.specs.Runs.{Ended, Ran, ran_call, Task, task_in, task_test, task_turn, after_turn, run_turns, before_task, after_part, run_task, run_main}
 use Rattle.p10_meaning.specs.Laws.{with_more, RunsNeedNoMore}
 use Rattle.p10_meaning.proofs.Following.{follows_trans, follows_raised}
 use Rattle.p10_meaning.proofs.Agreeing.{IsSame, Agrees, CallsAgree, agrees_from, agrees_here, agrees_then, agrees_step, agrees_if}
-use Rattle.p10_meaning.proofs.AgreeingValues.{more_than, evaluate_agrees}
+use Rattle.p10_meaning.proofs.AgreeingValues.{more_than}
 use Rattle.p10_meaning.proofs.AgreeingStatements.{go_agrees, test_agrees, execute_agrees, from_agrees}
 use Rattle.p10_meaning.proofs.AgreeingCalls.{IsEntry, entered_more, entered_is, calls_agree}
 

@@ -1,26 +1,22 @@
 -- What fits goes on to fit as objects are opened, closed and written.
-use Rattle.std.proofs.Common.{◌≡◌, ℕ, zero, suc, ◌+◌, ◌*◌, ◌<◌, ◌≤◌, cond, Bool, true, false, eqb, List, [], ◌∷◌, ◌++◌, length, map, set, refl, sym, ◌∙◌, ap, subst, arith, append_assoc, Option, Some, None, slice_get, length-append, append-nil, ℤ}
+use Rattle.std.proofs.Common.{◌≡◌, ℕ, zero, suc, ◌+◌, ◌≤◌, Bool, false, eqb, List, [], ◌∷◌, ◌++◌, length, set, refl, sym, ◌∙◌, ap, subst, arith, append_assoc, Option, Some, None, slice_get, length-append, append-nil, ℤ}
 use Rattle.std.specs.Prelude.{slice_set}
-use Rattle.std.specs.List.{All}
 use Rattle.std.proofs.lemmas.Bool.{cond_both, eqb-true}
 use Rattle.std.proofs.lemmas.Option.{same_Some, none-some}
 use Rattle.p10_int.specs.declared.types.IntType.{IntType}
 use Rattle.p10_int.specs.Types.{InRange}
 use Rattle.p10_core.specs.Types.{PlainType, void, integer, pointer, array, structure, bare, PlainStructure, qualified, unqualified}
-use Rattle.p10_core.specs.Sizes.{scalars_of, repeated}
-use Rattle.p10_core.specs.Typed.{PlainVariable, PlainObject, PlainLiteral, PlainProgram}
+use Rattle.p10_core.specs.Typed.{PlainVariable, PlainProgram}
 use Rattle.p10_meaning.specs.declared.pointers.Ptr.{Ptr}
 use Rattle.p10_meaning.specs.declared.pointers.Ptr.TheVariants.{Null, To}
 use Rattle.p10_meaning.specs.declared.pointers.Scalar.{Scalar}
 use Rattle.p10_meaning.specs.declared.pointers.Scalar.TheVariants.{Int, Pointer}
 use Rattle.p10_meaning.specs.declared.pointers.Cell.{Cell}
-use Rattle.p10_meaning.specs.Pointers.{last_number, unset, holding}
+use Rattle.p10_meaning.specs.Pointers.{last_number}
 use Rattle.p10_meaning.specs.Objects.{Object, Origin, find, put, closed, all_closed, opened_with}
-use Rattle.p10_meaning.specs.States.{IsSensorValue, State}
 use Rattle.p10_meaning.specs.Scalars.{unset_cells}
 use Rattle.p10_meaning.specs.Values.{Held, holds, stands, absent}
-use Rattle.p10_meaning.specs.Sound.{Kind, View, Leads, IsAt, FitsPointer, Fits, MaybeFits, AllFit, ObjectFits, AllObjects, SoundParts, Sound, VariableFits, FrameFits, Grows, kind_scalars, single_of}
-use Rattle.p10_meaning.proofs.Geometry.{IsLaidOut}
+use Rattle.p10_meaning.specs.Sound.{Kind, Leads, FitsPointer, Fits, MaybeFits, AllFit, ObjectFits, AllObjects, SoundParts, VariableFits, FrameFits, Grows, kind_scalars}
 
 -- ## Objects are only added
 

@@ -1,5 +1,5 @@
 -- States that come after one another.
-use Rattle.std.proofs.Common.{◌≡◌, ℕ, suc, ◌+◌, ◌≤◌, max, cond, Bool, true, false, List, [], ◌∷◌, ◌++◌, refl, sym, ◌∙◌, ap, arith, append_assoc, append-nil, ℤ}
+use Rattle.std.proofs.Common.{◌≡◌, ℕ, suc, ◌≤◌, Bool, true, false, List, [], ◌∷◌, ◌++◌, refl, sym, ◌∙◌, ap, arith, append_assoc, append-nil, ℤ}
 use Rattle.std.specs.Prelude.{if◌then◌else◌}
 use Rattle.p10_meaning.specs.Objects.{Object, Origin}
 use Rattle.p10_meaning.specs.declared.pointers.Cell.{Cell}

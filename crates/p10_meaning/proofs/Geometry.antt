@@ -7,8 +7,7 @@ use Rattle.p10_int.specs.declared.types.IntType.{IntType}
 use Rattle.p10_core.specs.Types.{PlainType, void, integer, pointer, array, structure, bare, PlainMember, members_of}
 use Rattle.p10_core.specs.Sizes.{layout_of, scalars_of, repeated}
 use Rattle.p10_core.specs.Typed.{PlainProgram}
-use Rattle.p10_meaning.specs.declared.pointers.Window.{Window}
-use Rattle.p10_meaning.specs.Pointers.{last_number, whole_window, window_in}
+use Rattle.p10_meaning.specs.Pointers.{last_number, window_in}
 use Rattle.p10_meaning.specs.Values.{scalars, width, scalars_before}
 use Rattle.p10_meaning.specs.Sound.{Kind, View, own, Step, into, to_member, view_of_row, view_of_entry, view_of_member, stepped, on_some, walk, kind_scalars}
 

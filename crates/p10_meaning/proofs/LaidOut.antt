@@ -1,7 +1,7 @@
 -- The structures of a whole program lie as their members do, marks and compatible structures aside; and no type has more scalars
 -- than bytes.
-use Rattle.std.proofs.Common.{◌≡◌, ℕ, zero, suc, ◌+◌, ◌-◌, ◌*◌, ◌/◌, ◌%◌, ◌<◌, ◌≤◌, max, Bool, true, false, List, [], ◌∷◌, ◌++◌, map, length, refl, sym, ◌∙◌, ap, subst, arith, Option, Some, None, is_some, slice_get, length-append, mod-lt}
-use Rattle.std.specs.Prelude.{flat_map, sum}
+use Rattle.std.proofs.Common.{◌≡◌, ℕ, zero, suc, ◌+◌, ◌-◌, ◌*◌, ◌/◌, ◌%◌, ◌<◌, ◌≤◌, Bool, true, false, List, [], ◌∷◌, ◌++◌, map, length, refl, sym, ◌∙◌, ap, subst, arith, Option, Some, None, is_some, slice_get, length-append, mod-lt}
+use Rattle.std.specs.Prelude.{flat_map}
 use Rattle.std.specs.List.{All}
 use Rattle.std.proofs.lemmas.List.Elements.{All-head, All-tail}
 use Rattle.std.proofs.lemmas.Option.{same_Some, none-some}
@@ -9,11 +9,11 @@ use Rattle.std.proofs.lemmas.Nat.{div-add-mod'}
 use Rattle.p10_int.specs.declared.types.IntType.{IntType}
 use Rattle.p10_int.specs.declared.types.IntType.TheVariants.{Bool as Truth, Char, SChar, UChar, Short, UShort, Int, UInt, Long, ULong, LLong, ULLong}
 use Rattle.p10_core.specs.Types.{PlainType, void, integer, pointer, array, structure, bare, PlainMember, PlainBody, PlainStructure, body_of, members_in, members_of, representative_of}
-use Rattle.p10_core.specs.Sizes.{Layout, integer_bytes, aligned, repeated, past_members, greatest_alignment, scalars_of_members, layout_of_members, with_mark, layout_by, structure_layout, layout_of, size_of, scalars_of}
+use Rattle.p10_core.specs.Sizes.{Layout, integer_bytes, aligned, repeated, past_members, greatest_alignment, scalars_of_members, layout_of_members, layout_by, structure_layout, layout_of, size_of, scalars_of}
 use Rattle.p10_core.specs.Rows.{is_complete, is_scalar}
 use Rattle.p10_core.specs.Typed.{PlainProgram}
 use Rattle.p10_core.specs.Laws.{LiesLike}
-use Rattle.p10_core.specs.WholePrograms.{IsWholeType, IsObjectType, IsWholeMember, IsWholeBody, AreWholeStructures, bare_member, IsWholeProgram, most_bytes}
+use Rattle.p10_core.specs.WholePrograms.{IsWholeType, IsObjectType, IsWholeMember, AreWholeStructures, bare_member, IsWholeProgram, most_bytes}
 use Rattle.p10_core.proofs.Bareness.{structures_lie_as_their_members, compatible_types_lie_alike}
 use Rattle.p10_meaning.specs.Values.{scalars}
 use Rattle.p10_meaning.proofs.Geometry.{IsLaidOut}

@@ -2,9 +2,9 @@
 use Rattle.std.proofs.Common.{◌≡◌, ℕ, zero, suc, ◌+◌, ◌*◌, ◌<◌, ◌≤◌, min, ltb, leb, eqb, ◌&&◌, cond, Bool, true, false, List, [], ◌∷◌, ◌++◌, length, refl, sym, ◌∙◌, ap, subst, arith, Option, Some, None, Result, Ok, Err, slice_get, ℤ, pos, negsuc}
 use Rattle.std.specs.Prelude.{◌+ℤ◌}
 use Rattle.std.proofs.lemmas.Option.{same_Some, none-some}
-use Rattle.std.proofs.lemmas.Bool.{ltb-true, leb-true, le-leb, cond_both}
+use Rattle.std.proofs.lemmas.Bool.{leb-true, le-leb}
 use Rattle.p10_int.specs.declared.operators.Stop.{Stop}
-use Rattle.p10_int.specs.declared.operators.Stop.TheVariants.{U5, U6, U7, U8, U11, U12}
+use Rattle.p10_int.specs.declared.operators.Stop.TheVariants.{U6, U7, U11}
 use Rattle.p10_core.specs.Types.{PlainType, void, integer, pointer, array, structure, bare, PlainMember, members_of}
 use Rattle.p10_core.specs.Sizes.{scalars_of}
 use Rattle.p10_core.specs.Rows.{is_scalar}
@@ -12,17 +12,15 @@ use Rattle.p10_core.specs.Typed.{PlainProgram}
 use Rattle.p10_meaning.specs.declared.pointers.Window.{Window}
 use Rattle.p10_meaning.specs.declared.pointers.Ptr.{Ptr}
 use Rattle.p10_meaning.specs.declared.pointers.Ptr.TheVariants.{Null, To}
-use Rattle.p10_meaning.specs.declared.pointers.Scalar.{Scalar}
-use Rattle.p10_meaning.specs.declared.pointers.Scalar.TheVariants.{Int, Pointer}
 use Rattle.p10_meaning.specs.declared.pointers.Cell.{Cell}
-use Rattle.p10_meaning.specs.Pointers.{last_number, window_in, scalar_of, read_of}
-use Rattle.p10_meaning.specs.Objects.{Origin, declared, allocated, literal, Object, on_ok, or_stop, find, alive, reach, scalar_at, cell_at, may_write, target_at, put, put_at, write_at, placed, shift, inner, closed, is_allocated, freed, release}
+use Rattle.p10_meaning.specs.Pointers.{last_number, window_in}
+use Rattle.p10_meaning.specs.Objects.{Object, on_ok, or_stop, find, alive, scalar_at, cell_at, may_write, target_at, write_at, placed, shift, inner, closed, is_allocated, freed, release}
 use Rattle.p10_meaning.specs.States.{State}
 use Rattle.p10_meaning.specs.Values.{scalars, width, scalars_before}
 use Rattle.p10_meaning.specs.Statements.{part_of, write_part}
-use Rattle.p10_meaning.specs.Sound.{Kind, View, own, Step, into, to_member, view_of_row, view_of_entry, view_of_member, stepped, walk, Leads, IsAt, FitsPointer, Fits, MaybeFits, AllFit, kind_scalars, ObjectFits, AllObjects, SoundParts, Sound}
-use Rattle.p10_meaning.proofs.Geometry.{IsPart, part_get, and_true, IsLaidOut, scalars_integer, scalars_pointer, IsLaid, element, walk_laid, walk_more, own_laid}
-use Rattle.p10_meaning.proofs.Fitting.{HasCell, all_get, IsFound, FoundIs, find_is, put_fits, closed_fits, fits_same, maybe_same}
+use Rattle.p10_meaning.specs.Sound.{Kind, View, own, Step, into, to_member, view_of_row, view_of_entry, view_of_member, stepped, Leads, IsAt, FitsPointer, MaybeFits, kind_scalars, AllObjects, Sound}
+use Rattle.p10_meaning.proofs.Geometry.{part_get, and_true, IsLaidOut, scalars_integer, scalars_pointer, IsLaid, element, walk_laid, walk_more, own_laid}
+use Rattle.p10_meaning.proofs.Fitting.{HasCell, all_get, IsFound, FoundIs, find_is, put_fits, closed_fits, maybe_same}
 
 -- ## What holds of a result, if it is no stop
 

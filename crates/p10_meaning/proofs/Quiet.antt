@@ -1,5 +1,5 @@
 -- Constant expressions open no objects.
-use Rattle.std.proofs.Common.{◌≡◌, ℕ, zero, suc, ◌&&◌, cond, Bool, true, false, List, [], ◌∷◌, ◌++◌, refl, sym, ◌∙◌, ap, subst, Option, Some, None, is_some, Result, Ok, Err, ℤ}
+use Rattle.std.proofs.Common.{◌≡◌, ℕ, zero, suc, ◌&&◌, cond, Bool, true, false, List, [], ◌∷◌, refl, Option, Some, None, is_some, Result, Ok, Err, ℤ}
 use Rattle.std.specs.Prelude.{neg_ℤ, if◌then◌else◌}
 use Rattle.p10_base.specs.declared.span.Span.{Span}
 use Rattle.p10_base.specs.declared.at.At.{At}
@@ -13,7 +13,6 @@ use Rattle.p10_core.specs.WholePrograms.{IsStaticWritten}
 use Rattle.p10_core.specs.Rows.{is_integer, is_pointer}
 use Rattle.p10_core.specs.Constants.{first_of_parts, converted_part, inconstant_part, is_constant, fold, gives_zero, is_null}
 use Rattle.p10_core.specs.Addresses.{Target as Aim, nowhere, in_array, moved, single_at, row_at, reached, constant_of, target_of, place_target, is_static_value}
-use Rattle.p10_meaning.specs.declared.pointers.Scalar.{Scalar}
 use Rattle.p10_meaning.specs.States.{State, Progress, gives, ends, step_at, step, and_then, or_undefined}
 use Rattle.p10_meaning.specs.Scalars.{is_true}
 use Rattle.p10_meaning.specs.Values.{Setting, Held, Target, Variable, Sensor, Element, sensed_from, sensed, read_target, give, is_void, is_structure, is_decided, evaluate, discard, perform, locate, find_place}

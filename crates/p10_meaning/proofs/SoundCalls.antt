@@ -1,27 +1,27 @@
 -- Calls keep sound states, by induction on the bound.
-use Rattle.std.proofs.Common.{◌≡◌, ℕ, zero, suc, ◌+◌, ◌*◌, ◌<◌, ◌≤◌, cond, Bool, true, false, List, [], ◌∷◌, ◌++◌, map, length, take, refl, sym, ◌∙◌, ap, subst, arith, Option, Some, None, slice_get}
+use Rattle.std.proofs.Common.{◌≡◌, ℕ, zero, suc, ◌+◌, ◌*◌, ◌≤◌, cond, Bool, true, false, List, [], ◌∷◌, ◌++◌, map, length, take, refl, sym, ◌∙◌, ap, subst, arith, Option, Some, None, slice_get}
 use Rattle.std.specs.Prelude.{sum}
 use Rattle.std.specs.List.{All}
 use Rattle.std.proofs.lemmas.Option.{same_Some, none-some}
 use Rattle.std.proofs.lemmas.List.Elements.{All-head, All-tail}
 use Rattle.std.proofs.lemmas.List.Sums.{sum-map, sum_by-cons}
 use Rattle.p10_core.specs.Types.{PlainType, bare}
-use Rattle.p10_core.specs.Sizes.{size_of, scalars_of, layout_of}
+use Rattle.p10_core.specs.Sizes.{size_of, layout_of}
 use Rattle.p10_core.specs.Rows.{is_scalar}
 use Rattle.p10_core.specs.Laws.{LiesLike}
-use Rattle.p10_core.specs.Typed.{PlainValue, PlainStatement, PlainVariable, PlainFunction, PlainProgram}
+use Rattle.p10_core.specs.Typed.{PlainVariable, PlainFunction, PlainProgram}
 use Rattle.p10_core.specs.WholePrograms.{frame_bytes, parameter_types, numbers_from, IsObjectType, IsWholeVariable, IsWholeFunction, IsWholeProgram}
 use Rattle.p10_meaning.specs.declared.pointers.Scalar.{Scalar}
 use Rattle.p10_meaning.specs.Pointers.{last_number, holding}
-use Rattle.p10_meaning.specs.Objects.{Object, declared, all_closed}
-use Rattle.p10_meaning.specs.States.{State, Progress, gives, ends}
-use Rattle.p10_meaning.specs.Values.{Calls, Held, holds, stands, absent, scalars, open_object}
-use Rattle.p10_meaning.specs.Statements.{Frame, Flow, normal, broken, continued, returned, Done, execute_from}
+use Rattle.p10_meaning.specs.Objects.{declared, all_closed}
+use Rattle.p10_meaning.specs.States.{State}
+use Rattle.p10_meaning.specs.Values.{Calls, holds, stands, scalars, open_object}
+use Rattle.p10_meaning.specs.Statements.{Flow, normal, broken, continued, returned, execute_from}
 use Rattle.p10_meaning.specs.Calling.{Depth, deeper, raised, Entered, with_variable, entered, given, leave_call, setting_of, enter_call, call_at}
-use Rattle.p10_meaning.specs.Sound.{Kind, single_of, Fits, MaybeFits, AllFit, kind_scalars, Sound, VariableFits, FrameFits, Grows, Kept, Keeps, ScalarsFit, KeepSound, FlowFits, DoneFits, CallsKeepSound, StatementsKeepSound, ValuesKeepSound}
+use Rattle.p10_meaning.specs.Sound.{Kind, single_of, Fits, MaybeFits, AllFit, kind_scalars, Sound, FrameFits, Grows, Keeps, ScalarsFit, KeepSound, FlowFits, DoneFits, CallsKeepSound, StatementsKeepSound, ValuesKeepSound}
 use Rattle.p10_meaning.proofs.Geometry.{IsLaidOut}
 use Rattle.p10_meaning.proofs.LaidOut.{laid_out, lies_bare, repeated_few, scalars_few}
-use Rattle.p10_meaning.proofs.Fitting.{grows_same, grows_trans, grown, get_last, get_grown, fits_grown, frame_grown, sound_with, sound_push, all_closed_fits, fits_same}
+use Rattle.p10_meaning.proofs.Fitting.{grows_same, grows_trans, grown, get_last, get_grown, fits_grown, sound_with, sound_push, all_closed_fits, fits_same}
 use Rattle.p10_meaning.proofs.Moves.{scalars_are}
 use Rattle.p10_meaning.proofs.Keeping.{keeps_from, kept, ended, keeps_step, keeps_then}
 use Rattle.p10_meaning.proofs.SoundParts.{all_at}

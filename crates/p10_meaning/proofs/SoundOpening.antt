@@ -1,31 +1,29 @@
 -- The opening state is sound.
-use Rattle.std.proofs.Common.{◌≡◌, ℕ, zero, suc, ◌+◌, ◌*◌, ◌^◌, ◌<◌, ◌≤◌, cond, Bool, true, false, List, [], ◌∷◌, ◌++◌, map, length, refl, sym, ◌∙◌, ap, subst, arith, Option, Some, None, slice_get, length-append, append-nil, ℤ, pos}
+use Rattle.std.proofs.Common.{◌≡◌, ℕ, zero, suc, ◌+◌, ◌*◌, ◌^◌, ◌<◌, ◌≤◌, true, false, List, [], ◌∷◌, ◌++◌, map, length, refl, sym, ◌∙◌, ap, subst, arith, Some, None, slice_get, length-append, append-nil, pos}
 use Rattle.std.specs.List.{All}
-use Rattle.std.proofs.lemmas.Option.{same_Some, none-some}
+use Rattle.std.proofs.lemmas.Option.{none-some}
 use Rattle.std.proofs.lemmas.Bool.{cond_both}
 use Rattle.std.proofs.lemmas.List.Elements.{All-nil, All-head, All-tail}
 use Rattle.p10_int.specs.declared.types.IntType.TheVariants.{Char}
 use Rattle.p10_int.specs.Conversion.{converted}
 use Rattle.p10_int.proofs.Conversions.{converted_in}
-use Rattle.p10_core.specs.Types.{PlainType, integer, array, bare, unqualified}
-use Rattle.p10_core.specs.Sizes.{layout_of, size_of, scalars_of, repeated}
+use Rattle.p10_core.specs.Types.{PlainType, integer, bare}
+use Rattle.p10_core.specs.Sizes.{layout_of, size_of, repeated}
 use Rattle.p10_core.specs.Rows.{is_scalar}
-use Rattle.p10_core.specs.Typed.{PlainValue, type_of, PlainInitializer, not_initialized, single, copied, listed, PlainVariable, PlainFunction, no_statements, PlainObject, PlainLiteral, PlainProgram}
-use Rattle.p10_core.specs.Addresses.{is_static_value}
-use Rattle.p10_core.specs.Whole.{SeenVariable}
-use Rattle.p10_core.specs.WholePrograms.{IsObjectType, IsWholeObject, IsWholeInitializer, IsSingle, ListsScalars, IsStaticInitializer, AreWholeItems, IsWholeProgram, surroundings_of}
+use Rattle.p10_core.specs.Typed.{type_of, PlainInitializer, not_initialized, single, copied, listed, PlainFunction, no_statements, PlainObject, PlainLiteral, PlainProgram}
+use Rattle.p10_core.specs.WholePrograms.{IsObjectType, IsWholeObject, IsWholeInitializer, IsStaticInitializer, AreWholeItems, IsWholeProgram, surroundings_of}
 use Rattle.p10_meaning.specs.declared.pointers.Scalar.{Scalar}
 use Rattle.p10_meaning.specs.declared.pointers.Scalar.TheVariants.{Int}
 use Rattle.p10_meaning.specs.declared.pointers.Cell.{Cell}
 use Rattle.p10_meaning.specs.declared.world.World.{World}
 use Rattle.p10_meaning.specs.Pointers.{last_number, holding}
 use Rattle.p10_meaning.specs.Objects.{Object}
-use Rattle.p10_meaning.specs.States.{IsWorld, IsSensorValue, State, StepsSpent, Progress, gives, ends}
-use Rattle.p10_meaning.specs.Scalars.{zero_of, zero_cells}
-use Rattle.p10_meaning.specs.Values.{Calls, Setting, Held, scalars, evaluate}
-use Rattle.p10_meaning.specs.Statements.{Frame, listed_scalars, listed_scalar}
-use Rattle.p10_meaning.specs.Opening.{static_objects, literal_objects, opening_with, constant_setting, constant_state, constant_scalar, constant_scalars, listed_cells, initial_cells, opening}
-use Rattle.p10_meaning.specs.Sound.{Kind, single_of, Fits, MaybeFits, AllFit, kind_scalars, ObjectFits, AllObjects, text_type, SoundParts, Sound, FrameFits, Grows, Kept, Keeps, KeepSound, AreSeen, opening_kinds, OpeningIsSound}
+use Rattle.p10_meaning.specs.States.{IsWorld, IsSensorValue, StepsSpent, Progress, gives, ends}
+use Rattle.p10_meaning.specs.Scalars.{zero_cells}
+use Rattle.p10_meaning.specs.Values.{Calls, scalars, evaluate}
+use Rattle.p10_meaning.specs.Statements.{listed_scalars}
+use Rattle.p10_meaning.specs.Opening.{static_objects, literal_objects, opening_with, constant_setting, constant_state, constant_scalar, constant_scalars, listed_cells, initial_cells}
+use Rattle.p10_meaning.specs.Sound.{Kind, single_of, Fits, AllFit, kind_scalars, AllObjects, text_type, Sound, Grows, Keeps, KeepSound, AreSeen, opening_kinds, OpeningIsSound}
 use Rattle.p10_meaning.proofs.Geometry.{IsLaidOut, scalars_array, scalars_integer}
 use Rattle.p10_meaning.proofs.LaidOut.{laid_out, lies_bare, array_bytes, repeated_few, scalars_few, AreScalar, scalars_scalar, HasMapped, map_get, map_back}
 use Rattle.p10_meaning.proofs.Fitting.{get_before, fits_same, bare_unqualified}

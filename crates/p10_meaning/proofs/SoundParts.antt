@@ -1,45 +1,39 @@
 -- The parts of values keep sound states: places, reads, library functions.
-use Rattle.std.proofs.Common.{◌≡◌, ℕ, zero, suc, ◌+◌, ◌*◌, ◌<◌, ◌≤◌, ltb, leb, eqb, ◌&&◌, cond, Bool, true, false, List, [], ◌∷◌, ◌++◌, length, refl, sym, ◌∙◌, ap, subst, arith, Option, Some, None, Result, Ok, Err, slice_get, length-append, ℤ, pos, negsuc}
-use Rattle.std.specs.Prelude.{if◌then◌else◌}
+use Rattle.std.proofs.Common.{◌≡◌, ℕ, zero, suc, ◌+◌, ◌*◌, ◌<◌, ◌≤◌, ltb, leb, eqb, ◌&&◌, Bool, true, false, List, [], ◌∷◌, ◌++◌, length, refl, sym, ◌∙◌, ap, subst, arith, Option, Some, None, slice_get, ℤ, pos, negsuc}
 use Rattle.std.specs.List.{All, Contains, slice_index_or}
 use Rattle.std.specs.Option.{option_map}
-use Rattle.std.proofs.lemmas.Bool.{cond_both, ltb-true, leb-true, eqb-true, eq-eqb}
+use Rattle.std.proofs.lemmas.Bool.{cond_both, leb-true, eqb-true, eq-eqb}
 use Rattle.std.proofs.lemmas.Option.{same_Some, none-some}
 use Rattle.std.proofs.lemmas.Int.{ints}
 use Rattle.std.proofs.lemmas.List.Elements.{All-head, All-tail}
 use Rattle.p10_base.specs.declared.span.Span.{Span}
-use Rattle.p10_int.specs.declared.types.IntType.{IntType}
-use Rattle.p10_int.specs.declared.types.IntType.TheVariants.{Int as int, Char, ULong}
-use Rattle.p10_int.specs.declared.operators.Stop.{Stop}
-use Rattle.p10_int.specs.declared.operators.Stop.TheVariants.{U8, U10}
+use Rattle.p10_int.specs.declared.types.IntType.TheVariants.{Int as int}
 use Rattle.p10_int.specs.Types.{InRange}
 use Rattle.p10_int.specs.Conversion.{residue}
 use Rattle.p10_int.proofs.Conversions.{zero_in, converted_in, residue_below}
-use Rattle.p10_core.specs.declared.typed.Library.{Library}
-use Rattle.p10_core.specs.declared.typed.Library.TheVariants.{Assert, CAssert, Getchar, Putchar, Malloc, Calloc, Free}
-use Rattle.p10_core.specs.Types.{PlainType, void, integer, pointer, array, structure, bare, PlainMember, members_of, representative_of, qualified}
-use Rattle.p10_core.specs.Sizes.{scalars_of, size_of, repeated}
+use Rattle.p10_core.specs.Types.{PlainType, void, integer, pointer, array, structure, bare}
+use Rattle.p10_core.specs.Sizes.{repeated}
 use Rattle.p10_core.specs.Rows.{is_scalar, is_integer, int_type}
-use Rattle.p10_core.specs.Typed.{PlainValue, type_of, PlainValues, no_values, more_values, PlainVariable, PlainObject, PlainLiteral, PlainProgram}
-use Rattle.p10_core.specs.Whole.{SeenVariable, SeenObject, Allocates, CountsElements}
-use Rattle.p10_core.specs.WholePrograms.{seen_variable, seen_object, AreRising, IsWholeObject, IsWholeProgram}
+use Rattle.p10_core.specs.Typed.{PlainVariable, PlainObject, PlainLiteral, PlainProgram}
+use Rattle.p10_core.specs.Whole.{SeenObject}
+use Rattle.p10_core.specs.WholePrograms.{seen_object, AreRising, IsWholeObject, IsWholeProgram}
 use Rattle.p10_meaning.specs.declared.pointers.Ptr.{Ptr}
-use Rattle.p10_meaning.specs.declared.pointers.Ptr.TheVariants.{Null, To}
+use Rattle.p10_meaning.specs.declared.pointers.Ptr.TheVariants.{Null}
 use Rattle.p10_meaning.specs.declared.pointers.Scalar.{Scalar}
 use Rattle.p10_meaning.specs.declared.pointers.Scalar.TheVariants.{Int, Pointer}
 use Rattle.p10_meaning.specs.declared.pointers.Cell.{Cell}
-use Rattle.p10_meaning.specs.Pointers.{last_number, unset, holding, scalar_of, read_of, whole_window, first_of}
-use Rattle.p10_meaning.specs.Objects.{Object, Origin, allocated, on_ok, or_stop, cell_at, release}
-use Rattle.p10_meaning.specs.States.{IsSensorValue, State, AssertionFailed, Progress, gives, ends, or_undefined, counted}
-use Rattle.p10_meaning.specs.Scalars.{number_of, pointer_of, is_true, truth_value, converted_to, unset_cells, zero_cells}
-use Rattle.p10_meaning.specs.Values.{Held, holds, stands, absent, scalars, width, size, open_object, Target, Variable, Sensor, Element, variable_target, global_target, literal_number, literal_target, pointer_to, held_cell, sensed_from, sensed, read_target, first_argument, asserted, next_byte, put_byte, is_denied, granted, requested, elements, pointee, library}
-use Rattle.p10_meaning.specs.Sound.{Kind, View, own, single_of, Leads, IsAt, FitsPointer, Fits, MaybeFits, AllFit, kind_scalars, ObjectFits, AllObjects, text_type, SoundParts, Sound, VariableFits, FrameFits, Grows, Kept, Keeps}
+use Rattle.p10_meaning.specs.Pointers.{last_number, scalar_of, read_of, first_of}
+use Rattle.p10_meaning.specs.Objects.{Object, Origin, allocated, on_ok, cell_at, release}
+use Rattle.p10_meaning.specs.States.{IsSensorValue, State, AssertionFailed, gives, ends, or_undefined}
+use Rattle.p10_meaning.specs.Scalars.{is_true, converted_to, unset_cells, zero_cells}
+use Rattle.p10_meaning.specs.Values.{Held, holds, stands, absent, scalars, width, size, open_object, Target, Variable, Sensor, Element, variable_target, global_target, literal_number, literal_target, held_cell, sensed_from, sensed, read_target, asserted, next_byte, put_byte, is_denied, granted, requested}
+use Rattle.p10_meaning.specs.Sound.{Kind, single_of, FitsPointer, Fits, MaybeFits, AllFit, kind_scalars, AllObjects, text_type, SoundParts, Sound, VariableFits, FrameFits, Keeps}
 use Rattle.p10_meaning.proofs.Geometry.{IsLaidOut}
 use Rattle.p10_meaning.proofs.LaidOut.{repeated_few, scalars_few, AreScalar, scalar_repeated, scalars_scalar}
-use Rattle.p10_meaning.proofs.Fitting.{grows_same, grown, get_last, pointer_grown, frame_get, sound_with, sound_push, all_unset, fits_same, maybe_same}
-use Rattle.p10_meaning.proofs.Moves.{OnOk, on_then, any_ok, on_cond, cell_fits, release_fits}
-use Rattle.p10_meaning.proofs.SoundScalars.{truth_fits, zero_fits, pointer_of_fits}
-use Rattle.p10_meaning.proofs.Keeping.{keeps_from, kept, ended, keeps_or, keeps_if}
+use Rattle.p10_meaning.proofs.Fitting.{grown, get_last, frame_get, sound_with, sound_push, all_unset, maybe_same}
+use Rattle.p10_meaning.proofs.Moves.{OnOk, on_then, cell_fits, release_fits}
+use Rattle.p10_meaning.proofs.SoundScalars.{zero_fits}
+use Rattle.p10_meaning.proofs.Keeping.{kept, ended, keeps_or, keeps_if}
 
 -- ## Places
 

@@ -1,5 +1,5 @@
 -- What operators and conversions give fits the type of their result, where the operands fit the types of their row.
-use Rattle.std.proofs.Common.{◌≡◌, ℕ, zero, suc, eqb, ◌&&◌, cond, arith, Bool, true, false, List, [], ◌∷◌, refl, sym, ◌∙◌, ap, subst, Option, Some, None, Result, Ok, Err, ℤ, pos, negsuc}
+use Rattle.std.proofs.Common.{◌≡◌, ℕ, eqb, ◌&&◌, arith, Bool, true, false, List, refl, sym, ◌∙◌, ap, subst, Some, Result, Ok, Err, ℤ, pos}
 use Rattle.std.specs.Prelude.{neg_ℤ, not, ◌+ℤ◌, ◌||◌, if◌then◌else◌}
 use Rattle.std.proofs.lemmas.Int.{ints}
 use Rattle.std.proofs.lemmas.Bool.{eqb-true}
@@ -8,29 +8,27 @@ use Rattle.std.proofs.lemmas.Option.{same_Some, none-some}
 use Rattle.p10_int.specs.declared.types.IntType.{IntType}
 use Rattle.p10_int.specs.declared.types.IntType.TheVariants.{Bool as Truth, Char, SChar, UChar, Short, UShort, Int as int, UInt, Long, ULong, LLong, ULLong}
 use Rattle.p10_int.specs.declared.operators.Stop.{Stop}
-use Rattle.p10_int.specs.declared.operators.Stop.TheVariants.{U1, U9}
+use Rattle.p10_int.specs.declared.operators.Stop.TheVariants.{U1}
 use Rattle.p10_int.specs.declared.operators.BinOp.{BinOp}
 use Rattle.p10_int.specs.declared.operators.BinOp.TheVariants.{Add, Sub, Mul, Div, Rem, Shl, Shr, And, Or, Xor, Lt, Gt, Le, Ge, Eq, Ne}
 use Rattle.p10_int.specs.declared.operators.UnOp.{UnOp}
 use Rattle.p10_int.specs.declared.operators.UnOp.TheVariants.{Plus, Neg, Not, Com}
 use Rattle.p10_int.specs.Types.{InRange, promoted, usual_of}
-use Rattle.p10_int.specs.Conversion.{converted}
 use Rattle.p10_int.specs.Operators.{fitted, truth_of, operate, operate_unary}
-use Rattle.p10_int.specs.Laws.{IsTruthValue, is_comparison}
+use Rattle.p10_int.specs.Laws.{is_comparison}
 use Rattle.p10_int.proofs.Conversions.{zero_in, one_in, converted_in}
 use Rattle.p10_int.proofs.InRange.{operate_in, unary_in}
 use Rattle.p10_int.proofs.TruthValues.{compared, negated}
 use Rattle.p10_core.specs.Types.{PlainType, void, integer, pointer, array, structure, bare, PlainStructure}
-use Rattle.p10_core.specs.Rows.{number_of as number_in, same_integer, same_form, same, mark_of, adds_const, is_scalar, is_complete, Row, row, row_where, usual_row, compared_row, moved_row, integers_row, sum_row, difference_row, shift_row, order_row, equality_row, binary_row, conditional_row, UnaryRow, promoted_row, negation_row, unary_row, int_type, fits}
+use Rattle.p10_core.specs.Rows.{number_of as number_in, same_integer, same_form, same, mark_of, adds_const, is_scalar, is_complete, Row, row, row_where, integers_row, sum_row, difference_row, shift_row, order_row, equality_row, binary_row, UnaryRow, promoted_row, negation_row, unary_row, int_type, fits}
 use Rattle.p10_core.specs.Typed.{PlainProgram}
 use Rattle.p10_meaning.specs.declared.pointers.Ptr.{Ptr}
-use Rattle.p10_meaning.specs.declared.pointers.Ptr.TheVariants.{Null, To}
 use Rattle.p10_meaning.specs.declared.pointers.Scalar.{Scalar}
 use Rattle.p10_meaning.specs.declared.pointers.Scalar.TheVariants.{Int, Pointer}
 use Rattle.p10_meaning.specs.Pointers.{same_pointer, is_null}
-use Rattle.p10_meaning.specs.Objects.{Object, on_ok, shift, less, distance}
+use Rattle.p10_meaning.specs.Objects.{Object, on_ok, less, distance}
 use Rattle.p10_meaning.specs.Scalars.{number_of, pointer_of, truth_value, integer_type, converted_to, zero_of, moved, related, operated, operated_unary}
-use Rattle.p10_meaning.specs.Sound.{Kind, FitsPointer, Fits, MaybeFits}
+use Rattle.p10_meaning.specs.Sound.{Kind, FitsPointer, Fits}
 use Rattle.p10_meaning.proofs.Moves.{OnOk, on_then, any_ok, shift_fits}
 use Rattle.p10_meaning.proofs.Fitting.{fits_same}
 

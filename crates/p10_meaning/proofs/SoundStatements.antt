@@ -1,40 +1,36 @@
 -- Execution keeps sound states, and frames that fit.
-use Rattle.std.proofs.Common.{◌≡◌, ℕ, zero, suc, ◌+◌, ◌*◌, ◌<◌, ◌≤◌, cond, Bool, true, false, eqb, List, [], ◌∷◌, ◌++◌, length, drop, refl, sym, ◌∙◌, ap, subst, arith, Option, Some, None, Result, Ok, Err, slice_get, ℤ, pos}
+use Rattle.std.proofs.Common.{◌≡◌, ℕ, zero, suc, ◌+◌, ◌<◌, ◌≤◌, Bool, true, false, eqb, List, [], ◌∷◌, ◌++◌, length, drop, refl, sym, ◌∙◌, ap, subst, arith, Option, Some, None, slice_get, pos}
 use Rattle.std.specs.Prelude.{slice_set, if◌then◌else◌}
-use Rattle.std.specs.Bool.{nat_eq}
 use Rattle.std.specs.Option.{option_map}
 use Rattle.std.proofs.lemmas.Bool.{cond_both, eqb-true}
 use Rattle.std.proofs.lemmas.Option.{same_Some, none-some}
 use Rattle.p10_base.specs.declared.span.Span.{Span}
 use Rattle.p10_base.specs.declared.at.At.{At}
-use Rattle.p10_int.specs.declared.types.IntType.{IntType}
-use Rattle.p10_int.specs.declared.operators.BinOp.{BinOp}
 use Rattle.p10_core.specs.declared.statements.LoopKeyword.{LoopKeyword}
 use Rattle.p10_core.specs.declared.statements.LoopKeyword.TheVariants.{While, Do, For}
 use Rattle.p10_core.specs.declared.statements.MarkKind.TheVariants.{InitDone, TaskLoop}
-use Rattle.p10_core.specs.Types.{PlainType, void, integer, pointer, array, structure, bare, unqualified, representative_of}
+use Rattle.p10_core.specs.Types.{PlainType, void, integer, pointer, array, structure, bare, unqualified}
 use Rattle.p10_core.specs.Rows.{is_scalar, int_type, fits}
 use Rattle.p10_core.specs.Typed.{PlainValue, type_of, PlainPlace, place_at, place_type, PlainWritten, one_scalar, scalars_of_text, PlainItem, PlainInitializer, not_initialized, single, copied, listed, PlainStatement, statement, PlainStatementForm, set, update, copy, evaluate as expression, asserts, declare, declare_static, block, if_then, if_else, loop, switch, break, continue, return, empty, mark, PlainStatements, no_statements, more_statements, PlainVariable, PlainFunction, PlainProgram}
 use Rattle.p10_core.specs.Whole.{SeenVariable, Surroundings, IsWholeValue, IsWholePlace}
-use Rattle.p10_core.specs.WholePrograms.{IsObjectType, Region, is_among, seen_variable, surroundings_of, around, after, after_all, IsScalarValue, IsWholeWritten, width_of_written, AreWholeItems, CopiesStructure, IsSingle, ListsScalars, IsWholeInitializer, Sets, Updates, Copies, IsTest, Declares, Switches, Returns, IsMaybeTest, IsWholeStatement, IsWholeStatementForm, AreWholeStatements, IsWholeProgram}
+use Rattle.p10_core.specs.WholePrograms.{IsObjectType, Region, is_among, seen_variable, surroundings_of, around, after, after_all, IsWholeWritten, width_of_written, AreWholeItems, IsWholeInitializer, IsMaybeTest, IsWholeStatement, IsWholeStatementForm, AreWholeStatements, IsWholeProgram}
 use Rattle.p10_meaning.specs.declared.pointers.Ptr.{Ptr}
 use Rattle.p10_meaning.specs.declared.pointers.Scalar.{Scalar}
-use Rattle.p10_meaning.specs.declared.pointers.Scalar.TheVariants.{Int}
 use Rattle.p10_meaning.specs.declared.pointers.Cell.{Cell}
 use Rattle.p10_meaning.specs.Pointers.{last_number, unset, holding, first_of}
-use Rattle.p10_meaning.specs.Objects.{Object, declared, all_closed}
-use Rattle.p10_meaning.specs.States.{State, StepsSpent, Progress, gives, ends, step, and_then, or_undefined}
-use Rattle.p10_meaning.specs.Scalars.{number_of, is_true, converted_to, zero_of, operated, unset_cells}
-use Rattle.p10_meaning.specs.Values.{Calls, Setting, Held, holds, stands, absent, scalars, width, open_object, Target, Variable, Sensor, Element, pointer_to, read_target, asserted, evaluate, discard, locate}
-use Rattle.p10_meaning.specs.Statements.{Frame, Flow, normal, broken, continued, returned, Done, flows, goes, go_on, holding_at, leave_block, in_block, write_target, part_of, write_part, copy_scalars, text_scalars, written_scalars, listed_scalars, listed_scalar, fill, initialize, declare_variable, test, next_turn, turns, loop_by, before_third, labelled, from_label, after_switch, execute, execute_form, execute_from, enter, enter_form, round, looped}
-use Rattle.p10_meaning.specs.Sound.{Kind, single_of, FitsPointer, Fits, MaybeFits, AllFit, kind_scalars, AllObjects, Sound, VariableFits, FrameFits, Grows, Kept, Keeps, KeepSound, AreSeen, FlowFits, DoneFits}
+use Rattle.p10_meaning.specs.Objects.{declared, all_closed}
+use Rattle.p10_meaning.specs.States.{State, Progress}
+use Rattle.p10_meaning.specs.Scalars.{number_of, is_true, converted_to, operated, unset_cells}
+use Rattle.p10_meaning.specs.Values.{Calls, Setting, holds, stands, scalars, width, open_object, Target, Variable, Sensor, Element, pointer_to, read_target, asserted, evaluate, discard, locate}
+use Rattle.p10_meaning.specs.Statements.{Frame, Flow, normal, broken, continued, returned, Done, goes, go_on, holding_at, in_block, write_target, part_of, write_part, copy_scalars, text_scalars, written_scalars, listed_scalars, listed_scalar, fill, initialize, declare_variable, test, next_turn, turns, loop_by, before_third, labelled, from_label, after_switch, execute, execute_form, execute_from, enter, enter_form, round, looped}
+use Rattle.p10_meaning.specs.Sound.{Kind, single_of, FitsPointer, Fits, MaybeFits, AllFit, kind_scalars, AllObjects, Sound, FrameFits, Grows, Keeps, KeepSound, AreSeen, FlowFits, DoneFits}
 use Rattle.p10_meaning.proofs.Geometry.{IsLaidOut}
 use Rattle.p10_meaning.proofs.LaidOut.{lies_bare, AreScalar, scalars_scalar}
-use Rattle.p10_meaning.proofs.Fitting.{grows_same, grows_trans, grown, get_last, fits_grown, maybe_grown, pointer_grown, frame_grown, frame_set, sound_with, sound_push, all_unset, all_closed_fits, fits_same, maybe_same, bare_unqualified}
+use Rattle.p10_meaning.proofs.Fitting.{grown, get_last, fits_grown, frame_grown, frame_set, sound_with, sound_push, all_unset, all_closed_fits, fits_same, maybe_same, bare_unqualified}
 use Rattle.p10_meaning.proofs.Moves.{OnOk, write_fits, part_fits, write_part_fits}
 use Rattle.p10_meaning.proofs.SoundScalars.{zero_fits, kept_fits, converted_any, IsRow, binary_row_is, left_fits, update_fits, result_fits}
 use Rattle.p10_meaning.proofs.Keeping.{keeps_from, kept, ended, keeps_step, keeps_then, keeps_or, keeps_if}
-use Rattle.p10_meaning.proofs.SoundParts.{HasType, TargetFits, single_fits, read_keeps, asserted_keeps, opened_keeps}
+use Rattle.p10_meaning.proofs.SoundParts.{TargetFits, single_fits, read_keeps, asserted_keeps}
 use Rattle.p10_meaning.proofs.SoundValues.{pointer_to_fits, target_grown, evaluate_keeps, discard_keeps, locate_keeps}
 
 -- ## Variables

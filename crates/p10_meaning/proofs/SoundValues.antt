@@ -1,41 +1,32 @@
 -- Evaluation keeps sound states, and gives values that fit their types.
-use Rattle.std.proofs.Common.{◌≡◌, ℕ, zero, suc, ◌+◌, ◌≤◌, cond, Bool, true, false, List, [], ◌∷◌, ◌++◌, length, refl, sym, ◌∙◌, ap, subst, arith, Option, Some, None, Result, Ok, Err, slice_get, ℤ, pos}
+use Rattle.std.proofs.Common.{◌≡◌, ℕ, Bool, true, false, List, [], ◌∷◌, length, refl, sym, ◌∙◌, ap, subst, Option, Some, None, slice_get}
 use Rattle.std.specs.Prelude.{if◌then◌else◌}
 use Rattle.std.specs.Bool.{nat_eq}
-use Rattle.std.specs.List.{Contains}
 use Rattle.std.specs.Option.{option_map}
-use Rattle.std.proofs.lemmas.Bool.{cond_both}
 use Rattle.std.proofs.lemmas.Option.{same_Some, none-some}
 use Rattle.p10_base.specs.declared.span.Span.{Span}
 use Rattle.p10_base.specs.declared.at.At.{At}
-use Rattle.p10_int.specs.declared.types.IntType.{IntType}
-use Rattle.p10_int.specs.Types.{InRange}
-use Rattle.p10_int.specs.declared.operators.Stop.{Stop}
-use Rattle.p10_int.specs.declared.operators.Stop.TheVariants.{U10}
 use Rattle.p10_core.specs.declared.typed.Library.{Library}
 use Rattle.p10_core.specs.declared.typed.Library.TheVariants.{Assert, CAssert, Getchar, Putchar, Malloc, Calloc, Free}
-use Rattle.p10_core.specs.Types.{PlainType, void, integer, pointer, array, structure, bare, PlainMember, members_of, representative_of, qualified, unqualified}
+use Rattle.p10_core.specs.Types.{PlainType, void, integer, pointer, array, structure, bare, PlainMember, representative_of, unqualified}
 use Rattle.p10_core.specs.Rows.{is_scalar, is_array, is_complete, int_type, Row, row_where, conditional_row, same}
-use Rattle.p10_core.specs.Typed.{PlainValue, value, type_of, PlainForm, constant, read, sense, address, decay, convert, cast, unary, binary, logic, conditional, call, built_in, PlainPlace, place, place_at, place_type, PlainPlaceForm, variable, global, literal, index, member, dereference, PlainValues, no_values, more_values, PlainVariable, PlainFunction, PlainObject, PlainProgram}
-use Rattle.p10_core.specs.Whole.{SeenVariable, SeenObject, SeenFunction, Surroundings, IsConstant, IsVariable, IsObject, IsSensor, IsMember, IsElement, IsLiteral, Reads, IsAddress, Decays, Converts, integers, pointers, nulls, Casts, to_void, integers as cast_integers, nulls as cast_nulls, allocations, UnaryAgrees, BinaryAgrees, ConditionalAgrees, ArgumentsFit, Calls as CallsFunction, Allocates, CallsLibrary, IsWholeValue, IsWholeForm, IsWholePlace, IsWholePlaceForm, AreWholeValues}
-use Rattle.p10_core.specs.WholePrograms.{seen_variable, seen_object, seen_function, parameter_types, surroundings_of, bare_member, IsWholeProgram}
-use Rattle.p10_meaning.specs.declared.pointers.Ptr.{Ptr}
-use Rattle.p10_meaning.specs.declared.pointers.Ptr.TheVariants.{Null, To}
+use Rattle.p10_core.specs.Typed.{PlainValue, value, type_of, PlainForm, constant, read, sense, address, decay, convert, cast, unary, binary, logic, conditional, call, built_in, PlainPlace, place, place_at, place_type, PlainPlaceForm, variable, global, literal, index, member, dereference, PlainValues, no_values, more_values, PlainVariable, PlainFunction, PlainProgram}
+use Rattle.p10_core.specs.Whole.{SeenVariable, SeenFunction, Surroundings, Reads, Decays, Converts, integers, pointers, nulls, Casts, to_void, integers as cast_integers, nulls as cast_nulls, allocations, ArgumentsFit, CallsLibrary, IsWholeValue, IsWholeForm, IsWholePlace, IsWholePlaceForm, AreWholeValues}
+use Rattle.p10_core.specs.WholePrograms.{seen_function, parameter_types, surroundings_of, bare_member, IsWholeProgram}
 use Rattle.p10_meaning.specs.declared.pointers.Scalar.{Scalar}
 use Rattle.p10_meaning.specs.declared.pointers.Scalar.TheVariants.{Int, Pointer}
-use Rattle.p10_meaning.specs.declared.pointers.Cell.{Cell}
-use Rattle.p10_meaning.specs.Objects.{Object, or_stop, reach, shift, inner, release}
-use Rattle.p10_meaning.specs.States.{State, Progress, gives, ends, step, and_then, or_undefined, counted}
+use Rattle.p10_meaning.specs.Objects.{reach, shift, inner}
+use Rattle.p10_meaning.specs.States.{State, Progress, gives, ends, and_then, counted}
 use Rattle.p10_meaning.specs.Scalars.{number_of, pointer_of, is_true, truth_value, converted_to, operated, operated_unary, unset_cells, zero_cells}
-use Rattle.p10_meaning.specs.Values.{Calls, Setting, Held, width, Target, Variable, Sensor, Element, global_target, literal_number, literal_target, variable_target, pointer_to, read_target, sensed, first_argument, elements, pointee, requested, library, used, give, is_void, is_structure, element_type, element_count, scalars_before, is_decided, evaluate, discard, perform, evaluate_all, locate, find_place}
-use Rattle.p10_meaning.specs.Sound.{Kind, FitsPointer, Fits, MaybeFits, Sound, FrameFits, Grows, Kept, Keeps, ScalarsFit, KeepSound, AreSeen, text_type, AllObjects}
+use Rattle.p10_meaning.specs.Values.{Calls, Setting, Held, width, Target, Variable, Sensor, Element, literal_number, literal_target, pointer_to, read_target, sensed, first_argument, elements, library, used, give, is_void, is_structure, element_type, element_count, is_decided, evaluate, discard, perform, evaluate_all, locate, find_place}
+use Rattle.p10_meaning.specs.Sound.{Kind, FitsPointer, Fits, MaybeFits, Sound, FrameFits, Grows, Keeps, ScalarsFit, KeepSound, AreSeen}
 use Rattle.p10_meaning.proofs.Geometry.{IsLaidOut}
 use Rattle.p10_meaning.proofs.LaidOut.{HasMapped, member_like}
-use Rattle.p10_meaning.proofs.Fitting.{grows_same, fits_grown, maybe_grown, pointer_grown, frame_grown, pointer_same, fits_same, maybe_same, bare_unqualified, bare_qualified}
+use Rattle.p10_meaning.proofs.Fitting.{fits_grown, pointer_grown, frame_grown, pointer_same, fits_same, maybe_same, bare_unqualified, bare_qualified}
 use Rattle.p10_meaning.proofs.Moves.{OnOk, any_ok, shift_fits, inner_row_fits, inner_member_fits}
 use Rattle.p10_meaning.proofs.SoundScalars.{truth_fits, binary_fits, unary_fits, same_bare, adds_const_bare, converted_fits, null_fits, same_pointer_fits, pointer_of_fits}
-use Rattle.p10_meaning.proofs.Keeping.{keeps_from, kept, ended, keeps_step, keeps_then, keeps_or, keeps_if}
-use Rattle.p10_meaning.proofs.SoundParts.{HasType, TargetFits, integer_alike, variable_fits, global_fits, literal_fits, sensed_keeps, read_keeps, byte_keeps, put_keeps, asserted_keeps, unset_fill, zero_fill, requested_keeps, free_keeps}
+use Rattle.p10_meaning.proofs.Keeping.{kept, keeps_step, keeps_then, keeps_or, keeps_if}
+use Rattle.p10_meaning.proofs.SoundParts.{TargetFits, integer_alike, variable_fits, global_fits, literal_fits, sensed_keeps, read_keeps, byte_keeps, put_keeps, unset_fill, zero_fill, requested_keeps, free_keeps}
 
 -- ## Types
 

@@ -1,12 +1,11 @@
 -- Where no step is left, values and tests end at once.
-use Rattle.std.proofs.Common.{◌≡◌, ℕ, zero, suc, cond, Bool, true, false, List, refl, sym, ◌∙◌, ap, Option, Some, None}
+use Rattle.std.proofs.Common.{◌≡◌, ℕ, zero, suc, Bool, List, refl, ap, Option, Some, None}
 use Rattle.p10_core.specs.Types.{PlainType}
 use Rattle.p10_base.specs.declared.at.At.{At}
 use Rattle.p10_core.specs.Typed.{PlainValue, value, PlainForm, constant, read, sense, address, decay, convert, cast, unary, binary, logic, conditional, call, built_in}
-use Rattle.p10_meaning.specs.States.{State, StepsSpent, Progress, gives, ends, step_at, step, and_then, or_undefined}
-use Rattle.p10_meaning.specs.Scalars.{is_true, converted_to}
-use Rattle.p10_meaning.specs.Values.{Setting, Held, give, used, evaluate, perform}
-use Rattle.p10_meaning.specs.Statements.{Frame, Done, test, next_turn, turns, goes}
+use Rattle.p10_meaning.specs.States.{State, StepsSpent, Progress, ends, step_at, step, and_then}
+use Rattle.p10_meaning.specs.Values.{Setting, Held, evaluate, perform}
+use Rattle.p10_meaning.specs.Statements.{Frame, Done, test, turns}
 
 pub step_none : {A : Type 0} (w : State) (go : State → Progress A) → w.left ≡ 0 → step w go ≡ ends StepsSpent w
 step_none w go e = ap (λ l. step_at l w go) e

@@ -13,6 +13,7 @@ pub record Depth : Type 0 where
   pub calls : ℕ
   pub bytes : ℕ
 
+-- no call is open
 abbrev pub no_depth : Depth
 no_depth = record { calls = 0; bytes = 0 }
 
@@ -20,6 +21,7 @@ no_depth = record { calls = 0; bytes = 0 }
 abbrev pub frame_bytes : PlainFunction → ℕ
 frame_bytes f = sum (map (λ (v : PlainVariable). v.bytes) f.variables)
 
+-- the depth with one more call of a function
 abbrev pub deeper : PlainFunction → Depth → Depth
 deeper f depth = record { calls = suc depth.calls; bytes = depth.bytes + frame_bytes f }
 
@@ -32,6 +34,7 @@ pub record Entered : Type 0 where
   pub frame : Frame
   pub state : State
 
+-- the frame with one more variable before the others
 abbrev pub with_variable : Held → List ℕ → Entered → Entered
 with_variable held opened rest = record rest { frame = record { held = held ∷ rest.frame.held; opened = opened } }
 

@@ -1,19 +1,18 @@
 -- What each row of the table of steps costs, at a small program by hand.
-use Rattle.std.specs.Prelude.{◌≡◌, ℕ, false, List, [], ◌∷◌, ◌++◌, ℤ, pos, negsuc, Option, Some, None}
-use Rattle.p10_int.specs.declared.types.IntType.TheVariants.{Int, UChar, Char, UInt, Long, ULong}
-use Rattle.p10_int.specs.declared.operators.BinOp.TheVariants.{Add, Sub, Mul, Lt, Gt, Eq, Ne}
-use Rattle.p10_int.specs.declared.operators.UnOp.TheVariants.{Neg, Not, Com}
-use Rattle.p10_core.specs.declared.typed.Library.TheVariants.{CAssert, Getchar, Putchar, Malloc, Calloc, Free}
+use Rattle.std.specs.Prelude.{ℕ, false, [], ◌∷◌, ℤ, pos, negsuc, Some, None}
+use Rattle.p10_int.specs.declared.types.IntType.TheVariants.{UChar, Char, ULong}
+use Rattle.p10_int.specs.declared.operators.BinOp.TheVariants.{Add, Sub, Lt, Gt, Eq}
+use Rattle.p10_int.specs.declared.operators.UnOp.TheVariants.{Neg}
+use Rattle.p10_core.specs.declared.typed.Library.TheVariants.{Malloc, Free}
 use Rattle.p10_core.specs.declared.typed.LogicOp.{LogicOp}
 use Rattle.p10_core.specs.declared.typed.LogicOp.TheVariants.{And, Or}
 use Rattle.p10_core.specs.declared.statements.LoopKeyword.TheVariants.{While, Do, For}
 use Rattle.p10_core.specs.declared.statements.UpdateKind.TheVariants.{Compound, Step}
-use Rattle.p10_core.specs.declared.statements.MarkKind.TheVariants.{InitDone, TaskLoop}
-use Rattle.p10_core.specs.Types.{PlainType, void, integer, pointer, array, structure}
-use Rattle.p10_core.specs.Typed.{PlainValue, value, constant, read, sense, address, decay, convert, cast, unary, binary, logic, conditional, call, built_in, PlainPlace, place, variable, global, literal, index, member, dereference, values_of_list, one_scalar, scalars_of_text, not_initialized, single, copied, listed, PlainStatement, set, update, copy, evaluate, asserts, declare, declare_static, block, if_then, if_else, loop, switch, break, continue, return, empty, mark, statements_of_list, PlainFunction, PlainProgram}
-use Rattle.p10_meaning.specs.Runs.{Returned, Turns, run_of}
-use Rattle.p10_meaning.specs.Examples.{span, tree, int, number, name, get, does, block_of, returns, frame_variable, object_variable, int_variable, function_of, main_of, program_of, value_of, plus, pointer_to, null, assign, begin, loop_of, no_world, ReturnsAfter, ReturnsValue}
+use Rattle.p10_core.specs.Types.{PlainType, void, integer, array, structure}
+use Rattle.p10_core.specs.Typed.{PlainValue, constant, read, address, decay, convert, cast, unary, binary, logic, conditional, call, built_in, PlainPlace, place, variable, index, member, dereference, values_of_list, one_scalar, scalars_of_text, not_initialized, copied, listed, PlainStatement, set, update, copy, evaluate, asserts, declare, if_then, if_else, loop, switch, break, continue, empty, statements_of_list, PlainFunction, PlainProgram}
+use Rattle.p10_meaning.specs.Examples.{span, tree, int, number, name, get, does, block_of, returns, frame_variable, object_variable, int_variable, function_of, main_of, program_of, value_of, plus, pointer_to, null, assign, begin, loop_of, ReturnsAfter}
 
+-- `unsigned char`
 abbrev pub uchar : PlainType
 uchar = integer false UChar
 
@@ -21,9 +20,11 @@ uchar = integer false UChar
 abbrev pub row : PlainType
 row = array false int 3
 
+-- variable n as such an array
 abbrev pub row_place : ℕ → PlainPlace
 row_place n = place (tree 0) row (variable n)
 
+-- `a[i]` of variable n
 abbrev pub element : ℕ → PlainValue → PlainPlace
 element n i = place (tree 0) int (index (value_of (pointer_to int) (decay (row_place n))) i)
 
@@ -31,12 +32,15 @@ element n i = place (tree 0) int (index (value_of (pointer_to int) (decay (row_p
 abbrev pub pair : PlainType
 pair = structure false 0
 
+-- the program with that structure
 abbrev pub with_pair : PlainProgram → PlainProgram
 with_pair p = record p { structures = record { tag = None; representative = 0; body = Some (record { members = record { name = []; type = int } ∷ record { name = []; type = int } ∷ []; order = 0; bytes = 8; alignment = 4; scalars = 2; constant = false }) } ∷ [] }
 
+-- variable n as such a structure
 abbrev pub pair_place : ℕ → PlainPlace
 pair_place n = place (tree 0) pair (variable n)
 
+-- a member of it, as a value
 abbrev pub part : ℕ → ℕ → PlainValue
 part n m = value_of int (read (place (tree 0) int (member (pair_place n) m)))
 
@@ -63,6 +67,7 @@ conversions_cost_nothing = ReturnsAfter
 abbrev pub logic_of : LogicOp → ℤ → ℤ → PlainProgram
 logic_of op a b = main_of [] (returns (value_of int (logic op (number a) (number b))) ∷ [])
 
+-- what `&&` and `||` cost, decided or not
 pub record LogicCosts : Type 0 where
   pub and_decided : ReturnsAfter (logic_of And (pos 0) (pos 1)) 3 (pos 0)
   pub and_open : ReturnsAfter (logic_of And (pos 2) (pos 3)) 4 (pos 1)
@@ -106,6 +111,7 @@ texts_cost = ReturnsAfter (main_of (object_variable (array false (integer false 
 abbrev pub successor : PlainFunction
 successor = function_of 1 int (int_variable ∷ []) (returns (plus (get 0 int 0) (number (pos 1))) ∷ [])
 
+-- what a call costs
 abbrev pub calls_cost : Type 0
 calls_cost = ReturnsAfter (program_of (successor ∷ []) [] (returns (value_of int (call (span 0) 0 (values_of_list (plus (number (pos 2)) (number (pos 3)) ∷ [])))) ∷ [])) 10 (pos 6)
 
@@ -153,6 +159,7 @@ summing = main_of (int_variable ∷ frame_variable uchar 1 ∷ [])
 abbrev pub counting : PlainValue
 counting = value_of int (binary Gt (get 0 int 0) (number (pos 0)))
 
+-- `x--;`
 abbrev pub down : PlainStatement
 down = does (update Step Sub int (name 0 int 0) (number (pos 1)))
 
@@ -164,9 +171,11 @@ endless = loop_of For None (block_of (down ∷ does (if_then (value_of int (bina
 abbrev pub continuing : PlainStatement
 continuing = loop_of While (Some counting) (block_of (down ∷ does continue ∷ assign int 0 (number (pos 9)) ∷ []))
 
+-- `int x = 2; S return x;`
 abbrev pub from_two : PlainStatement → PlainProgram
 from_two s = main_of (int_variable ∷ []) (begin 0 (number (pos 2)) ∷ s ∷ returns (get 0 int 0) ∷ [])
 
+-- what loops cost
 pub record LoopsCost : Type 0 where
   pub for_loop : ReturnsAfter summing 120 (pos 20)
   pub while_loop : ReturnsAfter (from_two (loop_of While (Some counting) (block_of (down ∷ [])))) 22 (pos 0)
@@ -183,6 +192,7 @@ choosing z = main_of (int_variable ∷ [])
     (block_of (assign int 0 (number (pos 5)) ∷ does (update Step Add int (name 0 int 0) (number (pos 1))) ∷ does break ∷ assign int 0 (number (pos 7)) ∷ []))) ∷
     returns (get 0 int 0) ∷ [])
 
+-- what `switch` costs
 pub record SwitchesCost : Type 0 where
   pub first : ReturnsAfter (choosing (pos 1)) 13 (pos 6)
   pub second : ReturnsAfter (choosing (pos 2)) 11 (pos 3)

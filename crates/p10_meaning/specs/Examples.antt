@@ -1,32 +1,28 @@
 -- Builders for the trees of small programs, and what is said of their runs. A tree whose place counts has a span by a number.
-use Rattle.std.specs.Prelude.{◌≡◌, ℕ, ◌+◌, Bool, true, false, List, [], ◌∷◌, ◌++◌, length, ℤ, pos, negsuc, Option, Some, None}
+use Rattle.std.specs.Prelude.{◌≡◌, ℕ, ◌+◌, true, false, List, [], ◌∷◌, ◌++◌, length, ℤ, pos, Option, Some, None}
 use Rattle.p10_base.specs.declared.span.Span.{Span}
 use Rattle.p10_base.specs.declared.at.At.{At}
-use Rattle.p10_int.specs.declared.types.IntType.TheVariants.{Int, UChar, Long, ULong, Char}
+use Rattle.p10_int.specs.declared.types.IntType.TheVariants.{Int}
 use Rattle.p10_int.specs.declared.operators.Stop.{Stop}
-use Rattle.p10_int.specs.declared.operators.Stop.TheVariants.{U1, U2, U3, U4, U5, U6, U7, U8, U9, U10, U11, U12}
-use Rattle.p10_int.specs.declared.operators.BinOp.{BinOp}
-use Rattle.p10_int.specs.declared.operators.BinOp.TheVariants.{Add, Sub, Mul, Div, Rem, Shl, Lt, Gt, Eq, Ne}
-use Rattle.p10_core.specs.declared.typed.Library.{Library}
-use Rattle.p10_core.specs.declared.typed.Library.TheVariants.{Assert, CAssert, Getchar, Putchar, Malloc, Calloc, Free}
+use Rattle.p10_int.specs.declared.operators.BinOp.TheVariants.{Add}
 use Rattle.p10_core.specs.declared.statements.LoopKeyword.{LoopKeyword}
-use Rattle.p10_core.specs.declared.statements.LoopKeyword.TheVariants.{While, Do, For}
-use Rattle.p10_core.specs.declared.statements.UpdateKind.TheVariants.{Compound, Step}
-use Rattle.p10_core.specs.declared.statements.MarkKind.TheVariants.{InitDone, TaskLoop}
-use Rattle.p10_core.specs.Types.{PlainType, void, integer, pointer, array, structure}
-use Rattle.p10_core.specs.Typed.{PlainValue, value, PlainForm, constant, read, sense, address, decay, convert, cast, unary, binary, logic, conditional, call, built_in, PlainPlace, place, PlainPlaceForm, variable, global, literal, index, member, dereference, PlainValues, values_of_list, PlainInitializer, not_initialized, single, copied, listed, PlainStatement, statement, PlainStatementForm, set, update, copy, evaluate, asserts, declare, declare_static, block, if_then, if_else, loop, switch, break, continue, return, empty, mark, statements_of_list, PlainVariable, PlainFunction, PlainObject, PlainProgram}
+use Rattle.p10_core.specs.Types.{PlainType, integer, pointer}
+use Rattle.p10_core.specs.Typed.{PlainValue, value, PlainForm, constant, read, convert, binary, PlainPlace, place, variable, single, PlainStatement, statement, PlainStatementForm, set, declare, block, loop, return, statements_of_list, PlainVariable, PlainFunction, PlainProgram}
 use Rattle.p10_meaning.specs.declared.world.World.{World}
-use Rattle.p10_meaning.specs.States.{AssertionFailed, Undefined, StepsSpent}
-use Rattle.p10_meaning.specs.Runs.{Outcome, Returned, Turns, Ended, Ran, run_of}
+use Rattle.p10_meaning.specs.States.{Undefined, StepsSpent}
+use Rattle.p10_meaning.specs.Runs.{Returned, Ended, run_of}
 
 -- ## Builders
 
+-- a span by a number
 abbrev pub span : ℕ → Span
 span n = record { file = 0; start = n; end = n }
 
+-- a place of a tree, by a number
 abbrev pub tree : ℕ → At
 tree n = record { first = n; past = n; span = span n }
 
+-- the type `int`
 abbrev pub int : PlainType
 int = integer false Int
 
@@ -42,12 +38,15 @@ name a t n = place (tree a) t (variable n)
 abbrev pub get : ℕ → PlainType → ℕ → PlainValue
 get a t n = value (tree a) t (read (name a t n))
 
+-- a statement of a form
 abbrev pub does : PlainStatementForm → PlainStatement
 does form = statement (tree 0) form
 
+-- a block
 abbrev pub block_of : List PlainStatement → PlainStatement
 block_of ss = does (block (statements_of_list ss))
 
+-- `return v;`
 abbrev pub returns : PlainValue → PlainStatement
 returns v = does (return (span 0) (Some v))
 
@@ -55,9 +54,11 @@ returns v = does (return (span 0) (Some v))
 abbrev pub frame_variable : PlainType → ℕ → PlainVariable
 frame_variable t bytes = record { name = []; type = t; bytes = bytes; frame = true; span = span 0 }
 
+-- an automatic object of a type
 abbrev pub object_variable : PlainType → ℕ → PlainVariable
 object_variable t bytes = record { name = []; type = t; bytes = bytes; frame = false; span = span 0 }
 
+-- a function with so many parameters
 abbrev pub function_of : ℕ → PlainType → List PlainVariable → List PlainStatement → PlainFunction
 function_of parameters result variables body = record {
   name = [];
@@ -69,6 +70,7 @@ function_of parameters result variables body = record {
   body = statements_of_list body;
 }
 
+-- a program of `main` alone
 abbrev pub main_of : List PlainVariable → List PlainStatement → PlainProgram
 main_of variables body = record {
   structures = [];
@@ -80,9 +82,11 @@ main_of variables body = record {
   task = None;
 }
 
+-- a world without input, denied requests and sensor values
 abbrev pub no_world : World
 no_world = record { input = []; denied = []; sensors = [] }
 
+-- a value of a type, at tree 0
 abbrev pub value_of : PlainType → PlainForm → PlainValue
 value_of t form = value (tree 0) t form
 
@@ -90,9 +94,11 @@ value_of t form = value (tree 0) t form
 abbrev pub value_at : ℕ → PlainType → PlainForm → PlainValue
 value_at a t form = value (tree a) t form
 
+-- `a + b`
 abbrev pub plus : PlainValue → PlainValue → PlainValue
 plus a b = value_of int (binary Add a b)
 
+-- the type of pointers to a type
 abbrev pub pointer_to : PlainType → PlainType
 pointer_to t = pointer false t
 
@@ -113,6 +119,7 @@ abbrev pub loop_of : LoopKeyword → Option PlainValue → PlainStatement → Pl
 loop_of keyword test body =
     does (loop (record { number = 0; keyword = keyword; span = span 0 }) (statements_of_list []) test (statements_of_list []) body)
 
+-- an `int` as a frame variable
 abbrev pub int_variable : PlainVariable
 int_variable = frame_variable int 4
 
@@ -122,9 +129,6 @@ program_of functions variables body = record (main_of variables body) {
   functions = functions ++ function_of 0 int variables body ∷ [];
   main = length functions;
 }
-
-abbrev pub sequence : List PlainStatement → PlainStatement
-sequence ss = block_of ss
 
 -- ## What is said of runs
 

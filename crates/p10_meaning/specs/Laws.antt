@@ -1,9 +1,9 @@
 -- What holds of the meaning of every program, whole or not.
-use Rattle.std.specs.Prelude.{◌≡◌, ◌≢◌, ℕ, suc, ◌+◌, ◌≤◌, true, false, List, ◌++◌, ℤ, Option, slice_get}
+use Rattle.std.specs.Prelude.{◌≡◌, ◌≢◌, ℕ, ◌+◌, ◌≤◌, true, false, List, ◌++◌, ℤ, Option, slice_get}
 use Rattle.p10_core.specs.Typed.{PlainValue, PlainStatement, PlainStatements, PlainFunction, PlainProgram}
 use Rattle.p10_meaning.specs.declared.pointers.Scalar.{Scalar}
 use Rattle.p10_meaning.specs.declared.world.World.{World}
-use Rattle.p10_meaning.specs.States.{State, End, AssertionFailed, Undefined, StepsSpent, Progress, gives, ends, step}
+use Rattle.p10_meaning.specs.States.{State, AssertionFailed, Undefined, StepsSpent, Progress, gives, ends, step}
 use Rattle.p10_meaning.specs.Values.{Held, evaluate}
 use Rattle.p10_meaning.specs.Statements.{Frame, test, turns, execute, round}
 use Rattle.p10_meaning.specs.Calling.{Depth, setting_of, enter_call, call_at}
@@ -40,6 +40,7 @@ EndsAfter from (ends end to) = Follows from to
 
 -- ## More steps
 
+-- the state with k more steps left
 abbrev pub with_more : ℕ → State → State
 with_more k w = record w { left = w.left + k }
 
@@ -52,6 +53,7 @@ SameWithMore k (ends StepsSpent w) other = Unit {0}
 
 -- ## The laws, for calls, statements and values
 
+-- what holds of a call
 pub record CallsRun (p : PlainProgram) (depth : Depth) (f : ℕ) (xs : List Scalar) (w : State) : Type 0 where
   pub follows : (n : ℕ) → w.left ≤ n → EndsAfter w (call_at n p depth f xs w)
   pub bound : (n m : ℕ) → w.left ≤ n → w.left ≤ m → call_at n p depth f xs w ≡ call_at m p depth f xs w
@@ -63,6 +65,7 @@ pub record CallsRun (p : PlainProgram) (depth : Depth) (f : ℕ) (xs : List Scal
 abbrev pub CallsHaveNoBound : Type 0
 CallsHaveNoBound = (p : PlainProgram) (depth : Depth) (f : ℕ) (xs : List Scalar) (w : State) → CallsRun p depth f xs w
 
+-- what holds of a statement of a function
 pub record StatementsRun (p : PlainProgram) (depth : Depth) (f : PlainFunction) (x : PlainStatement) (frame : Frame) (w : State) : Type 0 where
   pub follows : (n : ℕ) → w.left ≤ n → EndsAfter w (execute (setting_of p n (call_at n p) depth f) x frame w)
   pub bound : (n m : ℕ) → w.left ≤ n → w.left ≤ m → execute (setting_of p n (call_at n p) depth f) x frame w ≡ execute (setting_of p m (call_at m p) depth f) x frame w
@@ -73,6 +76,7 @@ pub record StatementsRun (p : PlainProgram) (depth : Depth) (f : PlainFunction) 
 abbrev pub StatementsHaveNoBound : Type 0
 StatementsHaveNoBound = (p : PlainProgram) (depth : Depth) (f : PlainFunction) (x : PlainStatement) (frame : Frame) (w : State) → StatementsRun p depth f x frame w
 
+-- what holds of a value of a function
 pub record ValuesRun (p : PlainProgram) (depth : Depth) (f : PlainFunction) (v : PlainValue) (held : List Held) (w : State) : Type 0 where
   pub follows : (n : ℕ) → w.left ≤ n → EndsAfter w (evaluate (setting_of p n (call_at n p) depth f) held v w)
   pub bound : (n m : ℕ) → w.left ≤ n → w.left ≤ m → evaluate (setting_of p n (call_at n p) depth f) held v w ≡ evaluate (setting_of p m (call_at m p) depth f) held v w

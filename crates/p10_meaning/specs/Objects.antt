@@ -135,6 +135,7 @@ abbrev pub all_closed : List ℕ → List Object → List Object
 all_closed [] objects = objects
 all_closed (n ∷ ns) objects = all_closed ns (closed n objects)
 
+-- whether an object is an allocation
 abbrev pub is_allocated : Origin → Bool
 is_allocated allocated = true
 is_allocated declared = false

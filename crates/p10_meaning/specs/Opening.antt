@@ -51,18 +51,22 @@ opening_with cells p world left = record {
 abbrev pub constant_setting : PlainProgram → Setting
 constant_setting p = record { program = p; variables = []; call = λ k xs w. ends StepsSpent w; turns = 0 }
 
+-- the state in which constant expressions are evaluated: all objects of static lifetime are zero
 abbrev pub constant_state : PlainProgram → State
 constant_state p =
     opening_with (λ object. zero_cells (scalars p object.type)) p (record { input = []; denied = []; sensors = [] }) (2 ^ 64)
 
+-- the value of a constant expression
 abbrev pub constant_scalar : PlainType → Progress Scalar → Scalar
 constant_scalar t (gives x w) = x
 constant_scalar t (ends end w) = zero_of t
 
+-- the values that a list of constant expressions gives
 abbrev pub constant_scalars : Progress (List (ℕ × Scalar)) → List (ℕ × Scalar)
 constant_scalars (gives xs w) = xs
 constant_scalars (ends end w) = []
 
+-- the cells that a list gives to scalars of these types, from scalar i on
 abbrev pub listed_cells : ℕ → List PlainType → List (ℕ × Scalar) → List Cell
 listed_cells i [] xs = []
 listed_cells i (t ∷ types) xs = holding (listed_scalar i t xs) ∷ listed_cells (suc i) types xs

@@ -10,12 +10,15 @@ use Rattle.p10_meaning.specs.declared.pointers.Cell.{Cell}
 
 -- ## Cells
 
+-- a cell that holds nothing
 abbrev pub unset : Cell
 unset = record { value = None }
 
+-- a cell that holds a scalar
 abbrev pub holding : Scalar → Cell
 holding x = record { value = Some x }
 
+-- what is held, or U8
 abbrev pub scalar_of : Option Scalar → Result Scalar Stop
 scalar_of None = Err U8
 scalar_of (Some x) = Ok x
@@ -52,6 +55,7 @@ window_in window position at stride count = record {
 
 -- ## Equality
 
+-- two flags are equal
 abbrev pub same_flag : Bool → Bool → Bool
 same_flag true b = b
 same_flag false b = not b
@@ -68,6 +72,7 @@ same_pointer Null (To k b m) = false
 same_pointer (To o a n) Null = false
 same_pointer (To o a n) (To k b m) = eqb o k && same_window a b && eqb n m
 
+-- whether a pointer is null (C99 6.3.2.3p3)
 abbrev pub is_null : Ptr → Bool
 is_null Null = true
 is_null (To o a n) = false

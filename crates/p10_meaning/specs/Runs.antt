@@ -26,6 +26,7 @@ pub record Ran : Type 0 where
   pub bytes : ℕ
   pub after : ℕ
 
+-- what a run gives that ends in a state
 abbrev pub ran : Outcome → State → Ran
 ran outcome w = record { outcome = outcome; output = w.output; calls = w.calls; bytes = w.bytes; after = w.after_mark }
 
@@ -44,6 +45,7 @@ pub record Task : Type 0 where
   pub tested : Option PlainValue
   pub body : PlainStatement
 
+-- the task loop that a statement is
 abbrev pub task_in : Option PlainStatement → Option Task
 task_in (Some (statement at (loop head first tested third body))) = Some (record { tested = tested; body = body })
 task_in s = None
@@ -100,6 +102,7 @@ run_task p prefix budget n f i (Some task) w =
     after_part (before_task (setting_of p prefix (call_at prefix p) depth f) f i depth w)
     (λ frame w. run_turns n 0 (task_turn (setting_of p budget (call_at budget p) depth f) task) budget frame w)
 
+-- a run of `main`, with or without a task loop
 abbrev pub run_main : PlainProgram → ℕ → ℕ → ℕ → Option PlainFunction → Option ℕ → State → Ran
 run_main p prefix budget n (Some f) (Some i) w = run_task p prefix budget n f i (task_in (slice_get (statements_list f.body) i)) w
 run_main p prefix budget n f i w = ran_call (call_at prefix p no_depth p.main [] w)

@@ -1,5 +1,5 @@
 -- Operators, conversions and moves on scalars: integers and pointers (C99 6.3, 6.5).
-use Rattle.std.specs.Prelude.{ℕ, not, Bool, if◌then◌else◌, List, map, replicate, length, ℤ, pos, negsuc, neg_ℤ, Result, Ok, Err}
+use Rattle.std.specs.Prelude.{not, Bool, List, map, ℤ, pos, neg_ℤ, Result, Ok, Err}
 use Rattle.std.specs.Ordering.{int_eq}
 use Rattle.p10_int.specs.declared.types.IntType.{IntType}
 use Rattle.p10_int.specs.declared.types.IntType.TheVariants.{Int as int}
@@ -11,9 +11,9 @@ use Rattle.p10_int.specs.declared.operators.UnOp.{UnOp}
 use Rattle.p10_int.specs.declared.operators.UnOp.TheVariants.{Not}
 use Rattle.p10_int.specs.Conversion.{converted}
 use Rattle.p10_int.specs.Operators.{fitted, truth_of, operate, operate_unary}
-use Rattle.p10_core.specs.Types.{PlainType, void, integer, pointer, array, structure}
+use Rattle.p10_core.specs.Types.{PlainType, integer, pointer}
 use Rattle.p10_meaning.specs.declared.pointers.Ptr.{Ptr}
-use Rattle.p10_meaning.specs.declared.pointers.Ptr.TheVariants.{Null, To}
+use Rattle.p10_meaning.specs.declared.pointers.Ptr.TheVariants.{Null}
 use Rattle.p10_meaning.specs.declared.pointers.Scalar.{Scalar}
 use Rattle.p10_meaning.specs.declared.pointers.Scalar.TheVariants.{Int, Pointer}
 use Rattle.p10_meaning.specs.declared.pointers.Cell.{Cell}
@@ -90,8 +90,10 @@ operated_unary op t (Pointer q) = Err U9
 
 -- ## Cells of new objects
 
+-- unset cells for scalars of these types
 abbrev pub unset_cells : List PlainType → List Cell
 unset_cells types = map (λ t. unset) types
 
+-- cells with 0 or null for scalars of these types
 abbrev pub zero_cells : List PlainType → List Cell
 zero_cells types = map (λ t. holding (zero_of t)) types

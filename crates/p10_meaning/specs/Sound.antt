@@ -3,7 +3,7 @@ use Rattle.std.specs.Prelude.{◌≡◌, ℕ, ◌+◌, ◌<◌, ◌≤◌, leb, 
 use Rattle.std.specs.List.{All}
 use Rattle.p10_int.specs.declared.types.IntType.TheVariants.{Char}
 use Rattle.p10_int.specs.Types.{InRange}
-use Rattle.p10_core.specs.Types.{PlainType, void, integer, pointer, array, structure, bare, PlainMember, members_of}
+use Rattle.p10_core.specs.Types.{PlainType, integer, pointer, array, structure, bare, PlainMember, members_of}
 use Rattle.p10_core.specs.Sizes.{scalars_of, repeated}
 use Rattle.p10_core.specs.Typed.{PlainValue, type_of, PlainStatement, PlainVariable, PlainFunction, PlainObject, PlainLiteral, PlainProgram}
 use Rattle.p10_core.specs.Whole.{SeenVariable, IsWholeValue}
@@ -48,15 +48,18 @@ pub data Step : Type 0 where
   into : ℕ → Step
   to_member : ℕ → ℕ → Step
 
+-- the row that the element at a position is
 abbrev pub view_of_row : PlainProgram → Window → ℕ → PlainType → Option View
 view_of_row p window n (array c t count) =
     Some (record { window = window_in window n 0 (length (scalars_of p.structures t)) count; elem = t })
 view_of_row p window n t = None
 
+-- the member that stands after some scalars of the element at a position
 abbrev pub view_of_entry : PlainProgram → Window → ℕ → ℕ → Option PlainMember → Option View
 view_of_entry p window n at None = None
 view_of_entry p window n at (Some x) = Some (record { window = window_in window n at (width p x.type) 1; elem = bare p.structures x.type })
 
+-- a member of the element at a position
 abbrev pub view_of_member : PlainProgram → Window → ℕ → ℕ → PlainType → Option View
 view_of_member p window n m (structure c k) = view_of_entry p window n (scalars_before p (structure c k) m) (slice_get (members_of p.structures k) m)
 view_of_member p window n m t = None
@@ -66,10 +69,12 @@ abbrev pub stepped : PlainProgram → View → Step → Option View
 stepped p v (into n) = if leb n v.window.count then view_of_row p v.window n v.elem else None
 stepped p v (to_member n m) = if leb n v.window.count then view_of_member p v.window n m v.elem else None
 
+-- one look-up after another
 abbrev pub on_some : {A B : Type 0} → Option A → (A → Option B) → Option B
 on_some None f = None
 on_some (Some x) f = f x
 
+-- the array to which a path leads
 abbrev pub walk : PlainProgram → View → List Step → Option View
 walk p v [] = Some v
 walk p v (s ∷ path) = on_some (stepped p v s) (λ v. walk p v path)
@@ -88,6 +93,7 @@ pub record IsAt (p : PlainProgram) (ks : List Kind) (t : PlainType) (o : ℕ) (w
   pub leads : Leads p kind (record { window = window; elem = bare p.structures t })
   pub position : n ≤ window.count
 
+-- a pointer is null, or points to elements of a type
 abbrev pub FitsPointer : PlainProgram → List Kind → PlainType → Ptr → Type 0
 FitsPointer p ks t Null = Unit {0}
 FitsPointer p ks t (To o window n) = IsAt p ks t o window n
@@ -103,6 +109,7 @@ abbrev pub MaybeFits : PlainProgram → List Kind → PlainType → Option Scala
 MaybeFits p ks t None = Unit {0}
 MaybeFits p ks t (Some x) = Fits p ks t x
 
+-- the scalars of cells have types, one by one
 abbrev pub AllFit : PlainProgram → List Kind → List PlainType → List Cell → Type 0
 AllFit p ks [] [] = Unit {0}
 AllFit p ks (t ∷ types) (cell ∷ cells) = MaybeFits p ks t cell.value × AllFit p ks types cells
@@ -121,6 +128,7 @@ pub record ObjectFits (p : PlainProgram) (ks : List Kind) (x : Object) : Type 0 
   pub opened : slice_get ks x.number ≡ Some kind
   pub cells : AllFit p ks (kind_scalars p kind) x.cells
 
+-- all live objects fit
 abbrev pub AllObjects : PlainProgram → List Kind → List Object → Type 0
 AllObjects p ks [] = Unit {0}
 AllObjects p ks (x ∷ xs) = ObjectFits p ks x × AllObjects p ks xs
@@ -140,6 +148,7 @@ pub record SoundParts (p : PlainProgram) (ks : List Kind) (objects : List Object
   pub input_bytes : All (λ byte. byte < 256) input
   pub sensor_values : All IsSensorValue sensors
 
+-- a state is sound, where these are the kinds of all objects that were opened
 abbrev pub Sound : PlainProgram → List Kind → State → Type 0
 Sound p ks w = SoundParts p ks w.objects w.opened w.input w.sensors
 
@@ -151,6 +160,7 @@ VariableFits p ks v (holds cell) = MaybeFits p ks v.type cell.value
 VariableFits p ks v (stands o) = slice_get ks o ≡ Some (single_of p v.type)
 VariableFits p ks v absent = Unit {0}
 
+-- what stands for the variables of a frame fits them
 abbrev pub FrameFits : PlainProgram → List Kind → List PlainVariable → List Held → Type 0
 FrameFits p ks [] [] = Unit {0}
 FrameFits p ks (v ∷ vs) (h ∷ hs) = VariableFits p ks v h × FrameFits p ks vs hs
@@ -164,6 +174,7 @@ pub record Grows (ks js : List Kind) : Type 0 where
   pub more : List Kind
   pub is : js ≡ ks ++ more
 
+-- a state is sound, with objects that were only added, and something holds of what was given
 pub record Kept (p : PlainProgram) (ks : List Kind) (w : State) (P : List Kind → Type 0) : Type 0 where
   pub kinds : List Kind
   pub grows : Grows ks kinds

@@ -1,18 +1,15 @@
 -- The meaning of statements (C99 6.8): one definition for each form, in the order of the table of steps in docs/meaning.md.
-use Rattle.std.specs.Prelude.{ℕ, zero, suc, ◌+◌, eqb, if◌then◌else◌, Bool, true, false, List, [], ◌∷◌, ◌++◌, slice_set, slice_get, ℤ, pos, Option, Some, None, Result, Ok, Err}
+use Rattle.std.specs.Prelude.{ℕ, zero, suc, eqb, if◌then◌else◌, Bool, true, List, [], ◌∷◌, ◌++◌, slice_set, slice_get, ℤ, pos, Option, Some, None, Result}
 use Rattle.std.specs.Ordering.{int_eq}
 use Rattle.p10_base.specs.declared.span.Span.{Span}
 use Rattle.p10_base.specs.declared.at.At.{At}
 use Rattle.p10_int.specs.declared.operators.Stop.{Stop}
-use Rattle.p10_int.specs.declared.operators.BinOp.{BinOp}
 use Rattle.p10_core.specs.declared.statements.LoopKeyword.{LoopKeyword}
 use Rattle.p10_core.specs.declared.statements.LoopKeyword.TheVariants.{While, Do, For}
-use Rattle.p10_core.specs.declared.statements.LoopHead.{LoopHead}
-use Rattle.p10_core.specs.declared.statements.MarkKind.{MarkKind}
 use Rattle.p10_core.specs.declared.statements.MarkKind.TheVariants.{InitDone, TaskLoop}
 use Rattle.p10_core.specs.declared.statements.Label.{Label}
 use Rattle.p10_core.specs.Types.{PlainType}
-use Rattle.p10_core.specs.Typed.{PlainValue, PlainPlace, place_at, place_type, PlainWritten, one_scalar, scalars_of_text, PlainItem, PlainInitializer, not_initialized, single, copied, listed, PlainLabels, PlainStatement, statement, PlainStatementForm, set, update, copy, evaluate as expression, asserts, declare, declare_static, block, if_then, if_else, loop, switch, break, continue, return, empty, mark, PlainStatements, no_statements, more_statements, PlainVariable}
+use Rattle.p10_core.specs.Typed.{PlainValue, place_at, place_type, PlainWritten, one_scalar, scalars_of_text, PlainItem, PlainInitializer, not_initialized, single, copied, listed, PlainStatement, statement, PlainStatementForm, set, update, copy, evaluate as expression, asserts, declare, declare_static, block, if_then, if_else, loop, switch, break, continue, return, empty, mark, PlainStatements, no_statements, more_statements, PlainVariable}
 use Rattle.p10_meaning.specs.declared.pointers.Ptr.{Ptr}
 use Rattle.p10_meaning.specs.declared.pointers.Scalar.{Scalar}
 use Rattle.p10_meaning.specs.declared.pointers.Scalar.TheVariants.{Int}
@@ -43,9 +40,11 @@ pub record Done : Type 0 where
   pub flow : Flow
   pub frame : Frame
 
+-- execution goes on in a way, with a frame
 abbrev pub flows : Flow → Frame → State → Progress Done
 flows flow frame w = gives (record { flow = flow; frame = frame }) w
 
+-- execution goes on with the next statement
 abbrev pub goes : Frame → State → Progress Done
 goes frame w = flows normal frame w
 
@@ -54,6 +53,7 @@ abbrev pub go_on : Flow → Frame → State → (Frame → State → Progress Do
 go_on normal frame w rest = rest frame w
 go_on flow frame w rest = flows flow frame w
 
+-- the frame with something else that stands for a variable
 abbrev pub holding_at : Frame → ℕ → Held → Frame
 holding_at frame n held = record frame { held = slice_set frame.held n held }
 
@@ -62,6 +62,7 @@ abbrev pub leave_block : List ℕ → Done → State → Progress Done
 leave_block outer done w =
     flows done.flow (record { held = done.frame.held; opened = outer }) (record w { objects = all_closed done.frame.opened w.objects })
 
+-- something is executed as a block: the objects that it opens die at its end
 abbrev pub in_block : (Frame → State → Progress Done) → Frame → State → Progress Done
 in_block run frame w = and_then (run (record frame { opened = [] }) w) (λ done w. leave_block frame.opened done w)
 
@@ -98,6 +99,7 @@ abbrev pub text_scalars : ℕ → List ℕ → List (ℕ × Scalar)
 text_scalars i [] = []
 text_scalars i (byte ∷ bytes) = (i, Int (pos byte)) ∷ text_scalars (suc i) bytes
 
+-- the scalars that an item of a list gives, from scalar i of the object on
 abbrev pub written_scalars : Setting → List Held → ℕ → PlainWritten → State → Progress (List (ℕ × Scalar))
 written_scalars s held i (one_scalar v) w = and_then (evaluate s held v w) (λ x w. gives ((i, x) ∷ []) w)
 written_scalars s held i (scalars_of_text bytes) w = gives (text_scalars i bytes) w
@@ -195,9 +197,11 @@ after_switch done w = flows (leave done.flow) done.frame w
 -- ## Statements
 
 abbrev mutual
+  -- what executing a statement comes to
   pub execute : Setting → PlainStatement → Frame → State → Progress Done
   execute s (statement at form) frame w = execute_form s at form frame w
 
+  -- the same of a form of a statement, at its tree
   pub execute_form : Setting → At → PlainStatementForm → Frame → State → Progress Done
   -- a declaration of an automatic variable: 1 and its initialiser (C99 6.7, 6.8.2)
   execute_form s at (declare n initializer) frame w =
@@ -261,6 +265,7 @@ abbrev mutual
   pub enter : Setting → Option ℕ → PlainStatement → Frame → State → Progress Done
   enter s k (statement at form) frame w = enter_form s k form frame w
 
+  -- the same of a form
   pub enter_form : Setting → Option ℕ → PlainStatementForm → Frame → State → Progress Done
   enter_form s k (block statements) frame w = from_label k (λ k frame w. execute_from s k statements frame w) frame w
   enter_form s k form frame w = goes frame w

@@ -1,5 +1,5 @@
 -- The world of a run, its states, and what comes of a piece of a program: something, or an end.
-use Rattle.std.specs.Prelude.{◌≡◌, ℕ, zero, suc, ◌+◌, ◌<◌, ◌^◌, max, Bool, true, false, if◌then◌else◌, List, ℤ, pos, neg_ℤ, ◌≤ℤ◌, ◌<ℤ◌, Result, Ok, Err}
+use Rattle.std.specs.Prelude.{ℕ, zero, suc, ◌<◌, ◌^◌, Bool, if◌then◌else◌, List, ℤ, pos, neg_ℤ, ◌≤ℤ◌, ◌<ℤ◌, Result, Ok, Err}
 use Rattle.std.specs.List.{All}
 use Rattle.p10_base.specs.declared.span.Span.{Span}
 use Rattle.p10_int.specs.declared.operators.Stop.{Stop}
@@ -52,6 +52,7 @@ abbrev pub step_at : {A : Type 0} → ℕ → State → (State → Progress A) �
 step_at zero w go = ends StepsSpent w
 step_at (suc n) w go = go (record w { left = n })
 
+-- a piece that takes a step first: where none is left, the run ends
 abbrev pub step : {A : Type 0} → State → (State → Progress A) → Progress A
 step w go = step_at w.left w go
 

@@ -1,18 +1,18 @@
 -- Where runs stop, at small programs by hand: each of U1 to U12 at the tree where it belongs, and what is tested first.
-use Rattle.std.specs.Prelude.{◌≡◌, ℕ, false, List, [], ◌∷◌, ◌++◌, ℤ, pos, negsuc, Option, Some, None}
-use Rattle.p10_int.specs.declared.types.IntType.TheVariants.{Int, Char, UInt, Long, ULong}
+use Rattle.std.specs.Prelude.{◌≡◌, ℕ, false, List, [], ◌∷◌, ◌++◌, ℤ, pos, negsuc}
+use Rattle.p10_int.specs.declared.types.IntType.TheVariants.{Char, Long}
 use Rattle.p10_int.specs.declared.operators.BinOp.{BinOp}
-use Rattle.p10_int.specs.declared.operators.BinOp.TheVariants.{Add, Sub, Mul, Div, Rem, Shl, Shr, Lt, Eq}
+use Rattle.p10_int.specs.declared.operators.BinOp.TheVariants.{Add, Sub, Div, Rem, Shl, Shr, Lt, Eq}
 use Rattle.p10_int.specs.declared.operators.UnOp.TheVariants.{Neg}
 use Rattle.p10_int.specs.declared.operators.Stop.TheVariants.{U1, U2, U3, U4, U5, U6, U7, U8, U9, U10, U11, U12}
 use Rattle.p10_core.specs.declared.typed.Library.TheVariants.{Malloc, Free}
-use Rattle.p10_core.specs.declared.statements.UpdateKind.TheVariants.{Compound, Step}
-use Rattle.p10_core.specs.Types.{PlainType, void, integer, pointer, array, structure}
-use Rattle.p10_core.specs.Typed.{PlainValue, constant, read, address, decay, convert, cast, unary, binary, conditional, call, built_in, PlainPlace, place, variable, literal, index, member, dereference, values_of_list, one_scalar, not_initialized, single, listed, PlainStatement, set, update, evaluate, asserts, declare, if_then, empty, PlainFunction, PlainLiteral, PlainProgram}
+use Rattle.p10_core.specs.declared.statements.UpdateKind.TheVariants.{Compound}
+use Rattle.p10_core.specs.Types.{PlainType, void, integer, array}
+use Rattle.p10_core.specs.Typed.{PlainValue, read, address, decay, convert, cast, unary, binary, conditional, call, built_in, PlainPlace, place, literal, index, dereference, values_of_list, not_initialized, listed, PlainStatement, set, update, evaluate, asserts, declare, PlainFunction, PlainProgram}
 use Rattle.p10_meaning.specs.States.{AssertionFailed}
 use Rattle.p10_meaning.specs.Runs.{Ended, run_of}
 use Rattle.p10_meaning.specs.Examples.{span, tree, int, number, name, get, does, block_of, returns, frame_variable, object_variable, int_variable, function_of, main_of, program_of, value_of, value_at, plus, pointer_to, null, assign, begin, no_world, ReturnsValue, Stops}
-use Rattle.p10_meaning.specs.Costs.{row, row_place, with_pair, pair, pair_place}
+use Rattle.p10_meaning.specs.Costs.{row, row_place}
 
 -- ## Integers
 
@@ -27,6 +27,7 @@ adding_to first = main_of (int_variable ∷ []) (first ++ record_of ∷ [])
     record_of : PlainStatement
     record_of = does (update Compound Add int (name 6 int 0) (number (pos 1)))
 
+-- U1 to U4, and U8 of an update
 pub record IntegersStop : Type 0 where
   pub sum : Stops (operation Add (pos 2147483647) (pos 1)) U1 5
   pub negation : Stops (main_of [] (returns (value_at 5 int (unary Neg (number (negsuc 2147483647)))) ∷ [])) U1 5
@@ -43,9 +44,11 @@ pub record IntegersStop : Type 0 where
 
 -- ## Pointers
 
+-- pointers to `int`
 abbrev pub ints : PlainType
 ints = pointer_to int
 
+-- row n as a pointer to its first element
 abbrev pub row_value : ℕ → PlainValue
 row_value n = value_of ints (decay (row_place n))
 
@@ -53,6 +56,7 @@ row_value n = value_of ints (decay (row_place n))
 abbrev pub element : ℕ → ℤ → PlainPlace
 element n i = place (tree 4) int (index (row_value n) (number i))
 
+-- its value
 abbrev pub element_value : ℕ → ℤ → PlainValue
 element_value n i = value_at 4 int (read (element n i))
 
@@ -64,6 +68,7 @@ moved_by v i = value_at 5 ints (binary Add v (number i))
 abbrev pub pointed : PlainValue → PlainPlace
 pointed v = place (tree 4) int (dereference v)
 
+-- its value
 abbrev pub pointed_value : PlainValue → PlainValue
 pointed_value v = value_at 4 int (read (pointed v))
 
@@ -72,6 +77,7 @@ abbrev pub with_rows : List PlainStatement → PlainProgram
 with_rows ss = main_of (object_variable row 12 ∷ object_variable row 12 ∷ frame_variable ints 8 ∷ int_variable ∷ [])
     (does (declare 0 (listed (tree 0) [])) ∷ does (declare 1 (listed (tree 0) [])) ∷ begin 2 (null int) ∷ ss)
 
+-- `p`
 abbrev pub p : PlainValue
 p = get 0 ints 2
 
@@ -86,9 +92,11 @@ pointing_into_a_block ss =
 abbrev pub relation : BinOp → PlainType → PlainValue → PlainValue → PlainValue
 relation op t a b = value_at 5 t (binary op a b)
 
+-- `long`
 abbrev pub long : PlainType
 long = integer false Long
 
+-- U5 to U7 and U9, and the order in which they are tested
 pub record PointersStop : Type 0 where
   pub null_read : Stops (with_rows (returns (pointed_value p) ∷ [])) U5 4
   pub null_write : Stops (with_rows (does (set (pointed p) (number (pos 1))) ∷ [])) U5 4
@@ -114,9 +122,11 @@ pub record PointersStop : Type 0 where
 abbrev pub nothing : PlainFunction
 nothing = function_of 0 int [] []
 
+-- a call of it
 abbrev pub call_of_nothing : PlainValue
 call_of_nothing = value_at 5 int (call (span 0) 0 (values_of_list []))
 
+-- U8 and U10
 pub record ValuesAreMissing : Type 0 where
   pub unset_variable : Stops (main_of (int_variable ∷ []) (does (declare 0 not_initialized) ∷ returns (get 7 int 0) ∷ [])) U8 7
   pub unset_element : Stops (main_of (object_variable row 12 ∷ []) (does (declare 0 not_initialized) ∷ returns (element_value 0 (pos 1)) ∷ [])) U8 4
@@ -139,12 +149,15 @@ allocates = assign ints 2 (value_of ints (built_in (span 0) Malloc (values_of_li
 abbrev pub letters : PlainPlace
 letters = place (tree 0) (array false (integer false Char) 3) (literal 9 (97 ∷ 98 ∷ 0 ∷ []))
 
+-- `"ab"[i]`, at tree 4
 abbrev pub letter : ℤ → PlainPlace
 letter i = place (tree 4) (integer false Char) (index (value_of (pointer_to (integer false Char)) (decay letters)) (number i))
 
+-- the program with that literal
 abbrev pub with_letters : PlainProgram → PlainProgram
 with_letters q = record q { literals = record { number = 9; bytes = 97 ∷ 98 ∷ 0 ∷ [] } ∷ [] }
 
+-- U7, U11, U12, U6 before U12, and an `assert` that fails
 pub record OthersStop : Type 0 where
   pub freed_declared : Stops (with_rows (frees (row_value 0) ∷ [])) U11 5
   pub freed_twice : Stops (with_rows (allocates ∷ frees p ∷ frees p ∷ [])) U11 5

@@ -1,6 +1,6 @@
 -- The meaning of values and places (C99 6.5): one definition for each form, in the order of the table of steps in docs/meaning.md.
 -- The step of a node comes before its parts, operands go from left to right, and a place before a value.
-use Rattle.std.specs.Prelude.{ℕ, zero, suc, ◌+◌, ◌*◌, ltb, leb, eqb, ◌&&◌, if◌then◌else◌, Bool, true, false, List, [], ◌∷◌, ◌++◌, length, map, take, flat_map, slice_get, ℤ, pos, negsuc, Option, Some, None, option_map, Result, Ok, Err}
+use Rattle.std.specs.Prelude.{ℕ, suc, ◌*◌, ltb, leb, eqb, ◌&&◌, if◌then◌else◌, Bool, true, false, List, [], ◌∷◌, ◌++◌, length, take, flat_map, slice_get, ℤ, pos, negsuc, Option, Some, None, Result, Ok, Err}
 use Rattle.p10_base.specs.declared.span.Span.{Span}
 use Rattle.p10_base.specs.declared.at.At.{At}
 use Rattle.p10_int.specs.declared.operators.Stop.{Stop}
@@ -10,7 +10,7 @@ use Rattle.p10_core.specs.declared.typed.Library.{Library}
 use Rattle.p10_core.specs.declared.typed.Library.TheVariants.{Assert, CAssert, Getchar, Putchar, Malloc, Calloc, Free}
 use Rattle.p10_core.specs.declared.typed.LogicOp.{LogicOp}
 use Rattle.p10_core.specs.declared.typed.LogicOp.TheVariants.{And, Or}
-use Rattle.p10_core.specs.Types.{PlainType, PlainMember, void, integer, pointer, array, structure, bare, members_of}
+use Rattle.p10_core.specs.Types.{PlainType, PlainMember, void, pointer, array, structure, bare, members_of}
 use Rattle.p10_core.specs.Typed.{PlainValue, value, PlainForm, constant, read, sense, address, decay, convert, cast, unary, binary, logic, conditional, call, built_in, PlainPlace, place, PlainPlaceForm, variable, global, literal, index, member, dereference, PlainValues, no_values, more_values, place_at, place_type, PlainVariable, PlainObject, PlainLiteral, PlainProgram}
 use Rattle.p10_meaning.specs.declared.pointers.Ptr.{Ptr}
 use Rattle.p10_meaning.specs.declared.pointers.Ptr.TheVariants.{Null}
@@ -49,6 +49,7 @@ pub data Held : Type 0 where
 abbrev pub scalars : PlainProgram → PlainType → List PlainType
 scalars p t = scalars_of p.structures (bare p.structures t)
 
+-- how many scalars an object of a type has
 abbrev pub width : PlainProgram → PlainType → ℕ
 width p t = length (scalars p t)
 
@@ -58,6 +59,7 @@ size p t = size_of p.structures (bare p.structures t)
 
 -- ## Objects that are opened
 
+-- the state with one more object
 abbrev pub open_object : Origin → List Cell → State → State
 open_object origin cells w = record w { objects = opened_with w.objects w.opened origin cells; opened = suc w.opened }
 
@@ -99,6 +101,7 @@ pointer_to (Element q) = q
 
 -- ## Reading
 
+-- the cell of a frame variable; unset where it has none
 abbrev pub held_cell : Option Held → Cell
 held_cell (Some (holds cell)) = cell
 held_cell held = unset
@@ -108,6 +111,7 @@ abbrev pub sensed_from : List ℤ → PlainType → State → Progress Scalar
 sensed_from [] t w = gives (Int (pos 0)) w
 sensed_from (z ∷ sensors) t w = gives (converted_to t (Int z)) (record w { sensors = sensors })
 
+-- a read of a sensor of a type
 abbrev pub sensed : PlainType → State → Progress Scalar
 sensed t w = sensed_from w.sensors t w
 
@@ -119,6 +123,7 @@ read_target span t held (Element q) w = or_undefined (on_ok (cell_at w.objects q
 
 -- ## Library functions
 
+-- the first of the arguments; typed programs ask for one where it is there
 abbrev pub first_argument : List Scalar → Scalar
 first_argument [] = Int (pos 0)
 first_argument (x ∷ xs) = x
@@ -141,6 +146,7 @@ abbrev pub natural : ℤ → ℕ
 natural (pos n) = n
 natural (negsuc n) = 0
 
+-- how many elements an allocation asks for: one where no number is written
 abbrev pub elements : List Scalar → ℕ
 elements [] = 1
 elements (x ∷ xs) = natural (number_of x)
@@ -150,6 +156,7 @@ abbrev pub pointee : PlainType → PlainType
 pointee (pointer c t) = t
 pointee t = t
 
+-- whether a request with a number is denied
 abbrev pub is_denied : List ℕ → ℕ → Bool
 is_denied [] n = false
 is_denied (d ∷ denied) n = if eqb d n then true else is_denied denied n
@@ -188,13 +195,16 @@ library p Free span t xs w =
 abbrev pub used : Option Scalar → Result Scalar Stop
 used x = or_stop x U10
 
+-- something that has a value
 abbrev pub give : Scalar → State → Progress (Option Scalar)
 give x w = gives (Some x) w
 
+-- whether a type is `void`
 abbrev pub is_void : PlainType → Bool
 is_void (void c) = true
 is_void t = false
 
+-- whether a type is a structure
 abbrev pub is_structure : PlainType → Bool
 is_structure (structure c n) = true
 is_structure t = false
@@ -204,6 +214,7 @@ abbrev pub element_type : PlainType → PlainType
 element_type (array c t n) = t
 element_type t = t
 
+-- how many elements an array has
 abbrev pub element_count : PlainType → ℕ
 element_count (array c t n) = n
 element_count t = 1
@@ -286,6 +297,7 @@ abbrev mutual
   pub locate : Setting → List Held → PlainPlace → State → Progress Target
   locate s held (place at t form) w = find_place s held at t form w
 
+  -- the place that a form of a place stands for, at its tree, of its type
   pub find_place : Setting → List Held → At → PlainType → PlainPlaceForm → State → Progress Target
   -- a name: 0 (C99 6.5.1p2)
   find_place s held at t (variable n) w = or_undefined (variable_target n (width s.program t) (slice_get held n)) at.span w (λ target. gives target w)
