@@ -11,6 +11,7 @@ pub mod Fitting
 pub mod Moves
 pub mod LaidOut
 pub mod SoundScalars
+pub mod SoundUpdates
 pub mod Keeping
 pub mod SoundParts
 pub mod SoundValues

@@ -28,7 +28,8 @@ use Rattle.p10_meaning.proofs.Geometry.{IsLaidOut}
 use Rattle.p10_meaning.proofs.LaidOut.{lies_bare, AreScalar, scalars_scalar}
 use Rattle.p10_meaning.proofs.Fitting.{grown, get_last, fits_grown, frame_grown, frame_set, sound_with, sound_push, all_unset, all_closed_fits, fits_same, maybe_same, bare_unqualified}
 use Rattle.p10_meaning.proofs.Moves.{OnOk, write_fits, part_fits, write_part_fits}
-use Rattle.p10_meaning.proofs.SoundScalars.{zero_fits, kept_fits, converted_any, IsRow, binary_row_is, left_fits, update_fits, result_fits}
+use Rattle.p10_meaning.proofs.SoundScalars.{zero_fits, kept_fits, converted_any}
+use Rattle.p10_meaning.proofs.SoundUpdates.{IsRow, binary_row_is, left_fits, update_fits, result_fits}
 use Rattle.p10_meaning.proofs.Keeping.{keeps_from, kept, ended, keeps_step, keeps_then, keeps_or, keeps_if}
 use Rattle.p10_meaning.proofs.SoundParts.{TargetFits, single_fits, read_keeps, asserted_keeps}
 use Rattle.p10_meaning.proofs.SoundValues.{pointer_to_fits, target_grown, evaluate_keeps, discard_keeps, locate_keeps}

@@ -1,6 +1,7 @@
 -- Calls: frames, their depths, and the recursion that ties the meaning of trees to itself (C99 6.5.2.2, 6.9.1).
-use Rattle.std.specs.Prelude.{ℕ, zero, suc, ◌+◌, max, if◌then◌else◌, List, [], ◌∷◌, map, sum, slice_get, Option, Some, None}
+use Rattle.std.specs.Prelude.{ℕ, zero, suc, ◌+◌, max, if◌then◌else◌, List, [], ◌∷◌, slice_get, Option, Some, None}
 use Rattle.p10_core.specs.Typed.{PlainVariable, PlainFunction, PlainProgram}
+use Rattle.p10_core.specs.WholePrograms.{frame_bytes}
 use Rattle.p10_meaning.specs.declared.pointers.Scalar.{Scalar}
 use Rattle.p10_meaning.specs.Pointers.{holding}
 use Rattle.p10_meaning.specs.Objects.{declared, all_closed}
@@ -17,11 +18,7 @@ pub record Depth : Type 0 where
 abbrev pub no_depth : Depth
 no_depth = record { calls = 0; bytes = 0 }
 
--- the bytes of a function's frame: those of its parameters and of all its automatic variables, in all its blocks
-abbrev pub frame_bytes : PlainFunction → ℕ
-frame_bytes f = sum (map (λ (v : PlainVariable). v.bytes) f.variables)
-
--- the depth with one more call of a function
+-- the depth with one more call of a function, whose frame has the bytes of all its variables, in all its blocks
 abbrev pub deeper : PlainFunction → Depth → Depth
 deeper f depth = record { calls = suc depth.calls; bytes = depth.bytes + frame_bytes f }
 
