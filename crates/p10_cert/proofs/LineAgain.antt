@@ -1,0 +1,72 @@
+-- Each line that may be is read from its text, whatever stands after it.
+use Rattle.std.proofs.Common.{◌≡◌, ℕ, ◌<◌, ◌≤◌, List, ◌++◌, codes, decimal, Option, Some, None, refl, sym, ap, ◌∙◌, arith}
+use Rattle.p10_base.specs.declared.report.Bounds.{Bounds}
+use Rattle.p10_cert.specs.declared.claims.Rank.{Rank}
+use Rattle.p10_cert.specs.declared.claims.Rank.TheVariants.{Up, Down, One, Task}
+use Rattle.p10_cert.specs.Lines.{LoopHead, Line, FirstLine, FuncLine, ParamLine, ResultLine, LoopLine, VarLine, TotalLine, LastLine, ◌then◌, value_then, ends_then, loop_then, line_then, IsRank, IsLoopHead, IsLine}
+use Rattle.p10_cert.specs.private.Reading.{after_front, param_at, result_at, func_at, loop_at, task_at, var_at, total_at, after_first, after_total, inner_at, outer_at, line_at}
+use Rattle.p10_cert.proofs.LineLaws.{func_then, param_again, result_again, func_again, loop_again, task_again, var_again, total_again}
+
+-- ---- the first words of a line tell which it is
+
+in_var : (rest : List ℕ) → inner_at (codes "var " ++ rest) ≡ var_at rest
+unfolding inner_at after_front
+in_var rest = refl
+
+in_loop : (rest : List ℕ) → inner_at (codes "loop " ++ rest) ≡ loop_at rest
+unfolding inner_at after_front
+in_loop rest = refl
+
+in_task : (rest : List ℕ) → inner_at (codes "task steps " ++ rest) ≡ task_at rest
+unfolding inner_at after_front
+in_task rest = refl
+
+in_param : (rest : List ℕ) → inner_at (codes "param " ++ rest) ≡ param_at rest
+unfolding inner_at after_front
+in_param rest = refl
+
+in_result : (rest : List ℕ) → inner_at (codes "result " ++ rest) ≡ result_at rest
+unfolding inner_at after_front
+in_result rest = refl
+
+in_func : (rest : List ℕ) → line_at (codes "func " ++ rest) ≡ func_at rest
+unfolding line_at inner_at outer_at after_front
+in_func rest = refl
+
+in_first : (rest : List ℕ) → line_at (codes "p10cert 1\n" ++ rest) ≡ Some (FirstLine, rest)
+unfolding line_at inner_at outer_at after_first after_front
+in_first rest = refl
+
+in_total : (rest : List ℕ) → line_at (codes "total prefix " ++ rest) ≡ total_at rest
+unfolding line_at inner_at outer_at after_first after_total after_front
+in_total rest = refl
+
+in_last : (rest : List ℕ) → line_at (codes "end\n" ++ rest) ≡ Some (LastLine, rest)
+unfolding line_at inner_at outer_at after_first after_total after_front
+in_last rest = refl
+
+-- ---- lines
+
+inner_line : (text : List ℕ) (r : Line × List ℕ) → inner_at text ≡ Some r → line_at text ≡ Some r
+unfolding line_at
+inner_line text r e = rw e refl
+
+loop_line_again : (depth : ℕ) (rank : Rank) (turns : ℕ) (rest : List ℕ) → IsLoopHead (record { depth = depth; rank = rank; turns = turns })
+    → inner_at (loop_then depth rank turns (codes "\n" ++ rest)) ≡ Some (LoopLine (record { depth = depth; rank = rank; turns = turns }), rest)
+loop_line_again depth (Up var bound) turns rest fits = in_loop _ ∙ loop_again depth (Up var bound) turns rest (omega (arith, fits.depth.small)) fits.rank fits.turns.small
+loop_line_again depth (Down var bound) turns rest fits = in_loop _ ∙ loop_again depth (Down var bound) turns rest (omega (arith, fits.depth.small)) fits.rank fits.turns.small
+loop_line_again depth One turns rest fits = in_loop _ ∙ loop_again depth One turns rest (omega (arith, fits.depth.small)) tt fits.turns.small
+loop_line_again depth Task turns rest fits =
+    in_task _ ∙ task_again turns rest fits.turns.small ∙ ap (λ depth. Some (LoopLine (record { depth = depth; rank = Task; turns = turns }), rest)) (sym fits.rank)
+
+-- a line that may be is read from its text
+pub line_again : (l : Line) (rest : List ℕ) → IsLine l → line_at (line_then l rest) ≡ Some (l, rest)
+unfolding line_then
+line_again FirstLine rest fits = in_first rest
+line_again (FuncLine f) rest fits = in_func (func_then f rest) ∙ func_again f rest fits
+line_again (ParamLine v) rest fits = inner_line _ _ (in_param _ ∙ param_again v rest fits)
+line_again (ResultLine v) rest fits = inner_line _ _ (in_result _ ∙ result_again v rest fits)
+line_again (LoopLine l) rest fits = inner_line _ _ (loop_line_again l.depth l.rank l.turns rest fits)
+line_again (VarLine v) rest fits = inner_line _ _ (in_var _ ∙ var_again v rest fits)
+line_again (TotalLine b) rest fits = in_total _ ∙ total_again b rest fits
+line_again LastLine rest fits = in_last rest

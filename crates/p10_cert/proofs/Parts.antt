@@ -1,0 +1,245 @@
+-- Lines of which each may come where it stands are the lines of functions.
+use Rattle.std.proofs.Common.{◌≡◌, ℕ, ◌+◌, ◌^◌, ◌<◌, ◌≤◌, Bool, true, false, not, ◌&&◌, nat_le, cond, List, [], ◌∷◌, ◌++◌, map, codes, bytes_eq, Option, Some, None, refl, sym, ap, subst, ◌∙◌, arith, append_assoc}
+use Rattle.std.proofs.lemmas.Bool.Decides.{nat_tests}
+use Rattle.std.proofs.lemmas.Option.{cond_some, same_Some, none-some}
+use Rattle.std.proofs.lemmas.Slice.Eq.{bytes_eq-Decides}
+use Rattle.std.specs.List.{AllByRecursion, flat_map}
+use Rattle.p10_cert.specs.declared.claims.Rank.{Rank}
+use Rattle.p10_cert.specs.declared.claims.Rank.TheVariants.{Up, Down, One, Task}
+use Rattle.p10_cert.specs.declared.state.Next.{Next}
+use Rattle.p10_cert.specs.declared.state.Next.TheVariants as next
+use Rattle.p10_cert.specs.Claims.{Value, Var, Loop, Func, Claims}
+use Rattle.p10_cert.specs.Lines.{FuncHead, LoopHead, Line, FirstLine, FuncLine, ParamLine, ResultLine, LoopLine, VarLine, TotalLine, LastLine, flag_number, IsFuncHead, IsLoopHead, IsParam, IsResult, IsVar, IsLine}
+use Rattle.p10_cert.specs.Certificate.{loop_head, loop_lines, func_head, func_lines, claims_lines, RiseFrom, NestFrom, IsLoop, task_number, loop_tasks, IsFunc, func_tasks, IsCertificate}
+use Rattle.p10_cert.specs.private.Steps.{is_main, may_stand, tasked_after, step_loop, step, run}
+use Rattle.p10_cert.proofs.Steps.{then_some, both_true}
+use Rattle.p10_cert.proofs.Runs.{tasked_count, IsBetween}
+
+-- ---- what lines are, by the state in which they come; v: a task was seen in the end
+
+-- loops, and then functions
+pub record LoopsThen (m t : Bool) (d : ℕ) (v : Bool) (loops : List Loop) (funcs : List Func) : Type 0 where
+  good : AllByRecursion IsLoop loops
+  nest : NestFrom d loops
+  main : 0 < loop_tasks loops → m ≡ true
+  others : AllByRecursion IsFunc funcs
+  count : flag_number t + (loop_tasks loops + func_tasks funcs) ≡ flag_number v
+
+pub record AfterLoop (m t : Bool) (d least : ℕ) (v : Bool) (lines : List Line) : Type 0 where
+  vars : List Var
+  loops : List Loop
+  funcs : List Func
+  parts : lines ≡ map VarLine vars ++ (flat_map loop_lines loops ++ flat_map func_lines funcs)
+  good : AllByRecursion IsVar vars
+  rise : RiseFrom least vars
+  rest : LoopsThen m t d v loops funcs
+
+pub record AfterParam (m t v : Bool) (lines : List Line) : Type 0 where
+  params : List Value
+  result : Value
+  loops : List Loop
+  funcs : List Func
+  parts : lines ≡ map ParamLine params ++ (ResultLine result ∷ (flat_map loop_lines loops ++ flat_map func_lines funcs))
+  good : AllByRecursion IsParam params
+  good_result : IsResult result
+  rest : LoopsThen m t 0 v loops funcs
+
+pub record AfterFunc (t v : Bool) (lines : List Line) : Type 0 where
+  pub funcs : List Func
+  pub parts : lines ≡ flat_map func_lines funcs
+  pub good : AllByRecursion IsFunc funcs
+  pub count : flag_number t + func_tasks funcs ≡ flag_number v
+
+pub record AfterFirst (v : Bool) (lines : List Line) : Type 0 where
+  pub others : List Line
+  pub first : lines ≡ FirstLine ∷ others
+  pub rest : AfterFunc false v others
+
+abbrev pub After : Next → Bool → List Line → Type 0
+After next.First v lines = AfterFirst v lines
+After (next.Func t) v lines = AfterFunc t v lines
+After (next.Param m t) v lines = AfterParam m t v lines
+After (next.Loop m t d least) v lines = AfterLoop m t d least v lines
+After next.Last v lines = ⊥
+After next.Over v lines = ⊥
+
+-- no lines
+
+no_tasks : (t v : Bool) → t ≡ v → flag_number t + 0 ≡ flag_number v
+no_tasks t v e = omega (arith, ap flag_number e)
+
+no_loops : (m t v : Bool) (d : ℕ) → t ≡ v → LoopsThen m t d v [] []
+no_loops m t v d e = record { good = tt; nest = tt; main = λ some. absurd (omega (arith, some)); others = tt; count = omega (arith, no_tasks t v e) }
+
+after_none : (s : Next) (v : Bool) → IsBetween v s → After s v []
+after_none next.First v between = absurd between
+after_none (next.Func t) v between = record { funcs = []; parts = refl; good = tt; count = no_tasks t v between }
+after_none (next.Param m t) v between = absurd between
+after_none (next.Loop m t d least) v between = record { vars = []; loops = []; funcs = []; parts = refl; good = tt; rise = tt; rest = no_loops m t v d between }
+after_none next.Last v between = absurd between
+after_none next.Over v between = absurd between
+
+-- a function, from its first line and what comes after it
+
+func_from : FuncHead → List Value → Value → List Loop → Func
+func_from h params result loops = record {
+  name = h.name;
+  rank = h.rank;
+  steps = h.steps;
+  calls = h.calls;
+  bytes = h.bytes;
+  alloc = h.alloc;
+  params = params;
+  result = result;
+  loops = loops;
+}
+
+func_after : (h : FuncHead) (t v : Bool) (lines : List Line) → IsFuncHead h → AfterParam (is_main h.name) t v lines → AfterFunc t v (FuncLine h ∷ lines)
+unfolding func_from
+func_after h t v lines good after =
+    let f : Func = func_from h after.params after.result after.loops in
+    record {
+      funcs = f ∷ after.funcs;
+      parts = ap (λ ls. FuncLine h ∷ ls) (after.parts ∙ sym (append_assoc (map ParamLine after.params) (ResultLine after.result ∷ flat_map loop_lines after.loops) (flat_map func_lines after.funcs)));
+      good = (
+        record {
+          head = good;
+          params = after.good;
+          result = after.good_result;
+          loops = after.rest.good;
+          nest = after.rest.nest;
+          task = λ some. (bytes_eq-Decides h.name (codes "main")).0 (after.rest.main some);
+        },
+        after.rest.others,
+      );
+      count = after.rest.count;
+    }
+
+-- a loop, from its first line and what comes after it
+
+loop_main : (m t : Bool) (rank : Rank) (tasks : ℕ) → may_stand m t rank ≡ true → (0 < tasks → m ≡ true) → 0 < task_number rank + tasks → m ≡ true
+loop_main m t (Up var bound) tasks stands main some = main (omega (arith, some))
+loop_main m t (Down var bound) tasks stands main some = main (omega (arith, some))
+loop_main m t One tasks stands main some = main (omega (arith, some))
+loop_main m t Task tasks stands main some = (both_true m (not t) stands).0
+
+loop_after : (m t : Bool) (d least : ℕ) (h : LoopHead) (v : Bool) (lines : List Line) → IsLoopHead h → h.depth ≤ d → may_stand m t h.rank ≡ true
+    → AfterLoop m (tasked_after t h.rank) (h.depth + 1) 0 v lines → AfterLoop m t d least v (LoopLine h ∷ lines)
+loop_after m t d least h v lines good deep stands after =
+    let l : Loop = record { depth = h.depth; rank = h.rank; turns = h.turns; vars = after.vars } in
+    record {
+      vars = [];
+      loops = l ∷ after.loops;
+      funcs = after.funcs;
+      parts = ap (λ ls. LoopLine h ∷ ls) (
+          after.parts
+          ∙ sym (append_assoc (map VarLine after.vars) (flat_map loop_lines after.loops) (flat_map func_lines after.funcs)));
+      good = tt;
+      rise = tt;
+      rest = record {
+        good = (record { head = good; vars = after.good; rise = after.rise }, after.rest.good);
+        nest = (deep, after.rest.nest);
+        main = loop_main m t h.rank (loop_tasks after.loops) stands after.rest.main;
+        others = after.rest.others;
+        count = omega (arith, after.rest.count, tasked_count m t h.rank stands);
+      };
+    }
+
+-- before the first loop no variable comes
+no_vars : (vars : List Var) → RiseFrom (2 ^ 32) vars → AllByRecursion IsVar vars → vars ≡ []
+no_vars [] rise good = refl
+no_vars (v ∷ vars) rise good = absurd (omega (arith, rise.0, good.0.var.small))
+
+result_after : (m t v : Bool) (r : Value) (lines : List Line) → IsResult r → AfterLoop m t 0 (2 ^ 32) v lines → AfterParam m t v (ResultLine r ∷ lines)
+result_after m t v r lines good after = record {
+  params = [];
+  result = r;
+  loops = after.loops;
+  funcs = after.funcs;
+  parts = ap (λ ls. ResultLine r ∷ ls) (after.parts ∙ ap (λ vars. map VarLine vars ++ (flat_map loop_lines after.loops ++ flat_map func_lines after.funcs)) (no_vars after.vars after.rise after.good));
+  good = tt;
+  good_result = good;
+  rest = after.rest;
+}
+
+param_after : (m t v : Bool) (p : Value) (lines : List Line) → IsParam p → AfterParam m t v lines → AfterParam m t v (ParamLine p ∷ lines)
+param_after m t v p lines good after = record {
+  params = p ∷ after.params;
+  result = after.result;
+  loops = after.loops;
+  funcs = after.funcs;
+  parts = ap (λ ls. ParamLine p ∷ ls) after.parts;
+  good = (good, after.good);
+  good_result = after.good_result;
+  rest = after.rest;
+}
+
+var_after : (m t : Bool) (d least : ℕ) (x : Var) (v : Bool) (lines : List Line) → IsVar x → least ≤ x.var → AfterLoop m t d (x.var + 1) v lines → AfterLoop m t d least v (VarLine x ∷ lines)
+var_after m t d least x v lines good high after = record {
+  vars = x ∷ after.vars;
+  loops = after.loops;
+  funcs = after.funcs;
+  parts = ap (λ ls. VarLine x ∷ ls) after.parts;
+  good = (good, after.good);
+  rise = (high, after.rise);
+  rest = after.rest;
+}
+
+other_after : (m t : Bool) (d least : ℕ) (v : Bool) (lines : List Line) → AfterFunc t v lines → AfterLoop m t d least v lines
+other_after m t d least v lines after = record {
+  vars = [];
+  loops = [];
+  funcs = after.funcs;
+  parts = after.parts;
+  good = tt;
+  rise = tt;
+  rest = record { good = tt; nest = tt; main = λ some. absurd (omega (arith, some)); others = after.good; count = omega (arith, after.count) };
+}
+
+-- ---- one line more
+
+-- a line of a loop, which came where it may
+loop_stepped : (m t : Bool) (d depth : ℕ) (rank : Rank) (a : Next) → step_loop m t d depth rank ≡ Some a
+    → (depth ≤ d) × (may_stand m t rank ≡ true) × (next.Loop m (tasked_after t rank) (depth + 1) 0 ≡ a)
+loop_stepped m t d depth rank a e =
+    let found = cond_some (nat_le depth d && may_stand m t rank) (next.Loop m (tasked_after t rank) (depth + 1) 0) a e in
+    let both = both_true (nat_le depth d) (may_stand m t rank) found.0 in
+    let deep : nat_le depth d ≡ true = both.0 in
+    (grind (arith, nat_tests), both.1, found.1)
+
+after_loop_line : (m t : Bool) (d least : ℕ) (h : LoopHead) (a : Next) (v : Bool) (lines : List Line) → IsLoopHead h → step_loop m t d h.depth h.rank ≡ Some a → After a v lines
+    → AfterLoop m t d least v (LoopLine h ∷ lines)
+after_loop_line m t d least h a v lines good e after =
+    let stepped = loop_stepped m t d h.depth h.rank a e in
+    loop_after m t d least h v lines good stepped.0 stepped.1 (subst (λ s. After s v lines) (sym stepped.2) after)
+
+after_var_line : (m t : Bool) (d least : ℕ) (x : Var) (a : Next) (v : Bool) (lines : List Line) → IsVar x → cond (nat_le least x.var) (Some (next.Loop m t d (x.var + 1))) None ≡ Some a → After a v lines
+    → AfterLoop m t d least v (VarLine x ∷ lines)
+after_var_line m t d least x a v lines good e after =
+    let found = cond_some (nat_le least x.var) (next.Loop m t d (x.var + 1)) a e in
+    let high : nat_le least x.var ≡ true = found.0 in
+    var_after m t d least x v lines good (grind (arith, nat_tests)) (subst (λ s. After s v lines) (sym found.1) after)
+
+-- what comes of a step that is known
+after_known : (b a : Next) (v : Bool) (lines : List Line) → Some b ≡ Some a → After a v lines → After b v lines
+after_known b a v lines e after = subst (λ s. After s v lines) (sym (same_Some b a e)) after
+
+after_line : (s : Next) (l : Line) (a : Next) (v : Bool) (lines : List Line) → IsLine l → step s l ≡ Some a → After a v lines → After s v (l ∷ lines)
+unfolding step
+after_line next.First FirstLine a v lines good e after = record { others = lines; first = refl; rest = after_known (next.Func false) a v lines e after }
+after_line (next.Func t) (FuncLine h) a v lines good e after = func_after h t v lines good (after_known (next.Param (is_main h.name) t) a v lines e after)
+after_line (next.Func t) (TotalLine b) a v lines good e after = absurd (after_known next.Last a v lines e after)
+after_line (next.Param m t) (ParamLine p) a v lines good e after = param_after m t v p lines good (after_known (next.Param m t) a v lines e after)
+after_line (next.Param m t) (ResultLine r) a v lines good e after = result_after m t v r lines good (after_known (next.Loop m t 0 (2 ^ 32)) a v lines e after)
+after_line (next.Loop m t d least) (LoopLine h) a v lines good e after = after_loop_line m t d least h a v lines good e after
+after_line (next.Loop m t d least) (VarLine x) a v lines good e after = after_var_line m t d least x a v lines good e after
+after_line (next.Loop m t d least) (FuncLine h) a v lines good e after = other_after m t d least v (FuncLine h ∷ lines) (func_after h t v lines good (after_known (next.Param (is_main h.name) t) a v lines e after))
+after_line (next.Loop m t d least) (TotalLine b) a v lines good e after = absurd (after_known next.Last a v lines e after)
+after_line next.Last LastLine a v lines good e after = absurd (after_known next.Over a v lines e after)
+after_line s l a v lines good e after = absurd (none-some a e)
+
+-- lines that lead from a state to one in which a function may begin
+pub after_run : (s u : Next) (v : Bool) → IsBetween v u → (lines : List Line) → AllByRecursion IsLine lines → run s lines ≡ Some u → After s v lines
+after_run s u v between [] good e = after_none s v (subst (IsBetween v) (sym (same_Some s u e)) between)
+after_run s u v between (l ∷ lines) good e =
+    then_some (step s l) (λ a. run a lines) u e (λ a stepped others. after_line s l a v lines good.0 stepped (after_run a u v between lines good.1 others))

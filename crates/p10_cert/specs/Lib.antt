@@ -1,0 +1,7 @@
+-- The definitions that the contracts of this crate cite.
+pub mod Claims
+pub mod Lines
+pub mod Certificate
+pub mod WrongLines
+-- how the private ones come to it
+pub mod private

@@ -1,0 +1,4 @@
+-- What only the contracts of private functions cite.
+pub mod Reading
+pub mod Plain
+pub mod Steps
