@@ -7,3 +7,11 @@ pub mod LineLaws
 pub mod LineAgain
 pub mod Runs
 pub mod Parts
+pub mod LineTexts
+pub mod ReadLines
+pub mod Completing
+pub mod Further
+pub mod AtPlaces
+pub mod Gathering
+pub mod Finding
+pub mod Giving

@@ -24,7 +24,7 @@ value_is_there (Number ends) fits there = fits
 value_is_there Address fits there = tt
 value_is_there Nothing fits there = absurd cc
 
-param_is_value : (v : Value) → IsParam v → IsResult v × (is_there v ≡ true)
+pub param_is_value : (v : Value) → IsParam v → IsResult v × (is_there v ≡ true)
 param_is_value (Number ends) fits = (fits, refl)
 param_is_value Address fits = (tt, refl)
 param_is_value Nothing fits = absurd fits

@@ -12,8 +12,9 @@ use Rattle.p10_cert.specs.Claims.{Value, Var, Loop, Func, Claims}
 use Rattle.p10_cert.specs.Lines.{FuncHead, LoopHead, Line, FirstLine, FuncLine, ParamLine, ResultLine, LoopLine, VarLine, TotalLine, LastLine, flag_number, IsFuncHead, IsLoopHead, IsParam, IsResult, IsVar, IsLine}
 use Rattle.p10_cert.specs.Certificate.{loop_head, loop_lines, func_head, func_lines, claims_lines, RiseFrom, NestFrom, IsLoop, task_number, loop_tasks, IsFunc, func_tasks, IsCertificate}
 use Rattle.p10_cert.specs.private.Steps.{is_main, may_stand, tasked_after, step_loop, step, run}
+use Rattle.p10_cert.specs.private.Places.{IsBetween}
 use Rattle.p10_cert.proofs.Steps.{then_some, both_true}
-use Rattle.p10_cert.proofs.Runs.{tasked_count, IsBetween}
+use Rattle.p10_cert.proofs.Runs.{tasked_count}
 
 -- ---- what lines are, by the state in which they come; v: a task was seen in the end
 
@@ -199,7 +200,7 @@ other_after m t d least v lines after = record {
 -- ---- one line more
 
 -- a line of a loop, which came where it may
-loop_stepped : (m t : Bool) (d depth : ℕ) (rank : Rank) (a : Next) → step_loop m t d depth rank ≡ Some a
+pub loop_stepped : (m t : Bool) (d depth : ℕ) (rank : Rank) (a : Next) → step_loop m t d depth rank ≡ Some a
     → (depth ≤ d) × (may_stand m t rank ≡ true) × (next.Loop m (tasked_after t rank) (depth + 1) 0 ≡ a)
 loop_stepped m t d depth rank a e =
     let found = cond_some (nat_le depth d && may_stand m t rank) (next.Loop m (tasked_after t rank) (depth + 1) 0) a e in

@@ -10,6 +10,7 @@ use Rattle.p10_cert.specs.Claims.{Value, Var, Loop, Func, Claims}
 use Rattle.p10_cert.specs.Lines.{FuncHead, Line, FirstLine, FuncLine, ParamLine, ResultLine, LoopLine, VarLine, TotalLine, LastLine, flag_number, IsParam, IsVar, IsLine}
 use Rattle.p10_cert.specs.Certificate.{loop_head, loop_lines, func_head, func_lines, claims_lines, RiseFrom, NestFrom, IsLoop, task_number, loop_tasks, IsFunc, func_tasks, IsCertificate}
 use Rattle.p10_cert.specs.private.Steps.{is_main, may_stand, tasked_after, step_loop, step, run}
+use Rattle.p10_cert.specs.private.Places.{IsBetween}
 
 -- ---- the lines of a loop
 
@@ -73,14 +74,7 @@ unfolding step
 params_run m t [] rest = refl
 params_run m t (v ∷ params) rest = params_run m t params rest
 
--- a state in which a function may begin, where a task was seen or not
-
-abbrev pub IsBetween : Bool → Next → Type 0
-IsBetween t (next.Func u) = u ≡ t
-IsBetween t (next.Loop m u d least) = u ≡ t
-IsBetween t _ = ⊥
-
-between_func : (t : Bool) (s : Next) (f : FuncHead) → IsBetween t s → step s (FuncLine f) ≡ Some (next.Param (is_main f.name) t)
+pub between_func : (t : Bool) (s : Next) (f : FuncHead) → IsBetween t s → step s (FuncLine f) ≡ Some (next.Param (is_main f.name) t)
 unfolding step
 between_func t (next.Func u) f between = rw between refl
 between_func t (next.Loop m u d least) f between = rw between refl
@@ -139,7 +133,7 @@ total_run t (next.Param m u) c between = absurd between
 total_run t next.Last c between = absurd between
 total_run t next.Over c between = absurd between
 
-first_run : (lines : List Line) → run next.First (FirstLine ∷ lines) ≡ run (next.Func false) lines
+pub first_run : (lines : List Line) → run next.First (FirstLine ∷ lines) ≡ run (next.Func false) lines
 unfolding step
 first_run lines = refl
 

@@ -3,5 +3,6 @@ pub mod Claims
 pub mod Lines
 pub mod Certificate
 pub mod WrongLines
+pub mod Records
 -- how the private ones come to it
 pub mod private

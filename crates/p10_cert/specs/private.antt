@@ -2,3 +2,5 @@
 pub mod Reading
 pub mod Plain
 pub mod Steps
+pub mod Places
+pub mod Found

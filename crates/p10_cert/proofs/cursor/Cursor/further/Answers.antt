@@ -1,0 +1,10 @@
+use Rattle.std.proofs.Common.{ap}
+use Rattle.p10_cert.specs.private.Plain.{plain_line}
+use Rattle.p10_cert.specs.private.Places.{is_loop}
+use Rattle.p10_cert.proofs.Further.{further_some}
+use Rattle.p10_cert.proofs.cursor.Cursor.further.Goals as goal
+
+pub returns-in-Loop-clause-goes : goal.returns-in-Loop-clause-goes
+returns-in-Loop-clause-goes c =
+    let to = c.in_ok-after.after in
+    ((plain_line c.in_ok-after.field-0-0, further_some c.args.self.next to.next c.args.self.rest.now to.rest.now (plain_line c.in_ok-after.field-0-0) c.in_ok-after.ensures.exact (ap is_loop c.in-Loop.is)), c.in_ok-after.ensures.counted)
