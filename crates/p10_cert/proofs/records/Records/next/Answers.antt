@@ -1,4 +1,4 @@
-use Rattle.std.proofs.Common.{◌≡◌, List, Some, refl, ap, subst, ◌∙◌}
+use Rattle.std.proofs.Common.{◌≡◌, ℕ, List, Some, refl, ap, subst, ◌∙◌}
 use Rattle.p10_base.specs.declared.report.Bounds.{Bounds}
 use Rattle.p10_cert.specs.Claims.{Func}
 use Rattle.p10_cert.specs.Certificate.{IsCertificate, certificate_text}
@@ -15,10 +15,26 @@ invariant_of-self c =
     (next_function c.self.inside.text.now (place_of c.self.inside.place) c.in-Ok.found c.in-Function.record c.in-Function.after c.self.invariant c.in-Ok.ensures c.in-Function.is).place
 
 pub returns-in-Function : goal.returns-in-Function
-returns-in-Function c = ?
+returns-in-Function c =
+    let inside = c.self.inside in
+    let found = next_function inside.text.now (place_of inside.place) c.in-Ok.found c.in-Function.record c.in-Function.after c.self.invariant c.in-Ok.ensures c.in-Function.is in
+    let progress : List Func → Progress = λ given. record { text = inside.text.now; given = given; total = inside.total } in
+    let now : Progress = progress (funcs_in c.in-Function.after.lines inside.text.now) in
+    let P : Progress → Type 0 = λ p. (x : Func) × IsNextRecord p.text p.given x c.in-Function.record.text.now c.in-Function.record.line × (now ≡ one_more p x) in
+    subst P c.self.view_is (found.func, found.next_record, ap progress found.now_given)
 
 pub returns-in-End : goal.returns-in-End
-returns-in-End c = ?
+returns-in-End c =
+    let inside = c.self.inside in
+    let total : Bounds = c.in-End.total in
+    let found = next_end inside.text.now (place_of inside.place) c.in-Ok.found total c.self.invariant c.in-Ok.ensures c.in-End.is in
+    let now : Progress = record { text = inside.text.now; given = funcs_in inside.place.lines inside.text.now; total = Some total } in
+    let P : Progress → Type 0 = λ p. (x : Bounds) × IsCertificate (claims_from p.given x) × (p.text ≡ certificate_text (claims_from p.given x)) × (now ≡ record p { total = Some x }) in
+    subst P c.self.view_is (total, found.0, found.1, refl)
 
 pub returns-in-Err : goal.returns-in-Err
-returns-in-Err c = ?
+returns-in-Err c =
+    let inside = c.self.inside in
+    let wrong = wrong_found inside.text.now (place_of inside.place) c.in-Err.bad.line c.self.invariant c.in-Err.ensures in
+    let P : Progress → Type 0 = λ p. IsFirstWrongLine p.text c.in-Err.bad.line × ((f : Func) (part : List ℕ) (line : ℕ) → IsNextRecord p.text p.given f part line → ⊥) × (p ≡ p) in
+    subst P c.self.view_is (wrong.0, wrong.1, refl)
