@@ -10,7 +10,7 @@ use Rattle.p10_cert.specs.declared.cursor.Found.TheVariants.{Function, End}
 use Rattle.p10_cert.specs.declared.line.Head.{Head}
 use Rattle.p10_cert.specs.declared.line.Row.{Row}
 use Rattle.p10_cert.specs.declared.line.Row.TheVariants as row
-use Rattle.p10_cert.specs.declared.records.BadLine.{BadLine}
+use Rattle.p10_cert.specs.declared.record.BadLine.{BadLine}
 use Rattle.p10_cert.specs.declared.state.Next.{Next}
 use Rattle.p10_cert.specs.declared.state.Next.TheVariants as next
 use Rattle.p10_cert.specs.Claims.{Var}

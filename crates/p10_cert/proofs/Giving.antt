@@ -4,8 +4,8 @@ use Rattle.p10_base.specs.declared.report.Bounds.{Bounds}
 use Rattle.p10_cert.specs.declared.cursor.Cursor.{Cursor}
 use Rattle.p10_cert.specs.declared.cursor.Found.{Found}
 use Rattle.p10_cert.specs.declared.cursor.Found.TheVariants.{Function, End}
-use Rattle.p10_cert.specs.declared.records.BadLine.{BadLine}
-use Rattle.p10_cert.specs.declared.records.FuncRecord.{FuncRecord}
+use Rattle.p10_cert.specs.declared.record.BadLine.{BadLine}
+use Rattle.p10_cert.specs.declared.record.FuncRecord.{FuncRecord}
 use Rattle.p10_cert.specs.Claims.{Func}
 use Rattle.p10_cert.specs.Certificate.{IsCertificate, certificate_text}
 use Rattle.p10_cert.specs.Records.{IsNextRecord, claims_from}

@@ -15,3 +15,6 @@ pub mod AtPlaces
 pub mod Gathering
 pub mod Finding
 pub mod Giving
+pub mod Built
+pub mod Collecting
+pub mod TextLaws

@@ -61,7 +61,7 @@ text_of-append (l ∷ xs) ys = ap (line_then l) (text_of-append xs ys) ∙ sym (
 
 -- ---- a line has bytes
 
-no_line : line_at [] ≡ None
+pub no_line : line_at [] ≡ None
 unfolding line_at inner_at outer_at after_first after_total after_front
 no_line = refl
 

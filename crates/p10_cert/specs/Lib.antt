@@ -3,6 +3,8 @@ pub mod Claims
 pub mod Lines
 pub mod Certificate
 pub mod WrongLines
+pub mod Reading
 pub mod Records
+pub mod Laws
 -- how the private ones come to it
 pub mod private

@@ -2,8 +2,8 @@
 use Rattle.std.specs.Prelude.{◌≡◌, ℕ, ◌+◌, ◌≤◌, List, [], ◌∷◌, ◌++◌, length, Option, Some, None, Result, Ok, Err}
 use Rattle.std.specs.List.{flat_map}
 use Rattle.p10_base.specs.declared.report.Bounds.{Bounds}
-use Rattle.p10_cert.specs.declared.records.BadLine.{BadLine}
-use Rattle.p10_cert.specs.declared.records.FuncRecord.{FuncRecord}
+use Rattle.p10_cert.specs.declared.record.BadLine.{BadLine}
+use Rattle.p10_cert.specs.declared.record.FuncRecord.{FuncRecord}
 use Rattle.p10_cert.specs.Claims.{Func, Claims}
 use Rattle.p10_cert.specs.Lines.{Line, FirstLine, text_of}
 use Rattle.p10_cert.specs.Certificate.{func_lines, func_text, AreFuncs, IsCertificate, certificate_text}

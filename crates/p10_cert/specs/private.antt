@@ -4,3 +4,5 @@ pub mod Plain
 pub mod Steps
 pub mod Places
 pub mod Found
+pub mod Building
+pub mod Partials

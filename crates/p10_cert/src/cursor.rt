@@ -4,7 +4,7 @@ ghost use Rattle.std.specs.Prelude.{◌≡◌, ◌+◌, ◌^◌, ◌<◌, ◌≤
 
 use crate::line::Row;
 use crate::next::step;
-use crate::records::{BadLine, FuncRecord};
+use crate::record::{BadLine, FuncRecord};
 use crate::state::Next;
 use p10_base::Bounds;
 

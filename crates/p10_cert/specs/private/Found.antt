@@ -6,7 +6,7 @@ use Rattle.p10_cert.specs.declared.state.Next.TheVariants as next
 use Rattle.p10_cert.specs.declared.cursor.Cursor.{Cursor}
 use Rattle.p10_cert.specs.declared.cursor.Found.{Found}
 use Rattle.p10_cert.specs.declared.cursor.Found.TheVariants.{Function, End}
-use Rattle.p10_cert.specs.declared.records.BadLine.{BadLine}
+use Rattle.p10_cert.specs.declared.record.BadLine.{BadLine}
 use Rattle.p10_cert.specs.private.Places.{Reads, Place, Opens, HasFunction, HasEnd, FindsWrong}
 
 -- a place of the code, without where its text lies in memory

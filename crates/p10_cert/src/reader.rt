@@ -1,27 +1,11 @@
 //! The reader of records: the text of one function after the other, without memory.
 
 ghost use Rattle.std.specs.Prelude.{◌≡◌};
-ghost use Rattle.p10_cert.specs.private.Places.{IsPlace, funcs_in};
 
 use crate::cursor::{Cursor, Found};
+use crate::record::{BadLine, FuncRecord};
 use p10_base::Bounds;
 use std::marker::Model;
-
-/// The lines of one function of a certificate, and the number of the first.
-#[derive(Clone, Copy, Debug, PartialEq, Eq)]
-pub struct FuncRecord<'c> {
-    /// The lines, with their LF: a slice of the certificate's bytes.
-    pub text: &'c [u8],
-    /// The number of the first line, counted from 1.
-    pub line: u64,
-}
-
-/// The first line of a text that no certificate has after the lines before it, counted from 1.
-#[derive(Clone, Copy, Debug, PartialEq, Eq)]
-pub struct BadLine {
-    /// The line's number.
-    pub line: u64,
-}
 
 /// A reader of a certificate's functions.
 #[derive(Drop)]
@@ -45,13 +29,13 @@ impl<'c> Model for Records<'c> {
 impl<'c> Records<'c> {
     ghost use Rattle.p10_cert.specs.Records.{at_start, GivesNext};
 
-    /// The reader of the functions of this text, of which it has given none.
-    pub fn new(text: &'c [u8]) -> Records<'c>
-        ensures { result ≡ at_start text.now }
+    /// The reader of the functions of a text, of which it has given none.
+    pub(crate) fn new(bytes: &'c [u8]) -> Records<'c>
+        ensures { result ≡ at_start bytes.now }
     {
         Records {
-            text,
-            place: Cursor::start(text),
+            text: bytes,
+            place: Cursor::start(bytes),
             total: None,
         }
     }

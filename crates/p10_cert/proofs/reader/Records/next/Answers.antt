@@ -8,7 +8,7 @@ use Rattle.p10_cert.specs.private.Places.{funcs_in}
 use Rattle.p10_cert.specs.private.Found.{place_of}
 use Rattle.p10_cert.proofs.Finding.{wrong_found}
 use Rattle.p10_cert.proofs.Giving.{next_function, next_end}
-use Rattle.p10_cert.proofs.records.Records.next.Goals as goal
+use Rattle.p10_cert.proofs.reader.Records.next.Goals as goal
 
 pub invariant_of-self : goal.invariant_of-self
 invariant_of-self c =
