@@ -18,3 +18,6 @@ pub mod Giving
 pub mod Built
 pub mod Collecting
 pub mod TextLaws
+pub mod Written
+pub mod PieceTexts
+pub mod Quarters

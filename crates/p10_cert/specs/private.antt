@@ -6,3 +6,4 @@ pub mod Places
 pub mod Found
 pub mod Building
 pub mod Partials
+pub mod Pieces
