@@ -1,5 +1,5 @@
 -- What is found at a place: each step of the search for the next function.
-use Rattle.std.proofs.Common.{◌≡◌, ◌≢◌, ℕ, zero, suc, ◌+◌, ◌-◌, ◌<◌, ◌≤◌, Bool, true, false, nat_le, ◌==◌, List, [], ◌∷◌, ◌++◌, length, take, Option, Some, None, Result, Ok, Err, IfOk, IfErr, refl, sym, ap, subst, ◌∙◌, arith, append_assoc, append-nil, length-append}
+use Rattle.std.proofs.Common.{◌≡◌, ◌≢◌, ℕ, ◌+◌, ◌-◌, ◌≤◌, Bool, true, false, nat_le, ◌==◌, List, [], ◌∷◌, ◌++◌, length, take, Option, Some, None, Result, Ok, Err, IfOk, IfErr, refl, sym, ap, subst, ◌∙◌, arith, length-append}
 use Rattle.std.proofs.Math.Seq.{take-append_seam}
 use Rattle.std.proofs.lemmas.Bool.Decides.{nat_tests}
 use Rattle.std.proofs.lemmas.Option.{cond_some, same_Some, none-some}
@@ -14,16 +14,15 @@ use Rattle.p10_cert.specs.declared.record.BadLine.{BadLine}
 use Rattle.p10_cert.specs.declared.state.Next.{Next}
 use Rattle.p10_cert.specs.declared.state.Next.TheVariants as next
 use Rattle.p10_cert.specs.Claims.{Var}
-use Rattle.p10_cert.specs.Lines.{FuncHead, LoopHead, Line, FirstLine, FuncLine, ParamLine, ResultLine, LoopLine, VarLine, TotalLine, LastLine, line_then, text_of, IsLine}
+use Rattle.p10_cert.specs.Lines.{FuncHead, LoopHead, Line, FirstLine, FuncLine, ParamLine, ResultLine, LoopLine, VarLine, TotalLine, LastLine, text_of}
 use Rattle.p10_cert.specs.private.Plain.{plain_line}
 use Rattle.p10_cert.specs.private.Steps.{step, run, step_at}
-use Rattle.p10_cert.specs.private.Places.{Reads, IsInner, is_loop, is_param, is_start, further_at, parameter_at, Place, Goes, Leads, IsBetween, opening, Opens, HasFunction, HasEnd, results, FindsWrong}
+use Rattle.p10_cert.specs.private.Places.{Reads, IsInner, is_loop, is_param, is_start, further_at, parameter_at, Place, Goes, Leads, IsBetween, opening, Opens, HasFunction, results, FindsWrong}
 use Rattle.p10_cert.specs.private.Found.{HasNext, Has, Finds, EndsAt}
 use Rattle.p10_cert.proofs.Steps.{then_some}
 use Rattle.p10_cert.proofs.Parts.{loop_stepped}
-use Rattle.p10_cert.proofs.LineTexts.{text_then, text_none}
 use Rattle.p10_cert.proofs.ReadLines.{step_at_takes, reads_none, reads_step, reads_join, reads_shorter}
-use Rattle.p10_cert.proofs.Further.{further_some, further_takes, parameter_some, stays_inner, inside_param, leads_one, leads_join, leads_few}
+use Rattle.p10_cert.proofs.Further.{further_some, further_takes, parameter_some, stays_inner, inside_param, leads_one, leads_join}
 
 -- ---- where no further line comes
 

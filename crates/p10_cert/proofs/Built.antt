@@ -1,9 +1,9 @@
 -- What is built from the lines of a function is the function.
-use Rattle.std.proofs.Common.{◌≡◌, ℕ, List, [], ◌∷◌, ◌++◌, map, Option, Some, None, Result, Ok, Err, IfOk, option_map, refl, sym, ap, subst, ◌∙◌, append_assoc, append-nil}
+use Rattle.std.proofs.Common.{◌≡◌, ℕ, List, [], ◌∷◌, ◌++◌, map, Option, Some, None, Result, Ok, Err, IfOk, option_map, refl, sym, ap, ◌∙◌, append_assoc, append-nil}
 use Rattle.std.proofs.lemmas.Option.{some_pair_parts, none-some}
 use Rattle.std.specs.List.{AllByRecursion, flat_map}
 use Rattle.p10_cert.specs.Claims.{Value, Var, Loop, Func}
-use Rattle.p10_cert.specs.Lines.{Line, FuncLine, ParamLine, ResultLine, LoopLine, VarLine, line_then, text_of, IsLine}
+use Rattle.p10_cert.specs.Lines.{Line, FuncLine, ParamLine, ResultLine, VarLine, text_of, IsLine}
 use Rattle.p10_cert.specs.Certificate.{loop_head, loop_lines, func_head, func_lines, func_text, IsFunc}
 use Rattle.p10_cert.specs.private.Reading.{line_at}
 use Rattle.p10_cert.specs.private.Building.{Part, bare_loop, with_var, closed, build, build_all, finish, no_part}

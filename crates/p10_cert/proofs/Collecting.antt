@@ -1,12 +1,12 @@
 -- What is read of a text is what is given of it.
-use Rattle.std.proofs.Common.{◌≡◌, ℕ, ◌+◌, ◌-◌, ◌<◌, ◌≤◌, List, [], ◌∷◌, ◌++◌, map, length, Option, Some, Ok, refl, sym, ap, subst, ◌∙◌, arith, append-nil, length-append}
+use Rattle.std.proofs.Common.{◌≡◌, ◌<◌, ◌≤◌, List, [], ◌∷◌, ◌++◌, map, length, Option, Some, Ok, sym, ap, subst, ◌∙◌, arith, append-nil, length-append}
 use Rattle.std.proofs.lemmas.List.Concat.{flat_map-append}
 use Rattle.std.specs.List.{AllByRecursion, flat_map}
 use Rattle.p10_cert.specs.declared.record.FuncRecord.{FuncRecord}
 use Rattle.p10_cert.specs.Claims.{Func}
-use Rattle.p10_cert.specs.Lines.{Line, FirstLine, FuncLine, ParamLine, ResultLine, line_then, text_of}
+use Rattle.p10_cert.specs.Lines.{Line, FirstLine, FuncLine, ParamLine, ResultLine, text_of}
 use Rattle.p10_cert.specs.Certificate.{loop_lines, func_head, func_lines, func_text, IsFunc}
-use Rattle.p10_cert.specs.Records.{Progress, IsNextRecord, one_more, GivesNext}
+use Rattle.p10_cert.specs.Records.{Progress, GivesNext}
 use Rattle.p10_cert.proofs.LineTexts.{line_then-longer, text_of-append}
 
 -- a record that is given

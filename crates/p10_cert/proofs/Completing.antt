@@ -1,15 +1,15 @@
 -- Lines that may come are the first lines of a certificate, and where no line may come next, no certificate goes on.
-use Rattle.std.proofs.Common.{◌≡◌, ◌≢◌, ℕ, zero, suc, ◌+◌, ◌-◌, ◌<◌, ◌≤◌, Bool, true, false, nat_le, List, [], ◌∷◌, ◌++◌, length, Option, Some, None, refl, sym, ap, subst, ◌∙◌, arith, append_assoc, append-nil}
+use Rattle.std.proofs.Common.{◌≡◌, ◌≢◌, ℕ, suc, ◌+◌, ◌-◌, Bool, false, nat_le, List, [], ◌∷◌, ◌++◌, length, Some, None, refl, sym, ap, subst, ◌∙◌, arith}
 use Rattle.std.proofs.lemmas.Option.{cond_some, same_Some, none-some}
-use Rattle.std.specs.List.{AllByRecursion, flat_map}
+use Rattle.std.specs.List.{AllByRecursion}
 use Rattle.p10_base.specs.declared.report.Bounds.{Bounds}
 use Rattle.p10_cert.specs.declared.state.Next.{Next}
 use Rattle.p10_cert.specs.declared.state.Next.TheVariants as next
 use Rattle.p10_cert.specs.Claims.{Nothing, Var, Claims}
-use Rattle.p10_cert.specs.Lines.{LoopHead, Line, FirstLine, FuncLine, ParamLine, ResultLine, LoopLine, VarLine, TotalLine, LastLine, line_then, text_of, flag_number, IsLoopHead, IsVar, IsTotal, IsLine}
-use Rattle.p10_cert.specs.Certificate.{func_lines, claims_lines, certificate_text, IsCertificate}
+use Rattle.p10_cert.specs.Lines.{LoopHead, Line, FirstLine, FuncLine, ParamLine, ResultLine, LoopLine, VarLine, TotalLine, LastLine, line_then, text_of, IsLoopHead, IsVar, IsTotal, IsLine}
+use Rattle.p10_cert.specs.Certificate.{claims_lines, certificate_text, IsCertificate}
 use Rattle.p10_cert.specs.WrongLines.{first_lines, IsFirstWrongLine}
-use Rattle.p10_cert.specs.private.Steps.{tasked_after, step_loop, step, run, step_at}
+use Rattle.p10_cert.specs.private.Steps.{tasked_after, step, run, step_at}
 use Rattle.p10_cert.specs.private.Places.{Reads, IsBetween}
 use Rattle.p10_cert.proofs.Steps.{then_some}
 use Rattle.p10_cert.proofs.Runs.{all_append, claims_run, claims_good}

@@ -1,14 +1,14 @@
 -- What is found at a place of a text is the next record, the end or the first wrong line.
-use Rattle.std.proofs.Common.{◌≡◌, ◌≢◌, ℕ, zero, suc, ◌+◌, ◌<◌, ◌≤◌, inl, inr, Bool, true, false, List, [], ◌∷◌, ◌++◌, length, map, Option, Some, None, refl, sym, ap, subst, ◌∙◌, arith, append_assoc, append-nil, length-append}
+use Rattle.std.proofs.Common.{◌≡◌, ℕ, suc, ◌+◌, ◌≤◌, inl, inr, Bool, true, false, List, [], ◌∷◌, ◌++◌, length, map, Some, None, refl, sym, ap, subst, ◌∙◌, arith, append_assoc, append-nil, length-append}
 use Rattle.std.proofs.lemmas.List.Concat.{flat_map-append}
 use Rattle.std.proofs.lemmas.Option.{same_Some, none-some}
 use Rattle.std.specs.List.{AllByRecursion, flat_map}
 use Rattle.p10_base.specs.declared.report.Bounds.{Bounds}
 use Rattle.p10_cert.specs.declared.state.Next.{Next}
 use Rattle.p10_cert.specs.declared.state.Next.TheVariants as next
-use Rattle.p10_cert.specs.Claims.{Value, Var, Loop, Func, Claims}
+use Rattle.p10_cert.specs.Claims.{Value, Var, Loop, Func}
 use Rattle.p10_cert.specs.Lines.{FuncHead, Line, FirstLine, FuncLine, ParamLine, ResultLine, LoopLine, VarLine, TotalLine, LastLine, line_then, text_of, flag_number, IsLine}
-use Rattle.p10_cert.specs.Certificate.{loop_lines, func_lines, func_text, claims_lines, certificate_text, loop_tasks, IsFunc, func_tasks, AreFuncs, IsCertificate}
+use Rattle.p10_cert.specs.Certificate.{loop_lines, func_lines, func_text, certificate_text, loop_tasks, IsFunc, func_tasks, IsCertificate}
 use Rattle.p10_cert.specs.WrongLines.{IsFirstWrongLine}
 use Rattle.p10_cert.specs.Records.{IsNextRecord, claims_from}
 use Rattle.p10_cert.specs.private.Steps.{is_main, step, run, step_at}
@@ -19,7 +19,7 @@ use Rattle.p10_cert.proofs.LineTexts.{text_of-append}
 use Rattle.p10_cert.proofs.Runs.{all_append, between_func, func_run, funcs_run, func_good, funcs_good, first_run}
 use Rattle.p10_cert.proofs.Parts.{AfterFunc, after_run}
 use Rattle.p10_cert.proofs.ReadLines.{run_join, step_at_again, reads_join, reads_shorter, reads_from, reads_to, compare}
-use Rattle.p10_cert.proofs.Completing.{all_after, wrong_line}
+use Rattle.p10_cert.proofs.Completing.{wrong_line}
 use Rattle.p10_cert.proofs.Further.{further_some}
 use Rattle.p10_cert.proofs.AtPlaces.{first_stops, loop_leads, var_leads, inner_loop, results-append}
 use Rattle.p10_cert.proofs.Gathering.{gather_funcs, gather_first}

@@ -1,12 +1,11 @@
 -- The lines of a function that has begun.
-use Rattle.std.proofs.Common.{◌≡◌, ℕ, ◌+◌, ◌<◌, ◌≤◌, Bool, true, false, List, [], ◌∷◌, ◌++◌, length, Option, Some, None, refl, sym, ap, ◌∙◌, arith, length-append, append_assoc}
-use Rattle.std.proofs.lemmas.Option.{cond_some, same_Some, none-some}
-use Rattle.std.specs.List.{AllByRecursion}
+use Rattle.std.proofs.Common.{◌≡◌, ℕ, ◌+◌, ◌<◌, ◌≤◌, Bool, true, false, List, [], ◌∷◌, ◌++◌, length, Some, refl, sym, ap, ◌∙◌, arith, length-append}
+use Rattle.std.proofs.lemmas.Option.{cond_some, none-some}
 use Rattle.p10_cert.specs.declared.state.Next.{Next}
 use Rattle.p10_cert.specs.declared.state.Next.TheVariants as next
-use Rattle.p10_cert.specs.Lines.{Line, FirstLine, FuncLine, ParamLine, ResultLine, LoopLine, VarLine, TotalLine, LastLine}
-use Rattle.p10_cert.specs.private.Steps.{step, run, step_at}
-use Rattle.p10_cert.specs.private.Places.{Reads, IsInner, is_loop, is_param, further_at, parameter_at, Place, Goes, Leads}
+use Rattle.p10_cert.specs.Lines.{Line, FuncLine, ParamLine, ResultLine, LoopLine, VarLine, TotalLine}
+use Rattle.p10_cert.specs.private.Steps.{step, step_at}
+use Rattle.p10_cert.specs.private.Places.{IsInner, is_loop, is_param, further_at, parameter_at, Place, Goes, Leads}
 use Rattle.p10_cert.proofs.Steps.{then_some, bind_is}
 use Rattle.p10_cert.proofs.Runs.{all_append}
 use Rattle.p10_cert.proofs.ReadLines.{step_at_takes, step_shorter, reads_none, reads_step, reads_join, reads_shorter}

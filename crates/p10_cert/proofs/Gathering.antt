@@ -1,8 +1,8 @@
 -- The functions that lines make are those whose lines they are.
-use Rattle.std.proofs.Common.{◌≡◌, ℕ, ◌+◌, List, [], ◌∷◌, ◌++◌, map, refl, sym, ap, ◌∙◌, append_assoc, append-nil}
+use Rattle.std.proofs.Common.{◌≡◌, List, [], ◌∷◌, ◌++◌, map, refl, sym, ap, ◌∙◌, append_assoc, append-nil}
 use Rattle.std.specs.List.{flat_map}
 use Rattle.p10_cert.specs.Claims.{Value, Var, Loop, Func, Address}
-use Rattle.p10_cert.specs.Lines.{Line, FirstLine, FuncLine, ParamLine, ResultLine, LoopLine, VarLine, TotalLine, LastLine}
+use Rattle.p10_cert.specs.Lines.{Line, FirstLine, FuncLine, ParamLine, ResultLine, LoopLine, VarLine}
 use Rattle.p10_cert.specs.Certificate.{loop_head, loop_lines, func_head, func_lines}
 use Rattle.p10_cert.specs.private.Places.{Gathered, nothing, gather_line, gather}
 

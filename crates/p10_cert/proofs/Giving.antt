@@ -1,14 +1,12 @@
 -- What the reader of records answers, from what is found at its place.
-use Rattle.std.proofs.Common.{◌≡◌, ℕ, List, [], ◌∷◌, ◌++◌, Ok, Err, refl, sym, ap, subst, ◌∙◌}
+use Rattle.std.proofs.Common.{◌≡◌, ℕ, List, [], Ok, ap, subst}
 use Rattle.p10_base.specs.declared.report.Bounds.{Bounds}
 use Rattle.p10_cert.specs.declared.cursor.Cursor.{Cursor}
 use Rattle.p10_cert.specs.declared.cursor.Found.{Found}
 use Rattle.p10_cert.specs.declared.cursor.Found.TheVariants.{Function, End}
-use Rattle.p10_cert.specs.declared.record.BadLine.{BadLine}
 use Rattle.p10_cert.specs.declared.record.FuncRecord.{FuncRecord}
-use Rattle.p10_cert.specs.Claims.{Func}
 use Rattle.p10_cert.specs.Certificate.{IsCertificate, certificate_text}
-use Rattle.p10_cert.specs.Records.{IsNextRecord, claims_from}
+use Rattle.p10_cert.specs.Records.{claims_from}
 use Rattle.p10_cert.specs.private.Places.{IsPlace, lines_in, gather, funcs_in, Place, Opens, HasFunction}
 use Rattle.p10_cert.specs.private.Found.{place_of, HasNext, Finds}
 use Rattle.p10_cert.proofs.Finding.{IsFound, is_given, func_found, end_found}

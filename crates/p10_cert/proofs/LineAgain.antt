@@ -1,9 +1,8 @@
 -- Each line that may be is read from its text, whatever stands after it.
-use Rattle.std.proofs.Common.{◌≡◌, ℕ, ◌<◌, ◌≤◌, List, ◌++◌, codes, decimal, Option, Some, None, refl, sym, ap, ◌∙◌, arith}
-use Rattle.p10_base.specs.declared.report.Bounds.{Bounds}
+use Rattle.std.proofs.Common.{◌≡◌, ℕ, List, ◌++◌, codes, Some, refl, sym, ap, ◌∙◌, arith}
 use Rattle.p10_cert.specs.declared.claims.Rank.{Rank}
 use Rattle.p10_cert.specs.declared.claims.Rank.TheVariants.{Up, Down, One, Task}
-use Rattle.p10_cert.specs.Lines.{LoopHead, Line, FirstLine, FuncLine, ParamLine, ResultLine, LoopLine, VarLine, TotalLine, LastLine, ◌then◌, value_then, ends_then, loop_then, line_then, IsRank, IsLoopHead, IsLine}
+use Rattle.p10_cert.specs.Lines.{Line, FirstLine, FuncLine, ParamLine, ResultLine, LoopLine, VarLine, TotalLine, LastLine, loop_then, line_then, IsLoopHead, IsLine}
 use Rattle.p10_cert.specs.private.Reading.{after_front, param_at, result_at, func_at, loop_at, task_at, var_at, total_at, after_first, after_total, inner_at, outer_at, line_at}
 use Rattle.p10_cert.proofs.LineLaws.{func_then, param_again, result_again, func_again, loop_again, task_again, var_again, total_again}
 

@@ -1,5 +1,5 @@
 -- Laws of the reader of lines: a line that is read has the one text of what it says, and that text is read.
-use Rattle.std.proofs.Common.{◌≡◌, ℕ, ◌<◌, ◌≤◌, Bool, true, false, ◌==◌, List, [], ◌∷◌, ◌++◌, codes, decimal, Option, Some, None, refl, sym, ap, subst, ◌∙◌, arith}
+use Rattle.std.proofs.Common.{◌≡◌, ℕ, ◌≤◌, Bool, true, false, ◌==◌, List, [], ◌++◌, codes, decimal, Option, Some, None, refl, ap, subst, ◌∙◌, arith}
 use Rattle.std.proofs.lemmas.Bool.Decides.{nat_tests}
 use Rattle.std.proofs.lemmas.Option.{cond_some, same_Some, none-some}
 use Rattle.std.specs.Char.{is_ascii_digit}
@@ -7,9 +7,9 @@ use Rattle.p10_base.specs.declared.report.Bounds.{Bounds}
 use Rattle.p10_cert.specs.declared.claims.Rank.{Rank}
 use Rattle.p10_cert.specs.declared.claims.Rank.TheVariants.{Up, Down, One, Task}
 use Rattle.p10_cert.specs.Claims.{Value, Number, Address, Nothing, Var}
-use Rattle.p10_cert.specs.Lines.{FuncHead, LoopHead, Line, FirstLine, FuncLine, ParamLine, ResultLine, LoopLine, VarLine, TotalLine, LastLine, ◌then◌, flag_number, ends_then, value_then, loop_then, line_then, greatest_count, is_name_byte, IsFuncHead, IsParam, IsResult, IsRank, IsLoopHead, IsVar, IsTotal, IsLine}
+use Rattle.p10_cert.specs.Lines.{FuncHead, Line, FirstLine, FuncLine, ParamLine, ResultLine, LoopLine, VarLine, TotalLine, LastLine, ◌then◌, flag_number, ends_then, value_then, loop_then, line_then, greatest_count, is_name_byte, IsFuncHead, IsParam, IsResult, IsRank, IsVar, IsTotal, IsLine}
 use Rattle.p10_cert.specs.private.Reading.{or_else, after_front, after_run, greatest_index, is_there, param_at, result_at, func_at, loop_at, task_at, var_at, total_at, after_first, after_total, inner_at, outer_at, line_at}
-use Rattle.p10_cert.proofs.Steps.{then_some, bind_is, choice_some, choice_is, choice_not, after_front_takes, after_front_again}
+use Rattle.p10_cert.proofs.Steps.{then_some, bind_is, choice_some, after_front_takes, after_front_again}
 use Rattle.p10_cert.proofs.NumberLaws.{number_takes, number_again, labelled_takes, labelled_again, name_takes, name_again}
 use Rattle.p10_cert.proofs.ValueLaws.{ends_takes, ends_again, value_takes, value_again, rank_then, IsEnding, rank_takes, rank_again}
 

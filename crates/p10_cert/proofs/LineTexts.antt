@@ -1,22 +1,22 @@
 -- The texts of lines: what stands after them, and that each is one line.
-use Rattle.std.proofs.Common.{◌≡◌, ◌≢◌, ℕ, zero, suc, ◌+◌, ◌<◌, ◌≤◌, Bool, true, false, not, ◌==◌, List, [], ◌∷◌, ◌++◌, length, ℤ, pos, negsuc, codes, decimal, None, refl, sym, ap, ◌∙◌, arith, append_assoc, length-append}
+use Rattle.std.proofs.Common.{◌≡◌, ◌≢◌, ℕ, zero, suc, ◌<◌, ◌≤◌, Bool, true, false, not, ◌==◌, List, [], ◌∷◌, ◌++◌, length, ℤ, pos, negsuc, codes, decimal, None, refl, sym, ap, ◌∙◌, arith, append_assoc, length-append}
 use Rattle.std.proofs.lemmas.Bool.Decides.{nat_tests}
 use Rattle.std.proofs.lemmas.Int.{ints}
-use Rattle.std.proofs.lemmas.Option.{same_Some, none-some, some_pair_parts}
+use Rattle.std.proofs.lemmas.Option.{none-some, some_pair_parts}
 use Rattle.std.specs.Char.{is_ascii_digit}
 use Rattle.std.specs.Fmt.{signed_decimal}
-use Rattle.std.specs.List.{list_all, AllByRecursion}
+use Rattle.std.specs.List.{list_all}
 use Rattle.p10_range.specs.Ranges.{Interval}
 use Rattle.p10_cert.specs.declared.claims.Rank.{Rank}
 use Rattle.p10_cert.specs.declared.claims.Rank.TheVariants.{Up, Down, One, Task}
-use Rattle.p10_cert.specs.Claims.{Value, Number, Address, Nothing, Var}
-use Rattle.p10_cert.specs.Lines.{FuncHead, Line, FirstLine, FuncLine, ParamLine, ResultLine, LoopLine, VarLine, TotalLine, LastLine, ends_then, value_then, loop_then, line_then, text_of, flag_number, greatest_size, IsEnd, AreEnds, is_name_byte, is_name, IsRank, IsResult, IsLine}
+use Rattle.p10_cert.specs.Claims.{Value, Number, Address, Nothing}
+use Rattle.p10_cert.specs.Lines.{Line, FirstLine, FuncLine, ParamLine, ResultLine, LoopLine, VarLine, TotalLine, LastLine, ends_then, value_then, loop_then, line_then, text_of, flag_number, greatest_size, IsEnd, AreEnds, is_name_byte, is_name, IsRank, IsResult, IsLine}
 use Rattle.p10_cert.specs.WrongLines.{first_lines}
 use Rattle.p10_cert.specs.private.Reading.{after_front, after_first, after_total, inner_at, outer_at, line_at}
 use Rattle.p10_cert.proofs.Steps.{both_true}
 use Rattle.p10_cert.proofs.Numerals.{numeral_of_again}
 use Rattle.p10_cert.proofs.NumberLaws.{name_in_bytes}
-use Rattle.p10_cert.proofs.LineLaws.{flag_small, line_takes, param_is_value}
+use Rattle.p10_cert.proofs.LineLaws.{flag_small, param_is_value}
 use Rattle.p10_cert.proofs.LineAgain.{line_again}
 
 -- ---- what stands after a line

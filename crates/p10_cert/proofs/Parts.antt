@@ -1,5 +1,5 @@
 -- Lines of which each may come where it stands are the lines of functions.
-use Rattle.std.proofs.Common.{◌≡◌, ℕ, ◌+◌, ◌^◌, ◌<◌, ◌≤◌, Bool, true, false, not, ◌&&◌, nat_le, cond, List, [], ◌∷◌, ◌++◌, map, codes, bytes_eq, Option, Some, None, refl, sym, ap, subst, ◌∙◌, arith, append_assoc}
+use Rattle.std.proofs.Common.{◌≡◌, ℕ, ◌+◌, ◌^◌, ◌<◌, ◌≤◌, Bool, true, false, not, ◌&&◌, nat_le, cond, List, [], ◌∷◌, ◌++◌, map, codes, Some, None, refl, sym, ap, subst, ◌∙◌, arith, append_assoc}
 use Rattle.std.proofs.lemmas.Bool.Decides.{nat_tests}
 use Rattle.std.proofs.lemmas.Option.{cond_some, same_Some, none-some}
 use Rattle.std.proofs.lemmas.Slice.Eq.{bytes_eq-Decides}
@@ -8,9 +8,9 @@ use Rattle.p10_cert.specs.declared.claims.Rank.{Rank}
 use Rattle.p10_cert.specs.declared.claims.Rank.TheVariants.{Up, Down, One, Task}
 use Rattle.p10_cert.specs.declared.state.Next.{Next}
 use Rattle.p10_cert.specs.declared.state.Next.TheVariants as next
-use Rattle.p10_cert.specs.Claims.{Value, Var, Loop, Func, Claims}
+use Rattle.p10_cert.specs.Claims.{Value, Var, Loop, Func}
 use Rattle.p10_cert.specs.Lines.{FuncHead, LoopHead, Line, FirstLine, FuncLine, ParamLine, ResultLine, LoopLine, VarLine, TotalLine, LastLine, flag_number, IsFuncHead, IsLoopHead, IsParam, IsResult, IsVar, IsLine}
-use Rattle.p10_cert.specs.Certificate.{loop_head, loop_lines, func_head, func_lines, claims_lines, RiseFrom, NestFrom, IsLoop, task_number, loop_tasks, IsFunc, func_tasks, IsCertificate}
+use Rattle.p10_cert.specs.Certificate.{loop_lines, func_lines, RiseFrom, NestFrom, IsLoop, task_number, loop_tasks, IsFunc, func_tasks}
 use Rattle.p10_cert.specs.private.Steps.{is_main, may_stand, tasked_after, step_loop, step, run}
 use Rattle.p10_cert.specs.private.Places.{IsBetween}
 use Rattle.p10_cert.proofs.Steps.{then_some, both_true}

@@ -1,16 +1,16 @@
 -- Lines that are read one after the other.
-use Rattle.std.proofs.Common.{◌≡◌, ◌≢◌, ℕ, zero, suc, ◌+◌, ◌<◌, ◌≤◌, ◌⊎◌, inl, inr, List, [], ◌∷◌, ◌++◌, length, Option, Some, None, refl, sym, ap, subst, ◌∙◌, arith, append_assoc, length-append}
-use Rattle.std.proofs.lemmas.Option.{same_Some, none-some}
+use Rattle.std.proofs.Common.{◌≡◌, ℕ, zero, suc, ◌+◌, ◌<◌, ◌≤◌, ◌⊎◌, inl, inr, List, [], ◌∷◌, ◌++◌, length, Some, refl, sym, ap, subst, ◌∙◌, arith, append_assoc}
+use Rattle.std.proofs.lemmas.Option.{same_Some}
 use Rattle.std.specs.List.{AllByRecursion}
 use Rattle.p10_cert.specs.declared.state.Next.{Next}
 use Rattle.p10_cert.specs.Lines.{Line, line_then, text_of, IsLine}
-use Rattle.p10_cert.specs.private.Reading.{or_else, line_at}
+use Rattle.p10_cert.specs.private.Reading.{line_at}
 use Rattle.p10_cert.specs.private.Steps.{step, run, step_at}
 use Rattle.p10_cert.specs.private.Places.{Reads, after_lines, lines_in}
 use Rattle.p10_cert.proofs.Steps.{then_some, bind_is}
 use Rattle.p10_cert.proofs.LineLaws.{line_takes}
 use Rattle.p10_cert.proofs.LineAgain.{line_again}
-use Rattle.p10_cert.proofs.LineTexts.{text_then, text_none, text_of-append, line_then-longer, line_then-injective, line_then-some}
+use Rattle.p10_cert.proofs.LineTexts.{text_then, text_none, text_of-append, line_then-longer, line_then-injective}
 use Rattle.p10_cert.proofs.Runs.{all_append}
 
 -- ---- one line

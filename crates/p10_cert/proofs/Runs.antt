@@ -1,5 +1,5 @@
 -- The lines of a certificate come one after the other, each where it may come.
-use Rattle.std.proofs.Common.{◌≡◌, ℕ, ◌+◌, ◌^◌, ◌<◌, ◌≤◌, Bool, true, false, not, ◌&&◌, nat_le, cond, List, [], ◌∷◌, ◌++◌, map, codes, bytes_eq, Option, Some, None, refl, sym, ap, subst, ◌∙◌, arith, le-leb, append_assoc}
+use Rattle.std.proofs.Common.{◌≡◌, ℕ, ◌+◌, ◌^◌, ◌<◌, ◌≤◌, Bool, true, false, List, [], ◌∷◌, ◌++◌, map, codes, Some, refl, ap, ◌∙◌, arith, le-leb, append_assoc}
 use Rattle.std.proofs.lemmas.Slice.Eq.{bytes_eq-Decides}
 use Rattle.std.specs.List.{AllByRecursion, flat_map}
 use Rattle.p10_cert.specs.declared.claims.Rank.{Rank}
@@ -7,8 +7,8 @@ use Rattle.p10_cert.specs.declared.claims.Rank.TheVariants.{Up, Down, One, Task}
 use Rattle.p10_cert.specs.declared.state.Next.{Next}
 use Rattle.p10_cert.specs.declared.state.Next.TheVariants as next
 use Rattle.p10_cert.specs.Claims.{Value, Var, Loop, Func, Claims}
-use Rattle.p10_cert.specs.Lines.{FuncHead, Line, FirstLine, FuncLine, ParamLine, ResultLine, LoopLine, VarLine, TotalLine, LastLine, flag_number, IsParam, IsVar, IsLine}
-use Rattle.p10_cert.specs.Certificate.{loop_head, loop_lines, func_head, func_lines, claims_lines, RiseFrom, NestFrom, IsLoop, task_number, loop_tasks, IsFunc, func_tasks, IsCertificate}
+use Rattle.p10_cert.specs.Lines.{FuncHead, Line, FirstLine, FuncLine, ParamLine, ResultLine, VarLine, TotalLine, LastLine, flag_number, IsParam, IsVar, IsLine}
+use Rattle.p10_cert.specs.Certificate.{loop_lines, func_head, func_lines, claims_lines, RiseFrom, NestFrom, IsLoop, task_number, loop_tasks, IsFunc, func_tasks, IsCertificate}
 use Rattle.p10_cert.specs.private.Steps.{is_main, may_stand, tasked_after, step_loop, step, run}
 use Rattle.p10_cert.specs.private.Places.{IsBetween}
 

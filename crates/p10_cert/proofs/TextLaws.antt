@@ -1,5 +1,5 @@
 -- A text tells its lines, and the lines tell what is claimed.
-use Rattle.std.proofs.Common.{◌≡◌, ℕ, suc, ◌+◌, ◌-◌, ◌<◌, ◌≤◌, inl, inr, IfOk, IfErr, List, [], ◌∷◌, ◌++◌, length, Result, Ok, Err, refl, sym, ap, subst, ◌∙◌, arith, append-nil, append_assoc, length-append}
+use Rattle.std.proofs.Common.{◌≡◌, ℕ, ◌-◌, ◌<◌, ◌≤◌, inl, inr, IfOk, IfErr, List, [], ◌∷◌, ◌++◌, length, Result, Ok, Err, refl, sym, ap, ◌∙◌, arith, append-nil}
 use Rattle.std.proofs.lemmas.Bool.{cases_lt}
 use Rattle.std.specs.List.{AllByRecursion, flat_map}
 use Rattle.p10_base.specs.declared.report.Bounds.{Bounds}
@@ -7,13 +7,13 @@ use Rattle.p10_cert.specs.declared.claims.Cert.{Cert}
 use Rattle.p10_cert.specs.declared.fault.CertFault.{CertFault}
 use Rattle.p10_cert.specs.declared.fault.CertFault.TheVariants as fault
 use Rattle.p10_cert.specs.Claims.{Func, Claims, claims_of}
-use Rattle.p10_cert.specs.Lines.{Line, FirstLine, TotalLine, LastLine, line_then, text_of, IsLine}
+use Rattle.p10_cert.specs.Lines.{Line, FirstLine, TotalLine, LastLine, text_of, IsLine}
 use Rattle.p10_cert.specs.Certificate.{func_lines, func_text, claims_lines, certificate_text, IsFunc, IsCertificate}
 use Rattle.p10_cert.specs.Records.{IsNextRecord}
-use Rattle.p10_cert.specs.Reading.{most_bytes, Fits, ReadsAs}
+use Rattle.p10_cert.specs.Reading.{Fits, ReadsAs}
 use Rattle.p10_cert.specs.WrongLines.{first_lines, IsFirstWrongLine}
 use Rattle.p10_cert.specs.private.Places.{gather, nothing}
-use Rattle.p10_cert.proofs.LineTexts.{text_of-append, line_then-some, line_then-injective, first_fewer}
+use Rattle.p10_cert.proofs.LineTexts.{line_then-some, line_then-injective, first_fewer}
 use Rattle.p10_cert.proofs.Runs.{func_good, claims_good}
 use Rattle.p10_cert.proofs.Gathering.{gather_before, gather_funcs, gather_first}
 

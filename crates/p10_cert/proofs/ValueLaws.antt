@@ -1,5 +1,5 @@
 -- Laws of the readers of ranges, values and ranks: what is read has the one text of what it says, and that text is read.
-use Rattle.std.proofs.Common.{◌≡◌, ℕ, suc, ◌<◌, ◌≤◌, Bool, true, false, ◌==◌, nat_le, List, [], ◌∷◌, ◌++◌, length, ℤ, pos, negsuc, ◌≤ℤ◌, int_le, codes, decimal, Some, None, refl, sym, ap, subst, ◌∙◌, arith}
+use Rattle.std.proofs.Common.{◌≡◌, ℕ, suc, ◌<◌, ◌≤◌, true, false, ◌==◌, nat_le, List, [], ◌∷◌, ◌++◌, length, ℤ, pos, negsuc, ◌≤ℤ◌, int_le, codes, decimal, Some, None, refl, sym, ap, subst, ◌∙◌, arith}
 use Rattle.std.proofs.lemmas.Bool.Decides.{nat_tests}
 use Rattle.std.proofs.lemmas.Int.{ints}
 use Rattle.std.proofs.lemmas.Option.{cond_some, same_Some}
@@ -11,7 +11,7 @@ use Rattle.p10_cert.specs.declared.claims.Rank.{Rank}
 use Rattle.p10_cert.specs.declared.claims.Rank.TheVariants.{Up, Down, One, Task}
 use Rattle.p10_range.specs.Ranges.{Interval}
 use Rattle.p10_cert.specs.Claims.{Value, Number, Address, Nothing}
-use Rattle.p10_cert.specs.Lines.{◌then◌, ends_then, value_then, IsEnd, AreEnds, IsIndex, IsResult, IsBound, IsRank}
+use Rattle.p10_cert.specs.Lines.{◌then◌, ends_then, value_then, IsEnd, AreEnds, IsResult, IsBound}
 use Rattle.p10_cert.specs.private.Reading.{after_front, after_run, ends_at, value_at, bound_at, rank_at, greatest_index}
 use Rattle.p10_cert.proofs.Steps.{then_some, bind_is, choice_some, choice_is, choice_not, both_true, after_front_takes, after_front_again}
 use Rattle.p10_cert.proofs.Numerals.{numeral_of_again}

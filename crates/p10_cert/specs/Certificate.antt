@@ -1,9 +1,9 @@
 -- What a certificate may claim, and its text.
-use Rattle.std.specs.Prelude.{◌≡◌, ℕ, ◌+◌, ◌<◌, ◌≤◌, Bool, true, false, if◌then◌else◌, List, [], ◌∷◌, ◌++◌, map, flat_map, codes}
+use Rattle.std.specs.Prelude.{◌≡◌, ℕ, ◌+◌, ◌<◌, ◌≤◌, List, [], ◌∷◌, ◌++◌, map, flat_map, codes}
 use Rattle.std.specs.List.{AllByRecursion}
 use Rattle.p10_cert.specs.declared.claims.Rank.{Rank}
 use Rattle.p10_cert.specs.declared.claims.Rank.TheVariants.{Task}
-use Rattle.p10_cert.specs.Claims.{Value, Var, Loop, Func, Claims}
+use Rattle.p10_cert.specs.Claims.{Var, Loop, Func, Claims}
 use Rattle.p10_cert.specs.Lines.{FuncHead, LoopHead, Line, FirstLine, FuncLine, ParamLine, ResultLine, LoopLine, VarLine, TotalLine, LastLine, text_of, IsFuncHead, IsParam, IsResult, IsLoopHead, IsVar, IsTotal}
 
 -- ## the lines of a certificate

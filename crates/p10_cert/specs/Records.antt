@@ -5,7 +5,7 @@ use Rattle.p10_base.specs.declared.report.Bounds.{Bounds}
 use Rattle.p10_cert.specs.declared.record.BadLine.{BadLine}
 use Rattle.p10_cert.specs.declared.record.FuncRecord.{FuncRecord}
 use Rattle.p10_cert.specs.Claims.{Func, Claims}
-use Rattle.p10_cert.specs.Lines.{Line, FirstLine, text_of}
+use Rattle.p10_cert.specs.Lines.{FirstLine, text_of}
 use Rattle.p10_cert.specs.Certificate.{func_lines, func_text, AreFuncs, IsCertificate, certificate_text}
 use Rattle.p10_cert.specs.WrongLines.{IsFirstWrongLine}
 

@@ -1,4 +1,14 @@
-//! The text of a certificate, both ways.
+//! The text of a certificate, both ways: claims to bytes and bytes to claims.
+//!
+//! Entry points: [`read`] gives the certificate of a text, or the first line that no certificate has; [`write`]
+//! writes the one text of a certificate; [`records`] gives one function's lines after the other, without memory, and
+//! [`claim`] what they claim. So the record of `func main rank 0 steps 3 calls 1 bytes 0 alloc 0`, `result 0 0` is a
+//! [`FuncClaim`] of 3 steps.
+//!
+//! Invariant: a line is read by itself (`line`), and may come where the state of the reader says (`next`); a place
+//! between two lines (`cursor`) is all that a reader keeps, and `read` collects what the reader of records gives. A
+//! further kind of line is a further row, a further state and a further text. Whether a certificate's claims hold of a
+//! program is left to the crates above.
 #![tactic(auto)]
 
 mod building;
@@ -15,6 +25,8 @@ mod reader;
 mod reading;
 mod record;
 mod state;
+#[cfg(test)]
+mod tests;
 mod texts;
 mod writing;
 

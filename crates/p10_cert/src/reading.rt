@@ -15,9 +15,6 @@ use crate::record::FuncRecord;
 use p10_base::{Limit, ListBuf};
 use std::alloc::{AllocError, Global};
 
-/// The most bytes of a certificate that is read.
-const MOST_BYTES: usize = 8_388_608;
-
 /// The certificate whose text this is.
 ///
 /// # Errors
@@ -27,8 +24,8 @@ const MOST_BYTES: usize = 8_388_608;
 pub fn read(alloc: Global, bytes: &[u8]) -> Result<Cert, CertFault>
     ensures { ReadsAs bytes.now result }
 {
-    if bytes.len() > MOST_BYTES {
-        return Err(CertFault::Over(Limit { number: 10 }));
+    if bytes.len() as u64 > Limit::MOST_CERTIFICATE_BYTES {
+        return Err(CertFault::Over(Limit::CERTIFICATE_BYTES));
     }
     let mut records = Records::new(bytes);
     let mut funcs = ListBuf::of(Vec::new(alloc));

@@ -1,8 +1,8 @@
 -- How what is claimed of a function is built from its lines, one after the other.
-use Rattle.std.specs.Prelude.{ℕ, Bool, false, List, [], ◌∷◌, ◌++◌, Option, Some, None}
+use Rattle.std.specs.Prelude.{false, List, [], ◌∷◌, ◌++◌, Option, Some, None}
 use Rattle.std.specs.Option.{option_map}
 use Rattle.p10_cert.specs.Claims.{Value, Nothing, Var, Loop, Func}
-use Rattle.p10_cert.specs.Lines.{FuncHead, LoopHead, Line, FirstLine, FuncLine, ParamLine, ResultLine, LoopLine, VarLine, TotalLine, LastLine}
+use Rattle.p10_cert.specs.Lines.{FuncHead, LoopHead, Line, FuncLine, ParamLine, ResultLine, LoopLine, VarLine}
 
 -- what was read of a function: the loop that was read last is kept apart, since variables may still come
 pub record Part : Type 0 where

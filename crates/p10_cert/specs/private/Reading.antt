@@ -1,12 +1,11 @@
 -- How a line is read, on lists of bytes: each reader gives a value and what stands after it.
-use Rattle.std.specs.Prelude.{ℕ, ◌+◌, ◌-◌, ◌*◌, Bool, true, false, ◌&&◌, ◌==◌, nat_le, if◌then◌else◌, List, [], ◌∷◌, length, take, drop, fold, decimal, ℤ, pos, neg_ℤ, int_le, codes, bytes_eq, Option, Some, None, option_and_then}
+use Rattle.std.specs.Prelude.{ℕ, ◌+◌, ◌-◌, ◌*◌, Bool, true, false, ◌==◌, nat_le, if◌then◌else◌, List, [], ◌∷◌, length, take, drop, fold, decimal, ℤ, pos, neg_ℤ, int_le, codes, bytes_eq, Option, Some, None, option_and_then}
 use Rattle.std.specs.Char.{is_ascii_digit}
-use Rattle.p10_base.specs.declared.report.Bounds.{Bounds}
 use Rattle.p10_cert.specs.declared.claims.Rank.{Rank}
 use Rattle.p10_cert.specs.declared.claims.Rank.TheVariants.{Up, Down, One, Task}
 use Rattle.p10_range.specs.Ranges.{Interval}
-use Rattle.p10_cert.specs.Claims.{Value, Number, Address, Nothing, Var}
-use Rattle.p10_cert.specs.Lines.{FuncHead, LoopHead, Line, FirstLine, FuncLine, ParamLine, ResultLine, LoopLine, VarLine, TotalLine, LastLine, greatest_count, greatest_size, is_name_byte, is_name}
+use Rattle.p10_cert.specs.Claims.{Value, Number, Address, Nothing}
+use Rattle.p10_cert.specs.Lines.{Line, FirstLine, FuncLine, ParamLine, ResultLine, LoopLine, VarLine, TotalLine, LastLine, greatest_count, greatest_size, is_name_byte, is_name}
 
 -- the second, of what the first gives
 infixl 10 ◌>>=◌

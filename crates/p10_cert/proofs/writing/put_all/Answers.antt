@@ -1,4 +1,4 @@
-use Rattle.std.proofs.Common.{drop, take, ap, ◌∙◌, suc, add-one}
+use Rattle.std.proofs.Common.{drop, take, suc}
 use Rattle.std.specs.List.{flat_map}
 use Rattle.p10_cert.proofs.Written.{on_err, front_after, flat_map_at}
 use Rattle.p10_cert.proofs.writing.put_all.Goals as goal

@@ -5,7 +5,7 @@ use Rattle.p10_cert.specs.Claims.{claims_of, func_of}
 use Rattle.p10_cert.specs.Certificate.{func_text, certificate_text}
 use Rattle.p10_cert.proofs.PieceTexts.{certificate_parts, funcs_part, total_text}
 use Rattle.p10_cert.proofs.Written.{on_err}
-use Rattle.p10_cert.proofs.Quarters.{HasParts, renamed, first_stops, second_stops, third_stops, fourth_ok, fourth_stops}
+use Rattle.p10_cert.proofs.Quarters.{renamed, first_stops, second_stops, third_stops, fourth_ok, fourth_stops}
 use Rattle.p10_cert.proofs.writing.write.Goals as goal
 
 pub returns-in_err-put-clause-front : goal.returns-in_err-put-clause-front

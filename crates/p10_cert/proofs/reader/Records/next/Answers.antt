@@ -1,4 +1,4 @@
-use Rattle.std.proofs.Common.{◌≡◌, ℕ, List, Some, refl, ap, subst, ◌∙◌}
+use Rattle.std.proofs.Common.{◌≡◌, ℕ, List, Some, refl, ap, subst}
 use Rattle.p10_base.specs.declared.report.Bounds.{Bounds}
 use Rattle.p10_cert.specs.Claims.{Func}
 use Rattle.p10_cert.specs.Certificate.{IsCertificate, certificate_text}
