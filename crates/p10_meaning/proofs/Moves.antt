@@ -18,7 +18,7 @@ use Rattle.p10_meaning.specs.Objects.{Object, on_ok, or_stop, find, alive, scala
 use Rattle.p10_meaning.specs.States.{State}
 use Rattle.p10_meaning.specs.Values.{scalars, width, scalars_before}
 use Rattle.p10_meaning.specs.Statements.{part_of, write_part}
-use Rattle.p10_meaning.specs.Sound.{Kind, View, own, Step, into, to_member, view_of_row, view_of_entry, view_of_member, stepped, Leads, IsAt, FitsPointer, MaybeFits, kind_scalars, AllObjects, Sound}
+use Rattle.p10_meaning.specs.Sound.{most_elements, Kind, View, own, Step, into, to_member, view_of_row, view_of_entry, view_of_member, stepped, Leads, IsAt, FitsPointer, MaybeFits, kind_scalars, AllObjects, Sound}
 use Rattle.p10_meaning.proofs.Geometry.{part_get, and_true, IsLaidOut, scalars_integer, scalars_pointer, IsLaid, element, walk_laid, walk_more, own_laid}
 use Rattle.p10_meaning.proofs.Fitting.{HasCell, all_get, IsFound, FoundIs, find_is, put_fits, closed_fits, maybe_same}
 
@@ -46,6 +46,10 @@ alive_is p ks o None f = tt
 alive_is p ks o (Some x) f = f
 
 -- ## Where scalars stand
+
+-- the scalars of an object have numbers
+numbered : {m : ℕ} → m ≤ most_elements → m ≤ last_number
+numbered l = omega (arith, l)
 
 pub get_below : {A : Type 0} (xs : List A) (i : ℕ) (x : A) → slice_get xs i ≡ Some x → i < length xs
 get_below [] i x e = absurd (none-some _ e)
@@ -121,12 +125,12 @@ cell_fits p out ks w t Null s f scalar = tt
 cell_fits p out ks w t (To o a n) s f scalar =
     on_weaker (λ (c : Cell). MaybeFits p ks (bare p.structures t) c.value) (λ (c : Cell). MaybeFits p ks t c.value) (cell_at w.objects (To o a n)) (λ c h. maybe_same p ks (bare p.structures t) t c.value (out.bare_again t) h)
     (cell_typed p ks w.objects o a n f.kind (bare p.structures t) s.all f.opened
-    (on_weaker _ _ (scalar_at a n) (λ j h. h.1) (scalar_place p out f.kind a n t (s.sizes o f.kind f.opened) f.leads scalar)))
+    (on_weaker _ _ (scalar_at a n) (λ j h. h.1) (scalar_place p out f.kind a n t (numbered (s.sizes o f.kind f.opened)) f.leads scalar)))
 
 pub write_fits : (p : PlainProgram) → IsLaidOut p → (ks : List Kind) (w : State) (t : PlainType) (q : Ptr) (c : Cell) → Sound p ks w → FitsPointer p ks t q → is_scalar t ≡ true → MaybeFits p ks t c.value → OnOk (AllObjects p ks) (write_at w.objects q c)
 write_fits p out ks w t Null c s f scalar g = tt
 write_fits p out ks w t (To o a n) c s f scalar g =
-    write_typed p ks w.objects o a n f.kind (bare p.structures t) c s.all f.opened (scalar_place p out f.kind a n t (s.sizes o f.kind f.opened) f.leads scalar)
+    write_typed p ks w.objects o a n f.kind (bare p.structures t) c s.all f.opened (scalar_place p out f.kind a n t (numbered (s.sizes o f.kind f.opened)) f.leads scalar)
     (maybe_same p ks t (bare p.structures t) c.value (sym (out.bare_again t)) g)
 
 -- scalar i of an element, by a window of its own
@@ -146,7 +150,7 @@ part_fits p out ks w t Null i s so f there = tt
 part_fits p out ks w t (To o a n) i s so f there =
     on_then (λ (q : Ptr). OnOk (λ (c : Cell). MaybeFits p ks s c.value) (cell_at w.objects q)) (λ (c : Cell). MaybeFits p ks s c.value) (inner w.objects (To o a n) i 1 1) _
     (on_then (λ _. Unit {0}) (λ (q : Ptr). OnOk (λ (c : Cell). MaybeFits p ks s c.value) (cell_at w.objects q)) (alive w.objects o) _ (any_ok (alive w.objects o)) (λ _ _.
-    cell_typed p ks w.objects o (window_in a n i 1 1) 0 f.kind s so.all f.opened (on_weaker _ _ (scalar_at (window_in a n i 1 1) 0) (λ j h. h.1) (part_place p out f.kind a n i t s (so.sizes o f.kind f.opened) f.leads there))))
+    cell_typed p ks w.objects o (window_in a n i 1 1) 0 f.kind s so.all f.opened (on_weaker _ _ (scalar_at (window_in a n i 1 1) 0) (λ j h. h.1) (part_place p out f.kind a n i t s (numbered (so.sizes o f.kind f.opened)) f.leads there))))
     (λ q h. h)
 
 pub write_part_fits : (p : PlainProgram) → IsLaidOut p → (ks : List Kind) (w : State) (t : PlainType) (q : Ptr) (i : ℕ) (s : PlainType) (c : Cell) → Sound p ks w → FitsPointer p ks t q → slice_get (scalars p t) i ≡ Some s → MaybeFits p ks s c.value →
@@ -155,7 +159,7 @@ write_part_fits p out ks w t Null i s c so f there g = tt
 write_part_fits p out ks w t (To o a n) i s c so f there g =
     on_then (λ (q : Ptr). OnOk (AllObjects p ks) (write_at w.objects q c)) (AllObjects p ks) (inner w.objects (To o a n) i 1 1) _
     (on_then (λ _. Unit {0}) (λ (q : Ptr). OnOk (AllObjects p ks) (write_at w.objects q c)) (alive w.objects o) _ (any_ok (alive w.objects o)) (λ _ _.
-    write_typed p ks w.objects o (window_in a n i 1 1) 0 f.kind s c so.all f.opened (part_place p out f.kind a n i t s (so.sizes o f.kind f.opened) f.leads there) g))
+    write_typed p ks w.objects o (window_in a n i 1 1) 0 f.kind s c so.all f.opened (part_place p out f.kind a n i t s (numbered (so.sizes o f.kind f.opened)) f.leads there) g))
     (λ q h. h)
 
 -- ## Pointers

@@ -22,12 +22,12 @@ use Rattle.p10_meaning.specs.declared.pointers.Ptr.TheVariants.{Null}
 use Rattle.p10_meaning.specs.declared.pointers.Scalar.{Scalar}
 use Rattle.p10_meaning.specs.declared.pointers.Scalar.TheVariants.{Int, Pointer}
 use Rattle.p10_meaning.specs.declared.pointers.Cell.{Cell}
-use Rattle.p10_meaning.specs.Pointers.{last_number, scalar_of, read_of, first_of}
+use Rattle.p10_meaning.specs.Pointers.{scalar_of, read_of, first_of}
 use Rattle.p10_meaning.specs.Objects.{Object, Origin, allocated, on_ok, cell_at, release}
 use Rattle.p10_meaning.specs.States.{IsSensorValue, State, AssertionFailed, gives, ends, or_undefined}
 use Rattle.p10_meaning.specs.Scalars.{is_true, converted_to, unset_cells, zero_cells}
 use Rattle.p10_meaning.specs.Values.{Held, holds, stands, absent, scalars, width, size, open_object, Target, Variable, Sensor, Element, variable_target, global_target, literal_number, literal_target, held_cell, sensed_from, sensed, read_target, asserted, next_byte, put_byte, is_denied, granted, requested}
-use Rattle.p10_meaning.specs.Sound.{Kind, single_of, FitsPointer, Fits, MaybeFits, AllFit, kind_scalars, AllObjects, text_type, SoundParts, Sound, VariableFits, FrameFits, Keeps}
+use Rattle.p10_meaning.specs.Sound.{most_elements, Kind, single_of, FitsPointer, Fits, MaybeFits, AllFit, kind_scalars, AllObjects, text_type, SoundParts, Sound, VariableFits, FrameFits, Keeps}
 use Rattle.p10_meaning.proofs.Geometry.{IsLaidOut}
 use Rattle.p10_meaning.proofs.LaidOut.{repeated_few, scalars_few, AreScalar, scalar_repeated, scalars_scalar}
 use Rattle.p10_meaning.proofs.Fitting.{grown, get_last, frame_get, sound_with, sound_push, all_unset, maybe_same}
@@ -244,7 +244,7 @@ pub zero_fill : (p : PlainProgram) → IsFill p zero_cells
 zero_fill p = record { fits = λ ks ts f. zeros_fit p ks ts f }
 
 -- one more object of a kind, and the pointer to its first element
-pub opened_keeps : {A : Type 0} (p : PlainProgram) (ks : List Kind) (P : List Kind → A → Type 0) (k : Kind) (origin : Origin) (cells : List Cell) (a : A) (w : State) → Sound p ks w → length (kind_scalars p k) ≤ last_number → AllFit p (ks ++ k ∷ []) (kind_scalars p k) cells →
+pub opened_keeps : {A : Type 0} (p : PlainProgram) (ks : List Kind) (P : List Kind → A → Type 0) (k : Kind) (origin : Origin) (cells : List Cell) (a : A) (w : State) → Sound p ks w → length (kind_scalars p k) ≤ most_elements → AllFit p (ks ++ k ∷ []) (kind_scalars p k) cells →
     (slice_get (ks ++ k ∷ []) w.opened ≡ Some k → P (ks ++ k ∷ []) a) → Keeps p ks P (gives a (open_object origin cells w))
 opened_keeps p ks P k origin cells a w s few fits value = record {
   kinds = ks ++ k ∷ [];
@@ -253,7 +253,7 @@ opened_keeps p ks P k origin cells a w s few fits value = record {
   value = value (subst (λ m. slice_get (ks ++ k ∷ []) m ≡ Some k) s.count (get_last ks k));
 }
 
-granted_keeps : (p : PlainProgram) (ks : List Kind) (t : PlainType) (n : ℕ) (fill : List PlainType → List Cell) (w : State) → IsFill p fill → length (repeated n (scalars p t)) ≤ last_number → Sound p ks w →
+granted_keeps : (p : PlainProgram) (ks : List Kind) (t : PlainType) (n : ℕ) (fill : List PlainType → List Cell) (w : State) → IsFill p fill → length (repeated n (scalars p t)) ≤ most_elements → Sound p ks w →
     Keeps p ks (λ ks. MaybeFits p ks (pointer false t)) (granted (width p t) n (fill (repeated n (scalars p t))) w)
 granted_keeps p ks t n fill w is few s =
     let k : Kind = record { elem = bare p.structures t; count = n } in
@@ -263,7 +263,7 @@ granted_keeps p ks t n fill w is few s =
     (is.fits (ks ++ k ∷ []) (repeated n (scalars p t)) (scalar_repeated n (scalars p t) (scalars_scalar p.structures (bare p.structures t))))
     (λ e. record { kind = k; opened = e; leads = record { path = []; leads = refl }; position = omega arith }))
 
-small : (m b : ℕ) → m ≤ b → b ≤ 1048576 → m ≤ last_number
+small : (m b : ℕ) → m ≤ b → b ≤ 1048576 → m ≤ most_elements
 small m b l c = omega (arith, l, c)
 
 both_true : (a b : Bool) → (a && b) ≡ true → (a ≡ true) × (b ≡ true)

@@ -1,5 +1,5 @@
 -- Sound states: each value is one of its type, and each pointer points where a path through its object's type leads.
-use Rattle.std.specs.Prelude.{◌≡◌, ℕ, ◌+◌, ◌<◌, ◌≤◌, leb, if◌then◌else◌, Bool, false, List, [], ◌∷◌, ◌++◌, length, map, slice_get, ℤ, Option, Some, None}
+use Rattle.std.specs.Prelude.{◌≡◌, ℕ, ◌+◌, ◌<◌, ◌≤◌, leb, if◌then◌else◌, Bool, true, false, List, [], ◌∷◌, ◌++◌, length, map, slice_get, ℤ, Option, Some, None}
 use Rattle.std.specs.List.{All}
 use Rattle.p10_int.specs.declared.types.IntType.TheVariants.{Char}
 use Rattle.p10_int.specs.Types.{InRange}
@@ -15,7 +15,7 @@ use Rattle.p10_meaning.specs.declared.pointers.Scalar.{Scalar}
 use Rattle.p10_meaning.specs.declared.pointers.Scalar.TheVariants.{Int, Pointer}
 use Rattle.p10_meaning.specs.declared.pointers.Cell.{Cell}
 use Rattle.p10_meaning.specs.declared.world.World.{World}
-use Rattle.p10_meaning.specs.Pointers.{last_number, whole_window, window_in}
+use Rattle.p10_meaning.specs.Pointers.{whole_window, window_in}
 use Rattle.p10_meaning.specs.Objects.{Object}
 use Rattle.p10_meaning.specs.States.{IsWorld, IsSensorValue, State, Progress, gives, ends}
 use Rattle.p10_meaning.specs.Values.{Calls, Held, holds, stands, absent, width, scalars_before, evaluate}
@@ -137,11 +137,15 @@ AllObjects p ks (x ∷ xs) = ObjectFits p ks x × AllObjects p ks xs
 abbrev pub text_type : ℕ → PlainType
 text_type n = array false (integer false Char) n
 
+-- no object has over 2^40 scalars, so no array in it has more elements
+abbrev pub most_elements : ℕ
+most_elements = 1099511627776
+
 -- what has to hold of the parts of a state where `ks` are the kinds of all objects that were opened: the objects of static
 -- lifetime and the string literals were opened first, as what they are; every live object fits; input and sensors are a world's
 pub record SoundParts (p : PlainProgram) (ks : List Kind) (objects : List Object) (opened : ℕ) (input : List ℕ) (sensors : List ℤ) : Type 0 where
   pub count : length ks ≡ opened
-  pub sizes : (o : ℕ) (k : Kind) → slice_get ks o ≡ Some k → length (kind_scalars p k) ≤ last_number
+  pub sizes : (o : ℕ) (k : Kind) → slice_get ks o ≡ Some k → length (kind_scalars p k) ≤ most_elements
   pub statics : (n : ℕ) (object : PlainObject) → slice_get p.objects n ≡ Some object → slice_get ks n ≡ Some (single_of p object.type)
   pub literals : (n : ℕ) (l : PlainLiteral) → slice_get p.literals n ≡ Some l → slice_get ks (length p.objects + n) ≡ Some (single_of p (text_type (length l.bytes)))
   pub all : AllObjects p ks objects
@@ -247,3 +251,9 @@ opening_kinds p = map (λ (object : PlainObject). single_of p object.type) p.obj
 -- the opening state of a whole program is sound in every world
 abbrev pub OpeningIsSound : Type 0
 OpeningIsSound = (p : PlainProgram) → IsWholeProgram p → (world : World) → IsWorld world → (left : ℕ) → Sound p (opening_kinds p) (opening p world left)
+
+-- in a sound state no array in an object has over 2^40 elements, where an element has a scalar
+abbrev pub ArraysAreSmall : Type 0
+ArraysAreSmall =
+    (p : PlainProgram) → IsWholeProgram p → (ks : List Kind) (w : State) → Sound p ks w → (o : ℕ) (k : Kind) → slice_get ks o ≡ Some k → (v : View) → Leads p k v → v.window.inside ≡ true → 1 ≤ v.window.stride →
+    v.window.count ≤ most_elements

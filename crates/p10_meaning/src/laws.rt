@@ -1,7 +1,7 @@
 //! What holds of the meaning. Nothing runs here: each function stands for the laws that its contract states.
 
 ghost use Rattle.p10_meaning.specs.Laws.{CallsHaveNoBound, StatementsHaveNoBound, LoopsHaveNoBound, ValuesHaveNoBound, RunsNeedNoMore};
-ghost use Rattle.p10_meaning.specs.Sound.{CallsKeepSound, StatementsKeepSound, ValuesKeepSound, OpeningIsSound};
+ghost use Rattle.p10_meaning.specs.Sound.{CallsKeepSound, StatementsKeepSound, ValuesKeepSound, OpeningIsSound, ArraysAreSmall};
 ghost use Rattle.p10_meaning.specs.Costs.{StepsAreCounted};
 ghost use Rattle.p10_meaning.specs.Stopping.{RunsStop};
 ghost use Rattle.p10_meaning.specs.Tasks.{RunsGive};
@@ -23,12 +23,13 @@ pub fn runs_need_no_more()
 {}
 
 /// The opening state of a whole program is sound in every world, and runs keep sound states: each value stays one of its type, and each pointer points into an object that was
-/// opened, where a path by its type leads.
+/// opened, where a path by its type leads. No array in an object has over 2^40 elements.
 pub fn sound_states_stay_sound()
     ensures opening { OpeningIsSound }
     ensures calls { CallsKeepSound }
     ensures statements { StatementsKeepSound }
     ensures values { ValuesKeepSound }
+    ensures arrays { ArraysAreSmall }
 {}
 
 /// What each row of the table of steps costs, at a small program: with a step fewer its run ends for want of steps.

@@ -1,4 +1,4 @@
-use Rattle.p10_meaning.proofs.SoundCalls.{calls_keep, statements_keep, values_keep}
+use Rattle.p10_meaning.proofs.SoundCalls.{arrays_small, calls_keep, statements_keep, values_keep}
 use Rattle.p10_meaning.proofs.SoundOpening.{opening_sound}
 use Rattle.p10_meaning.proofs.laws.sound_states_stay_sound.Goals as goal
 
@@ -13,3 +13,6 @@ returns-clause-values c = values_keep
 
 pub returns-clause-opening : goal.returns-clause-opening
 returns-clause-opening c = opening_sound
+
+pub returns-clause-arrays : goal.returns-clause-arrays
+returns-clause-arrays c = arrays_small
