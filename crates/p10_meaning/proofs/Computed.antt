@@ -6,6 +6,7 @@ use Rattle.p10_core.specs.Sizes.{layout_of}
 use Rattle.p10_meaning.specs.Costs.{StepsAreCounted}
 use Rattle.p10_meaning.specs.Stopping.{RunsStop}
 use Rattle.p10_meaning.specs.Tasks.{RunsGive}
+use Rattle.p10_meaning.specs.Edges.{EdgesAreSettled}
 
 pub steps_are_counted : StepsAreCounted
 unfolding fitted reduced layout_of
@@ -131,5 +132,39 @@ runs_give = record {
     not_left_yet = refl;
     test_costs_nothing = refl;
     after_the_mark = refl;
+  };
+}
+
+pub edges_are_settled : EdgesAreSettled
+unfolding fitted reduced layout_of quotient remainder shifted_left shifted_right bitwise complement
+edges_are_settled = record {
+  unset = record {
+    again = refl;
+    itself = refl;
+    copied = refl;
+    copy_read = refl;
+    zero = refl;
+  };
+  order = record {
+    place_before_value = refl;
+    tested_again = refl;
+    address_of_null = refl;
+    address_of_one_past = refl;
+  };
+  told = record {
+    one_past = refl;
+    texts = refl;
+    member_freed = refl;
+    parameter = refl;
+  };
+  world = record {
+    first_denied = refl;
+    second_denied = refl;
+    sensors = refl;
+    static_object = refl;
+  };
+  jumps = record {
+    to_the_test = refl;
+    after_the_switch = refl;
   };
 }

@@ -14,3 +14,4 @@ pub mod Examples
 pub mod Costs
 pub mod Stopping
 pub mod Tasks
+pub mod Edges

@@ -5,6 +5,7 @@ ghost use Rattle.p10_meaning.specs.Sound.{CallsKeepSound, StatementsKeepSound, V
 ghost use Rattle.p10_meaning.specs.Costs.{StepsAreCounted};
 ghost use Rattle.p10_meaning.specs.Stopping.{RunsStop};
 ghost use Rattle.p10_meaning.specs.Tasks.{RunsGive};
+ghost use Rattle.p10_meaning.specs.Edges.{EdgesAreSettled};
 
 /// What comes of a call, a statement, a loop or a value doesn't depend on the bound of the recursion, as long as that is no
 /// less than the steps that are left; so calls meet the plain recursion on trees and steps. More steps change no outcome but
@@ -45,4 +46,10 @@ pub fn runs_stop()
 /// Whole runs of small programs: nested calls, worlds, marks and task loops.
 pub fn runs_give()
     ensures { RunsGive }
+{}
+
+/// Edges that this profile settles: what is unset when, which part comes first, which pointers are equal, what a world gives, and
+/// where jumps lead.
+pub fn edges_are_settled()
+    ensures { EdgesAreSettled }
 {}
