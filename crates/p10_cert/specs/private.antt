@@ -1,4 +1,4 @@
--- What only the contracts of private functions cite.
+-- What only the contracts of private functions and the view of `Records` cite.
 pub mod Reading
 pub mod Plain
 pub mod Steps
