@@ -141,7 +141,7 @@ next_byte (byte ∷ input) w = gives (Some (Int (pos byte))) (record w { input =
 abbrev pub put_byte : ℕ → State → Progress (Option Scalar)
 put_byte byte w = gives (Some (Int (pos byte))) (record w { output = w.output ++ byte ∷ [] })
 
--- how many elements are asked for: one where none is written
+-- an integer as a count: no count is below zero
 abbrev pub natural : ℤ → ℕ
 natural (pos n) = n
 natural (negsuc n) = 0
