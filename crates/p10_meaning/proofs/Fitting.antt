@@ -1,5 +1,5 @@
 -- What fits goes on to fit as objects are opened, closed and written.
-use Rattle.std.proofs.Common.{◌≡◌, ℕ, zero, suc, ◌+◌, ◌≤◌, Bool, false, eqb, List, [], ◌∷◌, ◌++◌, length, set, refl, sym, ◌∙◌, ap, subst, arith, append_assoc, Option, Some, None, slice_get, length-append, append-nil, ℤ}
+use Rattle.std.proofs.Common.{◌≡◌, ℕ, zero, suc, ◌+◌, ◌<◌, ◌≤◌, Bool, false, eqb, List, [], ◌∷◌, ◌++◌, length, set, refl, sym, ◌∙◌, ap, subst, arith, append_assoc, Option, Some, None, slice_get, length-append, append-nil, ℤ}
 use Rattle.std.specs.Prelude.{slice_set}
 use Rattle.std.proofs.lemmas.Bool.{cond_both, eqb-true}
 use Rattle.std.proofs.lemmas.Option.{same_Some, none-some}
@@ -15,7 +15,7 @@ use Rattle.p10_meaning.specs.declared.pointers.Cell.{Cell}
 use Rattle.p10_meaning.specs.Objects.{Object, Origin, find, put, closed, all_closed, opened_with}
 use Rattle.p10_meaning.specs.Scalars.{unset_cells}
 use Rattle.p10_meaning.specs.Values.{Held, holds, stands, absent}
-use Rattle.p10_meaning.specs.Sound.{most_elements, Kind, Leads, FitsPointer, Fits, MaybeFits, AllFit, ObjectFits, AllObjects, SoundParts, VariableFits, FrameFits, Grows, kind_scalars}
+use Rattle.p10_meaning.specs.Sound.{most_elements, Kind, Leads, FitsPointer, Fits, MaybeFits, AllFit, ObjectFits, Above, AllObjects, SoundParts, VariableFits, FrameFits, Grows, kind_scalars}
 
 -- ## Objects are only added
 
@@ -121,13 +121,29 @@ frame_set p ks (u ∷ vs) (y ∷ hs) (suc i) v h f e d = (f.0, frame_set p ks vs
 object_grown : (p : PlainProgram) (ks js : List Kind) (x : Object) → Grows ks js → ObjectFits p ks x → ObjectFits p js x
 object_grown p ks js x g f = record { kind = f.kind; opened = get_grown ks js x.number f.kind g f.opened; cells = all_grown p ks js _ x.cells g f.cells }
 
-objects_grown : (p : PlainProgram) (ks js : List Kind) (xs : List Object) → Grows ks js → AllObjects p ks xs → AllObjects p js xs
-objects_grown p ks js [] g f = tt
-objects_grown p ks js (x ∷ xs) g f = (object_grown p ks js x g f.0, objects_grown p ks js xs g f.1)
+pub get_below : {A : Type 0} (xs : List A) (i : ℕ) (x : A) → slice_get xs i ≡ Some x → i < length xs
+get_below [] i x e = absurd (none-some _ e)
+get_below (y ∷ xs) zero x e = omega arith
+get_below (y ∷ xs) (suc i) x e = let h : i < length xs = get_below xs i x e in omega (arith, h)
 
-objects_push : (p : PlainProgram) (ks : List Kind) (xs : List Object) (x : Object) → AllObjects p ks xs → ObjectFits p ks x → AllObjects p ks (xs ++ x ∷ [])
-objects_push p ks [] x f g = (g, tt)
-objects_push p ks (y ∷ xs) x f g = (f.0, objects_push p ks xs x f.1 g)
+above_push : (n : ℕ) (xs : List Object) (x : Object) → Above n xs → n < x.number → Above n (xs ++ x ∷ [])
+above_push n [] x f l = (l, tt)
+above_push n (y ∷ xs) x f l = (f.0, above_push n xs x f.1 l)
+
+above_put : (m n i : ℕ) (c : Cell) (xs : List Object) → Above m xs → Above m (put xs n i c)
+above_put m n i c [] f = tt
+above_put m n i c (x ∷ xs) f = cond_both (eqb x.number n) _ _ (Above m) (λ e. (f.0, f.1)) (λ e. (f.0, above_put m n i c xs f.1))
+
+above_closed : (m n : ℕ) (xs : List Object) → Above m xs → Above m (closed n xs)
+above_closed m n [] f = tt
+above_closed m n (x ∷ xs) f = cond_both (eqb x.number n) _ _ (Above m) (λ e. f.1) (λ e. (f.0, above_closed m n xs f.1))
+
+-- an object that is opened after all others stands after them
+objects_push : (p : PlainProgram) (ks js : List Kind) (xs : List Object) (x : Object) → AllObjects p ks xs → Grows ks js → length ks ≤ x.number → ObjectFits p js x → AllObjects p js (xs ++ x ∷ [])
+objects_push p ks js [] x f g l h = ((h, tt), tt)
+objects_push p ks js (y ∷ xs) x f g l h =
+    let below : y.number < length ks = get_below ks y.number f.0.0.kind f.0.0.opened in
+    ((object_grown p ks js y g f.0.0, above_push y.number xs x f.0.1 (omega (arith, below, l))), objects_push p ks js xs x f.1 g l h)
 
 pub record IsFound (p : PlainProgram) (ks : List Kind) (n : ℕ) (x : Object) : Type 0 where
   pub number : x.number ≡ n
@@ -139,19 +155,19 @@ FoundIs p ks n (Some x) = IsFound p ks n x
 
 pub find_is : (p : PlainProgram) (ks : List Kind) (n : ℕ) (xs : List Object) → AllObjects p ks xs → FoundIs p ks n (find n xs)
 find_is p ks n [] f = tt
-find_is p ks n (x ∷ xs) f = cond_both (eqb x.number n) (Some x) (find n xs) (FoundIs p ks n) (λ e. record { number = eqb-true x.number n e; fits = f.0 }) (λ e. find_is p ks n xs f.1)
+find_is p ks n (x ∷ xs) f = cond_both (eqb x.number n) (Some x) (find n xs) (FoundIs p ks n) (λ e. record { number = eqb-true x.number n e; fits = f.0.0 }) (λ e. find_is p ks n xs f.1)
 
 -- a scalar of an object is set to a value that fits
 pub put_fits : (p : PlainProgram) (ks : List Kind) (n i : ℕ) (k : Kind) (t : PlainType) (c : Cell) (xs : List Object) → AllObjects p ks xs → slice_get ks n ≡ Some k → slice_get (kind_scalars p k) i ≡ Some t → MaybeFits p ks t c.value → AllObjects p ks (put xs n i c)
 put_fits p ks n i k t c [] f e d g = tt
 put_fits p ks n i k t c (x ∷ xs) f e d g = cond_both (eqb x.number n) _ _ (AllObjects p ks)
-    (λ b. let same : f.0.kind ≡ k = same_Some _ _ (sym f.0.opened ∙ (ap (slice_get ks) (eqb-true x.number n b) ∙ e)) in
-    (record { kind = f.0.kind; opened = f.0.opened; cells = all_set p ks (kind_scalars p f.0.kind) x.cells i t c f.0.cells (subst (λ k. slice_get (kind_scalars p k) i ≡ Some t) (sym same) d) g }, f.1))
-    (λ b. (f.0, put_fits p ks n i k t c xs f.1 e d g))
+    (λ b. let same : f.0.0.kind ≡ k = same_Some _ _ (sym f.0.0.opened ∙ (ap (slice_get ks) (eqb-true x.number n b) ∙ e)) in
+    ((record { kind = f.0.0.kind; opened = f.0.0.opened; cells = all_set p ks (kind_scalars p f.0.0.kind) x.cells i t c f.0.0.cells (subst (λ k. slice_get (kind_scalars p k) i ≡ Some t) (sym same) d) g }, f.0.1), f.1))
+    (λ b. ((f.0.0, above_put x.number n i c xs f.0.1), put_fits p ks n i k t c xs f.1 e d g))
 
 pub closed_fits : (p : PlainProgram) (ks : List Kind) (n : ℕ) (xs : List Object) → AllObjects p ks xs → AllObjects p ks (closed n xs)
 closed_fits p ks n [] f = tt
-closed_fits p ks n (x ∷ xs) f = cond_both (eqb x.number n) _ _ (AllObjects p ks) (λ e. f.1) (λ e. (f.0, closed_fits p ks n xs f.1))
+closed_fits p ks n (x ∷ xs) f = cond_both (eqb x.number n) _ _ (AllObjects p ks) (λ e. f.1) (λ e. ((f.0.0, above_closed x.number n xs f.0.1), closed_fits p ks n xs f.1))
 
 pub all_closed_fits : (p : PlainProgram) (ks : List Kind) (os : List ℕ) (xs : List Object) → AllObjects p ks xs → AllObjects p ks (all_closed os xs)
 all_closed_fits p ks [] xs f = f
@@ -169,7 +185,7 @@ sound_push p ks xs n input sensors k origin cells s few f = record {
   sizes = λ o j e. get_of_push ks k o j e (λ e. s.sizes o j e) (λ e. subst (λ k. length (kind_scalars p k) ≤ most_elements) e few);
   statics = λ i object e. get_grown ks (ks ++ k ∷ []) i _ (grown ks k) (s.statics i object e);
   literals = λ i l e. get_grown ks (ks ++ k ∷ []) (length p.objects + i) _ (grown ks k) (s.literals i l e);
-  all = objects_push p (ks ++ k ∷ []) xs _ (objects_grown p ks (ks ++ k ∷ []) xs (grown ks k) s.all)
+  all = objects_push p ks (ks ++ k ∷ []) xs _ s.all (grown ks k) (let c : length ks ≡ n = s.count in omega (arith, c))
       (record { kind = k; opened = subst (λ m. slice_get (ks ++ k ∷ []) m ≡ Some k) s.count (get_last ks k); cells = f });
   input_bytes = s.input_bytes;
   sensor_values = s.sensor_values;

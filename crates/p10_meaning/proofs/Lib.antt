@@ -8,6 +8,7 @@ pub mod AgreeingCalls
 pub mod Budgets
 pub mod Geometry
 pub mod Fitting
+pub mod StayApart
 pub mod Moves
 pub mod LaidOut
 pub mod SoundScalars

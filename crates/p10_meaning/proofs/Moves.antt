@@ -1,7 +1,7 @@
 -- The moves on objects and pointers keep sound states.
-use Rattle.std.proofs.Common.{◌≡◌, ℕ, zero, suc, ◌+◌, ◌*◌, ◌<◌, ◌≤◌, min, ltb, leb, eqb, ◌&&◌, cond, Bool, true, false, List, [], ◌∷◌, ◌++◌, length, refl, sym, ◌∙◌, ap, subst, arith, Option, Some, None, Result, Ok, Err, slice_get, ℤ, pos, negsuc}
+use Rattle.std.proofs.Common.{◌≡◌, ℕ, ◌+◌, ◌*◌, ◌<◌, ◌≤◌, min, ltb, leb, eqb, ◌&&◌, cond, Bool, true, false, List, [], ◌∷◌, ◌++◌, length, refl, sym, ◌∙◌, ap, subst, arith, Option, Some, None, Result, Ok, Err, slice_get, ℤ, pos, negsuc}
 use Rattle.std.specs.Prelude.{◌+ℤ◌}
-use Rattle.std.proofs.lemmas.Option.{same_Some, none-some}
+use Rattle.std.proofs.lemmas.Option.{same_Some}
 use Rattle.std.proofs.lemmas.Bool.{leb-true, le-leb}
 use Rattle.p10_int.specs.declared.operators.Stop.{Stop}
 use Rattle.p10_int.specs.declared.operators.Stop.TheVariants.{U6, U7, U11}
@@ -20,7 +20,7 @@ use Rattle.p10_meaning.specs.Values.{scalars, width, scalars_before}
 use Rattle.p10_meaning.specs.Statements.{part_of, write_part}
 use Rattle.p10_meaning.specs.Sound.{most_elements, Kind, View, own, Step, into, to_member, view_of_row, view_of_entry, view_of_member, stepped, Leads, IsAt, FitsPointer, MaybeFits, kind_scalars, AllObjects, Sound}
 use Rattle.p10_meaning.proofs.Geometry.{part_get, and_true, IsLaidOut, scalars_integer, scalars_pointer, IsLaid, element, walk_laid, walk_more, own_laid}
-use Rattle.p10_meaning.proofs.Fitting.{HasCell, all_get, IsFound, FoundIs, find_is, put_fits, closed_fits, maybe_same}
+use Rattle.p10_meaning.proofs.Fitting.{get_below, HasCell, all_get, IsFound, FoundIs, find_is, put_fits, closed_fits, maybe_same}
 
 -- ## What holds of a result, if it is no stop
 
@@ -50,11 +50,6 @@ alive_is p ks o (Some x) f = f
 -- the scalars of an object have numbers
 numbered : {m : ℕ} → m ≤ most_elements → m ≤ last_number
 numbered l = omega (arith, l)
-
-pub get_below : {A : Type 0} (xs : List A) (i : ℕ) (x : A) → slice_get xs i ≡ Some x → i < length xs
-get_below [] i x e = absurd (none-some _ e)
-get_below (y ∷ xs) zero x e = omega arith
-get_below (y ∷ xs) (suc i) x e = let h : i < length xs = get_below xs i x e in omega (arith, h)
 
 -- scalar i of an element has the type that the element's scalar i has
 typed_part : (p : PlainProgram) → IsLaidOut p → (k : Kind) (a : Window) (n i : ℕ) (t s : PlainType) → length (kind_scalars p k) ≤ last_number → Leads p k (record { window = a; elem = bare p.structures t }) → (a.inside && ltb n a.count) ≡ true →

@@ -23,7 +23,7 @@ use Rattle.p10_meaning.specs.Scalars.{zero_cells}
 use Rattle.p10_meaning.specs.Values.{Calls, scalars, evaluate}
 use Rattle.p10_meaning.specs.Statements.{listed_scalars}
 use Rattle.p10_meaning.specs.Opening.{static_objects, literal_objects, opening_with, constant_setting, constant_state, constant_scalar, constant_scalars, listed_cells, initial_cells}
-use Rattle.p10_meaning.specs.Sound.{most_elements, Kind, single_of, Fits, AllFit, kind_scalars, AllObjects, text_type, Sound, Grows, Keeps, KeepSound, AreSeen, opening_kinds, OpeningIsSound}
+use Rattle.p10_meaning.specs.Sound.{most_elements, Kind, single_of, Fits, AllFit, kind_scalars, Above, AllObjects, text_type, Sound, Grows, Keeps, KeepSound, AreSeen, opening_kinds, OpeningIsSound}
 use Rattle.p10_meaning.proofs.Geometry.{IsLaidOut, scalars_array, scalars_integer}
 use Rattle.p10_meaning.proofs.LaidOut.{laid_out, lies_bare, array_bytes, repeated_few, scalars_few, AreScalar, scalars_scalar, HasMapped, map_get, map_back}
 use Rattle.p10_meaning.proofs.Fitting.{get_before, fits_same, bare_unqualified}
@@ -47,6 +47,9 @@ get_second [] ys i y e = subst (λ n. slice_get ys n ≡ Some y) (zero_plus i) e
   where
     zero_plus : (i : ℕ) → i ≡ 0 + i
     zero_plus i = omega arith
+
+    counted : (m n : ℕ) → m < 0 + n → m < n
+    counted m n l = omega (arith, l)
 get_second (x ∷ xs) ys i y e = subst (λ n. slice_get (x ∷ (xs ++ ys)) n ≡ Some y) (one_more (length xs) i) (get_second xs ys i y e)
   where
     one_more : (n i : ℕ) → suc (n + i) ≡ suc n + i
@@ -107,24 +110,46 @@ kinds_few p whole o k e =
 pub record CellsFit (p : PlainProgram) (ks : List Kind) (cells : PlainObject → List Cell) : Type 0 where
   pub fit : (o : PlainObject) → IsWholeObject p o → AllFit p ks (kind_scalars p (single_of p o.type)) (cells o)
 
-objects_append : (p : PlainProgram) (ks : List Kind) (xs ys : List Object) → AllObjects p ks xs → AllObjects p ks ys → AllObjects p ks (xs ++ ys)
-objects_append p ks [] ys f g = g
-objects_append p ks (x ∷ xs) ys f g = (f.0, objects_append p ks xs ys f.1 g)
+above_append : (n : ℕ) (xs ys : List Object) → Above n xs → Above n ys → Above n (xs ++ ys)
+above_append n [] ys f g = g
+above_append n (x ∷ xs) ys f g = (f.0, above_append n xs ys f.1 g)
 
-statics_fit : (p : PlainProgram) (ks : List Kind) (cells : PlainObject → List Cell) (n : ℕ) (objects : List PlainObject) → CellsFit p ks cells → All (IsWholeObject p) objects →
-    ((i : ℕ) (o : PlainObject) → slice_get objects i ≡ Some o → slice_get ks (n + i) ≡ Some (single_of p o.type)) → AllObjects p ks (static_objects cells n objects)
-statics_fit p ks cells n [] c whole there = tt
-statics_fit p ks cells n (o ∷ objects) c whole there =
-    let rest : AllObjects p ks (static_objects cells (suc n) objects) =
-    statics_fit p ks cells (suc n) objects c (All-tail (IsWholeObject p) o objects whole) (λ i u e. subst (λ m. slice_get ks m ≡ Some (single_of p u.type)) (one_more n i) (there (suc i) u e)) in
-    cond_both o.sensor _ _ (AllObjects p ks) (λ e. rest) (λ e.
-    (record { kind = single_of p o.type; opened = subst (λ m. slice_get ks m ≡ Some (single_of p o.type)) (no_more n) (there 0 o refl); cells = c.fit o (All-head (IsWholeObject p) o objects whole) }, rest))
+above_statics : (cells : PlainObject → List Cell) (m n : ℕ) (objects : List PlainObject) → m < n → Above m (static_objects cells n objects)
+above_statics cells m n [] l = tt
+above_statics cells m n (o ∷ objects) l =
+    let rest : Above m (static_objects cells (suc n) objects) = above_statics cells m (suc n) objects (omega (arith, l)) in cond_both o.sensor _ _ (Above m) (λ e. rest) (λ e. (l, rest))
+
+above_literals : (m n : ℕ) (literals : List PlainLiteral) → m < n → Above m (literal_objects n literals)
+above_literals m n [] l = tt
+above_literals m n (x ∷ literals) l = (l, above_literals m (suc n) literals (omega (arith, l)))
+
+-- objects of static lifetime fit, and others that stand after them
+statics_fit : (p : PlainProgram) (ks : List Kind) (cells : PlainObject → List Cell) (n : ℕ) (objects : List PlainObject) (ys : List Object) → CellsFit p ks cells → All (IsWholeObject p) objects →
+    ((i : ℕ) (o : PlainObject) → slice_get objects i ≡ Some o → slice_get ks (n + i) ≡ Some (single_of p o.type)) → AllObjects p ks ys → ((m : ℕ) → m < n + length objects → Above m ys) → AllObjects p ks (static_objects cells n objects ++ ys)
+statics_fit p ks cells n [] ys c whole there others after = others
+statics_fit p ks cells n (o ∷ objects) ys c whole there others after =
+    let rest : AllObjects p ks (static_objects cells (suc n) objects ++ ys) =
+    statics_fit p ks cells (suc n) objects ys c (All-tail (IsWholeObject p) o objects whole) (λ i u e. subst (λ m. slice_get ks m ≡ Some (single_of p u.type)) (one_more n i) (there (suc i) u e)) others
+    (λ m l. after m (further m n (length objects) l)) in
+    cond_both o.sensor _ _ (λ xs. AllObjects p ks (xs ++ ys)) (λ e. rest) (λ e. (
+      (
+        record { kind = single_of p o.type; opened = subst (λ m. slice_get ks m ≡ Some (single_of p o.type)) (no_more n) (there 0 o refl); cells = c.fit o (All-head (IsWholeObject p) o objects whole) },
+        above_append n (static_objects cells (suc n) objects) ys (above_statics cells n (suc n) objects (omega arith)) (after n (first n (length objects))),
+      ),
+      rest,
+    ))
   where
     no_more : (n : ℕ) → n + 0 ≡ n
     no_more n = omega arith
 
     one_more : (n i : ℕ) → n + suc i ≡ suc n + i
     one_more n i = omega arith
+
+    further : (m n k : ℕ) → m < suc n + k → m < n + suc k
+    further m n k l = omega (arith, l)
+
+    first : (n k : ℕ) → n < n + suc k
+    first n k = omega arith
 
 letters_fit : (p : PlainProgram) (ks : List Kind) (bytes : List ℕ) → AllFit p ks (repeated (length bytes) (integer false Char ∷ [])) (map (λ byte. holding (Int (converted Char (pos byte)))) bytes)
 letters_fit p ks [] = tt
@@ -137,11 +162,14 @@ text_cells p ks bytes = subst (λ ts. AllFit p ks ts (map (λ byte. holding (Int
 literals_fit : (p : PlainProgram) (ks : List Kind) (n : ℕ) (literals : List PlainLiteral) → ((i : ℕ) (l : PlainLiteral) → slice_get literals i ≡ Some l → slice_get ks (n + i) ≡ Some (single_of p (text_type (length l.bytes)))) → AllObjects p ks (literal_objects n literals)
 literals_fit p ks n [] there = tt
 literals_fit p ks n (l ∷ literals) there = (
-  record {
-    kind = single_of p (text_type (length l.bytes));
-    opened = subst (λ m. slice_get ks m ≡ Some (single_of p (text_type (length l.bytes)))) (no_more n) (there 0 l refl);
-    cells = single_cells p ks (text_type (length l.bytes)) _ (text_cells p ks l.bytes);
-  },
+  (
+    record {
+      kind = single_of p (text_type (length l.bytes));
+      opened = subst (λ m. slice_get ks m ≡ Some (single_of p (text_type (length l.bytes)))) (no_more n) (there 0 l refl);
+      cells = single_cells p ks (text_type (length l.bytes)) _ (text_cells p ks l.bytes);
+    },
+    above_literals n (suc n) literals (omega arith),
+  ),
   literals_fit p ks (suc n) literals (λ i u e. subst (λ m. slice_get ks m ≡ Some (single_of p (text_type (length u.bytes)))) (one_more n i) (there (suc i) u e)),
 )
   where
@@ -159,15 +187,18 @@ opened_sound p whole cells c world i left = record {
   sizes = kinds_few p whole;
   statics = static_kind p;
   literals = literal_kind p;
-  all = objects_append p (opening_kinds p) (static_objects cells 0 p.objects) (literal_objects (length p.objects) p.literals)
-      (statics_fit p (opening_kinds p) cells 0 p.objects c whole.objects (λ i o e. subst (λ m. slice_get (opening_kinds p) m ≡ Some (single_of p o.type)) (zero_plus i) (static_kind p i o e)))
-      (literals_fit p (opening_kinds p) (length p.objects) p.literals (literal_kind p));
+  all = statics_fit p (opening_kinds p) cells 0 p.objects (literal_objects (length p.objects) p.literals) c whole.objects
+      (λ i o e. subst (λ m. slice_get (opening_kinds p) m ≡ Some (single_of p o.type)) (zero_plus i) (static_kind p i o e)) (literals_fit p (opening_kinds p) (length p.objects) p.literals (literal_kind p))
+      (λ m l. above_literals m (length p.objects) p.literals (counted m (length p.objects) l));
   input_bytes = i.input;
   sensor_values = i.sensors;
 }
   where
     zero_plus : (i : ℕ) → i ≡ 0 + i
     zero_plus i = omega arith
+
+    counted : (m n : ℕ) → m < 0 + n → m < n
+    counted m n l = omega (arith, l)
 
 -- ## Initial values
 

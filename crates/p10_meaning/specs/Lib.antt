@@ -9,6 +9,7 @@ pub mod Calling
 pub mod Opening
 pub mod Runs
 pub mod Sound
+pub mod Apart
 pub mod Laws
 pub mod Examples
 pub mod Costs

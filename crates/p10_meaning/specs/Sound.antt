@@ -128,10 +128,15 @@ pub record ObjectFits (p : PlainProgram) (ks : List Kind) (x : Object) : Type 0 
   pub opened : slice_get ks x.number ≡ Some kind
   pub cells : AllFit p ks (kind_scalars p kind) x.cells
 
--- all live objects fit
+-- all objects of a list have numbers above n
+abbrev pub Above : ℕ → List Object → Type 0
+Above n [] = Unit {0}
+Above n (x ∷ xs) = (n < x.number) × Above n xs
+
+-- all live objects fit, and stand in the order of their numbers, so no two have one number
 abbrev pub AllObjects : PlainProgram → List Kind → List Object → Type 0
 AllObjects p ks [] = Unit {0}
-AllObjects p ks (x ∷ xs) = ObjectFits p ks x × AllObjects p ks xs
+AllObjects p ks (x ∷ xs) = (ObjectFits p ks x × Above x.number xs) × AllObjects p ks xs
 
 -- an array of `char` with so many elements, as a string literal has it
 abbrev pub text_type : ℕ → PlainType

@@ -2,6 +2,7 @@
 
 ghost use Rattle.p10_meaning.specs.Laws.{CallsHaveNoBound, StatementsHaveNoBound, LoopsHaveNoBound, ValuesHaveNoBound, RunsNeedNoMore};
 ghost use Rattle.p10_meaning.specs.Sound.{CallsKeepSound, StatementsKeepSound, ValuesKeepSound, OpeningIsSound, ArraysAreSmall};
+ghost use Rattle.p10_meaning.specs.Apart.{WritesChangeOne, ClosingEndsOne, OpeningAddsOne};
 ghost use Rattle.p10_meaning.specs.Costs.{StepsAreCounted};
 ghost use Rattle.p10_meaning.specs.Stopping.{RunsStop};
 ghost use Rattle.p10_meaning.specs.Tasks.{RunsGive};
@@ -23,14 +24,23 @@ pub fn runs_need_no_more()
     ensures { RunsNeedNoMore }
 {}
 
-/// The opening state of a whole program is sound in every world, and runs keep sound states: each value stays one of its type, and each pointer points into an object that was
-/// opened, where a path by its type leads. No array in an object has over 2^40 elements.
+/// The opening state of a whole program is sound in every world, and runs keep sound states: each value stays one of its type,
+/// and each pointer points into an object that was opened, where a path by its type leads. No array in an object has over
+/// 2^40 elements.
 pub fn sound_states_stay_sound()
     ensures opening { OpeningIsSound }
     ensures calls { CallsKeepSound }
     ensures statements { StatementsKeepSound }
     ensures values { ValuesKeepSound }
     ensures arrays { ArraysAreSmall }
+{}
+
+/// A write changes the scalar at its pointer and no other. In a sound state an object that is closed is dead, one that is
+/// opened has a number that no object had, and all others stay as they are.
+pub fn objects_stay_apart()
+    ensures writes { WritesChangeOne }
+    ensures closing { ClosingEndsOne }
+    ensures opening { OpeningAddsOne }
 {}
 
 /// What each row of the table of steps costs, at a small program: with a step fewer its run ends for want of steps.
