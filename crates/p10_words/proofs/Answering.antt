@@ -1,0 +1,78 @@
+-- What the functions answer.
+use Rattle.std.proofs.Common.{◌≡◌, true, ap, sym, ◌∙◌, refl, subst, List, [], ◌∷◌, Option, Some, None, Result, Ok, Err, Bor}
+use Rattle.std.specs.Prelude.{option_map, codes}
+use Rattle.clap.specs.Matches.{found_of, first_value, matched_of, raw_values}
+use Rattle.clap.specs.declared.parser.matches.ArgMatches.{ArgMatches}
+use Rattle.p10_words.specs.declared.command.Command.{Command}
+use Rattle.p10_words.specs.declared.command.Usage.{Usage}
+use Rattle.p10_words.specs.declared.command.Usage.TheVariants.{Refused, Memory}
+use Rattle.p10_words.specs.CommandLines.{Text, value_of}
+use Rattle.p10_words.specs.Commands.{verify_options, run_options, IsRestOf}
+use Rattle.p10_words.specs.private.Parsing.{file_id, some_list, Matched, IsParse}
+use Rattle.p10_words.specs.private.Deciding.{has_files, IsVerifyOf, IsRunOf, Answers}
+use Rattle.p10_words.proofs.Deciding.{verify_is, verify_from, no_verify, run_is, run_from, no_run}
+
+-- an answer by another condition that is the same
+carried : (P Q : Command → Type 0) (r : Result Command Usage) → ((c : Command) → P c → Q c) → ((c : Command) → Q c → P c) → Answers P r → Answers Q r
+carried P Q (Ok c) f g a = f c a
+carried P Q (Err Refused) f g a = λ c q. a c (g c q)
+carried P Q (Err Memory) f g a = tt
+
+some_files : (xs ys : List Text) → some_list xs ≡ Some ys → xs ≡ ys
+some_files [] ys e = absurd cc
+some_files (x ∷ xs) ys e = cc
+
+no_files : (xs : List Text) → some_list xs ≡ None → xs ≡ []
+no_files [] e = refl
+no_files (x ∷ xs) e = absurd cc
+
+-- ---- `verify`
+pub verify_done : (words : List Text) (m : ArgMatches) (include cert : Option Text) (files : List Text) (r : Result Command Usage) → Matched verify_options words m
+    → include ≡ first_value (found_of m) (codes "include") → cert ≡ first_value (found_of m) (codes "cert") → Some files ≡ option_map raw_values (matched_of (found_of m) file_id)
+    → Answers (IsVerifyOf include cert files) r → Answers (λ c. IsRestOf c (codes "verify") words) r
+verify_done words m include cert files r h i j k a =
+    let s = h.split in
+    let there : IsVerifyOf include cert files ≡ IsVerifyOf (value_of s.options (codes "include")) (value_of s.options (codes "cert")) s.files =
+    ap (λ (o : Option Text). IsVerifyOf o cert files) (i ∙ h.reads.options (codes "include") refl) ∙ ap (λ (o : Option Text). IsVerifyOf (value_of s.options (codes "include")) o files) (j ∙ h.reads.options (codes "cert") refl)
+    ∙ ap (λ (l : List Text). IsVerifyOf (value_of s.options (codes "include")) (value_of s.options (codes "cert")) l) (sym (some_files s.files files (sym (k ∙ h.reads.files)))) in
+    carried (IsVerifyOf (value_of s.options (codes "include")) (value_of s.options (codes "cert")) s.files) (λ c. IsRestOf c (codes "verify") words) r
+    (λ c v. verify_is words s c h.scanned h.once v) (λ c v. verify_from words s c h.scanned v) (subst (λ (P : Command → Type 0). Answers P r) there a)
+
+pub verify_without : (words : List Text) (m : ArgMatches) → Matched verify_options words m → None ≡ option_map raw_values (matched_of (found_of m) file_id) → (c : Command) → IsRestOf c (codes "verify") words → ⊥
+verify_without words m h k c v =
+    let none = no_files h.split.files (sym (k ∙ h.reads.files)) in
+    let some = subst (λ (l : List Text). has_files l ≡ true) none (verify_from words h.split c h.scanned v).some in
+    cc
+
+pub verify_lost : (words : List Text) (u : Usage) → IsParse verify_options words (Err u) → Answers (λ c. IsRestOf c (codes "verify") words) (Err u)
+verify_lost words Refused n = λ c v. no_verify words c n v
+verify_lost words Memory n = tt
+
+-- ---- `run`
+pub run_done : (words : List Text) (m : ArgMatches) (include steps turns deny : Option Text) (files : List Text) (r : Result Command Usage) → Matched run_options words m
+    → include ≡ first_value (found_of m) (codes "include") → steps ≡ first_value (found_of m) (codes "steps") → turns ≡ first_value (found_of m) (codes "turns") → deny ≡ first_value (found_of m) (codes "deny")
+    → Some files ≡ option_map raw_values (matched_of (found_of m) file_id) → Answers (IsRunOf include steps turns deny files) r → Answers (λ c. IsRestOf c (codes "run") words) r
+run_done words m include steps turns deny files r h i t u d k a =
+    let s = h.split in
+    let there : IsRunOf include steps turns deny files ≡ IsRunOf (value_of s.options (codes "include")) (value_of s.options (codes "steps")) (value_of s.options (codes "turns")) (value_of s.options (codes "deny")) s.files =
+    ap (λ (o : Option Text). IsRunOf o steps turns deny files) (i ∙ h.reads.options (codes "include") refl)
+    ∙ ap (λ (o : Option Text). IsRunOf (value_of s.options (codes "include")) o turns deny files) (t ∙ h.reads.options (codes "steps") refl)
+    ∙ ap (λ (o : Option Text). IsRunOf (value_of s.options (codes "include")) (value_of s.options (codes "steps")) o deny files) (u ∙ h.reads.options (codes "turns") refl)
+    ∙ ap (λ (o : Option Text). IsRunOf (value_of s.options (codes "include")) (value_of s.options (codes "steps")) (value_of s.options (codes "turns")) o files) (d ∙ h.reads.options (codes "deny") refl)
+    ∙ ap (λ (l : List Text). IsRunOf (value_of s.options (codes "include")) (value_of s.options (codes "steps")) (value_of s.options (codes "turns")) (value_of s.options (codes "deny")) l) (sym (some_files s.files files (sym (k ∙ h.reads.files)))) in
+    carried (IsRunOf (value_of s.options (codes "include")) (value_of s.options (codes "steps")) (value_of s.options (codes "turns")) (value_of s.options (codes "deny")) s.files) (λ c. IsRestOf c (codes "run") words) r
+    (λ c v. run_is words s c h.scanned h.once v) (λ c v. run_from words s c h.scanned v) (subst (λ (P : Command → Type 0). Answers P r) there a)
+
+pub run_without : (words : List Text) (m : ArgMatches) → Matched run_options words m → None ≡ option_map raw_values (matched_of (found_of m) file_id) → (c : Command) → IsRestOf c (codes "run") words → ⊥
+run_without words m h k c v =
+    let none = no_files h.split.files (sym (k ∙ h.reads.files)) in
+    let some = subst (λ (l : List Text). has_files l ≡ true) none (run_from words h.split c h.scanned v).some in
+    cc
+
+pub run_lost : (words : List Text) (u : Usage) → IsParse run_options words (Err u) → Answers (λ c. IsRestOf c (codes "run") words) (Err u)
+run_lost words Refused n = λ c v. no_run words c n v
+run_lost words Memory n = tt
+
+pub cert_given : (include : Option Text) (o : Option (Bor Text)) (cert : Bor Text) (files : List Text) (r : Result Command Usage) → o ≡ Some cert
+    → Answers (IsVerifyOf include (Some cert.now) files) r → Answers (IsVerifyOf include (option_map (λ w. w.now) o) files) r
+cert_given include o cert files r e a = subst (λ (p : Option (Bor Text)). Answers (IsVerifyOf include (option_map (λ w. w.now) p) files) r) (sym e) a

@@ -1,0 +1,335 @@
+-- What the values that `clap` found come to, against the command lines.
+use Rattle.std.proofs.Common.{◌≡◌, ◌≢◌, ℕ, true, false, Bool, cond, ap, sym, ◌∙◌, refl, subst, List, [], ◌∷◌, ◌++◌, Option, Some, None, append_assoc, arith, ◌==◌, ◌<◌}
+use Rattle.std.specs.Prelude.{◌&&◌, ◌||◌, if◌then◌else◌, option_map, find, codes, bytes_eq, not, decimal}
+use Rattle.std.specs.List.{list_all}
+use Rattle.std.specs.Char.{digit_value}
+use Rattle.std.specs.Str.Parse.{IsNumeral}
+use Rattle.std.proofs.lemmas.Fmt.{decimal_is_IsNumeral}
+use Rattle.clap.specs.Lexer.{long_of}
+use Rattle.p10_words.specs.declared.command.Command.{Command}
+use Rattle.p10_words.specs.declared.command.Command.TheVariants.{Verify, Run}
+use Rattle.p10_words.specs.CommandLines.{Text, Given, AreGivenOnce, value_of, directories_in, HasNumber}
+use Rattle.p10_words.specs.Commands.{verify_options, run_options, IsSplit, AreDirectories, IsRun, IsRestOf}
+use Rattle.p10_words.specs.Laws.{LinesAreOneCommand}
+use Rattle.p10_words.specs.private.Scanning.{Split, is_among, is_name, scan, scan_value, scan_word, scan_long, with_option, with_file}
+use Rattle.p10_words.specs.private.Parsing.{are_askable, IsNoSplit}
+use Rattle.p10_words.specs.private.Deciding.{is_given_name, has_directories, has_files, IsVerifyOf, IsRunOf}
+use Rattle.p10_words.proofs.Rows.{same_text, text_same}
+use Rattle.p10_words.proofs.Asked.{verify_askable, run_askable}
+use Rattle.p10_words.proofs.Numbers.{same_number}
+use Rattle.p10_words.proofs.Splitting.{and_left, and_right, all_named, all_names, read_so, split_so}
+
+and_both : (a b : Bool) → a ≡ true → b ≡ true → a && b ≡ true
+and_both true b a c = c
+and_both false b a c = absurd cc
+
+-- ---- each option that is read is one of these
+are_among : List Text → List Given → Bool
+are_among names options = list_all (λ (o : Given). is_among names o.0) options
+
+Known : List Text → Option Text → List Text → Type 0
+Known names waiting words = (sp : Split) → scan names waiting words ≡ Some sp → are_among names sp.options ≡ true
+
+known_option : (names : List Text) (name value : Text) (next : Option Split) (sp : Split) → is_among names name ≡ true → ((i : Split) → next ≡ Some i → are_among names i.options ≡ true)
+    → with_option name value next ≡ Some sp → are_among names sp.options ≡ true
+unfolding are_among
+known_option names name value None sp a k e = absurd cc
+known_option names name value (Some i) sp a k e =
+    let whole : record i { options = (name, value) ∷ i.options } ≡ sp = cc in
+    subst (λ (x : Split). list_all (λ (o : Given). is_among names o.0) x.options ≡ true) whole (and_both (is_among names name) (list_all (λ (o : Given). is_among names o.0) i.options) a (k i refl))
+
+known_file : (names : List Text) (word : Text) (next : Option Split) (sp : Split) → ((i : Split) → next ≡ Some i → are_among names i.options ≡ true) → with_file word next ≡ Some sp → are_among names sp.options ≡ true
+known_file names word None sp k e = absurd cc
+known_file names word (Some i) sp k e = let whole : record i { files = word ∷ i.files } ≡ sp = cc in subst (λ (x : Split). are_among names x.options ≡ true) whole (k i refl)
+
+known_value : (names words : List Text) (word name : Text) → is_among names name ≡ true → Known names None words → Known names (Some name) (word ∷ words)
+unfolding Known scan
+known_value names words word name a k sp e = by_long (long_of word) e
+  where
+    by_dashes : (b : Bool) → (if b then None else with_option name word (scan names None words)) ≡ Some sp → are_among names sp.options ≡ true
+    by_dashes true e = absurd cc
+    by_dashes false e = known_option names name word (scan names None words) sp a k e
+
+    by_long : (o : Option (Text × Option Text)) → scan_value name word o (scan names None words) ≡ Some sp → are_among names sp.options ≡ true
+    by_long None e = by_dashes (bytes_eq word (codes "--")) e
+    by_long (Some p) e = absurd cc
+
+known_word : (names words : List Text) (word : Text) → Known names None words → ((name : Text) → is_among names name ≡ true → Known names (Some name) words) → Known names None (word ∷ words)
+unfolding Known scan are_among
+known_word names words word k v sp e = by_dashes (bytes_eq word (codes "--")) e
+  where
+    by_value : (name : Text) (o : Option Text) → is_among names name ≡ true → scan_long name o (scan names None words) (λ m. scan names (Some m) words) ≡ Some sp → are_among names sp.options ≡ true
+    by_value name None a e = v name a sp e
+    by_value name (Some value) a e = known_option names name value (scan names None words) sp a k e
+
+    by_name : (p : Text × Option Text) (b : Bool) → is_among names p.0 ≡ b → (if b then scan_long p.0 p.1 (scan names None words) (λ m. scan names (Some m) words) else None) ≡ Some sp → are_among names sp.options ≡ true
+    by_name p false a e = absurd cc
+    by_name p true a e = by_value p.0 p.1 a e
+
+    by_long : (o : Option (Text × Option Text)) → scan_word names word o (scan names None words) (λ m. scan names (Some m) words) ≡ Some sp → are_among names sp.options ≡ true
+    by_long None e = known_file names word (scan names None words) sp k e
+    by_long (Some p) e = by_name p (is_among names p.0) refl e
+
+    by_dashes : (b : Bool) → (if b then Some (record { options = []; files = words }) else scan_word names word (long_of word) (scan names None words) (λ m. scan names (Some m) words)) ≡ Some sp
+        → are_among names sp.options ≡ true
+    by_dashes true e = let whole : record { options = []; files = words } ≡ sp = cc in subst (λ (x : Split). are_among names x.options ≡ true) whole refl
+    by_dashes false e = by_long (long_of word) e
+
+known : (names words : List Text) → Known names None words × ((name : Text) → is_among names name ≡ true → Known names (Some name) words)
+unfolding Known scan are_among
+known names [] = (λ sp e. let whole : record { options = []; files = [] } ≡ sp = cc in subst (λ (x : Split). are_among names x.options ≡ true) whole refl, λ name a sp e. absurd cc)
+known names (word ∷ words) = let r = known names words in (known_word names words word r.0 r.1, λ name a. known_value names words word name a r.0)
+
+-- ---- values, found by their names
+value_here : (before : List Given) (o : Given) (os : List Given) → value_of before o.0 ≡ None → value_of (before ++ o ∷ os) o.0 ≡ Some o.1
+value_here [] o os e = ap (λ (b : Bool). option_map (λ (q : Given). q.1) (cond b (Some o) (find (λ (q : Given). bytes_eq q.0 o.0) os))) (text_same o.0)
+value_here (b ∷ before) o os e = by_test (bytes_eq b.0 o.0) e (value_here before o os)
+  where
+    by_test : (t : Bool) → option_map (λ (q : Given). q.1) (cond t (Some b) (find (λ (q : Given). bytes_eq q.0 o.0) before)) ≡ None
+        → (value_of before o.0 ≡ None → value_of (before ++ o ∷ os) o.0 ≡ Some o.1)
+        → option_map (λ (q : Given). q.1) (cond t (Some b) (find (λ (q : Given). bytes_eq q.0 o.0) (before ++ o ∷ os))) ≡ Some o.1
+    by_test true e f = absurd cc
+    by_test false e f = f e
+
+-- where each value that can be found is a name, all are
+all_pass : (names : List Text) (before os : List Given) → AreGivenOnce before os → are_among names os ≡ true
+    → ((n : Text) → is_among names n ≡ true → is_given_name (value_of (before ++ os) n) ≡ true) → list_all (λ (o : Given). is_name o.1) os ≡ true
+unfolding are_among
+all_pass names before [] g a f = refl
+all_pass names before (o ∷ os) g a f =
+    let mine = and_left (is_among names o.0) (list_all (λ (q : Given). is_among names q.0) os) a in
+    let first : is_name o.1 ≡ true = subst (λ (v : Option Text). is_given_name v ≡ true) (value_here before o os g.0) (f o.0 mine) in
+    and_both (is_name o.1) (list_all (λ (q : Given). is_name q.1) os) first
+    (all_pass names (before ++ o ∷ []) os g.1 (and_right (is_among names o.0) (list_all (λ (q : Given). is_among names q.0) os) a)
+    (λ n b. subst (λ (l : List Given). is_given_name (value_of l n) ≡ true) (sym (append_assoc before (o ∷ []) os)) (f n b)))
+
+-- and the other way
+value_passes : (os : List Given) (n : Text) → list_all (λ (o : Given). is_name o.1) os ≡ true → is_given_name (value_of os n) ≡ true
+value_passes [] n e = refl
+value_passes (o ∷ os) n e = by_test (bytes_eq o.0 n) (value_passes os n (and_right (is_name o.1) (list_all (λ (q : Given). is_name q.1) os) e))
+  where
+    by_test : (b : Bool) → is_given_name (value_of os n) ≡ true → is_given_name (option_map (λ (q : Given). q.1) (cond b (Some o) (find (λ (q : Given). bytes_eq q.0 n) os))) ≡ true
+    by_test true f = and_left (is_name o.1) (list_all (λ (q : Given). is_name q.1) os) e
+    by_test false f = f
+
+-- ---- files
+files_some : (files : List Text) → has_files files ≡ true → files ≢ []
+files_some [] e = absurd cc
+files_some (f ∷ files) e = λ g. cc
+
+files_named : (files : List Text) → has_files files ≡ true → list_all is_name files ≡ true
+files_named [] e = refl
+files_named (f ∷ files) e = e
+
+files_have : (files : List Text) → files ≢ [] → list_all is_name files ≡ true → has_files files ≡ true
+files_have [] n e = absurd (n refl)
+files_have (f ∷ files) n e = e
+
+-- ---- `verify`
+by_verify : (n : Text) (P : Text → Type 0) → is_among verify_options n ≡ true → P (codes "include") → P (codes "cert") → P n
+by_verify n P a i c = by_tests (bytes_eq (codes "include") n) (bytes_eq (codes "cert") n) refl refl a
+  where
+    by_tests : (x y : Bool) → bytes_eq (codes "include") n ≡ x → bytes_eq (codes "cert") n ≡ y → x || (y || false) ≡ true → P n
+    by_tests true y p q e = subst P (same_text (codes "include") n p) i
+    by_tests false true p q e = subst P (same_text (codes "cert") n q) c
+    by_tests false false p q e = absurd cc
+
+pub verify_is : (words : List Text) (sp : Split) (c : Command) → scan verify_options None words ≡ Some sp → AreGivenOnce [] sp.options
+    → IsVerifyOf (value_of sp.options (codes "include")) (value_of sp.options (codes "cert")) sp.files c → IsRestOf c (codes "verify") words
+unfolding Known
+verify_is words sp c e g v =
+    let value = and_left (is_given_name (value_of sp.options (codes "include"))) (list_all is_name (directories_in (value_of sp.options (codes "include")))) v.directories in
+    let parts = and_right (is_given_name (value_of sp.options (codes "include"))) (list_all is_name (directories_in (value_of sp.options (codes "include")))) v.directories in
+    let options = all_pass verify_options [] sp.options g ((known verify_options words).0 sp e)
+    (λ n a. by_verify n (λ m. is_given_name (value_of sp.options m) ≡ true) a value (ap is_given_name v.given ∙ v.name)) in
+    let names = and_both (list_all (λ (o : Given). is_name o.1) sp.options) (list_all is_name sp.files) options (files_named sp.files v.some) in
+    subst (λ (x : Command). IsRestOf x (codes "verify") words) (sym v.is) (
+      refl,
+      record {
+        options = sp.options;
+        split = record { splits = split_so verify_options words sp e names; once = g; some = files_some sp.files v.some };
+        include = record { are = refl; names = all_names (directories_in (value_of sp.options (codes "include"))) parts };
+        cert = v.given;
+      },
+    )
+
+-- what is read of the words of a split
+record Read (names words : List Text) (options : List Given) (files : List Text) : Type 0 where
+  scanned : scan names None words ≡ Some (record { options = options; files = files })
+  options_named : list_all (λ (o : Given). is_name o.1) options ≡ true
+  files_are : has_files files ≡ true
+
+read : (names words : List Text) (options : List Given) (files : List Text) → are_askable names ≡ true → IsSplit names words options files → Read names words options files
+read names words options files k s =
+    let r = read_so names words options files k s.splits in
+    record {
+      scanned = r.scanned;
+      options_named = and_left (list_all (λ (o : Given). is_name o.1) options) (list_all is_name files) r.names_alone;
+      files_are = files_have files s.some (and_right (list_all (λ (o : Given). is_name o.1) options) (list_all is_name files) r.names_alone);
+    }
+
+has_all : (options : List Given) (directories : List Text) → list_all (λ (o : Given). is_name o.1) options ≡ true → AreDirectories options directories → has_directories (value_of options (codes "include")) ≡ true
+has_all options directories e d =
+    and_both (is_given_name (value_of options (codes "include"))) (list_all is_name (directories_in (value_of options (codes "include")))) (value_passes options (codes "include") e)
+    (subst (λ (l : List Text). list_all is_name l ≡ true) d.are (all_named directories d.names))
+
+verify_of : (options : List Given) (words directories : List Text) (certificate : Text) (files : List Text) → IsSplit verify_options words options files → AreDirectories options directories
+    → value_of options (codes "cert") ≡ Some certificate → IsVerifyOf (value_of options (codes "include")) (value_of options (codes "cert")) files (Verify directories certificate files)
+verify_of options words directories certificate files s d e =
+    let r = read verify_options words options files verify_askable s in
+    record {
+      certificate = certificate;
+      directories = has_all options directories r.options_named d;
+      given = e;
+      name = subst (λ (v : Option Text). is_given_name v ≡ true) e (value_passes options (codes "cert") r.options_named);
+      some = r.files_are;
+      is = ap (λ (l : List Text). Verify l certificate files) d.are;
+    }
+
+same_split : (o : Option Split) (i j : Split) → o ≡ Some i → o ≡ Some j → i ≡ j
+same_split o i j e f = let w = sym e ∙ f in cc
+
+pub verify_from : (words : List Text) (sp : Split) (c : Command) → scan verify_options None words ≡ Some sp → IsRestOf c (codes "verify") words
+    → IsVerifyOf (value_of sp.options (codes "include")) (value_of sp.options (codes "cert")) sp.files c
+verify_from words sp (Verify directories certificate files) e r =
+    let v = r.1 in
+    let same = same_split _ _ _ (read verify_options words v.options files verify_askable v.split).scanned e in
+    subst (λ (x : Split). IsVerifyOf (value_of x.options (codes "include")) (value_of x.options (codes "cert")) x.files (Verify directories certificate files)) same
+    (verify_of v.options words directories certificate files v.split v.include v.cert)
+verify_from words sp (Run directories steps turns deny files) e r = let f = r.0 in absurd cc
+
+pub no_verify : (words : List Text) (c : Command) → IsNoSplit verify_options words → IsRestOf c (codes "verify") words → ⊥
+no_verify words (Verify directories certificate files) n r =
+    let v = r.1 in
+    let s = read_so verify_options words v.options files verify_askable v.split.splits in
+    n (record { options = v.options; files = files }) s.scanned v.split.once s.names_alone
+no_verify words (Run directories steps turns deny files) n r = let f = r.0 in cc
+
+-- ---- `run`
+by_run : (n : Text) (P : Text → Type 0) → is_among run_options n ≡ true → P (codes "include") → P (codes "steps") → P (codes "turns") → P (codes "deny") → P n
+by_run n P a i s t d = by_tests (bytes_eq (codes "include") n) (bytes_eq (codes "steps") n) (bytes_eq (codes "turns") n) (bytes_eq (codes "deny") n) refl refl refl refl a
+  where
+    by_tests : (w x y z : Bool) → bytes_eq (codes "include") n ≡ w → bytes_eq (codes "steps") n ≡ x → bytes_eq (codes "turns") n ≡ y → bytes_eq (codes "deny") n ≡ z → w || (x || (y || (z || false))) ≡ true → P n
+    by_tests true x y z p q r u e = subst P (same_text (codes "include") n p) i
+    by_tests false true y z p q r u e = subst P (same_text (codes "steps") n q) s
+    by_tests false false true z p q r u e = subst P (same_text (codes "turns") n r) t
+    by_tests false false false true p q r u e = subst P (same_text (codes "deny") n u) d
+    by_tests false false false false p q r u e = absurd cc
+
+-- a number is a name: its first byte is a digit
+numeral_named : (digits : Text) → IsNumeral 10 digits → is_name digits ≡ true
+numeral_named [] i = absurd (omega (arith, i.0))
+numeral_named (c ∷ cs) i = by_test (c == 45) refl
+  where
+    by_test : (b : Bool) → (c == 45) ≡ b → not b ≡ true
+    by_test true e = absurd (let hyphen : c ≡ 45 = grind arith in let small = subst (λ (k : ℕ). digit_value k < 10) hyphen i.1.0 in omega (arith, small))
+    by_test false e = refl
+
+number_named : (o : Option Text) (standard n : ℕ) → HasNumber o standard n → is_given_name o ≡ true
+number_named None standard n h = refl
+number_named (Some value) standard n h = subst (λ (t : Text). is_name t ≡ true) (sym h.digits) (numeral_named (decimal n) (decimal_is_IsNumeral n (omega (arith, h.small))).0)
+
+pub run_is : (words : List Text) (sp : Split) (c : Command) → scan run_options None words ≡ Some sp → AreGivenOnce [] sp.options
+    → IsRunOf (value_of sp.options (codes "include")) (value_of sp.options (codes "steps")) (value_of sp.options (codes "turns")) (value_of sp.options (codes "deny")) sp.files c → IsRestOf c (codes "run") words
+unfolding Known
+run_is words sp c e g v =
+    let value = and_left (is_given_name (value_of sp.options (codes "include"))) (list_all is_name (directories_in (value_of sp.options (codes "include")))) v.directories in
+    let parts = and_right (is_given_name (value_of sp.options (codes "include"))) (list_all is_name (directories_in (value_of sp.options (codes "include")))) v.directories in
+    let options = all_pass run_options [] sp.options g ((known run_options words).0 sp e)
+    (λ n a. by_run n (λ m. is_given_name (value_of sp.options m) ≡ true) a value (number_named _ _ _ v.has_steps) (number_named _ _ _ v.has_turns) (number_named _ _ _ v.has_deny)) in
+    let names = and_both (list_all (λ (o : Given). is_name o.1) sp.options) (list_all is_name sp.files) options (files_named sp.files v.some) in
+    subst (λ (x : Command). IsRestOf x (codes "run") words) (sym v.is) (
+      refl,
+      record {
+        options = sp.options;
+        split = record { splits = split_so run_options words sp e names; once = g; some = files_some sp.files v.some };
+        include = record { are = refl; names = all_names (directories_in (value_of sp.options (codes "include"))) parts };
+        has_steps = v.has_steps;
+        has_turns = v.has_turns;
+        has_deny = v.has_deny;
+      },
+    )
+
+run_of : (words directories : List Text) (steps turns deny : ℕ) (files : List Text) (r : IsRun words directories steps turns deny files)
+    → IsRunOf (value_of r.options (codes "include")) (value_of r.options (codes "steps")) (value_of r.options (codes "turns")) (value_of r.options (codes "deny")) files (Run directories steps turns deny files)
+run_of words directories steps turns deny files r =
+    let q = read run_options words r.options files run_askable r.split in
+    record {
+      step_count = steps;
+      turn_count = turns;
+      denied = deny;
+      directories = has_all r.options directories q.options_named r.include;
+      has_steps = r.has_steps;
+      has_turns = r.has_turns;
+      has_deny = r.has_deny;
+      some = q.files_are;
+      is = ap (λ (l : List Text). Run l steps turns deny files) r.include.are;
+    }
+
+pub run_from : (words : List Text) (sp : Split) (c : Command) → scan run_options None words ≡ Some sp → IsRestOf c (codes "run") words
+    → IsRunOf (value_of sp.options (codes "include")) (value_of sp.options (codes "steps")) (value_of sp.options (codes "turns")) (value_of sp.options (codes "deny")) sp.files c
+run_from words sp (Run directories steps turns deny files) e r =
+    let v = r.1 in
+    let same = same_split _ _ _ (read run_options words v.options files run_askable v.split).scanned e in
+    subst (λ (x : Split). IsRunOf (value_of x.options (codes "include")) (value_of x.options (codes "steps")) (value_of x.options (codes "turns")) (value_of x.options (codes "deny")) x.files (Run directories steps turns deny files)) same
+    (run_of words directories steps turns deny files v)
+run_from words sp (Verify directories certificate files) e r = let f = r.0 in absurd cc
+
+pub no_run : (words : List Text) (c : Command) → IsNoSplit run_options words → IsRestOf c (codes "run") words → ⊥
+no_run words (Run directories steps turns deny files) n r =
+    let v = r.1 in
+    let s = read_so run_options words v.options files run_askable v.split.splits in
+    n (record { options = v.options; files = files }) s.scanned v.split.once s.names_alone
+no_run words (Verify directories certificate files) n r = let f = r.0 in cc
+
+-- ---- a line is one command
+split_of : List Given → List Text → Split
+split_of options files = record { options = options; files = files }
+
+one_split : (names words : List Text) (os ps : List Given) (fs gs : List Text) → are_askable names ≡ true → IsSplit names words os fs → IsSplit names words ps gs → split_of os fs ≡ split_of ps gs
+unfolding split_of
+one_split names words os ps fs gs k s t = same_split _ _ _ (read names words os fs k s).scanned (read names words ps gs k t).scanned
+
+same_value : (o : Option Text) (p : Option Text) (c d : Text) → o ≡ p → o ≡ Some c → p ≡ Some d → c ≡ d
+same_value o p c d e f g = let w = sym f ∙ e ∙ g in cc
+
+value_in : Text → Split → Option Text
+value_in name s = value_of s.options name
+
+one_rest : (a b : Command) (word : Text) (words : List Text) → IsRestOf a word words → IsRestOf b word words → a ≡ b
+unfolding value_in split_of
+one_rest (Verify d c f) (Verify e k g) word words i j =
+    let v = i.1 in
+    let w = j.1 in
+    let same = one_split verify_options words v.options w.options f g verify_askable v.split w.split in
+    let files : f ≡ g = ap (λ (x : Split). x.files) same in
+    let dirs : d ≡ e = v.include.are ∙ ap (λ (x : Split). directories_in (value_in (codes "include") x)) same ∙ sym w.include.are in
+    let cert : c ≡ k = same_value _ _ c k (ap (value_in (codes "cert")) same) v.cert w.cert in
+    ap (λ (x : List Text). Verify x c f) dirs ∙ ap (λ (x : Text). Verify e x f) cert ∙ ap (λ (x : List Text). Verify e k x) files
+one_rest (Run d s t n f) (Run e u v m g) word words i j =
+    let x = i.1 in
+    let y = j.1 in
+    let same = one_split run_options words x.options y.options f g run_askable x.split y.split in
+    let files : f ≡ g = ap (λ (z : Split). z.files) same in
+    let dirs : d ≡ e = x.include.are ∙ ap (λ (z : Split). directories_in (value_in (codes "include") z)) same ∙ sym y.include.are in
+    let steps : s ≡ u = same_number (value_of y.options (codes "steps")) 10000000 s u (subst (λ (o : Option Text). HasNumber o 10000000 s) (ap (value_in (codes "steps")) same) x.has_steps) y.has_steps in
+    let turns : t ≡ v = same_number (value_of y.options (codes "turns")) 1 t v (subst (λ (o : Option Text). HasNumber o 1 t) (ap (value_in (codes "turns")) same) x.has_turns) y.has_turns in
+    let deny : n ≡ m = same_number (value_of y.options (codes "deny")) 0 n m (subst (λ (o : Option Text). HasNumber o 0 n) (ap (value_in (codes "deny")) same) x.has_deny) y.has_deny in
+    ap (λ (z : List Text). Run z s t n f) dirs ∙ ap (λ (z : ℕ). Run e z t n f) steps ∙ ap (λ (z : ℕ). Run e u z n f) turns ∙ ap (λ (z : ℕ). Run e u v z f) deny ∙ ap (λ (z : List Text). Run e u v m z) files
+one_rest (Verify d c f) (Run e u v m g) word words i j = let w = sym i.0 ∙ j.0 in absurd cc
+one_rest (Run d s t n f) (Verify e k g) word words i j = let w = sym i.0 ∙ j.0 in absurd cc
+
+first_of : List Text → Text
+first_of [] = []
+first_of (x ∷ xs) = x
+
+rest_of : List Text → List Text
+rest_of [] = []
+rest_of (x ∷ xs) = xs
+
+pub one_command : LinesAreOneCommand
+unfolding first_of rest_of
+one_command line a b i j =
+    let same = sym i.begins ∙ j.begins in
+    one_rest a b j.word j.words
+    (subst (λ (w : List Text). IsRestOf a j.word w) (ap rest_of same) (subst (λ (w : Text). IsRestOf a w i.words) (ap first_of same) i.rest)) j.rest

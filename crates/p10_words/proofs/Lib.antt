@@ -1,0 +1,12 @@
+-- The lemmas of this crate.
+pub mod Rows
+pub mod Walking
+pub mod Verdicts
+pub mod Agreeing
+pub mod Matching
+pub mod Asked
+pub mod Cutting
+pub mod Numbers
+pub mod Splitting
+pub mod Deciding
+pub mod Answering

@@ -1,0 +1,28 @@
+-- Numbers of options.
+use Rattle.std.proofs.Common.{◌≡◌, ℕ, ◌<◌, ◌≤◌, ◌^◌, ap, sym, ◌∙◌, arith, subst, Option, Some, None, Result, Ok, Err}
+use Rattle.std.proofs.lemmas.Fmt.{parse-decimal, decimal_is_IsNumeral}
+use Rattle.std.specs.Prelude.{IfNone}
+use Rattle.std.specs.Str.Parse.{ParsesUnsigned, digits_value}
+use Rattle.p10_words.specs.CommandLines.{Text, IsNumber, HasNumber}
+
+small : (n : ℕ) → n ≤ 10 ^ 18 → n < 2 ^ 64
+small n h = omega (arith, h)
+
+gives : {E : Type 0} (value : Text) (n : ℕ) (r : Result ℕ E) → ParsesUnsigned 64 10 value r → IsNumber value n → r ≡ Ok n
+gives value n r p i = parse-decimal 64 n value r (small n i.small) (small n i.small) i.digits p
+
+pub not_checked : {E : Type 0} (value : Text) (number : ℕ) (r : Result ℕ E) (o : Option ℕ) → ParsesUnsigned 64 10 value r → r ≡ Ok number → IfNone o (IsNumber value number → ⊥) → IfNone o ((n : ℕ) → IsNumber value n → ⊥)
+not_checked value number r None p e h = λ n i. h (let same : n ≡ number = (let g = gives value n r p i in cc) in subst (IsNumber value) same i)
+not_checked value number r (Some m) p e h = tt
+
+pub not_parsed : {E : Type 0} (value : Text) (x : E) (r : Result ℕ E) → ParsesUnsigned 64 10 value r → r ≡ Err x → (n : ℕ) → IsNumber value n → ⊥
+not_parsed value x r p e n i = let g = gives value n r p i in cc
+
+-- a value is one number at most
+one_number : (value : Text) (m n : ℕ) → IsNumber value m → IsNumber value n → m ≡ n
+one_number value m n i j =
+    sym (decimal_is_IsNumeral m (small m i.small)).1 ∙ ap (digits_value 10) (sym i.digits ∙ j.digits) ∙ (decimal_is_IsNumeral n (small n j.small)).1
+
+pub same_number : (o : Option Text) (standard m n : ℕ) → HasNumber o standard m → HasNumber o standard n → m ≡ n
+same_number None standard m n i j = i ∙ sym j
+same_number (Some value) standard m n i j = one_number value m n i j

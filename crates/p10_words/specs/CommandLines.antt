@@ -1,0 +1,69 @@
+-- Which command lines are which commands: the words after the program's name.
+use Rattle.std.specs.Prelude.{◌≡◌, ◌≢◌, ℕ, ◌^◌, ◌≤◌, List, [], ◌∷◌, ◌++◌, true, ◌==◌, codes, decimal, find, bytes_eq, Option, Some, None, option_map}
+use Rattle.std.specs.List.{list_any, slice_split}
+
+abbrev pub Text : Type 0
+Text = List ℕ
+
+-- a file, a directory or a value of an option: a text that isn't empty and doesn't begin with `-`
+abbrev pub IsName : Text → Type 0
+IsName [] = ⊥
+IsName (first ∷ others) = first ≢ 45
+
+abbrev pub AreNames : List Text → Type 0
+AreNames [] = Unit {0}
+AreNames (word ∷ words) = IsName word × AreNames words
+
+-- an option as it was given: its name, without the hyphens, and its value
+abbrev pub Given : Type 0
+Given = Text × Text
+
+-- the word of an option
+abbrev pub dashed : Text → Text
+dashed name = codes "--" ++ name
+
+-- the word of an option with its value
+abbrev pub joined : Text → Text → Text
+joined name value = codes "--" ++ (name ++ (codes "=" ++ value))
+
+abbrev pub IsAmong : List Text → Text → Type 0
+IsAmong names name = list_any (λ n. bytes_eq n name) names ≡ true
+
+-- options of these names and files, in any order: `--x v` and `--x=v` are the same, and after `--` each word is a file
+pub data Splits (names : List Text) : List Text → List Given → List Text → Type 0 where
+  no_words : Splits names [] [] []
+  file : {word : Text} {words : List Text} {options : List Given} {files : List Text} →
+      IsName word → Splits names words options files → Splits names (word ∷ words) options (word ∷ files)
+  option : {name value : Text} {words : List Text} {options : List Given} {files : List Text} →
+      IsAmong names name → IsName value → Splits names words options files → Splits names (dashed name ∷ value ∷ words) ((name, value) ∷ options) files
+  option_joined : {name value : Text} {words : List Text} {options : List Given} {files : List Text} →
+      IsAmong names name → IsName value → Splits names words options files → Splits names (joined name value ∷ words) ((name, value) ∷ options) files
+  ended : {words : List Text} → AreNames words → Splits names (codes "--" ∷ words) [] words
+
+-- the value that an option was given first
+abbrev pub value_of : List Given → Text → Option Text
+value_of options name = option_map (λ o. o.1) (find (λ o. bytes_eq o.0 name) options)
+
+-- no option is given twice; `before` are those that were given before these
+abbrev pub AreGivenOnce : List Given → List Given → Type 0
+AreGivenOnce before [] = Unit {0}
+AreGivenOnce before (o ∷ options) = (value_of before o.0 ≡ None) × AreGivenOnce (before ++ o ∷ []) options
+
+-- the directories in a value, which is cut at each `:`
+abbrev pub cut : Text → List Text
+cut value = slice_split (λ byte. byte == 58) value
+
+-- the directories of `--include`, none where it isn't given
+abbrev pub directories_in : Option Text → List Text
+directories_in None = []
+directories_in (Some value) = cut value
+
+-- the value is a number of at most 10^18 in decimal digits without a leading zero
+pub record IsNumber (value : Text) (n : ℕ) : Type 0 where
+  pub digits : value ≡ decimal n
+  pub small : n ≤ 10 ^ 18
+
+-- the number of an option, or its default where it isn't given
+abbrev pub HasNumber : Option Text → ℕ → ℕ → Type 0
+HasNumber None standard n = n ≡ standard
+HasNumber (Some value) standard n = IsNumber value n

@@ -1,0 +1,52 @@
+-- The commands, and the words that are each of them.
+use Rattle.std.specs.Prelude.{◌≡◌, ◌≢◌, ℕ, ◌≤◌, List, [], ◌∷◌, codes, length, Some}
+use Rattle.p10_words.specs.declared.command.Command.{Command}
+use Rattle.p10_words.specs.declared.command.Command.TheVariants.{Verify, Run}
+use Rattle.p10_words.specs.CommandLines.{Text, Given, AreNames, Splits, AreGivenOnce, value_of, directories_in, HasNumber}
+
+-- the options of `verify` and of `run`
+abbrev pub verify_options : List Text
+verify_options = codes "include" ∷ codes "cert" ∷ []
+
+abbrev pub run_options : List Text
+run_options = codes "include" ∷ codes "steps" ∷ codes "turns" ∷ codes "deny" ∷ []
+
+-- options, each given once at most, and files, of which there is one at least
+pub record IsSplit (names : List Text) (words : List Text) (options : List Given) (files : List Text) : Type 0 where
+  pub splits : Splits names words options files
+  pub once : AreGivenOnce [] options
+  pub some : files ≢ []
+
+-- the directories are those of `--include`
+pub record AreDirectories (options : List Given) (directories : List Text) : Type 0 where
+  pub are : directories ≡ directories_in (value_of options (codes "include"))
+  pub names : AreNames directories
+
+-- `verify [--include D] --cert C FILE..`
+pub record IsVerify (words : List Text) (directories : List Text) (certificate : Text) (files : List Text) : Type 0 where
+  pub options : List Given
+  pub split : IsSplit verify_options words options files
+  pub include : AreDirectories options directories
+  pub cert : value_of options (codes "cert") ≡ Some certificate
+
+-- `run [--include D] [--steps N] [--turns N] [--deny N] FILE..`: 10,000,000 steps, 1 turn, and no denied request where they aren't given
+pub record IsRun (words : List Text) (directories : List Text) (steps turns deny : ℕ) (files : List Text) : Type 0 where
+  pub options : List Given
+  pub split : IsSplit run_options words options files
+  pub include : AreDirectories options directories
+  pub has_steps : HasNumber (value_of options (codes "steps")) 10000000 steps
+  pub has_turns : HasNumber (value_of options (codes "turns")) 1 turns
+  pub has_deny : HasNumber (value_of options (codes "deny")) 0 deny
+
+-- what follows the command's own word
+abbrev pub IsRestOf : Command → Text → List Text → Type 0
+IsRestOf (Verify directories certificate files) word words = (word ≡ codes "verify") × IsVerify words directories certificate files
+IsRestOf (Run directories steps turns deny files) word words = (word ≡ codes "run") × IsRun words directories steps turns deny files
+
+-- the words are the command: the first is its name, and there are at most 65,536
+pub record IsCommandLine (line : List Text) (command : Command) : Type 0 where
+  pub word : Text
+  pub words : List Text
+  pub begins : line ≡ word ∷ words
+  pub few : length line ≤ 65536
+  pub rest : IsRestOf command word words

@@ -1,0 +1,4 @@
+-- What the contracts of private functions alone cite.
+pub mod Scanning
+pub mod Parsing
+pub mod Deciding

@@ -1,0 +1,50 @@
+-- What the values of options and the files come to.
+use Rattle.std.specs.Prelude.{◌≡◌, ℕ, List, [], ◌∷◌, Bool, true, false, ◌&&◌, Option, Some, None, Result, Ok, Err}
+use Rattle.std.specs.List.{list_all}
+use Rattle.p10_words.specs.declared.command.Command.{Command}
+use Rattle.p10_words.specs.declared.command.Command.TheVariants.{Verify, Run}
+use Rattle.p10_words.specs.declared.command.Usage.{Usage}
+use Rattle.p10_words.specs.declared.command.Usage.TheVariants.{Refused, Memory}
+use Rattle.p10_words.specs.CommandLines.{Text, directories_in, HasNumber}
+use Rattle.p10_words.specs.private.Scanning.{is_name}
+
+-- a value is a name, if there is one
+abbrev pub is_given_name : Option Text → Bool
+is_given_name None = true
+is_given_name (Some value) = is_name value
+
+-- directories are names, and so is the value that has them
+abbrev pub has_directories : Option Text → Bool
+has_directories value = is_given_name value && list_all is_name (directories_in value)
+
+-- there is a file, and each is a name
+abbrev pub has_files : List Text → Bool
+has_files [] = false
+has_files (file ∷ files) = list_all is_name (file ∷ files)
+
+-- `verify` of these values and files
+pub record IsVerifyOf (include cert : Option Text) (files : List Text) (c : Command) : Type 0 where
+  pub certificate : Text
+  pub directories : has_directories include ≡ true
+  pub given : cert ≡ Some certificate
+  pub name : is_name certificate ≡ true
+  pub some : has_files files ≡ true
+  pub is : c ≡ Verify (directories_in include) certificate files
+
+-- `run` of these values and files
+pub record IsRunOf (include steps turns deny : Option Text) (files : List Text) (c : Command) : Type 0 where
+  pub step_count : ℕ
+  pub turn_count : ℕ
+  pub denied : ℕ
+  pub directories : has_directories include ≡ true
+  pub has_steps : HasNumber steps 10000000 step_count
+  pub has_turns : HasNumber turns 1 turn_count
+  pub has_deny : HasNumber deny 0 denied
+  pub some : has_files files ≡ true
+  pub is : c ≡ Run (directories_in include) step_count turn_count denied files
+
+-- the command is such, or there is none
+abbrev pub Answers : (Command → Type 0) → Result Command Usage → Type 0
+Answers P (Ok c) = P c
+Answers P (Err Refused) = (c : Command) → P c → ⊥
+Answers P (Err Memory) = Unit {0}

@@ -1,0 +1,22 @@
+//! The command line of `p10`: which words are which command.
+//!
+//! Entry point: [`read_words`], the words after the program's name as a [`Command`].
+//!
+//!     verify --cert a.p10 a.c        Verify of the certificate a.p10 and the file a.c
+//!     run a.c --steps=500            Run of a.c with 500 steps, 1 turn and no denied request
+//!     run -v a.c                     Refused
+//!
+//! `clap` reads options and files; that its answer is exactly what the definitions say is proved.
+//! Invariant: a command line is one command at most. What a command does is left to the crates above.
+#![tactic(auto)]
+
+mod command;
+pub mod laws;
+mod parse;
+mod read;
+#[cfg(test)]
+mod tests;
+mod values;
+
+pub use command::{Command, Usage};
+pub use read::read_words;

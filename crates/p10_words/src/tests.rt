@@ -1,0 +1,119 @@
+//! Command lines that are read, with ample memory.
+
+use crate::{Command, Usage, read_words};
+use std::alloc::{AllocError, Global};
+use std::test::Fail;
+
+/// A command line, and what is read of it.
+struct Row {
+    line: &'static str,
+    says: &'static str,
+}
+
+static ROWS: [Row; 16] = [
+    Row {
+        line: "verify --cert a.p10 a.c",
+        says: "verify 0 a.p10 1",
+    },
+    Row {
+        line: "verify a.c --include=x:y b.c --cert=c=d",
+        says: "verify 2 c=d 2",
+    },
+    Row {
+        line: "verify --cert c -- a.c",
+        says: "verify 0 c 1",
+    },
+    Row {
+        line: "run a.c",
+        says: "run 0 10000000 1 0 1",
+    },
+    Row {
+        line: "run --steps 0 --turns=7 a.c --deny 3",
+        says: "run 0 0 7 3 1",
+    },
+    Row {
+        line: "run --include x:-y a.c",
+        says: "refused",
+    },
+    Row {
+        line: "run --steps 01 a.c",
+        says: "refused",
+    },
+    Row {
+        line: "run --steps 1000000000000000001 a.c",
+        says: "refused",
+    },
+    Row {
+        line: "run --steps 1 --steps 1 a.c",
+        says: "refused",
+    },
+    Row {
+        line: "run --cert c a.c",
+        says: "refused",
+    },
+    Row {
+        line: "run --turns",
+        says: "refused",
+    },
+    Row {
+        line: "run -- -a.c",
+        says: "refused",
+    },
+    Row {
+        line: "run -h",
+        says: "refused",
+    },
+    Row {
+        line: "run --help",
+        says: "refused",
+    },
+    Row {
+        line: "run",
+        says: "refused",
+    },
+    Row {
+        line: "verify a.c",
+        says: "refused",
+    },
+];
+
+/// What is read of the words of a line.
+fn said(alloc: Global, line: &str) -> Result<String, AllocError> {
+    let mut words = Vec::new(alloc);
+    for word in line.split(' ') {
+        words.push(String::from_str(alloc, word)?)?;
+    }
+    match read_words(alloc, words.as_slice()) {
+        Ok(Command::Verify { dirs, cert, files }) => {
+            let (dirs, cert, files) = (
+                dirs.as_slice().len(),
+                cert.as_str(),
+                files.as_slice().len(),
+            );
+            format!(in alloc; "verify {dirs} {cert} {files}")
+        }
+        Ok(
+            Command::Run {
+                dirs,
+                steps,
+                turns,
+                deny,
+                files,
+            },
+        ) => {
+            let (dirs, files) = (dirs.as_slice().len(), files.as_slice().len());
+            format!(in alloc; "run {dirs} {steps} {turns} {deny} {files}")
+        }
+        Err(Usage::Refused) => String::from_str(alloc, "refused"),
+        Err(Usage::Memory) => String::from_str(alloc, "out of memory"),
+    }
+}
+
+#[test]
+fn lines_are_read(rt: HostRuntime) -> Result<(), Fail> {
+    for row in &ROWS {
+        let says = said(rt.alloc(), row.line)?;
+        assert_eq!(rt; says.as_str(), row.says, "{}", row.line);
+    }
+    Ok(())
+}

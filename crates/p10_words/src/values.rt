@@ -1,0 +1,150 @@
+//! Values of options, and files.
+
+ghost use Rattle.std.specs.Prelude.{◌≡◌, ◌++◌, ℕ, map, IfOk, OnOk, IfSome, IfNone, option_map};
+ghost use Rattle.std.specs.List.{list_all};
+ghost use Rattle.p10_words.specs.CommandLines.{cut, directories_in, HasNumber, IsNumber};
+ghost use Rattle.p10_words.specs.private.Scanning.{is_name};
+ghost use Rattle.p10_words.specs.private.Deciding.{has_directories, has_files};
+
+use p10_base::{ListBuf, TextBuf};
+use std::alloc::{AllocError, Global};
+
+/// The greatest number that an option may have.
+const MOST: u64 = 1_000_000_000_000_000_000;
+
+/// Whether the word is a name: not empty, and without `-` at its beginning.
+pub fn names_file(word: &str) -> bool
+    ensures { result ≡ is_name word.now }
+{
+    match word.as_bytes() {
+        [] => false,
+        [first, ..] => *first != b'-',
+    }
+}
+
+/// Whether there is a file, and each is a name.
+pub fn name_files(words: &[&str]) -> bool
+    ensures { result ≡ has_files (map (λ w. w.now) words.now) }
+{
+    !words.is_empty() && all_name_files(words)
+}
+
+/// Whether each word is a name.
+fn all_name_files(words: &[&str]) -> bool
+    ensures { result ≡ list_all is_name (map (λ w. w.now) words.now) }
+{
+    let mut rest = words;
+    while let [word, others @ ..] = rest {
+        if !names_file(word) {
+            return false;
+        }
+        rest = others;
+    }
+    true
+}
+
+/// Whether the value of `--include` has directories, or isn't given.
+pub fn names_directories(value: Option<&str>) -> bool
+    ensures { result ≡ has_directories (option_map (λ w. w.now) value.entry) }
+{
+    match value {
+        None => true,
+        Some(value) => names_file(value) && all_name_directories(value),
+    }
+}
+
+/// Whether each directory in a value is a name.
+fn all_name_directories(value: &str) -> bool
+    ensures { result ≡ list_all is_name (cut value.now) }
+{
+    let mut rest = value;
+    while let Some((name, others)) = rest.split_once(':') {
+        if !names_file(name) {
+            return false;
+        }
+        rest = others;
+    }
+    names_file(rest)
+}
+
+/// The directories in the value of `--include`, none where it isn't given.
+pub fn directories(alloc: Global, value: Option<&str>) -> Result<ListBuf<TextBuf>, AllocError>
+    ensures { IfOk result (λ found. found ≡ directories_in (option_map (λ w. w.now) value.entry)) }
+{
+    let mut found = ListBuf::of(Vec::new(alloc));
+    if let Some(value) = value {
+        push_directories(alloc, value, &mut found)?;
+    }
+    Ok(found)
+}
+
+/// Puts the directories in a value at the end.
+fn push_directories(
+    alloc: Global,
+    value: &str,
+    found: &mut ListBuf<TextBuf>,
+) -> Result<(), AllocError>
+    ensures { OnOk result (found.new ≡ found.old ++ cut value.now) }
+{
+    let mut rest = value;
+    while let Some((name, others)) = rest.split_once(':') {
+        found.push(text(alloc, name)?)?;
+        rest = others;
+    }
+    found.push(text(alloc, rest)?)?;
+    Ok(())
+}
+
+/// The word as an owned text.
+pub fn text(alloc: Global, word: &str) -> Result<TextBuf, AllocError>
+    ensures { IfOk result (λ t. t ≡ word.now) }
+{
+    Ok(TextBuf::of(String::from_str(alloc, word)?))
+}
+
+/// The words as owned texts.
+pub fn texts(alloc: Global, words: &[&str]) -> Result<ListBuf<TextBuf>, AllocError>
+    ensures { IfOk result (λ found. found ≡ map (λ w. w.now) words.now) }
+{
+    let mut found = ListBuf::of(Vec::new(alloc));
+    for word in words {
+        found.push(text(alloc, word)?)?;
+    }
+    Ok(found)
+}
+
+/// The number of an option, or `standard` where it isn't given; `None` where the value is no number.
+pub fn number(value: Option<&str>, standard: u64) -> Option<u64>
+    ensures some { IfSome result (HasNumber (option_map (λ w. w.now) value.entry) standard) }
+    ensures none { IfNone result ((n : ℕ) → HasNumber (option_map (λ w. w.now) value.entry) standard n → ⊥) }
+{
+    match value {
+        None => Some(standard),
+        Some(value) => decimal(value),
+    }
+}
+
+/// The number whose decimal digits the text is, without a leading zero, at most 10^18.
+fn decimal(value: &str) -> Option<u64>
+    ensures some { IfSome result (IsNumber value.now) }
+    ensures none { IfNone result ((n : ℕ) → IsNumber value.now n → ⊥) }
+{
+    match value.parse::<u64>() {
+        Ok(number) => checked(value, number),
+        Err(_) => None,
+    }
+}
+
+/// The number, if the text is its decimal form and it isn't too great.
+fn checked(value: &str, number: u64) -> Option<u64>
+    ensures some { IfSome result (λ n. (n ≡ number) × IsNumber value.now number) }
+    ensures none { IfNone result (IsNumber value.now number → ⊥) }
+{
+    // `itoa` writes each number in one way, so no other spelling of it passes.
+    let mut buffer = itoa::Buffer::new();
+    if number <= MOST && buffer.format(number) == value {
+        Some(number)
+    } else {
+        None
+    }
+}
