@@ -1,0 +1,73 @@
+-- The trees of declarations, statements and functions of the code as the definitions see them.
+use Rattle.std.specs.Prelude.{List, [], ◌∷◌, map, Option, Some, None}
+use Rattle.p10_base.specs.declared.at.At.{At}
+use Rattle.p10_syn.specs.declared.tree.Expr as expr
+use Rattle.p10_syn.specs.declared.statement.Init as init
+use Rattle.p10_syn.specs.declared.statement.InitDeclarator as declared
+use Rattle.p10_syn.specs.declared.statement.Decl as declaration
+use Rattle.p10_syn.specs.declared.statement.Stmt as statement
+use Rattle.p10_syn.specs.declared.statement.Landmarks as landmarks
+use Rattle.p10_syn.specs.declared.statement.Function as function
+use Rattle.p10_syn.specs.declared.statement.Unit as whole
+use Rattle.p10_syn.specs.declared.statement.Unit.TheVariants as unit
+use Rattle.p10_syn.specs.Built.{identifier_of, expression_of, specifiers_in, declarator_of}
+use Rattle.p10_syn.specs.Trees.{statement_row, Expression, Optional, Absent, Present, Initializer, Value, Braced, Initializers, NoInitializers, MoreInitializers, InitDeclarator, Declaration, Statement, Empty, Evaluate, Block, If, IfElse, Switch, While, Do, For, Case, Default, Label, Goto, Break, Continue, Return, Declare, Pragma, Statements, NoStatements, MoreStatements, Landmarks, Definition, External, Outer, Defines}
+
+-- an expression that may be left out
+abbrev pub optional_expression : Option expr.Expr → Optional At
+optional_expression None = Absent
+optional_expression (Some e) = Present (expression_of e)
+
+abbrev mutual
+  pub initializer_of : init.Init → Initializer At
+  initializer_of (init.Value e) = Value (expression_of e)
+  initializer_of (init.Braced' at shape all comma) = Braced at (initializers_of all) comma
+
+  pub initializers_of : {m : _} → init.Row_of-Init m → Initializers At
+  initializers_of init.end_of-Init = NoInitializers
+  initializers_of (init.more_of-Init i rest) = MoreInitializers (initializer_of i) (initializers_of rest)
+
+abbrev pub initial_of : Option init.Init → Option (Initializer At)
+initial_of None = None
+initial_of (Some i) = Some (initializer_of i)
+
+abbrev pub init_declarator_of : declared.InitDeclarator → InitDeclarator At
+init_declarator_of d = record { place = d.at; declarator = declarator_of d.declarator; initial = initial_of d.init }
+
+abbrev pub declaration_of : declaration.Decl → Declaration At
+declaration_of d = record { place = d.at; specifiers = specifiers_in d.specs; declarators = map init_declarator_of d.declarators.items }
+
+abbrev mutual
+  pub statement_of : statement.Stmt → Statement At
+  statement_of (statement.Empty at) = Empty at
+  statement_of (statement.Expr at e) = Evaluate at (expression_of e)
+  statement_of (statement.Block' at shape all) = Block at (statements_of all)
+  statement_of (statement.If' at e p s) = If at (expression_of e) (statement_of s)
+  statement_of (statement.IfElse' at e p s q u) = IfElse at (expression_of e) (statement_of s) (statement_of u)
+  statement_of (statement.Switch' at k e p s) = Switch at k (expression_of e) (statement_of s)
+  statement_of (statement.While' at k e p s) = While at k (expression_of e) (statement_of s)
+  statement_of (statement.Do' at k p s e) = Do at k (statement_of s) (expression_of e)
+  statement_of (statement.For' at k p start test step q s) = For at k (statement_of start) (optional_expression test) (optional_expression step) (statement_of s)
+  statement_of (statement.Case' at e p s) = Case at (expression_of e) (statement_of s)
+  statement_of (statement.Default' at p s) = Default at (statement_of s)
+  statement_of (statement.Label' at x p s) = Label at (identifier_of x) (statement_of s)
+  statement_of (statement.Goto at x) = Goto at (identifier_of x)
+  statement_of (statement.Break at) = Break at
+  statement_of (statement.Continue at) = Continue at
+  statement_of (statement.Return at k e) = Return at k (optional_expression e)
+  statement_of (statement.Decl d) = Declare (declaration_of d)
+  statement_of (statement.Mark at text) = Pragma at text.now
+
+  pub statements_of : {m : _} → statement.Row_of-Stmt m → Statements At
+  statements_of statement.end_of-Stmt = NoStatements
+  statements_of (statement.more_of-Stmt s rest) = MoreStatements (statement_of s) (statements_of rest)
+
+abbrev pub landmarks_of : landmarks.Landmarks → Landmarks At
+landmarks_of l = record { whole = l.whole; first_word = l.first_word; brace = l.brace; last_word = l.last_word }
+
+abbrev pub definition_of : function.Function → Definition At
+definition_of f = record { place = f.at; landmarks = landmarks_of f.landmarks; specifiers = specifiers_in f.specs; declarator = declarator_of f.declarator; body_place = f.body_at; body = statement_row (map statement_of f.body.items) }
+
+abbrev pub external_of : whole.Unit → External At
+external_of (unit.Decl d) = Outer (declaration_of d)
+external_of (unit.Function f) = Defines (definition_of f)

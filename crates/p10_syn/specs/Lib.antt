@@ -1,0 +1,16 @@
+pub mod Signs
+pub mod Symbols
+pub mod Tokens
+pub mod Scopes
+pub mod Trees
+pub mod Spelling
+pub mod Precedence
+pub mod Declaring
+pub mod Forms
+pub mod StatementForms
+pub mod Counts
+pub mod Places
+pub mod Bare
+pub mod Spells
+pub mod Built
+pub mod BuiltStatements

@@ -1,0 +1,233 @@
+-- The trees of C's grammar (C99 6.5 to 6.9). A tree holds at each node something of the type P: its place, or nothing
+-- where only its form counts.
+use Rattle.std.specs.Prelude.{ℕ, List, [], ◌∷◌, Bool, Option}
+use Rattle.p10_base.specs.Words.{Text}
+use Rattle.p10_syn.specs.declared.sign.Sign.{Sign}
+use Rattle.p10_syn.specs.declared.place.Side.{Side}
+
+-- nothing: where only the form of a tree counts
+abbrev pub Bare : Type 0
+Bare = Unit {0}
+
+-- a name and where it stands (C99 6.4.2)
+pub record Identifier (P : Type 0) : Type 0 where
+  pub place : P
+  pub name : Text
+
+-- ## Expressions, types and declarators
+
+mutual
+  -- an expression (C99 6.5): where it stands with its parentheses, how many pairs of them stand round it, and its form
+  pub data Expression (P : Type 0) : Type 0 where
+    expression : P → ℕ → Form P → Expression P
+
+  pub data Form (P : Type 0) : Type 0 where
+    Name : Text → Form P
+    Number : Text → Form P
+    Character : Text → Form P
+    -- adjacent strings are one
+    Strings : List Text → Form P
+    -- & * + - ~ !
+    Unary : Sign → Expression P → Form P
+    -- ++ --
+    Step : Side → Sign → Expression P → Form P
+    Binary : Sign → Expression P → Expression P → Form P
+    Assign : Sign → Expression P → Expression P → Form P
+    Conditional : Expression P → Expression P → Expression P → Form P
+    Call : Expression P → Expressions P → Form P
+    Index : Expression P → Expression P → Form P
+    Member : Expression P → Identifier P → Form P
+    Arrow : Expression P → Identifier P → Form P
+    Cast : TypeName P → Expression P → Form P
+    SizeofExpression : Expression P → Form P
+    SizeofType : TypeName P → Form P
+    -- the comma operator, all of its operands
+    Comma : Expressions P → Form P
+
+  pub data Expressions (P : Type 0) : Type 0 where
+    NoExpressions : Expressions P
+    MoreExpressions : Expression P → Expressions P → Expressions P
+
+  -- an expression that may be left out
+  pub data Optional (P : Type 0) : Type 0 where
+    Absent : Optional P
+    Present : Expression P → Optional P
+
+  -- the name of a type (C99 6.7.6): specifiers and a declarator without a name
+  pub data TypeName (P : Type 0) : Type 0 where
+    type_name : P → Specifiers P → Declarator P → TypeName P
+
+  -- specifiers of a declaration (C99 6.7)
+  pub data Specifiers (P : Type 0) : Type 0 where
+    NoSpecifiers : Specifiers P
+    MoreSpecifiers : Specifier P → Specifiers P → Specifiers P
+
+  pub data Specifier (P : Type 0) : Type 0 where
+    -- a storage class, a qualifier, `inline` or a word of a type
+    Keyword : P → Sign → Specifier P
+    -- a typedef name (C99 6.7.7)
+    Typedef : Identifier P → Specifier P
+    -- a structure or union (C99 6.7.2.1): its first word, its name if it has one, and its members if it has a body
+    Structure : P → Sign → Option (Identifier P) → Members P → Specifier P
+    -- an enumeration (C99 6.7.2.2): its name if it has one, its constants if it has a body, and whether a comma stands
+    -- after the last
+    Enumeration : P → Option (Identifier P) → Enumerators P → Bool → Specifier P
+
+  -- the members of a structure; none: it has no body
+  pub data Members (P : Type 0) : Type 0 where
+    NoMembers : Members P
+    MoreMembers : MemberDeclaration P → Members P → Members P
+
+  -- one declaration of members
+  pub data MemberDeclaration (P : Type 0) : Type 0 where
+    member_declaration : P → Specifiers P → Fields P → MemberDeclaration P
+
+  pub data Fields (P : Type 0) : Type 0 where
+    NoFields : Fields P
+    MoreFields : Field P → Fields P → Fields P
+
+  -- a declarator of a member, and its width if it is a bit-field
+  pub data Field (P : Type 0) : Type 0 where
+    field : P → Declarator P → Optional P → Field P
+
+  -- the constants of an enumeration; none: it has no body
+  pub data Enumerators (P : Type 0) : Type 0 where
+    NoEnumerators : Enumerators P
+    MoreEnumerators : Enumerator P → Enumerators P → Enumerators P
+
+  -- a constant of an enumeration, and its value if one is written
+  pub data Enumerator (P : Type 0) : Type 0 where
+    enumerator : P → Identifier P → Optional P → Enumerator P
+
+  -- a declarator (C99 6.7.5)
+  pub data Declarator (P : Type 0) : Type 0 where
+    Named : Identifier P → Declarator P
+    Unnamed : P → Declarator P
+    -- with its qualifiers
+    Pointer : P → List Sign → Declarator P → Declarator P
+    Parenthesised : P → Declarator P → Declarator P
+    Array : P → Declarator P → Optional P → Declarator P
+    -- with its parameters, and whether `...` stands after the last
+    Function : P → Declarator P → Parameters P → Bool → Declarator P
+
+  pub data Parameters (P : Type 0) : Type 0 where
+    NoParameters : Parameters P
+    MoreParameters : Parameter P → Parameters P → Parameters P
+
+  pub data Parameter (P : Type 0) : Type 0 where
+    parameter : P → Specifiers P → Declarator P → Parameter P
+
+-- ## Declarations
+
+mutual
+  -- an initialiser (C99 6.7.8): a value, or a list in braces with whether it ends with a comma
+  pub data Initializer (P : Type 0) : Type 0 where
+    Value : Expression P → Initializer P
+    Braced : P → Initializers P → Bool → Initializer P
+
+  pub data Initializers (P : Type 0) : Type 0 where
+    NoInitializers : Initializers P
+    MoreInitializers : Initializer P → Initializers P → Initializers P
+
+-- a declarator of a declaration, and its initialiser if it has one
+pub record InitDeclarator (P : Type 0) : Type 0 where
+  pub place : P
+  pub declarator : Declarator P
+  pub initial : Option (Initializer P)
+
+-- a declaration (C99 6.7)
+pub record Declaration (P : Type 0) : Type 0 where
+  pub place : P
+  pub specifiers : Specifiers P
+  pub declarators : List (InitDeclarator P)
+
+-- ## Statements
+
+mutual
+  -- a statement (C99 6.8), a declaration or a p10 pragma; loops, `switch` and `return` keep where their keyword stands
+  pub data Statement (P : Type 0) : Type 0 where
+    Empty : P → Statement P
+    -- an expression with its `;`
+    Evaluate : P → Expression P → Statement P
+    Block : P → Statements P → Statement P
+    If : P → Expression P → Statement P → Statement P
+    IfElse : P → Expression P → Statement P → Statement P → Statement P
+    Switch : P → P → Expression P → Statement P → Statement P
+    While : P → P → Expression P → Statement P → Statement P
+    Do : P → P → Statement P → Expression P → Statement P
+    -- its first part is a declaration, an expression with its `;`, or `;` alone
+    For : P → P → Statement P → Optional P → Optional P → Statement P → Statement P
+    Case : P → Expression P → Statement P → Statement P
+    Default : P → Statement P → Statement P
+    Label : P → Identifier P → Statement P → Statement P
+    Goto : P → Identifier P → Statement P
+    Break : P → Statement P
+    Continue : P → Statement P
+    Return : P → P → Optional P → Statement P
+    -- in a block or at the head of a `for`
+    Declare : Declaration P → Statement P
+    -- in a block
+    Pragma : P → Text → Statement P
+
+  pub data Statements (P : Type 0) : Type 0 where
+    NoStatements : Statements P
+    MoreStatements : Statement P → Statements P → Statements P
+
+-- ## Declarations and functions outside of functions
+
+-- where the words of a function stand that rules on functions ask for, with their numbers counted in its root
+pub record Landmarks (P : Type 0) : Type 0 where
+  -- all of its words
+  pub whole : P
+  pub first_word : P
+  -- the `{` of its body
+  pub brace : P
+  pub last_word : P
+
+-- a function with its body (C99 6.9.1)
+pub record Definition (P : Type 0) : Type 0 where
+  pub place : P
+  pub landmarks : Landmarks P
+  pub specifiers : Specifiers P
+  pub declarator : Declarator P
+  pub body_place : P
+  pub body : Statements P
+
+-- a declaration outside of functions, or a function (C99 6.9)
+pub data External (P : Type 0) : Type 0 where
+  Outer : Declaration P → External P
+  Defines : Definition P → External P
+
+-- ## Rows as lists
+
+abbrev pub expression_row : {P : Type 0} → List (Expression P) → Expressions P
+expression_row [] = NoExpressions
+expression_row (t ∷ ts) = MoreExpressions t (expression_row ts)
+
+abbrev pub specifier_row : {P : Type 0} → List (Specifier P) → Specifiers P
+specifier_row [] = NoSpecifiers
+specifier_row (t ∷ ts) = MoreSpecifiers t (specifier_row ts)
+
+abbrev pub member_row : {P : Type 0} → List (MemberDeclaration P) → Members P
+member_row [] = NoMembers
+member_row (t ∷ ts) = MoreMembers t (member_row ts)
+
+abbrev pub field_row : {P : Type 0} → List (Field P) → Fields P
+field_row [] = NoFields
+field_row (t ∷ ts) = MoreFields t (field_row ts)
+
+abbrev pub enumerator_row : {P : Type 0} → List (Enumerator P) → Enumerators P
+enumerator_row [] = NoEnumerators
+enumerator_row (t ∷ ts) = MoreEnumerators t (enumerator_row ts)
+
+abbrev pub parameter_row : {P : Type 0} → List (Parameter P) → Parameters P
+parameter_row [] = NoParameters
+parameter_row (t ∷ ts) = MoreParameters t (parameter_row ts)
+
+abbrev pub initializer_row : {P : Type 0} → List (Initializer P) → Initializers P
+initializer_row [] = NoInitializers
+initializer_row (t ∷ ts) = MoreInitializers t (initializer_row ts)
+
+abbrev pub statement_row : {P : Type 0} → List (Statement P) → Statements P
+statement_row [] = NoStatements
+statement_row (t ∷ ts) = MoreStatements t (statement_row ts)
