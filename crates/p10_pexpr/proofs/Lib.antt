@@ -1,0 +1,21 @@
+-- Lemmas for this crate and those above it.
+pub mod SameSigns
+pub mod Tools
+pub mod Words
+pub mod Rows
+pub mod Taken
+pub mod ExpressionTakes
+pub mod DeclaratorTakes
+pub mod SpecifierTakes
+pub mod Takes
+pub mod Sizes
+pub mod Marks
+pub mod FirstWords
+pub mod Steps
+pub mod ExpressionAgain
+pub mod DeclaratorAgain
+pub mod SpecifierAgain
+pub mod Again
+pub mod Unique
+pub mod Lengths
+pub mod Parsed

@@ -1,0 +1,9 @@
+-- The definitions that the contracts of this crate cite.
+pub mod Heads
+pub mod Tables
+pub mod Readers
+pub mod DeclaratorReading
+pub mod SpecifierReading
+pub mod ExpressionReading
+pub mod Reading
+pub mod Laws

@@ -1,0 +1,12 @@
+//! How expressions, types, specifiers and declarators of C are read (C99 6.5, 6.7).
+//!
+//! The definitions in `specs/` are readers that go a number of levels deep and choose by at most two words and the typedef
+//! names in scope; what the next word is to them are the tables [`Next`], [`Start`] and [`Specifying`]. In `proofs/` stand two laws of
+//! all of them: what is read is spelled (`Takes`), and what is spelled is read, whatever words follow (`Again`). From these an
+//! expression's tree is unique, which [`laws`] states. The code that computes these readers isn't here yet.
+#![tactic(auto)]
+
+pub mod laws;
+mod next;
+
+pub use next::{Next, Specifying, Start};
