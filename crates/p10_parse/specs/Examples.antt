@@ -15,12 +15,15 @@ use Rattle.p10_parse.specs.Roots.{next_external, externals_from}
 
 -- ## Words
 
+-- the name that is a typedef name in some of the examples
 abbrev pub T : Text
 T = 84 ∷ []
 
+-- the name that most of the examples declare
 abbrev pub x : Text
 x = 120 ∷ []
 
+-- one more name, which is never a typedef name
 abbrev pub y : Text
 y = 121 ∷ []
 
@@ -39,18 +42,23 @@ function_words body =
 
 -- ## Trees
 
+-- an expression without parentheses round it
 abbrev pub plain : Form Bare → Expression Bare
 plain f = expression tt 0 f
 
+-- one specifier with no other beside it
 abbrev pub only : Specifier Bare → Specifiers Bare
 only s = MoreSpecifiers s NoSpecifiers
 
+-- a keyword with no other specifier beside it, such as `int`
 abbrev pub keyword : Sign → Specifiers Bare
 keyword s = only (Keyword tt s)
 
+-- a typedef name with no other specifier beside it
 abbrev pub renamed : Text → Specifiers Bare
 renamed n = only (Typedef (plain_name n))
 
+-- a declarator that is this name alone
 abbrev pub called : Text → Declarator Bare
 called n = Named (plain_name n)
 
@@ -58,6 +66,7 @@ called n = Named (plain_name n)
 abbrev pub declares : Specifiers Bare → Declarator Bare → Declaration Bare
 declares ss d = declaring ss (with_initial d None ∷ [])
 
+-- a list of this one parameter
 abbrev pub one_parameter : Specifiers Bare → Declarator Bare → Parameters Bare
 one_parameter ss d = MoreParameters (parameter tt ss d) NoParameters
 
@@ -69,6 +78,7 @@ takes_one ss d = Outer (declares (keyword sign.Int) (Function tt (called x) (one
 abbrev pub function_of : Parameters Bare → List (Statement Bare) → External Bare
 function_of ps body = defining (keyword sign.Void) (Function tt (called x) ps false) (statement_row body)
 
+-- `void x(void)` with this body
 abbrev pub plain_function : List (Statement Bare) → External Bare
 plain_function body = function_of (one_parameter (keyword sign.Void) (Unnamed tt)) body
 
@@ -80,6 +90,7 @@ value_of_name n = Evaluate tt (plain (Name n))
 abbrev pub IsRead : Scope → List Symbol → External Bare → Type 0
 IsRead names symbols e = next_external names symbols ≡ Some (e, [])
 
+-- what the words of each example are read as: their tree, or nothing where they have none
 pub record ExamplesAreRead : Type 0 where
   -- `int x(int (T));` where T is a typedef name: the parentheses hold parameters
   pub parameters_of_a_type : IsRead with_type (Fixed sign.Int ∷ symbol.Name x ∷ Fixed sign.Open ∷ Fixed sign.Int ∷ in_parentheses (symbol.Name T) ++ Fixed sign.Close ∷ Fixed sign.Semicolon ∷ [])

@@ -39,6 +39,7 @@ unfoldable pub builders : ℕ → Builders
 builders zero = no_builders
 builders (suc n) = built_over (readers n) (builders n)
 
+-- a function with these specifiers, this declarator and this body, without its places
 abbrev pub defining : Specifiers Bare → Declarator Bare → Statements Bare → External Bare
 defining ss d body = Defines (record {
   place = tt;

@@ -9,6 +9,7 @@ use Rattle.p10_pexpr.specs.Tables.{begins_specifiers}
 use Rattle.p10_parse.specs.declared.way.Way.{Way}
 use Rattle.p10_parse.specs.declared.way.Way.TheVariants.{Ends, Braces, Ifs, Switches, Whiles, Dos, Fors, Cases, Defaults, Labels, Gotos, Breaks, Continues, Returns, Values}
 
+-- which statement a keyword or punctuator begins; an expression where it begins no other (C99 6.8)
 abbrev pub way_of_sign : Sign → Way
 way_of_sign sign.Semicolon = Ends
 way_of_sign sign.OpenBrace = Braces
@@ -30,6 +31,7 @@ abbrev pub is_label : List Symbol → Bool
 is_label (Name x ∷ rest) = heads sign.Colon rest
 is_label _ = false
 
+-- which statement the words begin: a name with `:` after it is a label, whatever it stands for (C99 6.8.1)
 abbrev pub way_at : List Symbol → Way
 way_at (Name x ∷ rest) = cond (heads sign.Colon rest) Labels Values
 way_at (Fixed s ∷ rest) = way_of_sign s

@@ -18,6 +18,7 @@ use Rattle.p10_pexpr.specs.Heads.{Read, heads, closed_by}
 use Rattle.p10_pexpr.specs.Tables.{opens_parameters}
 use Rattle.p10_pexpr.specs.Readers.{Readers}
 
+-- a name that stands nowhere: how it is written
 abbrev pub plain_name : Text → Identifier Bare
 plain_name x = record { place = tt; name = x }
 
@@ -45,6 +46,7 @@ module _ (r : Readers) where
   abbrev pub specifiers_at : Scope → Setting → List Symbol → Read (Specifiers Bare)
   specifiers_at names setting symbols = option_and_then (λ ss. some_specifiers ss.0 ss.1) (r.specifiers names setting Nothing [] symbols)
 
+  -- the name of a type: specifiers, and then a declarator without a name (C99 6.7.6)
   abbrev pub type_name_at : Scope → List Symbol → Read (TypeName Bare)
   type_name_at names symbols =
       option_and_then (λ ss. option_map (λ d. (type_name tt ss.0 d.0, d.1)) (r.declarator (after_specifiers names ss.0) setting.Inside Forbidden ss.1)) (specifiers_at names setting.Type symbols)
@@ -55,6 +57,7 @@ module _ (r : Readers) where
   abbrev pub pointer_to : Scope → Setting → Naming → List Sign × List Symbol → Read (Declarator Bare)
   pointer_to names setting naming qs = option_map (λ d. (Pointer tt qs.0 d.0, d.1)) (r.declarator names setting naming qs.1)
 
+  -- after a `*`: its qualifiers, and then the declarator of what points (C99 6.7.5.1)
   abbrev pub pointer_at : Scope → Setting → Naming → List Symbol → Read (Declarator Bare)
   pointer_at names setting naming rest = pointer_to names setting naming (qualifiers_from [] rest)
 
@@ -62,6 +65,7 @@ module _ (r : Readers) where
   abbrev pub wrapped_at : Scope → Setting → Naming → List Symbol → Read (Declarator Bare)
   wrapped_at names setting naming rest = option_and_then (λ d. closed_by sign.Close (Parenthesised tt d.0) d.1) (r.declarator names setting naming rest)
 
+  -- after a `(`: no name, where it may be left out and the `(` opens parameters; else a declarator in parentheses
   abbrev pub open_at : Scope → Setting → Naming → List Symbol → Read (Declarator Bare)
   open_at names setting naming rest =
       cond (may_be_nameless naming && opens_parameters names rest) (Some (Unnamed tt, Fixed sign.Open ∷ rest)) (wrapped_at names setting naming rest)
@@ -72,6 +76,7 @@ module _ (r : Readers) where
   atom_at names setting naming (Fixed sign.Open ∷ rest) = open_at names setting naming rest
   atom_at names setting naming symbols = nameless_at naming symbols
 
+  -- a pointer where a `*` stands; else a name or parentheses, with the brackets and parameters after it (C99 6.7.5)
   abbrev pub declarator_once : Scope → Setting → Naming → List Symbol → Read (Declarator Bare)
   declarator_once names setting naming symbols =
       cond (heads sign.Star symbols) (pointer_at names setting naming (drop 1 symbols))
@@ -81,6 +86,7 @@ module _ (r : Readers) where
   abbrev pub sized_at : Scope → Declarator Bare → List Symbol → Read (Declarator Bare)
   sized_at names d rest = option_and_then (λ t. closed_by sign.CloseSquare (Array tt d (Present t.0)) t.1) (r.expression names 3 rest)
 
+  -- after a `[`: a length, unless it is left out, and the `]` (C99 6.7.5.2)
   abbrev pub array_at : Scope → Declarator Bare → List Symbol → Read (Declarator Bare)
   array_at names d rest = cond (heads sign.CloseSquare rest) (Some (Array tt d Absent, drop 1 rest)) (sized_at names d rest)
 
@@ -88,9 +94,11 @@ module _ (r : Readers) where
   abbrev pub with_parameters_at : Scope → Setting → Declarator Bare → List Symbol → Read (Declarator Bare)
   with_parameters_at names setting d rest = option_map (λ ps. (Function tt d (parameter_row ps.0.0) ps.0.1, ps.1)) (r.parameters names setting [] rest)
 
+  -- after a `(`: parameters, if there are any, and the `)` (C99 6.7.5.3)
   abbrev pub function_at : Scope → Setting → Declarator Bare → List Symbol → Read (Declarator Bare)
   function_at names setting d rest = cond (heads sign.Close rest) (Some (Function tt d NoParameters false, drop 1 rest)) (with_parameters_at names setting d rest)
 
+  -- brackets and parameters, one after the other, directly after a declarator
   abbrev pub suffixes_once : Scope → Setting → Declarator Bare → List Symbol → Read (Declarator Bare)
   suffixes_once names setting d symbols =
       cond (heads sign.OpenSquare symbols) (option_and_then (λ x. r.suffixes names setting x.0 x.1) (array_at names d (drop 1 symbols)))
@@ -99,6 +107,7 @@ module _ (r : Readers) where
 
   -- ## Parameters
 
+  -- specifiers, and then a declarator that may lack its name (C99 6.7.5.3)
   abbrev pub parameter_at : Scope → Setting → List Symbol → Read (Parameter Bare)
   parameter_at names setting symbols =
       option_and_then (λ ss. option_map (λ d. (parameter tt ss.0 d.0, d.1)) (r.declarator (after_specifiers names ss.0) setting Allowed ss.1)) (specifiers_at names setting symbols)
@@ -107,9 +116,11 @@ module _ (r : Readers) where
   abbrev pub parameters_on : Scope → Setting → List (Parameter Bare) → List Symbol → Read (List (Parameter Bare) × Bool)
   parameters_on names setting done rest = cond (heads sign.Ellipsis rest) (closed_by sign.Close (done, true) (drop 1 rest)) (r.parameters names setting done rest)
 
+  -- after a parameter: a `,` and what is after it, or the `)`
   abbrev pub parameters_more : Scope → Setting → List (Parameter Bare) → List Symbol → Read (List (Parameter Bare) × Bool)
   parameters_more names setting done rest = cond (heads sign.Comma rest) (parameters_on names setting done (drop 1 rest)) (closed_by sign.Close (done, false) rest)
 
+  -- one parameter and, in the scope after it, those after it
   abbrev pub parameters_once : Scope → Setting → List (Parameter Bare) → List Symbol → Read (List (Parameter Bare) × Bool)
   parameters_once names setting done symbols =
       option_and_then (λ x. parameters_more (after_parameter names x.0) setting (done ++ x.0 ∷ []) x.1) (parameter_at names setting symbols)

@@ -55,6 +55,7 @@ module _ (r : Readers) where
   abbrev pub parenthesised_at : Scope → List Symbol → Read (Expression Bare)
   parenthesised_at names rest = option_and_then (λ t. closed_by sign.Close (wrapped t.0) t.1) (r.expression names 1 rest)
 
+  -- after a `(`: a cast where specifiers begin (C99 6.5.4), or else an expression in parentheses (C99 6.5.1)
   abbrev pub group_at : Scope → List Symbol → Read (Expression Bare)
   group_at names rest = cond (begins_specifiers names rest) (cast_at names rest) (parenthesised_at names rest)
 
@@ -62,6 +63,7 @@ module _ (r : Readers) where
   abbrev pub sizeof_type_at : Scope → List Symbol → Read (Expression Bare)
   sizeof_type_at names rest = option_and_then (λ k. closed_by sign.Close (plain (SizeofType k.0)) k.1) (type_name_at r names rest)
 
+  -- after `sizeof`: a unary expression (C99 6.5.3.4)
   abbrev pub sizeof_expression_at : Scope → List Symbol → Read (Expression Bare)
   sizeof_expression_at names rest = option_map (λ t. (plain (SizeofExpression t.0), t.1)) (r.expression names 15 rest)
 
@@ -70,9 +72,11 @@ module _ (r : Readers) where
   sizeof_at names rest =
       cond (heads sign.Open rest && begins_specifiers names (drop 1 rest)) (sizeof_type_at names (drop 1 rest)) (sizeof_expression_at names rest)
 
+  -- after an operator before its one operand, which is a cast expression (C99 6.5.3)
   abbrev pub unary_at : Scope → Sign → List Symbol → Read (Expression Bare)
   unary_at names s rest = option_map (λ t. (plain (Unary s t.0), t.1)) (r.expression names 14 rest)
 
+  -- after a `++` or `--` before its operand, which is a unary expression (C99 6.5.3.1)
   abbrev pub step_at : Scope → Sign → List Symbol → Read (Expression Bare)
   step_at names s rest = option_map (λ t. (plain (Step Before s t.0), t.1)) (r.expression names 15 rest)
 
@@ -84,6 +88,7 @@ module _ (r : Readers) where
   operand_by names Measures rest = sizeof_at names rest
   operand_by names Nothing rest = None
 
+  -- a name, a constant, strings, parentheses, or an operator before its operand (C99 6.5.1, 6.5.3, 6.5.4)
   abbrev pub operand_at : Scope → List Symbol → Read (Expression Bare)
   operand_at names (symbol.Name x ∷ rest) = variable_at names x rest
   operand_at names (symbol.Number x ∷ rest) = Some (plain (Number x), rest)
@@ -94,9 +99,11 @@ module _ (r : Readers) where
 
   -- ## Further parts
 
+  -- after an operator between two operands: the right one, which holds more tightly than it (C99 6.5.5 to 6.5.14)
   abbrev pub join_at : Scope → Expression Bare → Sign → List Symbol → Read (Expression Bare)
   join_at names left s rest = option_map (λ t. (plain (Binary s left t.0), t.1)) (r.expression names (binary_level s + 1) rest)
 
+  -- after an assignment operator: an assignment expression (C99 6.5.16)
   abbrev pub assign_at : Scope → Expression Bare → Sign → List Symbol → Read (Expression Bare)
   assign_at names left s rest = option_map (λ t. (plain (Assign s left t.0), t.1)) (r.expression names 2 rest)
 
@@ -109,21 +116,27 @@ module _ (r : Readers) where
   conditional_at names left rest =
       option_and_then (λ a. option_and_then (otherwise_at names left a.0) (expected sign.Colon a.1)) (r.expression names 1 rest)
 
+  -- after the first `,` of a comma operator: all further operands (C99 6.5.17)
   abbrev pub comma_at : Scope → Expression Bare → List Symbol → Read (Expression Bare)
   comma_at names left rest = option_map (λ ts. (plain (Comma (MoreExpressions left (expression_row ts.0))), ts.1)) (r.list names [] rest)
 
+  -- after a `[`: an expression and the `]` (C99 6.5.2.1)
   abbrev pub index_at : Scope → Expression Bare → List Symbol → Read (Expression Bare)
   index_at names left rest = option_and_then (λ t. closed_by sign.CloseSquare (plain (Index left t.0)) t.1) (r.expression names 1 rest)
 
+  -- at least one argument and the `)` (C99 6.5.2.2)
   abbrev pub arguments_at : Scope → Expression Bare → List Symbol → Read (Expression Bare)
   arguments_at names left rest = option_and_then (λ ts. closed_by sign.Close (plain (Call left (expression_row ts.0))) ts.1) (r.list names [] rest)
 
+  -- after the `(` of a call: its arguments, if there are any, and the `)` (C99 6.5.2.2)
   abbrev pub call_at : Scope → Expression Bare → List Symbol → Read (Expression Bare)
   call_at names left rest = cond (heads sign.Close rest) (Some (plain (Call left NoExpressions), drop 1 rest)) (arguments_at names left rest)
 
+  -- after a `.`: the name of a member (C99 6.5.2.3)
   abbrev pub member_of : Expression Bare → List Symbol → Read (Expression Bare)
   member_of left rest = option_map (λ x. (plain (Member left (plain_name x.0)), x.1)) (name_at rest)
 
+  -- after a `->`: the name of a member (C99 6.5.2.3)
   abbrev pub arrow_of : Expression Bare → List Symbol → Read (Expression Bare)
   arrow_of left rest = option_map (λ x. (plain (Arrow left (plain_name x.0)), x.1)) (name_at rest)
 
@@ -141,9 +154,11 @@ module _ (r : Readers) where
   part_by names left Quotes rest = None
   part_by names left Ends rest = None
 
+  -- one further part of an expression, and then what goes on with both
   abbrev pub chain_on : Scope → ℕ → Expression Bare → List Symbol → Read (Expression Bare)
   chain_on names level left symbols = option_and_then (λ t. r.chain names level t.0 t.1) (part_by names left (next_at symbols) (drop 1 symbols))
 
+  -- further parts as long as the next word goes on with the expression, and then the expression ends
   abbrev pub chain_once : Scope → ℕ → Expression Bare → List Symbol → Read (Expression Bare)
   chain_once names level left symbols =
       cond (goes_on level (level_of left) (next_at symbols)) (chain_on names level left symbols) (Some (left, symbols))
@@ -152,13 +167,16 @@ module _ (r : Readers) where
   abbrev pub chain_of : Scope → ℕ → Expression Bare → List Symbol → Read (Expression Bare)
   chain_of names level left rest = cond (nat_le level (level_of left)) (r.chain names level left rest) None
 
+  -- an operand and what goes on with it, where an expression of this level at least is read
   abbrev pub expression_once : Scope → ℕ → List Symbol → Read (Expression Bare)
   expression_once names level symbols = option_and_then (λ t. chain_of names level t.0 t.1) (operand_at names symbols)
 
   -- ## Lists
 
+  -- after an expression: a `,` and what is after it, or the end of the list
   abbrev pub list_more : Scope → List (Expression Bare) → List Symbol → Read (List (Expression Bare))
   list_more names done rest = cond (heads sign.Comma rest) (r.list names done (drop 1 rest)) (Some (done, rest))
 
+  -- an assignment expression and those after it, with commas between them
   abbrev pub list_once : Scope → List (Expression Bare) → List Symbol → Read (List (Expression Bare))
   list_once names done symbols = option_and_then (λ t. list_more names (done ++ t.0 ∷ []) t.1) (r.expression names 2 symbols)

@@ -9,6 +9,7 @@ use Rattle.p10_syn.specs.Symbols.{Symbol, Name, Fixed}
 abbrev pub Read : Type 0 → Type 0
 Read A = Option (A × List Symbol)
 
+-- whether a word is this keyword or punctuator
 abbrev pub is_sign : Sign → Symbol → Bool
 is_sign s (Fixed other) = same_sign other s
 is_sign s _ = false

@@ -18,6 +18,7 @@ use Rattle.p10_pexpr.specs.declared.next.Specifying.TheVariants.{Word, Structure
 
 -- ## After an expression
 
+-- what a keyword or punctuator is to an expression before it (C99 6.5.2, 6.5.5 to 6.5.17)
 abbrev pub next_of_sign : Sign → Next
 next_of_sign sign.OrOr = Joins sign.OrOr
 next_of_sign sign.AndAnd = Joins sign.AndAnd
@@ -58,11 +59,13 @@ next_of_sign sign.Increment = Counts sign.Increment
 next_of_sign sign.Decrement = Counts sign.Decrement
 next_of_sign _ = Ends
 
+-- what any word is to an expression before it; a string would be a part of the strings before it
 abbrev pub next_of : Symbol → Next
 next_of (Fixed s) = next_of_sign s
 next_of (String x) = Quotes
 next_of _ = Ends
 
+-- what the next word is to an expression before it; where no word is left, the expression ends
 abbrev pub next_at : List Symbol → Next
 next_at [] = Ends
 next_at (x ∷ rest) = next_of x
@@ -94,6 +97,7 @@ goes_on level held next = nat_le level (pull next) && nat_le (need next) held
 
 -- ## At the begin of an operand
 
+-- what a keyword or punctuator begins where an operand is read (C99 6.5.1, 6.5.3, 6.5.4)
 abbrev pub start_of : Sign → Start
 start_of sign.Open = Groups
 start_of sign.And = Operates sign.And
@@ -109,6 +113,7 @@ start_of _ = Nothing
 
 -- ## Specifiers
 
+-- the first word of enumerations (C99 6.7.2.2)
 abbrev pub is_enumeration : Sign → Bool
 is_enumeration sign.Enum = true
 is_enumeration _ = false
@@ -138,6 +143,7 @@ specifying_at names setting said (Name x ∷ rest) = cond (is_type names x && sa
 specifying_at names setting said (Fixed s ∷ rest) = specifying_sign setting said s
 specifying_at names setting said (_ ∷ rest) = Other
 
+-- whether the next word is no specifier there
 abbrev pub is_other : Specifying → Bool
 is_other Other = true
 is_other _ = false

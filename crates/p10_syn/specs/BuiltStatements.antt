@@ -19,25 +19,31 @@ optional_expression None = Absent
 optional_expression (Some e) = Present (expression_of e)
 
 abbrev mutual
+  -- the initialiser of the grammar that one of the code stands for
   pub initializer_of : init.Init → Initializer At
   initializer_of (init.Value e) = Value (expression_of e)
   initializer_of (init.Braced' at shape all comma) = Braced at (initializers_of all) comma
 
+  -- the initialisers between braces of the code, in their order
   pub initializers_of : {m : _} → init.Row_of-Init m → Initializers At
   initializers_of init.end_of-Init = NoInitializers
   initializers_of (init.more_of-Init i rest) = MoreInitializers (initializer_of i) (initializers_of rest)
 
+-- the initialiser of a declarator of the code, if it has one
 abbrev pub initial_of : Option init.Init → Option (Initializer At)
 initial_of None = None
 initial_of (Some i) = Some (initializer_of i)
 
+-- a declarator of a declaration of the code, with its initialiser
 abbrev pub init_declarator_of : declared.InitDeclarator → InitDeclarator At
 init_declarator_of d = record { place = d.at; declarator = declarator_of d.declarator; initial = initial_of d.init }
 
+-- a declaration of the code: its specifiers and what they declare
 abbrev pub declaration_of : declaration.Decl → Declaration At
 declaration_of d = record { place = d.at; specifiers = specifiers_in d.specs; declarators = map init_declarator_of d.declarators.items }
 
 abbrev mutual
+  -- the statement of the grammar that one of the code stands for
   pub statement_of : statement.Stmt → Statement At
   statement_of (statement.Empty at) = Empty at
   statement_of (statement.Expr at e) = Evaluate at (expression_of e)
@@ -58,16 +64,20 @@ abbrev mutual
   statement_of (statement.Decl d) = Declare (declaration_of d)
   statement_of (statement.Mark at text) = Pragma at text.now
 
+  -- the items of a block of the code, in their order
   pub statements_of : {m : _} → statement.Row_of-Stmt m → Statements At
   statements_of statement.end_of-Stmt = NoStatements
   statements_of (statement.more_of-Stmt s rest) = MoreStatements (statement_of s) (statements_of rest)
 
+-- where the words of a function of the code stand that rules on functions ask for
 abbrev pub landmarks_of : landmarks.Landmarks → Landmarks At
 landmarks_of l = record { whole = l.whole; first_word = l.first_word; brace = l.brace; last_word = l.last_word }
 
+-- a function of the code: its specifiers, its declarator and its body
 abbrev pub definition_of : function.Function → Definition At
 definition_of f = record { place = f.at; landmarks = landmarks_of f.landmarks; specifiers = specifiers_in f.specs; declarator = declarator_of f.declarator; body_place = f.body_at; body = statement_row (map statement_of f.body.items) }
 
+-- a declaration outside of functions of the code, or a function of it
 abbrev pub external_of : whole.Unit → External At
 external_of (unit.Decl d) = Outer (declaration_of d)
 external_of (unit.Function f) = Defines (definition_of f)

@@ -33,6 +33,7 @@ is_qualifier sign.Restrict = true
 is_qualifier sign.Volatile = true
 is_qualifier _ = false
 
+-- the function specifier (C99 6.7.4)
 abbrev pub is_inline : Sign → Bool
 is_inline sign.Inline = true
 is_inline _ = false
@@ -69,10 +70,12 @@ abbrev pub says_no_name : Said → Bool
 says_no_name TypedefName = false
 says_no_name _ = true
 
+-- what is said of the type after a keyword: the same as before, unless the keyword is a word of a type
 abbrev pub said_by_keyword : Said → Bool → Said
 said_by_keyword said true = Words
 said_by_keyword said false = said
 
+-- what is said of the type after one more specifier
 abbrev pub after_saying : {P : Type 0} → Said → Specifier P → Said
 after_saying said (Keyword p s) = said_by_keyword said (is_type_word s)
 after_saying said (Typedef x) = TypedefName
@@ -98,6 +101,7 @@ may_have_body _ = false
 abbrev pub is_specifier_word : Setting → Said → Sign → Bool
 is_specifier_word setting said s = (is_storage s && may_store setting) || (is_qualifier s || (is_inline s || (is_type_word s && says_no_name said)))
 
+-- at least one specifier is there (C99 6.7)
 abbrev pub HasSpecifiers : {P : Type 0} → Specifiers P → Type 0
 HasSpecifiers NoSpecifiers = ⊥
 HasSpecifiers (MoreSpecifiers s ss) = Unit {0}
@@ -124,16 +128,19 @@ abbrev pub MayHaveEnumerators : {P : Type 0} → Setting → Enumerators P → B
 MayHaveEnumerators setting NoEnumerators comma = comma ≡ false
 MayHaveEnumerators setting (MoreEnumerators e es) comma = may_have_body setting ≡ true
 
+-- a declaration of members declares at least one (C99 6.7.2.1)
 abbrev pub HasFields : {P : Type 0} → Fields P → Type 0
 HasFields NoFields = ⊥
 HasFields (MoreFields f fs) = Unit {0}
 
 -- ## Declarators
 
+-- whether a declarator may have a name here: in the name of a type it has none (C99 6.7.6)
 abbrev pub may_be_named : Naming → Bool
 may_be_named Forbidden = false
 may_be_named _ = true
 
+-- whether a declarator may lack its name here: only in a parameter or the name of a type (C99 6.7.6)
 abbrev pub may_be_nameless : Naming → Bool
 may_be_nameless Required = false
 may_be_nameless _ = true
@@ -162,10 +169,12 @@ abbrev pub IsApart : {P : Type 0} → Scope → Said → Declarator P → Type 0
 IsApart names Nothing d = leads names d ≡ false
 IsApart names _ d = Unit {0}
 
+-- of the declarators of members only the one directly after the specifiers is told apart from them
 abbrev pub AreApart : {P : Type 0} → Scope → Said → Fields P → Type 0
 AreApart names said NoFields = Unit {0}
 AreApart names said (MoreFields (field p d width) fs) = IsApart names said d
 
+-- each of these is a qualifier, as those of a pointer are (C99 6.7.5.1)
 abbrev pub AreQualifiers : List Sign → Type 0
 AreQualifiers [] = Unit {0}
 AreQualifiers (s ∷ signs) = (is_qualifier s ≡ true) × AreQualifiers signs
@@ -177,6 +186,7 @@ MayEnd (MoreParameters x xs) ellipsis = Unit {0}
 
 -- ## Expressions
 
+-- at least one string is there
 abbrev pub AreSome : List Text → Type 0
 AreSome [] = ⊥
 AreSome (x ∷ xs) = Unit {0}
@@ -190,9 +200,12 @@ AreSeveral (MoreExpressions t (MoreExpressions u ts)) = Unit {0}
 -- ## The conditions
 
 abbrev mutual
+  -- an expression of the grammar, with any pairs of parentheses round it (C99 6.5)
   pub IsExpression : Scope → Expression Bare → Type 0
   IsExpression names (expression p n f) = IsForm names f
 
+  -- a name that is no typedef name, a constant, strings, or an operator with operands that hold together as tightly as it
+  -- asks (C99 6.5.1 to 6.5.17)
   pub IsForm : Scope → Form Bare → Type 0
   -- a typedef name is no expression
   IsForm names (Name x) = is_type names x ≡ false
@@ -234,33 +247,41 @@ abbrev mutual
   AreSpecifiers names setting said NoSpecifiers = Unit {0}
   AreSpecifiers names setting said (MoreSpecifiers s ss) = IsSpecifier names setting said s × AreSpecifiers (after_specifier names s) setting (after_saying said s) ss
 
+  -- a specifier that may stand here, after others that said this of the type (C99 6.7.1 to 6.7.4)
   pub IsSpecifier : Scope → Setting → Said → Specifier Bare → Type 0
   IsSpecifier names setting said (Keyword p s) = is_specifier_word setting said s ≡ true
   IsSpecifier names setting said (Typedef x) = (is_type names x.name ≡ true) × (says_nothing said ≡ true)
   IsSpecifier names setting said (Structure p s tag ms) = (is_structure s ≡ true) × (says_no_name said ≡ true) × HasTagOrMembers tag ms × MayHaveMembers setting ms × AreMembers names ms
   IsSpecifier names setting said (Enumeration p tag es comma) = (says_no_name said ≡ true) × HasTagOrEnumerators tag es × MayHaveEnumerators setting es comma × AreEnumerators names es
 
+  -- each declaration of members in the scope after those before it (C99 6.7.2.1)
   pub AreMembers : Scope → Members Bare → Type 0
   AreMembers names NoMembers = Unit {0}
   AreMembers names (MoreMembers m ms) = IsMember names m × AreMembers (after_member names m) ms
 
+  -- specifiers, and at least one declarator after them, of which the first is told apart from them (C99 6.7.2.1)
   pub IsMember : Scope → MemberDeclaration Bare → Type 0
   IsMember names (member_declaration p ss fs) = AreSpecifiers names setting.Outside Nothing ss × HasSpecifiers ss × HasFields fs × AreApart (after_specifiers names ss) (said_by Nothing ss) fs × AreFields (after_specifiers names ss) fs
 
+  -- each declarator of members in the same scope: the names of members aren't in it
   pub AreFields : Scope → Fields Bare → Type 0
   AreFields names NoFields = Unit {0}
   AreFields names (MoreFields f fs) = IsField names f × AreFields names fs
 
+  -- a declarator with a name, and the width of a bit-field, which is a constant expression (C99 6.6, 6.7.2.1)
   pub IsField : Scope → Field Bare → Type 0
   IsField names (field p d width) = IsDeclarator names setting.Outside Required d × IsOptional names 3 width
 
+  -- each constant of an enumeration in the scope after those before it (C99 6.7.2.2)
   pub AreEnumerators : Scope → Enumerators Bare → Type 0
   AreEnumerators names NoEnumerators = Unit {0}
   AreEnumerators names (MoreEnumerators e es) = IsEnumerator names e × AreEnumerators (after_enumerator names e) es
 
+  -- the value of a constant, if one is written, is a constant expression (C99 6.6, 6.7.2.2)
   pub IsEnumerator : Scope → Enumerator Bare → Type 0
   IsEnumerator names (enumerator p x value) = IsOptional names 3 value
 
+  -- a declarator that may stand here: with a name, without one, or either, as the place asks (C99 6.7.5, 6.7.6)
   pub IsDeclarator : Scope → Setting → Naming → Declarator Bare → Type 0
   IsDeclarator names setting naming (Named x) = may_be_named naming ≡ true
   IsDeclarator names setting naming (Unnamed p) = may_be_nameless naming ≡ true
@@ -275,5 +296,6 @@ abbrev mutual
   AreParameters names setting NoParameters = Unit {0}
   AreParameters names setting (MoreParameters x xs) = IsParameter names setting x × AreParameters (after_parameter names x) setting xs
 
+  -- specifiers, and a declarator that may lack its name and is told apart from them (C99 6.7.5.3)
   pub IsParameter : Scope → Setting → Parameter Bare → Type 0
   IsParameter names setting (parameter p ss d) = AreSpecifiers names setting Nothing ss × HasSpecifiers ss × IsApart (after_specifiers names ss) (said_by Nothing ss) d × IsDeclarator (after_specifiers names ss) setting Allowed d

@@ -19,6 +19,7 @@ pub record Source : Type 0 where
 abbrev pub joined : Span → Span → Span
 joined a b = cond (nat_eq a.file b.file && nat_le a.end b.end) (span_of a.file a.start b.end) a
 
+-- the bytes from the first of two words to the last, where both are there; else bytes 0 to 0 of file 0
 abbrev pub span_between : Option PlainWord → Option PlainWord → Span
 span_between (Some a) (Some b) = joined a.at b.at
 span_between (Some a) None = span_of 0 0 0
@@ -43,9 +44,11 @@ place_at s n k = record { first = number_at s n; past = number_at s (n + k); spa
 
 -- ## Trees in their places
 
+-- a name that is word n
 abbrev pub locate_name : Source → ℕ → Identifier Bare → Identifier At
 locate_name s n x = record { place = place_at s n 1; name = x.name }
 
+-- the own name of a structure or enumeration, which is word n if it has one
 abbrev pub locate_tag : Source → ℕ → Option (Identifier Bare) → Option (Identifier At)
 locate_tag s n None = None
 locate_tag s n (Some x) = Some (locate_name s n x)
@@ -55,6 +58,7 @@ abbrev mutual
   pub locate : Source → ℕ → Expression Bare → Expression At
   locate s n (expression p k f) = expression (place_at s n (2 * k + count_form f)) k (locate_form s (n + k) f)
 
+  -- the operands of a form whose first word is word n
   pub locate_form : Source → ℕ → Form Bare → Form At
   locate_form s n (Name x) = Name x
   locate_form s n (Number x) = Number x
@@ -80,17 +84,22 @@ abbrev mutual
   locate_list s n NoExpressions = NoExpressions
   locate_list s n (MoreExpressions t ts) = MoreExpressions (locate s n t) (locate_list s (n + count t + 1) ts)
 
+  -- an expression that begins at word n, unless it is left out
   pub locate_optional : Source → ℕ → Optional Bare → Optional At
   locate_optional s n Absent = Absent
   locate_optional s n (Present t) = Present (locate s n t)
 
+  -- the name of a type: specifiers from word n on, and the declarator directly after them
   pub locate_type : Source → ℕ → TypeName Bare → TypeName At
   locate_type s n (type_name p ss d) = type_name (place_at s n (count_specifiers ss + count_declarator d)) (locate_specifiers s n ss) (locate_declarator s (n + count_specifiers ss) d)
 
+  -- specifiers one after the other, the first from word n on
   pub locate_specifiers : Source → ℕ → Specifiers Bare → Specifiers At
   locate_specifiers s n NoSpecifiers = NoSpecifiers
   locate_specifiers s n (MoreSpecifiers x xs) = MoreSpecifiers (locate_specifier s n x) (locate_specifiers s (n + count_specifier x) xs)
 
+  -- a specifier from word n on: in a structure or enumeration the own name stands after the first word, and the body from
+  -- the `{` on
   pub locate_specifier : Source → ℕ → Specifier Bare → Specifier At
   locate_specifier s n (Keyword p word) = Keyword (place_at s n 1) word
   locate_specifier s n (Typedef x) = Typedef (locate_name s n x)
@@ -104,6 +113,7 @@ abbrev mutual
   locate_members s n NoMembers = NoMembers
   locate_members s n (MoreMembers m ms) = MoreMembers (locate_member s n m) (locate_members s (n + count_member m) ms)
 
+  -- specifiers from word n on, and what they declare directly after them
   pub locate_member : Source → ℕ → MemberDeclaration Bare → MemberDeclaration At
   locate_member s n (member_declaration p ss fs) = member_declaration (place_at s n (count_specifiers ss + count_fields fs)) (locate_specifiers s n ss) (locate_fields s (n + count_specifiers ss) fs)
 
@@ -112,6 +122,7 @@ abbrev mutual
   locate_fields s n NoFields = NoFields
   locate_fields s n (MoreFields f fs) = MoreFields (locate_field s n f) (locate_fields s (n + count_field f + 1) fs)
 
+  -- a declarator from word n on, and the width of a bit-field after the `:`
   pub locate_field : Source → ℕ → Field Bare → Field At
   locate_field s n (field p d width) = field (place_at s n (count_declarator d + count_valued width)) (locate_declarator s n d) (locate_optional s (n + count_declarator d + 1) width)
 
@@ -120,9 +131,11 @@ abbrev mutual
   locate_enumerators s n NoEnumerators = NoEnumerators
   locate_enumerators s n (MoreEnumerators e es) = MoreEnumerators (locate_enumerator s n e) (locate_enumerators s (n + count_enumerator e + 1) es)
 
+  -- the name of a constant, which is word n, and its value after the `=`
   pub locate_enumerator : Source → ℕ → Enumerator Bare → Enumerator At
   locate_enumerator s n (enumerator p x value) = enumerator (place_at s n (1 + count_valued value)) (locate_name s n x) (locate_optional s (n + 2) value)
 
+  -- a declarator from word n on; a name that is left out stands before word n and has no words
   pub locate_declarator : Source → ℕ → Declarator Bare → Declarator At
   locate_declarator s n (Named x) = Named (locate_name s n x)
   locate_declarator s n (Unnamed p) = Unnamed (place_at s n 0)
@@ -137,10 +150,12 @@ abbrev mutual
   locate_parameters s n NoParameters = NoParameters
   locate_parameters s n (MoreParameters x xs) = MoreParameters (locate_parameter s n x) (locate_parameters s (n + count_parameter x + 1) xs)
 
+  -- specifiers from word n on, and the declarator directly after them
   pub locate_parameter : Source → ℕ → Parameter Bare → Parameter At
   locate_parameter s n (parameter p ss d) = parameter (place_at s n (count_specifiers ss + count_declarator d)) (locate_specifiers s n ss) (locate_declarator s (n + count_specifiers ss) d)
 
 abbrev mutual
+  -- a value from word n on, or a list whose `{` is word n
   pub locate_initializer : Source → ℕ → Initializer Bare → Initializer At
   locate_initializer s n (Value t) = Value (locate s n t)
   locate_initializer s n (Braced p is comma) = Braced (place_at s n (1 + count_initializers is + count_bool comma + 1)) (locate_initializers s (n + 1) is) comma
@@ -150,10 +165,12 @@ abbrev mutual
   locate_initializers s n NoInitializers = NoInitializers
   locate_initializers s n (MoreInitializers i is) = MoreInitializers (locate_initializer s n i) (locate_initializers s (n + count_initializer i + 1) is)
 
+-- an initialiser that begins at word n, if there is one
 abbrev pub locate_initial : Source → ℕ → Option (Initializer Bare) → Option (Initializer At)
 locate_initial s n None = None
 locate_initial s n (Some i) = Some (locate_initializer s n i)
 
+-- a declarator from word n on, and its initialiser after the `=`
 abbrev pub locate_init_declarator : Source → ℕ → InitDeclarator Bare → InitDeclarator At
 locate_init_declarator s n d = record { place = place_at s n (count_init_declarator d); declarator = locate_declarator s n d.declarator; initial = locate_initial s (n + count_declarator d.declarator + 1) d.initial }
 
@@ -162,10 +179,12 @@ abbrev pub locate_init_declarators : Source → ℕ → List (InitDeclarator Bar
 locate_init_declarators s n [] = []
 locate_init_declarators s n (d ∷ ds) = locate_init_declarator s n d ∷ locate_init_declarators s (n + count_init_declarator d + 1) ds
 
+-- specifiers from word n on, and what they declare directly after them
 abbrev pub locate_declaration : Source → ℕ → Declaration Bare → Declaration At
 locate_declaration s n d = record { place = place_at s n (count_declaration d); specifiers = locate_specifiers s n d.specifiers; declarators = locate_init_declarators s (n + count_specifiers d.specifiers) d.declarators }
 
 abbrev mutual
+  -- a statement from word n on, and its parts where they stand among its keywords and punctuators
   pub locate_statement : Source → ℕ → Statement Bare → Statement At
   locate_statement s n (Empty p) = Empty (place_at s n 1)
   locate_statement s n (Evaluate p t) = Evaluate (place_at s n (count t + 1)) (locate s n t)
@@ -192,6 +211,7 @@ abbrev mutual
   locate_statement s n (Declare d) = Declare (locate_declaration s n d)
   locate_statement s n (Pragma p x) = Pragma (place_at s n 1) x
 
+  -- the items of a block one after the other, the first from word n on
   pub locate_statements : Source → ℕ → Statements Bare → Statements At
   locate_statements s n NoStatements = NoStatements
   locate_statements s n (MoreStatements u us) = MoreStatements (locate_statement s n u) (locate_statements s (n + count_statement u) us)
@@ -202,6 +222,7 @@ landmarks_at s n d =
     let root : Source = record { words = s.words; before = 0 } in
     record { whole = place_at root n (count_definition d); first_word = place_at root n 1; brace = place_at root (n + count_head d) 1; last_word = place_at root (n + count_head d + 1 + count_statements d.body) 1 }
 
+-- a function from word n on: specifiers, the declarator directly after them, and its body from the `{` on
 abbrev pub locate_definition : Source → ℕ → Definition Bare → Definition At
 locate_definition s n d = record {
   place = place_at s n (count_definition d);
@@ -212,6 +233,7 @@ locate_definition s n d = record {
   body = locate_statements s (n + count_head d + 1) d.body;
 }
 
+-- a declaration outside of functions, or a function, from word n on
 abbrev pub locate_external : Source → ℕ → External Bare → External At
 locate_external s n (Outer d) = Outer (locate_declaration s n d)
 locate_external s n (Defines d) = Defines (locate_definition s n d)

@@ -23,10 +23,12 @@ abbrev pub close_all : ℕ → List Symbol → List Symbol
 close_all zero rest = rest
 close_all (suc n) rest = close_all n (Fixed sign.Close ∷ rest)
 
+-- adjacent strings, each a word by itself (C99 6.4.5)
 abbrev pub spell_strings : List Text → List Symbol → List Symbol
 spell_strings [] rest = rest
 spell_strings (text ∷ texts) rest = symbol.String text ∷ spell_strings texts rest
 
+-- keywords one after the other, such as the qualifiers of a pointer (C99 6.7.5.1)
 abbrev pub spell_keywords : List Sign → List Symbol → List Symbol
 spell_keywords [] rest = rest
 spell_keywords (s ∷ signs) rest = Fixed s ∷ spell_keywords signs rest
@@ -47,9 +49,11 @@ spell_ellipsis false rest = rest
 spell_ellipsis true rest = Fixed sign.Comma ∷ (Fixed sign.Ellipsis ∷ rest)
 
 abbrev mutual
+  -- an expression between its pairs of parentheses (C99 6.5)
   pub spell : Expression Bare → List Symbol → List Symbol
   spell (expression p n f) rest = open_all n (spell_form f (close_all n rest))
 
+  -- what stands inside the parentheses: operators and operands in the order in which they are written (C99 6.5.1 to 6.5.17)
   pub spell_form : Form Bare → List Symbol → List Symbol
   spell_form (Name x) rest = symbol.Name x ∷ rest
   spell_form (Number x) rest = symbol.Number x ∷ rest
@@ -80,6 +84,7 @@ abbrev mutual
   spell_more NoExpressions rest = rest
   spell_more (MoreExpressions t ts) rest = Fixed sign.Comma ∷ spell t (spell_more ts rest)
 
+  -- the expression, or no word where it is left out
   pub spell_optional : Optional Bare → List Symbol → List Symbol
   spell_optional Absent rest = rest
   spell_optional (Present t) rest = spell t rest
@@ -89,13 +94,17 @@ abbrev mutual
   spell_valued s Absent rest = rest
   spell_valued s (Present t) rest = Fixed s ∷ spell t rest
 
+  -- specifiers, and then a declarator without a name (C99 6.7.6)
   pub spell_type : TypeName Bare → List Symbol → List Symbol
   spell_type (type_name p ss d) rest = spell_specifiers ss (spell_declarator d rest)
 
+  -- specifiers one after the other
   pub spell_specifiers : Specifiers Bare → List Symbol → List Symbol
   spell_specifiers NoSpecifiers rest = rest
   spell_specifiers (MoreSpecifiers s ss) rest = spell_specifier s (spell_specifiers ss rest)
 
+  -- a keyword, a typedef name, or the first word of a structure, union or enumeration with its own name and its body (C99
+  -- 6.7.2)
   pub spell_specifier : Specifier Bare → List Symbol → List Symbol
   spell_specifier (Keyword p s) rest = Fixed s ∷ rest
   spell_specifier (Typedef x) rest = symbol.Name x.name ∷ rest
@@ -112,6 +121,7 @@ abbrev mutual
   spell_more_members NoMembers rest = Fixed sign.CloseBrace ∷ rest
   spell_more_members (MoreMembers m ms) rest = spell_member m (spell_more_members ms rest)
 
+  -- specifiers, and then what they declare up to the `;` (C99 6.7.2.1)
   pub spell_member : MemberDeclaration Bare → List Symbol → List Symbol
   spell_member (member_declaration p ss fs) rest = spell_specifiers ss (spell_fields fs rest)
 
@@ -120,10 +130,12 @@ abbrev mutual
   spell_fields NoFields rest = Fixed sign.Semicolon ∷ rest
   spell_fields (MoreFields f fs) rest = spell_field f (spell_more_fields fs rest)
 
+  -- the declarators of members after the first, each after a comma, and the `;`
   pub spell_more_fields : Fields Bare → List Symbol → List Symbol
   spell_more_fields NoFields rest = Fixed sign.Semicolon ∷ rest
   spell_more_fields (MoreFields f fs) rest = Fixed sign.Comma ∷ spell_field f (spell_more_fields fs rest)
 
+  -- a declarator, and the width of a bit-field after `:` (C99 6.7.2.1)
   pub spell_field : Field Bare → List Symbol → List Symbol
   spell_field (field p d width) rest = spell_declarator d (spell_valued sign.Colon width rest)
 
@@ -133,13 +145,16 @@ abbrev mutual
   spell_enumerators (MoreEnumerators e es) comma rest =
       Fixed sign.OpenBrace ∷ spell_enumerator e (spell_more_enumerators es (spell_last_comma comma (Fixed sign.CloseBrace ∷ rest)))
 
+  -- the constants of an enumeration after the first, each after a comma
   pub spell_more_enumerators : Enumerators Bare → List Symbol → List Symbol
   spell_more_enumerators NoEnumerators rest = rest
   spell_more_enumerators (MoreEnumerators e es) rest = Fixed sign.Comma ∷ spell_enumerator e (spell_more_enumerators es rest)
 
+  -- the name of a constant, and its value after `=` if one is written (C99 6.7.2.2)
   pub spell_enumerator : Enumerator Bare → List Symbol → List Symbol
   spell_enumerator (enumerator p x value) rest = symbol.Name x.name ∷ spell_valued sign.Assign value rest
 
+  -- `*` and parentheses before the name, the name, and then brackets and parameters (C99 6.7.5)
   pub spell_declarator : Declarator Bare → List Symbol → List Symbol
   spell_declarator (Named x) rest = symbol.Name x.name ∷ rest
   spell_declarator (Unnamed p) rest = rest
@@ -153,16 +168,19 @@ abbrev mutual
   spell_parameters NoParameters rest = rest
   spell_parameters (MoreParameters x xs) rest = spell_parameter x (spell_more_parameters xs rest)
 
+  -- the parameters after the first, each after a comma
   pub spell_more_parameters : Parameters Bare → List Symbol → List Symbol
   spell_more_parameters NoParameters rest = rest
   spell_more_parameters (MoreParameters x xs) rest = Fixed sign.Comma ∷ spell_parameter x (spell_more_parameters xs rest)
 
+  -- specifiers, and then a declarator that may spell no word (C99 6.7.5.3)
   pub spell_parameter : Parameter Bare → List Symbol → List Symbol
   spell_parameter (parameter p ss d) rest = spell_specifiers ss (spell_declarator d rest)
 
 -- ## Declarations
 
 abbrev mutual
+  -- a value, or initialisers in braces with a last comma if there is one (C99 6.7.8)
   pub spell_initializer : Initializer Bare → List Symbol → List Symbol
   spell_initializer (Value t) rest = spell t rest
   spell_initializer (Braced p is comma) rest = Fixed sign.OpenBrace ∷ spell_initializers is (spell_last_comma comma (Fixed sign.CloseBrace ∷ rest))
@@ -172,6 +190,7 @@ abbrev mutual
   spell_initializers NoInitializers rest = rest
   spell_initializers (MoreInitializers i is) rest = spell_initializer i (spell_more_initializers is rest)
 
+  -- the initialisers of a list after the first, each after a comma
   pub spell_more_initializers : Initializers Bare → List Symbol → List Symbol
   spell_more_initializers NoInitializers rest = rest
   spell_more_initializers (MoreInitializers i is) rest = Fixed sign.Comma ∷ spell_initializer i (spell_more_initializers is rest)
@@ -181,6 +200,7 @@ abbrev pub spell_initial : Option (Initializer Bare) → List Symbol → List Sy
 spell_initial None rest = rest
 spell_initial (Some i) rest = Fixed sign.Assign ∷ spell_initializer i rest
 
+-- a declarator, and its initialiser after `=` if it has one (C99 6.7)
 abbrev pub spell_init_declarator : InitDeclarator Bare → List Symbol → List Symbol
 spell_init_declarator d rest = spell_declarator d.declarator (spell_initial d.initial rest)
 
@@ -189,16 +209,19 @@ abbrev pub spell_more_declarators : List (InitDeclarator Bare) → List Symbol �
 spell_more_declarators [] rest = Fixed sign.Semicolon ∷ rest
 spell_more_declarators (d ∷ ds) rest = Fixed sign.Comma ∷ spell_init_declarator d (spell_more_declarators ds rest)
 
+-- with commas between them and the `;`, which stands alone where nothing is declared (C99 6.7)
 abbrev pub spell_declarators : List (InitDeclarator Bare) → List Symbol → List Symbol
 spell_declarators [] rest = Fixed sign.Semicolon ∷ rest
 spell_declarators (d ∷ ds) rest = spell_init_declarator d (spell_more_declarators ds rest)
 
+-- specifiers, and then what they declare up to the `;` (C99 6.7)
 abbrev pub spell_declaration : Declaration Bare → List Symbol → List Symbol
 spell_declaration d rest = spell_specifiers d.specifiers (spell_declarators d.declarators rest)
 
 -- ## Statements
 
 abbrev mutual
+  -- a statement up to the `;` or `}` that ends it (C99 6.8); a p10 pragma is one word
   pub spell_statement : Statement Bare → List Symbol → List Symbol
   spell_statement (Empty p) rest = Fixed sign.Semicolon ∷ rest
   spell_statement (Evaluate p t) rest = spell t (Fixed sign.Semicolon ∷ rest)
@@ -227,9 +250,11 @@ abbrev mutual
 
 -- ## Declarations and functions outside of functions
 
+-- specifiers, a declarator, and a body in braces (C99 6.9.1)
 abbrev pub spell_definition : Definition Bare → List Symbol → List Symbol
 spell_definition d rest = spell_specifiers d.specifiers (spell_declarator d.declarator (Fixed sign.OpenBrace ∷ spell_statements d.body (Fixed sign.CloseBrace ∷ rest)))
 
+-- a declaration up to its `;`, or a function up to its `}` (C99 6.9)
 abbrev pub spell_external : External Bare → List Symbol → List Symbol
 spell_external (Outer d) rest = spell_declaration d rest
 spell_external (Defines d) rest = spell_definition d rest

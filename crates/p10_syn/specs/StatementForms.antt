@@ -14,19 +14,23 @@ use Rattle.p10_syn.specs.Trees.{Bare, Specifiers, Initializer, Value, Braced, In
 
 -- ## Declarations
 
+-- at least one initialiser is there (C99 6.7.8)
 abbrev pub HasInitializers : {P : Type 0} → Initializers P → Type 0
 HasInitializers NoInitializers = ⊥
 HasInitializers (MoreInitializers i is) = Unit {0}
 
 abbrev mutual
+  -- an assignment expression, or at least one initialiser in braces (C99 6.7.8)
   pub IsInitializer : Scope → Initializer Bare → Type 0
   IsInitializer names (Value t) = IsExpression names t × (2 ≤ level_of t)
   IsInitializer names (Braced p is comma) = AreInitializers names is × HasInitializers is
 
+  -- each initialiser of a list in the same scope
   pub AreInitializers : Scope → Initializers Bare → Type 0
   AreInitializers names NoInitializers = Unit {0}
   AreInitializers names (MoreInitializers i is) = IsInitializer names i × AreInitializers names is
 
+-- an initialiser, unless there is none
 abbrev pub IsInitial : Scope → Option (Initializer Bare) → Type 0
 IsInitial names None = Unit {0}
 IsInitial names (Some i) = IsInitializer names i
@@ -45,6 +49,7 @@ abbrev pub IsFirstApart : Scope → Said → List (InitDeclarator Bare) → Type
 IsFirstApart names said [] = Unit {0}
 IsFirstApart names said (d ∷ ds) = IsApart names said d.declarator
 
+-- specifiers, and declarators after them, of which the first is told apart from them (C99 6.7)
 abbrev pub IsDeclaration : Scope → Declaration Bare → Type 0
 IsDeclaration names d =
     AreSpecifiers names Outside Nothing d.specifiers
@@ -84,6 +89,7 @@ IsInBlock Item = Unit {0}
 IsInBlock Part = ⊥
 
 abbrev mutual
+  -- a statement that may stand here, as an item of a block or as a part of another statement (C99 6.8)
   pub IsStatement : Scope → Role → Statement Bare → Type 0
   IsStatement names role (Empty p) = Unit {0}
   IsStatement names role (Evaluate p t) = IsExpression names t
@@ -114,6 +120,7 @@ abbrev mutual
 
 -- ## Declarations and functions outside of functions
 
+-- specifiers, a declarator with a name, and a body in the scope of its name and parameters (C99 6.9.1)
 abbrev pub IsDefinition : Scope → Definition Bare → Type 0
 IsDefinition names d =
     AreSpecifiers names Outside Nothing d.specifiers
@@ -122,6 +129,7 @@ IsDefinition names d =
     × IsDeclarator (after_specifiers names d.specifiers) Outside Required d.declarator
     × AreItems (in_body (after_declarator (after_specifiers names d.specifiers) d.specifiers d.declarator) d.declarator) d.body
 
+-- a declaration outside of functions, or a function, that may stand here (C99 6.9)
 abbrev pub IsExternal : Scope → External Bare → Type 0
 IsExternal names (Outer d) = IsDeclaration names d
 IsExternal names (Defines d) = IsDefinition names d

@@ -22,6 +22,7 @@ abbrev pub name_or : Text → Option Sign → Symbol
 name_or text None = Name text
 name_or text (Some s) = Fixed s
 
+-- the punctuator that is written so (C99 6.4.6), or else a word that no tree spells
 abbrev pub punctuator_or : Text → Option Sign → Symbol
 punctuator_or text None = Other text
 punctuator_or text (Some s) = Fixed s
@@ -35,8 +36,10 @@ symbol_in kind.Str text = String text
 symbol_in kind.Punct text = punctuator_or text (sign_among punctuators text)
 symbol_in kind.Mark text = Pragma text
 
+-- what a word is to the grammar, wherever it stands
 abbrev pub symbol_of : PlainWord → Symbol
 symbol_of word = symbol_in word.kind word.text
 
+-- what each of these words is to the grammar, in the same order
 abbrev pub symbols_of : List PlainWord → List Symbol
 symbols_of words = map symbol_of words

@@ -21,6 +21,8 @@ mutual
   pub data Expression (P : Type 0) : Type 0 where
     expression : P → ℕ → Form P → Expression P
 
+  -- what an expression is inside its parentheses: a name, a constant, strings, or an operator with its operands (C99 6.5.1
+  -- to 6.5.17)
   pub data Form (P : Type 0) : Type 0 where
     Name : Text → Form P
     Number : Text → Form P
@@ -44,6 +46,7 @@ mutual
     -- the comma operator, all of its operands
     Comma : Expressions P → Form P
 
+  -- expressions in a row: the arguments of a call (C99 6.5.2.2) or the operands of the comma operator (C99 6.5.17)
   pub data Expressions (P : Type 0) : Type 0 where
     NoExpressions : Expressions P
     MoreExpressions : Expression P → Expressions P → Expressions P
@@ -62,6 +65,8 @@ mutual
     NoSpecifiers : Specifiers P
     MoreSpecifiers : Specifier P → Specifiers P → Specifiers P
 
+  -- a storage class, a word of a type, a typedef name, a structure, a union, an enumeration, a qualifier or `inline` (C99
+  -- 6.7.1 to 6.7.4)
   pub data Specifier (P : Type 0) : Type 0 where
     -- a storage class, a qualifier, `inline` or a word of a type
     Keyword : P → Sign → Specifier P
@@ -82,6 +87,7 @@ mutual
   pub data MemberDeclaration (P : Type 0) : Type 0 where
     member_declaration : P → Specifiers P → Fields P → MemberDeclaration P
 
+  -- what one declaration of members declares, in its order (C99 6.7.2.1)
   pub data Fields (P : Type 0) : Type 0 where
     NoFields : Fields P
     MoreFields : Field P → Fields P → Fields P
@@ -110,10 +116,12 @@ mutual
     -- with its parameters, and whether `...` stands after the last
     Function : P → Declarator P → Parameters P → Bool → Declarator P
 
+  -- what stands between the parentheses of a function's declarator, in its order (C99 6.7.5.3)
   pub data Parameters (P : Type 0) : Type 0 where
     NoParameters : Parameters P
     MoreParameters : Parameter P → Parameters P → Parameters P
 
+  -- specifiers and a declarator that may lack its name (C99 6.7.5.3)
   pub data Parameter (P : Type 0) : Type 0 where
     parameter : P → Specifiers P → Declarator P → Parameter P
 
@@ -125,6 +133,7 @@ mutual
     Value : Expression P → Initializer P
     Braced : P → Initializers P → Bool → Initializer P
 
+  -- what stands between the braces of an initialiser, in its order (C99 6.7.8)
   pub data Initializers (P : Type 0) : Type 0 where
     NoInitializers : Initializers P
     MoreInitializers : Initializer P → Initializers P → Initializers P
@@ -169,6 +178,7 @@ mutual
     -- in a block
     Pragma : P → Text → Statement P
 
+  -- the items of a block, in their order (C99 6.8.2)
   pub data Statements (P : Type 0) : Type 0 where
     NoStatements : Statements P
     MoreStatements : Statement P → Statements P → Statements P
@@ -200,34 +210,42 @@ pub data External (P : Type 0) : Type 0 where
 
 -- ## Rows as lists
 
+-- the expressions of a list, in the same order, as arguments or operands of the comma operator
 abbrev pub expression_row : {P : Type 0} → List (Expression P) → Expressions P
 expression_row [] = NoExpressions
 expression_row (t ∷ ts) = MoreExpressions t (expression_row ts)
 
+-- the specifiers of a list, in the same order, as those of a declaration
 abbrev pub specifier_row : {P : Type 0} → List (Specifier P) → Specifiers P
 specifier_row [] = NoSpecifiers
 specifier_row (t ∷ ts) = MoreSpecifiers t (specifier_row ts)
 
+-- the declarations of a list, in the same order, as the body of a structure; of none: it has no body
 abbrev pub member_row : {P : Type 0} → List (MemberDeclaration P) → Members P
 member_row [] = NoMembers
 member_row (t ∷ ts) = MoreMembers t (member_row ts)
 
+-- the declarators of a list, in the same order, as those of one declaration of members
 abbrev pub field_row : {P : Type 0} → List (Field P) → Fields P
 field_row [] = NoFields
 field_row (t ∷ ts) = MoreFields t (field_row ts)
 
+-- the constants of a list, in the same order, as the body of an enumeration; of none: it has no body
 abbrev pub enumerator_row : {P : Type 0} → List (Enumerator P) → Enumerators P
 enumerator_row [] = NoEnumerators
 enumerator_row (t ∷ ts) = MoreEnumerators t (enumerator_row ts)
 
+-- the parameters of a list, in the same order, as those of a function's declarator
 abbrev pub parameter_row : {P : Type 0} → List (Parameter P) → Parameters P
 parameter_row [] = NoParameters
 parameter_row (t ∷ ts) = MoreParameters t (parameter_row ts)
 
+-- the initialisers of a list, in the same order, as those between braces
 abbrev pub initializer_row : {P : Type 0} → List (Initializer P) → Initializers P
 initializer_row [] = NoInitializers
 initializer_row (t ∷ ts) = MoreInitializers t (initializer_row ts)
 
+-- the statements of a list, in the same order, as the items of a block
 abbrev pub statement_row : {P : Type 0} → List (Statement P) → Statements P
 statement_row [] = NoStatements
 statement_row (t ∷ ts) = MoreStatements t (statement_row ts)
