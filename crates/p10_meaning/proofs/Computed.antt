@@ -147,6 +147,11 @@ edges_are_settled = record {
   };
   order = record {
     place_before_value = refl;
+    left_first = refl;
+    arguments = refl;
+    read_before_value = refl;
+    pointer_before_number = refl;
+    target_before_source = refl;
     tested_again = refl;
     address_of_null = refl;
     address_of_one_past = refl;
@@ -154,17 +159,30 @@ edges_are_settled = record {
   told = record {
     one_past = refl;
     texts = refl;
+    text_after_statics = refl;
     member_freed = refl;
     parameter = refl;
+    parameter_after_its_call = refl;
+  };
+  converted = record {
+    stored = refl;
+    texts = refl;
+    written = refl;
+    null_is_false = refl;
+    below_zero = refl;
   };
   world = record {
     first_denied = refl;
     second_denied = refl;
+    greatest = refl;
+    too_great = refl;
     sensors = refl;
+    freed_null = refl;
     static_object = refl;
   };
   jumps = record {
     to_the_test = refl;
+    to_the_third = refl;
     after_the_switch = refl;
   };
 }
