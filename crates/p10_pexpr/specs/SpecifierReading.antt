@@ -39,7 +39,7 @@ tagged_enumeration None rest = None
 tagged_enumeration (Some x) rest = Some (Enumeration tt (Some x) NoEnumerators false, rest)
 
 module _ (r : Readers) where
-  -- an expression of level 3 after this sign, if it is there
+  -- an expression of level 3: the width of a bit-field, or the value of a constant (C99 6.7.2.1, 6.7.2.2)
   abbrev pub value_at : Scope → List Symbol → Read (Optional Bare)
   value_at names rest = option_map (λ t. (Present t.0, t.1)) (r.expression names 3 rest)
 
