@@ -1,0 +1,4 @@
+pub mod Firsts
+pub mod Keeping
+pub mod Linking
+pub mod Ties

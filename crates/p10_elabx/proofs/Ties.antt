@@ -1,0 +1,343 @@
+-- Of the same tree the two ways to keep rows find the same, or the first of all.
+use Rattle.std.specs.Prelude.{◌≡◌, ℕ, ◌+◌, Bool, true, false, not, ◌||◌, ◌&&◌, Option, Some, None, Result, Ok, Err, List, [], ◌∷◌, ◌++◌, if◌then◌else◌, refl, slice_get}
+use Rattle.std.proofs.Common.{ap, sym, ◌∙◌, subst}
+use Rattle.p10_base.specs.Words.{Text}
+use Rattle.p10_base.specs.declared.at.At.{At}
+use Rattle.p10_base.specs.declared.codes.SubsetCode.{SubsetCode}
+use Rattle.p10_base.specs.declared.codes.SubsetCode.TheVariants as subset
+use Rattle.p10_int.specs.declared.operators.BinOp.{BinOp}
+use Rattle.p10_syn.specs.declared.sign.Sign.{Sign}
+use Rattle.p10_syn.specs.declared.sign.Sign.TheVariants as sign
+use Rattle.p10_syn.specs.Trees.{Identifier, Expression, expression, Form, Name, Number, Character, Strings, Unary, Step, Binary, Assign, Conditional, Call, Index, Member, Arrow, Cast, SizeofExpression, SizeofType, Comma, Expressions, NoExpressions, MoreExpressions, Optional, Absent, Present, TypeName, type_name, Specifiers, NoSpecifiers, MoreSpecifiers, Declarator, Named, Unnamed, Pointer, Parenthesised, Array, Function}
+use Rattle.p10_core.specs.declared.typed.Library.{Library}
+use Rattle.p10_core.specs.declared.typed.Library.TheVariants.{Assert, CAssert, Getchar, Putchar, Malloc, Calloc, Free}
+use Rattle.p10_core.specs.declared.typed.LogicOp.{LogicOp}
+use Rattle.p10_core.specs.declared.statements.UpdateKind.TheVariants as kind
+use Rattle.p10_core.specs.Types.{PlainType, PlainStructure}
+use Rattle.p10_core.specs.Typed.{PlainValue, PlainPlace, PlainStatementForm}
+use Rattle.p10_elabx.specs.declared.problem.Problem.{Problem}
+use Rattle.p10_elabx.specs.declared.operand.PlaceKind.{PlaceKind}
+use Rattle.p10_elabx.specs.First.{Keep, every, only_first, Found, Ruled, lift, nothing_said, refused, pair, on, refused_where, Judged, plainly, on_part, on_parts, also, unordered}
+use Rattle.p10_elabx.specs.Laws.{IsKept, Tied}
+use Rattle.p10_elabx.specs.Scopes.{PlainScope, named}
+use Rattle.p10_elabx.specs.Operands.{PlainOperand, a_value, operand_value, not_void, reads_object, reads_sensor, any_value, as_value}
+use Rattle.p10_elabx.specs.Operators.{binary_value, logic_value, conditional_value, operand_size, indexed, member_found, arrow_found, address_found, target_found, assigned, updated}
+use Rattle.p10_elabx.specs.Calls.{Callee, callee_of, Wanted, wanted_value, wants_of, wanted_of, Listed, no_arguments, with_value, argument_judged, with_argument, call_problem, call_value, is_assert, is_allocator, is_counted, with_problem, call_judged, operand_call, other_call, element_count}
+use Rattle.p10_elabx.specs.TypeNames.{Shape, a_type, an_open_array, has_other_word, pointed, pointer_judged, element, array_of, array_judged, open_array_judged, gives, Said, said_of, nothing_specified, is_bad_mixture, specifier_rule, later, specifiers_found, specified_type, specifiers_at, specifiers_judged}
+use Rattle.p10_elabx.specs.Literals.{number_found, character_found, strings_found}
+use Rattle.p10_elabx.specs.Judging.{name_found, valued, Operation, of_values, of_truth, no_operation, operation_of, assignment_of, step_of, unary_found, unary_judged, may_be_place, place_of, address_judged, values_judged, truth_judged, binary_judged, conditional_judged, index_judged, member_judged, arrow_judged, size_judged, shape_size, type_size_judged, cast_found, is_void_shape, cast_judged, target_judged, assignment_judged, counts_as_read, counts_as_act, with_read, update_judged, one_at, step_judged, by_sign, nested, comma_judged, sized_shape, Site, shape_allocation, one_element, counted_elements, either_shape, two_sizes, other_allocation, count_of, is_memory, for_memory, judge, judge_arguments, judge_allocation, judge_type, judge_declarator}
+use Rattle.p10_elabx.proofs.Firsts.{kept_lift, kept_on, kept_pair, kept_where, or_same, tied_plainly, tied_on_part, tied_on_parts, tied_also, unordered_same}
+
+-- a test of what is found
+same_test : {A B : Type 0} (test : Found A → B) (f g : Found A) → ((rs qs : List Problem) → test (Err rs) ≡ test (Err qs)) → IsKept f g → test f ≡ test g
+same_test test (Ok a) (Ok b) h e = ap (λ z. test (Ok z)) e
+same_test test (Ok a) (Err rs) h e = absurd e
+same_test test (Err rs) (Ok b) h e = absurd e
+same_test test (Err rs) (Err qs) h e = h rs qs
+
+tied_any : (ss : List PlainStructure) (j k : Judged PlainOperand) → Tied PlainOperand j k → Tied PlainValue (any_value ss j) (any_value ss k)
+unfolding any_value
+tied_any ss j k t = record {
+  found = kept_on j.found k.found (operand_value ss) t.found;
+  acts = or_same j.acts (reads_sensor j.found) k.acts (reads_sensor k.found) t.acts (same_test reads_sensor j.found k.found (λ rs qs. refl) t.found);
+  reads = or_same j.reads (reads_object j.found) k.reads (reads_object k.found) t.reads (same_test reads_object j.found k.found (λ rs qs. refl) t.found);
+}
+
+tied_value : (ss : List PlainStructure) (j k : Judged PlainOperand) → Tied PlainOperand j k → Tied PlainValue (as_value ss j) (as_value ss k)
+unfolding as_value
+tied_value ss j k t = tied_on_part (any_value ss j) (any_value ss k) not_void (tied_any ss j k t)
+
+tied_unary : (at : At) (s : Sign) (j k : Judged PlainValue) → Tied PlainValue j k → Tied PlainOperand (unary_judged at s j) (unary_judged at s k)
+unfolding unary_judged
+tied_unary at s j k t = tied_on_part j k (unary_found at s) t
+
+tied_address : (at : At) (may : Bool) (j k : Judged PlainOperand) → Tied PlainOperand j k → Tied PlainOperand (address_judged every at may j) (address_judged only_first at may k)
+unfolding address_judged
+tied_address at may j k t = tied_also (not may) (not may) subset.NoAddress at _ _ refl (tied_on_part j k (address_found at) t)
+
+tied_values : (ss : List PlainStructure) (at : At) (op : BinOp) (j j' k k' : Judged PlainValue) → Tied PlainValue j j' → Tied PlainValue k k' →
+    Tied PlainOperand (values_judged every ss at op j k) (values_judged only_first ss at op j' k')
+unfolding values_judged
+tied_values ss at op j j' k k' s t =
+    tied_also (unordered j k) (unordered j' k') subset.UnspecifiedOrder at _ _ (unordered_same j j' k k' s t) (tied_on_parts j j' k k' (λ x y. valued (binary_value ss at op x y)) s t)
+
+tied_truth : (at : At) (op : LogicOp) (j j' k k' : Judged PlainValue) → Tied PlainValue j j' → Tied PlainValue k k' →
+    Tied PlainOperand (truth_judged every at op j k) (truth_judged only_first at op j' k')
+unfolding truth_judged
+tied_truth at op j j' k k' s t = tied_on_parts j j' k k' (λ x y. valued (logic_value at op x y)) s t
+
+tied_binary : (ss : List PlainStructure) (at : At) (o : Operation) (j j' k k' : Judged PlainValue) → Tied PlainValue j j' → Tied PlainValue k k' →
+    Tied PlainOperand (binary_judged every ss at o j k) (binary_judged only_first ss at o j' k')
+tied_binary ss at (of_values op) j j' k k' s t = tied_values ss at op j j' k k' s t
+tied_binary ss at (of_truth op) j j' k k' s t = tied_truth at op j j' k k' s t
+tied_binary ss at no_operation j j' k k' s t = tied_plainly nothing_said
+
+tied_conditional : (at : At) (i i' j j' k k' : Judged PlainValue) → Tied PlainValue i i' → Tied PlainValue j j' → Tied PlainValue k k' →
+    Tied PlainOperand (conditional_judged every at i j k) (conditional_judged only_first at i' j' k')
+unfolding conditional_judged
+tied_conditional at i i' j j' k k' r s t = record {
+  found = kept_on _ _ (λ (v, (x, y)). valued (conditional_value at v x y)) (kept_pair i.found i'.found _ _ r.found (kept_pair j.found j'.found k.found k'.found s.found t.found));
+  acts = or_same i.acts (j.acts || k.acts) i'.acts (j'.acts || k'.acts) r.acts (or_same j.acts k.acts j'.acts k'.acts s.acts t.acts);
+  reads = or_same i.reads (j.reads || k.reads) i'.reads (j'.reads || k'.reads) r.reads (or_same j.reads k.reads j'.reads k'.reads s.reads t.reads);
+}
+
+tied_index : (ss : List PlainStructure) (at : At) (j j' k k' : Judged PlainValue) → Tied PlainValue j j' → Tied PlainValue k k' →
+    Tied PlainOperand (index_judged every ss at j k) (index_judged only_first ss at j' k')
+unfolding index_judged
+tied_index ss at j j' k k' s t =
+    tied_also (unordered j k) (unordered j' k') subset.UnspecifiedOrder at _ _ (unordered_same j j' k k' s t) (tied_on_parts j j' k k' (indexed ss at) s t)
+
+tied_member : (ss : List PlainStructure) (at : At) (name : Text) (j k : Judged PlainOperand) → Tied PlainOperand j k → Tied PlainOperand (member_judged ss at name j) (member_judged ss at name k)
+unfolding member_judged
+tied_member ss at name j k t = tied_on_part j k (member_found ss at name) t
+
+tied_arrow : (ss : List PlainStructure) (at : At) (name : Text) (j k : Judged PlainValue) → Tied PlainValue j k → Tied PlainOperand (arrow_judged ss at name j) (arrow_judged ss at name k)
+unfolding arrow_judged
+tied_arrow ss at name j k t = tied_on_part j k (arrow_found ss at name) t
+
+tied_size : (ss : List PlainStructure) (at : At) (j k : Judged PlainOperand) → Tied PlainOperand j k → Tied PlainOperand (size_judged ss at j) (size_judged ss at k)
+unfolding size_judged
+tied_size ss at j k t = record { found = kept_on j.found k.found (operand_size ss at) t.found; acts = refl; reads = refl }
+
+tied_type_size : (ss : List PlainStructure) (at : At) (j k : Judged Shape) → Tied Shape j k → Tied PlainOperand (type_size_judged ss at j) (type_size_judged ss at k)
+unfolding type_size_judged
+tied_type_size ss at j k t = record { found = kept_on j.found k.found (shape_size ss at) t.found; acts = refl; reads = refl }
+
+chosen_value : (b : Bool) (ss : List PlainStructure) (j k : Judged PlainOperand) → Tied PlainOperand j k → Tied PlainValue (if b then any_value ss j else as_value ss j) (if b then any_value ss k else as_value ss k)
+chosen_value true ss j k t = tied_any ss j k t
+chosen_value false ss j k t = tied_value ss j k t
+
+tied_cast : (ss : List PlainStructure) (at : At) (i i' : Judged Shape) (j j' : Judged PlainOperand) → Tied Shape i i' → Tied PlainOperand j j' →
+    Tied PlainOperand (cast_judged every ss at i j) (cast_judged only_first ss at i' j')
+unfolding cast_judged
+tied_cast ss at i i' j j' s t =
+    let same : is_void_shape i.found ≡ is_void_shape i'.found = same_test is_void_shape i.found i'.found (λ rs qs. refl) s.found in
+    subst (λ b. Tied PlainOperand (cast_judged every ss at i j) (on_parts only_first i' (if b then any_value ss j' else as_value ss j') (cast_found at))) same
+    (tied_on_parts i i' _ _ (cast_found at) s (chosen_value (is_void_shape i.found) ss j j' t))
+
+tied_target : (ss : List PlainStructure) (at : At) (may : Bool) (j k : Judged PlainOperand) → Tied PlainOperand j k → Tied (PlaceKind × PlainPlace) (target_judged every ss at may j) (target_judged only_first ss at may k)
+unfolding target_judged
+tied_target ss at may j k t = tied_also (not may) (not may) subset.FixedTarget at _ _ refl (tied_on_part j k (target_found ss at) t)
+
+tied_assignment : (at : At) (j j' : Judged (PlaceKind × PlainPlace)) (k k' : Judged PlainValue) → Tied (PlaceKind × PlainPlace) j j' → Tied PlainValue k k' →
+    Tied PlainStatementForm (assignment_judged every at j k) (assignment_judged only_first at j' k')
+unfolding assignment_judged
+tied_assignment at j j' k k' s t =
+    tied_also (unordered j k) (unordered j' k') subset.UnspecifiedOrder at _ _ (unordered_same j j' k k' s t) (tied_on_parts j j' k k' (λ (kind, p) v. assigned at p v) s t)
+
+tied_read : (j k : Judged (PlaceKind × PlainPlace)) → Tied (PlaceKind × PlainPlace) j k → Tied (PlaceKind × PlainPlace) (with_read j) (with_read k)
+unfolding with_read
+tied_read j k t = record {
+  found = t.found;
+  acts = or_same j.acts (counts_as_act j.found) k.acts (counts_as_act k.found) t.acts (same_test counts_as_act j.found k.found (λ rs qs. refl) t.found);
+  reads = or_same j.reads (counts_as_read j.found) k.reads (counts_as_read k.found) t.reads (same_test counts_as_read j.found k.found (λ rs qs. refl) t.found);
+}
+
+tied_update : (ss : List PlainStructure) (at : At) (op : BinOp) (j j' : Judged (PlaceKind × PlainPlace)) (k k' : Judged PlainValue) → Tied (PlaceKind × PlainPlace) j j' → Tied PlainValue k k' →
+    Tied PlainStatementForm (update_judged every ss at op j k) (update_judged only_first ss at op j' k')
+unfolding update_judged
+tied_update ss at op j j' k k' s t =
+    let r : Tied (PlaceKind × PlainPlace) (with_read j) (with_read j') = tied_read j j' s in
+    tied_also (unordered (with_read j) k) (unordered (with_read j') k') subset.UnspecifiedOrder at _ _ (unordered_same (with_read j) (with_read j') k k' r t)
+    (tied_on_parts (with_read j) (with_read j') k k' (λ (place_kind, p) v. updated ss at kind.Compound op p v) r t)
+
+tied_step : (ss : List PlainStructure) (at : At) (op : BinOp) (j k : Judged (PlaceKind × PlainPlace)) → Tied (PlaceKind × PlainPlace) j k → Tied PlainStatementForm (step_judged ss at op j) (step_judged ss at op k)
+unfolding step_judged
+tied_step ss at op j k t = tied_on_part (with_read j) (with_read k) (λ (place_kind, p). updated ss at kind.Step op p (one_at at)) (tied_read j k t)
+
+tied_by_sign : (ss : List PlainStructure) (at : At) (o : Option BinOp) (j j' : Judged (PlaceKind × PlainPlace)) (k k' : Judged PlainValue) → Tied (PlaceKind × PlainPlace) j j' → Tied PlainValue k k' →
+    Tied PlainStatementForm (by_sign every ss at o j k) (by_sign only_first ss at o j' k')
+tied_by_sign ss at None j j' k k' s t = tied_assignment at j j' k k' s t
+tied_by_sign ss at (Some op) j j' k k' s t = tied_update ss at op j j' k k' s t
+
+tied_nested : (at : At) (j k : Judged PlainStatementForm) → Tied PlainStatementForm j k → Tied PlainOperand (nested every at j) (nested only_first at k)
+unfolding nested
+tied_nested at j k t = tied_also true true subset.NestedAssignment at _ _ refl (tied_on_part j k (λ _. nothing_said) t)
+
+-- ## Calls
+
+record TiedList (j k : Listed) : Type 0 where
+  found : IsKept j.found k.found
+  acts : j.acts ≡ k.acts
+  reads : j.reads ≡ k.reads
+  unordered_is : j.unordered ≡ k.unordered
+
+tied_argument : (wanted : Option Wanted) (j k : Judged PlainValue) → Tied PlainValue j k → Tied PlainValue (argument_judged wanted j) (argument_judged wanted k)
+unfolding argument_judged
+tied_argument wanted j k t = tied_on_part j k (wanted_value wanted) t
+
+tied_more : (j j' : Listed) (k k' : Judged PlainValue) → TiedList j j' → Tied PlainValue k k' → TiedList (with_argument every j k) (with_argument only_first j' k')
+unfolding with_argument
+tied_more j j' k k' s t = record {
+  found = kept_on _ _ (λ (vs, v). Ok (with_value vs v)) (kept_pair j.found j'.found k.found k'.found s.found t.found);
+  acts = or_same j.acts k.acts j'.acts k'.acts s.acts t.acts;
+  reads = or_same j.reads k.reads j'.reads k'.reads s.reads t.reads;
+  unordered_is = λ i. s.unordered_is i || ((s.acts i && (t.acts i || t.reads i)) || ((s.acts i || s.reads i) && t.acts i));
+}
+
+tied_problem : {A : Type 0} (o : Option Problem) (j k : Judged A) → Tied A j k → Tied A (with_problem every o j) (with_problem only_first o k)
+tied_problem None j k t = t
+tied_problem (Some r) j k t = tied_also true true r.code r.at j k refl t
+
+tied_call : (at name_at : At) (callee : Callee) (n : ℕ) (j k : Listed) → TiedList j k → Tied PlainOperand (call_judged every at name_at callee n j) (call_judged only_first at name_at callee n k)
+unfolding call_judged
+tied_call at name_at callee n j k t =
+    tied_also j.unordered k.unordered subset.UnspecifiedOrder at _ _ t.unordered_is
+    (tied_problem (call_problem at name_at callee n) _ _
+    (record { found = kept_on j.found k.found (call_value at name_at callee) t.found; acts = or_same (is_counted callee) j.acts (is_counted callee) k.acts refl t.acts; reads = t.reads }))
+
+tied_operand_call : (at : At) (callee : Callee) (j k : Judged PlainOperand) → Tied PlainOperand j k → Tied PlainOperand (operand_call every at callee j) (operand_call only_first at callee k)
+unfolding operand_call
+tied_operand_call at callee j k t =
+    tied_also (is_assert callee) (is_assert callee) subset.VoidValue at _ _ refl (tied_also (is_allocator callee) (is_allocator callee) subset.BadAllocation at j k refl t)
+
+tied_other_call : (at : At) (j j' : Judged PlainOperand) (k k' : Listed) → Tied PlainOperand j j' → TiedList k k' → Tied PlainOperand (other_call every at j k) (other_call only_first at j' k')
+unfolding other_call
+tied_other_call at j j' k k' s t =
+    tied_also k.unordered k'.unordered subset.UnspecifiedOrder at _ _ t.unordered_is (tied_also true true subset.BadCallee at _ _ refl
+    (record { found = kept_on _ _ (λ _. nothing_said) (kept_pair j.found j'.found k.found k'.found s.found t.found); acts = refl; reads = or_same j.reads k.reads j'.reads k'.reads s.reads t.reads }))
+
+tied_comma : (at : At) (j k : Listed) → TiedList j k → Tied PlainOperand (comma_judged every at j) (comma_judged only_first at k)
+unfolding comma_judged
+tied_comma at j k t = tied_also true true subset.CommaOperator at _ _ refl (record { found = kept_on j.found k.found (λ _. nothing_said) t.found; acts = t.acts; reads = t.reads })
+
+-- ## Types
+
+kept_specifiers : (s : PlainScope) (all : Specifiers At) (f g : Found (Option PlainType)) → IsKept f g → IsKept (specifiers_found every s f all) (specifiers_found only_first s g all)
+kept_specifiers s NoSpecifiers f g e = e
+kept_specifiers s (MoreSpecifiers one rest) f g e =
+    kept_specifiers s rest _ _ (kept_on _ _ (λ (a, b). Ok (later a b)) (kept_pair f g _ _ e (kept_lift (specifier_rule s one))))
+
+tied_specifiers : (s : PlainScope) (at : At) (all : Specifiers At) → Tied Shape (specifiers_judged every s at all) (specifiers_judged only_first s at all)
+unfolding specifiers_judged
+tied_specifiers s at all = record {
+  found = kept_on _ _ (λ t. Ok (a_type t)) (kept_where (is_bad_mixture (said_of all nothing_specified)) subset.BadSpecifier (specifiers_at at all) _ _
+      (kept_on _ _ (specified_type (said_of all nothing_specified)) (kept_specifiers s all (Ok None) (Ok None) refl)));
+  acts = refl;
+  reads = refl;
+}
+
+tied_pointer : (at : At) (qualifiers : List Sign) (j k : Judged Shape) → Tied Shape j k → Tied Shape (pointer_judged every at qualifiers j) (pointer_judged only_first at qualifiers k)
+unfolding pointer_judged
+tied_pointer at qualifiers j k t = tied_also (has_other_word qualifiers) (has_other_word qualifiers) subset.BadSpecifier at _ _ refl (tied_on_part j k (pointed at qualifiers) t)
+
+tied_array : (ss : List PlainStructure) (at : At) (i i' : Judged PlainValue) (j j' : Judged Shape) → Tied PlainValue i i' → Tied Shape j j' → Tied Shape (array_judged every ss at i j) (array_judged only_first ss at i' j')
+unfolding array_judged
+tied_array ss at i i' j j' s t = record {
+  found = kept_on _ _ (λ (t, v). array_of ss at t v) (kept_pair _ _ i.found i'.found (kept_on j.found j'.found (element ss at) t.found) s.found);
+  acts = refl;
+  reads = refl;
+}
+
+tied_open_array : (ss : List PlainStructure) (at : At) (j k : Judged Shape) → Tied Shape j k → Tied Shape (open_array_judged ss at j) (open_array_judged ss at k)
+unfolding open_array_judged
+tied_open_array ss at j k t = tied_on_part (on_part j (element ss at)) (on_part k (element ss at)) (λ t. Ok an_open_array) (tied_on_part j k (element ss at) t)
+
+-- ## Allocations
+
+tied_one : (ss : List PlainStructure) (site : Site) (i i' : Judged Shape) (at : At) (j j' : Judged Shape) → Tied Shape i i' → Tied Shape j j' →
+    Tied PlainOperand (one_element every ss site i at j) (one_element only_first ss site i' at j')
+unfolding one_element
+tied_one ss site i i' at j j' s t = record {
+  found = kept_on _ _ (λ (s, e). shape_allocation site Malloc s e None) (kept_pair i.found i'.found _ _ s.found (kept_on j.found j'.found (sized_shape ss at) t.found));
+  acts = refl;
+  reads = refl;
+}
+
+tied_counted : (ss : List PlainStructure) (site : Site) (f : Library) (otherwise : Ruled PlainValue) (i i' : Judged Shape) (at : At) (j j' : Judged Shape) (k k' : Judged PlainValue) → Tied Shape i i' → Tied Shape j j' → Tied PlainValue k k' →
+    Tied PlainOperand (counted_elements every ss site f otherwise i at j k) (counted_elements only_first ss site f otherwise i' at j' k')
+unfolding counted_elements
+tied_counted ss site f otherwise i i' at j j' k k' r s t = record {
+  found = kept_on _ _ (λ (s, (e, n)). shape_allocation site f s e (Some n))
+      (kept_pair i.found i'.found _ _ r.found (kept_pair _ _ _ _ (kept_on j.found j'.found (sized_shape ss at) s.found) (kept_on k.found k'.found (element_count otherwise) t.found)));
+  acts = refl;
+  reads = t.reads;
+}
+
+tied_two : (ss : List PlainStructure) (site : Site) (i i' : Judged Shape) (a : At) (j j' : Judged Shape) (b : At) (k k' : Judged Shape) → Tied Shape i i' → Tied Shape j j' → Tied Shape k k' →
+    Tied PlainOperand (two_sizes every ss site i a j b k) (two_sizes only_first ss site i' a j' b k')
+unfolding two_sizes
+tied_two ss site i i' a j j' b k k' r s t = record {
+  found = kept_on _ _ (λ (s, (x, y)). either_shape ss site a b s x y)
+      (kept_pair i.found i'.found _ _ r.found (kept_pair _ _ _ _ (kept_on j.found j'.found (sized_shape ss a) s.found) (kept_on k.found k'.found (sized_shape ss b) t.found)));
+  acts = refl;
+  reads = refl;
+}
+
+tied_other : (site : Site) (i i' : Judged Shape) (j j' : Judged PlainOperand) → Tied Shape i i' → Tied PlainOperand j j' → Tied PlainOperand (other_allocation every site i j) (other_allocation only_first site i' j')
+unfolding other_allocation
+tied_other site i i' j j' s t = tied_on_parts i i' _ _ (λ _ o. Ok o) s (tied_also true true subset.BadAllocation site.call_at j j' refl t)
+
+tied_memory : {A : Type 0} (o : Option Library) (go go' : Library → Judged A) (x x' : Judged A) → ((f : Library) → Tied A (go f) (go' f)) → Tied A x x' → Tied A (for_memory o go x) (for_memory o go' x')
+tied_memory None go go' x x' h t = t
+tied_memory (Some f) go go' x x' h t = h f
+
+-- ## The trees
+
+nothing_tied : TiedList no_arguments no_arguments
+nothing_tied = record { found = refl; acts = refl; reads = refl; unordered_is = refl }
+
+mutual
+  pub tied : (s : PlainScope) (e : Expression At) → Tied PlainOperand (judge every s e) (judge only_first s e)
+  tied s (expression at n (Name text)) = tied_plainly (name_found at text (named s text))
+  tied s (expression at n (Number text)) = tied_plainly (number_found at text)
+  tied s (expression at n (Character text)) = tied_plainly (character_found at text)
+  tied s (expression at n (Strings texts)) = tied_plainly (strings_found at texts)
+  tied s (expression at n (Unary sign.And e)) = tied_address at (may_be_place e) _ _ (tied s e)
+  tied s (expression at n (Unary word e)) = tied_unary at word _ _ (tied_value s.structures _ _ (tied s e))
+  tied s (expression at n (Step side word e)) =
+      tied_nested at _ _ (tied_step s.structures at (step_of word) _ _ (tied_target s.structures (place_of e) (may_be_place e) _ _ (tied s e)))
+  tied s (expression at n (Binary word a b)) =
+      tied_binary s.structures at (operation_of word) _ _ _ _ (tied_value s.structures _ _ (tied s a)) (tied_value s.structures _ _ (tied s b))
+  tied s (expression at n (Assign word a b)) =
+      tied_nested at _ _ (tied_by_sign s.structures at (assignment_of word) _ _ _ _ (tied_target s.structures (place_of a) (may_be_place a) _ _ (tied s a)) (tied_value s.structures _ _ (tied s b)))
+  tied s (expression at n (Conditional c a b)) =
+      tied_conditional at _ _ _ _ _ _ (tied_value s.structures _ _ (tied s c)) (tied_value s.structures _ _ (tied s a)) (tied_value s.structures _ _ (tied s b))
+  tied s (expression at n (Call (expression name_at m (Name text)) all)) =
+      let callee : Callee = callee_of (named s text) text in
+      tied_operand_call at callee _ _ (tied_call at name_at callee (count_of all) _ _ (tied_arguments s (wanted_of (wants_of callee) (count_of all)) 0 no_arguments no_arguments all nothing_tied))
+  tied s (expression at n (Call e all)) = tied_other_call at _ _ _ _ (tied s e) (tied_arguments s [] 0 no_arguments no_arguments all nothing_tied)
+  tied s (expression at n (Index a i)) = tied_index s.structures at _ _ _ _ (tied_value s.structures _ _ (tied s a)) (tied_value s.structures _ _ (tied s i))
+  tied s (expression at n (Member e name)) = tied_member s.structures at name.name _ _ (tied s e)
+  tied s (expression at n (Arrow e name)) = tied_arrow s.structures at name.name _ _ (tied_value s.structures _ _ (tied s e))
+  tied s (expression at n (Cast t (expression call_at m (Call (expression name_at k (Name text)) all)))) =
+      let callee : Callee = callee_of (named s text) text in
+      let call : Tied PlainOperand _ _ = tied_call call_at name_at callee (count_of all) _ _ (tied_arguments s (wanted_of (wants_of callee) (count_of all)) 0 no_arguments no_arguments all nothing_tied) in
+      tied_memory (is_memory callee) _ _ _ _
+      (λ f. tied_allocation s (record { cast_at = at; call_at = call_at; name_at = name_at }) _ _ f _ _ all (tied_type s t) call)
+      (tied_cast s.structures at _ _ _ _ (tied_type s t) (tied_operand_call call_at callee _ _ call))
+  tied s (expression at n (Cast t e)) = tied_cast s.structures at _ _ _ _ (tied_type s t) (tied s e)
+  tied s (expression at n (SizeofExpression e)) = tied_size s.structures at _ _ (tied s e)
+  tied s (expression at n (SizeofType t)) = tied_type_size s.structures at _ _ (tied_type s t)
+  tied s (expression at n (Comma all)) = tied_comma at _ _ (tied_arguments s [] 0 no_arguments no_arguments all nothing_tied)
+
+  tied_arguments : (s : PlainScope) (wanted : List Wanted) (i : ℕ) (j k : Listed) (all : Expressions At) → TiedList j k → TiedList (judge_arguments every s wanted i j all) (judge_arguments only_first s wanted i k all)
+  tied_arguments s wanted i j k NoExpressions t = t
+  tied_arguments s wanted i j k (MoreExpressions e rest) t =
+      tied_arguments s wanted (i + 1) _ _ rest (tied_more j k _ _ t (tied_argument (slice_get wanted i) _ _ (tied_value s.structures _ _ (tied s e))))
+
+  tied_allocation : (s : PlainScope) (site : Site) (t t' : Judged Shape) (f : Library) (j j' : Judged PlainOperand) (all : Expressions At) → Tied Shape t t' → Tied PlainOperand j j' →
+      Tied PlainOperand (judge_allocation every s site t f j all) (judge_allocation only_first s site t' f j' all)
+  tied_allocation s site t t' Malloc j j' (MoreExpressions (expression at n (SizeofType element)) NoExpressions) p q =
+      tied_one s.structures site t t' at _ _ p (tied_type s element)
+  tied_allocation s site t t' Malloc j j' (MoreExpressions (expression at n (Binary sign.Star (expression a m (SizeofType left)) (expression b k (SizeofType right)))) NoExpressions) p q =
+      tied_two s.structures site t t' a _ _ b _ _ p (tied_type s left) (tied_type s right)
+  tied_allocation s site t t' Malloc j j' (MoreExpressions (expression at n (Binary sign.Star e (expression b k (SizeofType element)))) NoExpressions) p q =
+      tied_counted s.structures site Malloc (refused subset.OperandTypes at) t t' b _ _ _ _ p (tied_type s element) (tied_value s.structures _ _ (tied s e))
+  tied_allocation s site t t' Malloc j j' (MoreExpressions (expression at n (Binary sign.Star (expression a m (SizeofType element)) e)) NoExpressions) p q =
+      tied_counted s.structures site Malloc (refused subset.OperandTypes at) t t' a _ _ _ _ p (tied_type s element) (tied_value s.structures _ _ (tied s e))
+  tied_allocation s site t t' Calloc j j' (MoreExpressions e (MoreExpressions (expression b k (SizeofType element)) NoExpressions)) p q =
+      tied_counted s.structures site Calloc (refused subset.TypesDiffer (place_of e)) t t' b _ _ _ _ p (tied_type s element) (tied_value s.structures _ _ (tied s e))
+  tied_allocation s site t t' f j j' all p q = tied_other site t t' j j' p q
+
+  tied_type : (s : PlainScope) (t : TypeName At) → Tied Shape (judge_type every s t) (judge_type only_first s t)
+  tied_type s (type_name at specifiers d) = tied_declarator s _ _ d (tied_specifiers s at specifiers)
+
+  tied_declarator : (s : PlainScope) (j k : Judged Shape) (d : Declarator At) → Tied Shape j k → Tied Shape (judge_declarator every s j d) (judge_declarator only_first s k d)
+  tied_declarator s j k (Named name) t = t
+  tied_declarator s j k (Unnamed at) t = t
+  tied_declarator s j k (Pointer at qualifiers d) t = tied_declarator s _ _ d (tied_pointer at qualifiers j k t)
+  tied_declarator s j k (Parenthesised at d) t = tied_declarator s j k d t
+  tied_declarator s j k (Array at d Absent) t = tied_declarator s _ _ d (tied_open_array s.structures at j k t)
+  tied_declarator s j k (Array at d (Present e)) t = tied_declarator s _ _ d (tied_array s.structures at _ _ j k (tied_value s.structures _ _ (tied s e)) t)
+  tied_declarator s j k (Function at d _ _) t = tied_declarator s _ _ d (tied_on_part j k (gives at) t)

@@ -1,0 +1,13 @@
+-- The definitions that the contracts of this crate cite.
+pub mod First
+pub mod Scopes
+pub mod Operands
+pub mod Operators
+pub mod Calls
+pub mod TypeNames
+pub mod Literals
+pub mod Judging
+pub mod Laws
+pub mod Views
+pub mod PlainScopes
+pub mod private

@@ -1,0 +1,145 @@
+//! Names in the order in which they were declared, of which the last one with a spelling is found by a table: it costs as
+//! much as the spelling is long, however many names there are.
+
+ghost use Rattle.p10_elabx.specs.private.Bound.{IsLinked};
+
+use crate::entry::Entry;
+use crate::named::Named;
+use p10_base::NameList;
+use std::alloc::{AllocError, Global};
+
+/// Declared names. Each spelling knows its last entry, and each entry the one before it with its spelling.
+#[derive(Drop)]
+pub struct Bindings<'s> {
+    spellings: NameList<'s>,
+    /// The place of the last entry with each spelling, if one is left.
+    last: Vec<Option<usize>>,
+    entries: Vec<Entry<'s>>,
+    ghost linked: { IsLinked spellings last.items entries.items },
+}
+
+impl<'s> Bindings<'s> {
+    ghost use Rattle.std.specs.Prelude.{◌≡◌, ◌<◌, [], ◌∷◌, ◌++◌, None, Some, take, length, option_map, option_copied, OnOk, OnErr, IfOk, slice_get, ◌-◌};
+    ghost use Rattle.p10_base.specs.Names.{place_in};
+    ghost use Rattle.p10_elabx.specs.Scopes.{last_named};
+    ghost use Rattle.p10_elabx.specs.private.Bound.{binding_of, bindings_of, meaning_of, last_place, written, what_at};
+
+    /// No names.
+    pub fn new(alloc: Global) -> Bindings<'s>
+        ensures { bindings_of result.entries.items ≡ [] }
+    {
+        Bindings {
+            spellings: NameList::new(alloc),
+            last: Vec::new(alloc),
+            entries: Vec::new(alloc),
+        }
+    }
+
+    /// How many names there are.
+    pub fn count(&self) -> usize
+        ensures { result ≡ length (bindings_of self.now.entries.items) }
+    {
+        self.entries.len()
+    }
+
+    /// What the last declared of the names with this spelling stands for.
+    pub fn find(&self, name: &[u8]) -> Option<&Named>
+        ensures { option_map meaning_of (option_copied result) ≡ last_named None name.now (bindings_of self.now.entries.items) }
+    {
+        match self.spellings.place(name) {
+            Some(spelling) => self.what_at(self.last_at(spelling)),
+            None => None,
+        }
+    }
+
+    /// The place of the last entry with a spelling.
+    fn last_at(&self, spelling: usize) -> Option<usize>
+        ensures { result ≡ written (slice_get self.now.last.items spelling) }
+    {
+        match self.last.get(spelling) {
+            Some(place) => *place,
+            None => None,
+        }
+    }
+
+    /// What an entry stands for, by its place.
+    fn what_at(&self, place: Option<usize>) -> Option<&Named>
+        ensures { option_map meaning_of (option_copied result) ≡ what_at self.now.entries.items place }
+    {
+        match place {
+            Some(place) => match self.entries.get(place) {
+                Some(entry) => Some(&entry.what),
+                None => None,
+            },
+            None => None,
+        }
+    }
+
+    /// Declares a name after the others. Out of memory, no name is declared.
+    pub fn declare(&mut self, name: &'s [u8], what: Named) -> Result<(), AllocError>
+        ensures ok { OnOk result (bindings_of self.new.entries.items ≡ bindings_of self.old.entries.items ++ record { name = name.now; what = meaning_of what } ∷ []) }
+        ensures err { OnErr result (bindings_of self.new.entries.items ≡ bindings_of self.old.entries.items) }
+    {
+        let spelling = self.spell(name)?;
+        let earlier = self.last_at(spelling);
+        let place = self.entries.len();
+        self.entries.push(Entry {
+            name,
+            spelling,
+            what,
+            earlier,
+        })?;
+        self.last[spelling] = Some(place);
+        Ok(())
+    }
+
+    /// The place of a spelling, which may be a new one.
+    fn spell(&mut self, name: &'s [u8]) -> Result<usize, AllocError>
+        ensures entries { self.new.entries.items ≡ self.old.entries.items }
+        ensures place { IfOk result (λ place. place_in self.new.spellings name.now ≡ Some place) }
+    {
+        match self.spellings.place(name) {
+            Some(place) => Ok(place),
+            None => {
+                let count = self.last.len();
+                self.last.push(None)?;
+                match self.spellings.add(name) {
+                    Ok(place) => Ok(place),
+                    Err(fault) => {
+                        self.last.truncate(count);
+                        Err(fault)
+                    }
+                }
+            }
+        }
+    }
+
+    /// Forgets the names that were declared last, until so many are left.
+    pub fn keep(&mut self, count: usize)
+        ensures { bindings_of self.new.entries.items ≡ take count (bindings_of self.old.entries.items) }
+    {
+        while self.entries.len() > count {
+            self.forget();
+        }
+    }
+
+    /// Forgets the name that was declared last.
+    fn forget(&mut self)
+        ensures { self.new.entries.items ≡ take (length self.old.entries.items - 1) self.old.entries.items }
+    {
+        if let Some(entry) = self.entries.pop() {
+            let (spelling, earlier) = links_of(entry);
+            self.last[spelling] = earlier;
+        }
+    }
+}
+
+ghost use Rattle.std.specs.Prelude.{◌≡◌};
+
+/// The spelling of an entry, and the entry before it with that spelling.
+fn links_of(entry: Entry<'_>) -> (usize, Option<usize>)
+    ensures spelling { result.0 ≡ entry.entry.spelling }
+    ensures earlier { result.1 ≡ entry.entry.earlier }
+{
+    (entry.spelling, entry.earlier)
+}

@@ -1,0 +1,14 @@
+//! Declared names.
+
+use crate::named::Named;
+
+/// A declared name.
+#[derive(Drop)]
+pub struct Entry<'s> {
+    pub name: &'s [u8],
+    /// The place of its spelling among the spellings.
+    pub spelling: usize,
+    pub what: Named,
+    /// The place of the entry that was the last one with this spelling before.
+    pub earlier: Option<usize>,
+}

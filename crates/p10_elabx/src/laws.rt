@@ -1,0 +1,9 @@
+//! What holds of what is found in expressions: each law is the contract of a function without a body.
+
+ghost use Rattle.p10_elabx.specs.Laws.{TheFirstIsKept};
+
+/// Keeping only the first row at each tree keeps the first of all rows that hold in an expression: the one whose tree begins
+/// first, of these the one with the least number, and of these the one of the smallest tree.
+pub fn the_first_is_kept()
+    ensures { TheFirstIsKept }
+{}

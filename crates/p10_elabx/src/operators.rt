@@ -1,0 +1,215 @@
+//! What operators make of values (C99 6.5).
+
+ghost use Rattle.std.specs.Prelude.{◌≡◌, IfOk, option_map, Some};
+ghost use Rattle.p10_core.specs.Types.{plain_type};
+ghost use Rattle.p10_core.specs.Views.{plain_types, plain_value};
+ghost use Rattle.p10_core.specs.WholePrograms.{AreWholeStructures, IsWholeType};
+ghost use Rattle.p10_elabx.specs.Operators.{unary_by, unary_value, binary_by, binary_value, logic_value, conditional_by, conditional_value, fitted, cast_value, size_value};
+ghost use Rattle.p10_elabx.specs.private.Built.{plain_row, plain_unary_row, ruled_value, ruled_operand};
+
+use crate::operand::Operand;
+use crate::problem::Problem;
+use crate::rows::{Row, UnaryRow, binary_row, conditional_row, fits, may_cast, unary_row};
+use crate::value::converted;
+use p10_base::{At, SubsetCode};
+use p10_core::{CType, LogicOp, Types, Value, is_null};
+use p10_int::{BinOp, IntType, UnOp};
+use std::alloc::{AllocError, Global};
+
+/// Unary `+`, `-`, `~` and `!`.
+pub fn unary_value(
+    alloc: Global,
+    at: At,
+    op: UnOp,
+    v: Value,
+) -> Result<Result<Value, Option<Problem>>, AllocError>
+    ensures { IfOk result (λ r. ruled_value r ≡ unary_value at op (plain_value v)) }
+{
+    let row = unary_row(alloc, op, &v.ty)?;
+    unary_by(alloc, at, op, v, row)
+}
+
+/// A unary operator by its row.
+fn unary_by(
+    alloc: Global,
+    at: At,
+    op: UnOp,
+    v: Value,
+    row: Option<UnaryRow>,
+) -> Result<Result<Value, Option<Problem>>, AllocError>
+    ensures { IfOk result (λ r. ruled_value r ≡ unary_by at op (plain_value v) (option_map plain_unary_row row)) }
+{
+    match row {
+        None => Ok(Err(Some(Problem {
+            code: SubsetCode::OperandTypes,
+            at,
+        }))),
+        Some(row) => {
+            let operand = converted(alloc, v, row.operand)?;
+            Ok(Ok(Value::unary(alloc, at, row.result, op, operand)?))
+        }
+    }
+}
+
+/// A binary operator on two values.
+pub fn binary_value(
+    alloc: Global,
+    types: &Types<'_>,
+    at: At,
+    op: BinOp,
+    left: Value,
+    right: Value,
+) -> Result<Result<Value, Option<Problem>>, AllocError>
+    ensures { IfOk result (λ r. ruled_value r ≡ binary_value (plain_types types.now) at op (plain_value left) (plain_value right)) }
+{
+    let nulls = (is_null(&left), is_null(&right));
+    let row = binary_row(alloc, types, op, nulls, &left.ty, &right.ty)?;
+    binary_by(alloc, at, op, left, right, row)
+}
+
+/// A binary operator by its row.
+fn binary_by(
+    alloc: Global,
+    at: At,
+    op: BinOp,
+    left: Value,
+    right: Value,
+    row: Option<Row>,
+) -> Result<Result<Value, Option<Problem>>, AllocError>
+    ensures { IfOk result (λ r. ruled_value r ≡ binary_by at op (plain_value left) (plain_value right) (option_map plain_row row)) }
+{
+    match row {
+        None => Ok(Err(Some(Problem {
+            code: SubsetCode::OperandTypes,
+            at,
+        }))),
+        Some(row) => {
+            let left = converted(alloc, left, row.left)?;
+            let right = converted(alloc, right, row.right)?;
+            Ok(Ok(Value::binary(alloc, at, row.result, op, left, right)?))
+        }
+    }
+}
+
+/// `&&` and `||`.
+pub fn logic_value(
+    alloc: Global,
+    at: At,
+    op: LogicOp,
+    left: Value,
+    right: Value,
+) -> Result<Result<Value, Option<Problem>>, AllocError>
+    ensures { IfOk result (λ r. ruled_value r ≡ logic_value at op (plain_value left) (plain_value right)) }
+{
+    if left.ty.is_scalar() && right.ty.is_scalar() {
+        Ok(Ok(Value::logic(alloc, at, CType::integer(IntType::Int), op, left, right)?))
+    } else {
+        Ok(Err(Some(Problem {
+            code: SubsetCode::OperandTypes,
+            at,
+        })))
+    }
+}
+
+/// `?:`.
+pub fn conditional_value(
+    alloc: Global,
+    at: At,
+    test: Value,
+    left: Value,
+    right: Value,
+) -> Result<Result<Value, Option<Problem>>, AllocError>
+    ensures { IfOk result (λ r. ruled_value r ≡ conditional_value at (plain_value test) (plain_value left) (plain_value right)) }
+{
+    if test.ty.is_scalar() {
+        let nulls = (is_null(&left), is_null(&right));
+        let row = conditional_row(alloc, nulls, &left.ty, &right.ty)?;
+        conditional_by(alloc, at, test, left, right, row)
+    } else {
+        Ok(Err(Some(Problem {
+            code: SubsetCode::OperandTypes,
+            at,
+        })))
+    }
+}
+
+/// `?:` by its row.
+fn conditional_by(
+    alloc: Global,
+    at: At,
+    test: Value,
+    left: Value,
+    right: Value,
+    row: Option<Row>,
+) -> Result<Result<Value, Option<Problem>>, AllocError>
+    ensures { IfOk result (λ r. ruled_value r ≡ conditional_by at (plain_value test) (plain_value left) (plain_value right) (option_map plain_row row)) }
+{
+    match row {
+        None => Ok(Err(Some(Problem {
+            code: SubsetCode::OperandTypes,
+            at,
+        }))),
+        Some(row) => {
+            let left = converted(alloc, left, row.left)?;
+            let right = converted(alloc, right, row.right)?;
+            Ok(Ok(Value::conditional(alloc, at, row.result, test, left, right)?))
+        }
+    }
+}
+
+/// A value where one of a type is needed, as in an assignment; the tree at which it is refused is given.
+pub fn fitted(
+    alloc: Global,
+    at: At,
+    v: Value,
+    ty: &CType,
+) -> Result<Result<Value, Option<Problem>>, AllocError>
+    ensures { IfOk result (λ r. ruled_value r ≡ fitted at (plain_value v) (plain_type ty.now)) }
+{
+    if fits(is_null(&v), &v.ty, ty) {
+        let ty = ty.copy(alloc)?.unqualified();
+        Ok(Ok(converted(alloc, v, ty)?))
+    } else {
+        Ok(Err(Some(Problem {
+            code: SubsetCode::TypesDiffer,
+            at,
+        })))
+    }
+}
+
+/// A written cast.
+pub fn cast_value(
+    alloc: Global,
+    at: At,
+    ty: &CType,
+    v: Value,
+) -> Result<Result<Value, Option<Problem>>, AllocError>
+    ensures { IfOk result (λ r. ruled_value r ≡ cast_value at (plain_type ty.now) (plain_value v)) }
+{
+    if may_cast(is_null(&v), &v.ty, ty) {
+        let ty = ty.copy(alloc)?.unqualified();
+        Ok(Ok(Value::cast(alloc, at, ty, v)?))
+    } else {
+        Ok(Err(Some(Problem {
+            code: SubsetCode::BadCast,
+            at,
+        })))
+    }
+}
+
+/// The size of a type as a constant.
+pub fn size_value(types: &Types<'_>, at: At, ty: &CType) -> Result<Operand, Option<Problem>>
+    requires structures { AreWholeStructures (plain_types types.now) }
+    requires whole { IsWholeType (plain_types types.now) (plain_type ty.now) }
+    ensures { ruled_operand result ≡ size_value (plain_types types.now) at (plain_type ty.now) }
+{
+    if types.is_complete(ty) {
+        let size = i128::from(types.size(ty));
+        Ok(Operand::Value(Value::constant(at, CType::integer(IntType::ULong), size)))
+    } else {
+        Err(Some(Problem {
+            code: SubsetCode::NoSize,
+            at,
+        }))
+    }
+}

@@ -1,0 +1,167 @@
+//! The places that operators give, and what is done with places (C99 6.5.2.1, 6.5.2.3, 6.5.3.2, 6.5.3.4).
+
+ghost use Rattle.std.specs.Prelude.{◌≡◌, IfOk, option_map, option_copied, slice_get, Some, false};
+ghost use Rattle.p10_core.specs.Types.{plain_type, qualified, members_of, integer};
+ghost use Rattle.p10_core.specs.Views.{plain_types, plain_value, plain_place};
+ghost use Rattle.p10_core.specs.WholePrograms.{AreWholeStructures};
+ghost use Rattle.p10_int.specs.Types.{promoted};
+ghost use Rattle.p10_elabx.specs.Operators.{dereferenced, indexed, element_of, promoted_value, member_by, member_in, member_found, arrow_found, address_found, target_found};
+ghost use Rattle.p10_elabx.specs.private.Built.{plain_operand, ruled_operand, ruled_target};
+
+use crate::operand::{Operand, PlaceKind};
+use crate::problem::Problem;
+use crate::rows::pointer_to;
+use crate::value::converted;
+use p10_base::{At, SubsetCode};
+use p10_core::{CType, Place, TypeForm, Types, Value};
+use p10_int::{IntType, promote};
+use std::alloc::{AllocError, Global};
+
+/// `*`.
+pub fn dereferenced(
+    alloc: Global,
+    at: At,
+    v: Value,
+) -> Result<Result<Operand, Option<Problem>>, AllocError>
+    ensures { IfOk result (λ r. ruled_operand r ≡ dereferenced at (plain_value v)) }
+{
+    match &v.ty.form {
+        TypeForm::Pointer(target) => {
+            let ty = target.copy(alloc)?;
+            Ok(Ok(Operand::Place(PlaceKind::Object, Place::dereference(alloc, at, ty, v)?)))
+        }
+        _ => Ok(Err(Some(Problem {
+            code: SubsetCode::OperandTypes,
+            at,
+        }))),
+    }
+}
+
+/// `a[i]`.
+pub fn indexed(
+    alloc: Global,
+    types: &Types<'_>,
+    at: At,
+    a: Value,
+    i: Value,
+) -> Result<Result<Operand, Option<Problem>>, AllocError>
+    ensures { IfOk result (λ r. ruled_operand r ≡ indexed (plain_types types.now) at (plain_value a) (plain_value i)) }
+{
+    match (&a.ty.form, &i.ty.form) {
+        (TypeForm::Pointer(target), TypeForm::Int(kind)) => {
+            let ty = target.copy(alloc)?;
+            let i = promoted_value(alloc, *kind, i)?;
+            element_of(alloc, types, at, ty, a, i)
+        }
+        _ => Ok(Err(Some(Problem {
+            code: SubsetCode::OperandTypes,
+            at,
+        }))),
+    }
+}
+
+/// An index, promoted.
+fn promoted_value(alloc: Global, kind: IntType, v: Value) -> Result<Value, AllocError>
+    ensures { IfOk result (λ r. plain_value r ≡ promoted_value (plain_value v) kind) }
+{
+    converted(alloc, v, CType::integer(promote(kind)))
+}
+
+/// An element of what a pointer to a type with a size points to.
+fn element_of(
+    alloc: Global,
+    types: &Types<'_>,
+    at: At,
+    ty: CType,
+    a: Value,
+    i: Value,
+) -> Result<Result<Operand, Option<Problem>>, AllocError>
+    ensures { IfOk result (λ r. ruled_operand r ≡ element_of (plain_types types.now) at (plain_type ty) (plain_value a) (plain_value i)) }
+{
+    if types.is_complete(&ty) {
+        Ok(Ok(Operand::Place(PlaceKind::Object, Place::index(alloc, at, ty, a, i)?)))
+    } else {
+        Ok(Err(Some(Problem {
+            code: SubsetCode::OperandTypes,
+            at,
+        })))
+    }
+}
+
+/// `&`.
+pub fn address_found(
+    alloc: Global,
+    at: At,
+    operand: Operand,
+) -> Result<Result<Operand, Option<Problem>>, AllocError>
+    ensures { IfOk result (λ r. ruled_operand r ≡ address_found at (plain_operand operand)) }
+{
+    match operand {
+        Operand::Value(_) => Ok(Err(Some(Problem {
+            code: SubsetCode::NoAddress,
+            at,
+        }))),
+        Operand::Place(PlaceKind::Sensor, _) => Ok(Err(Some(Problem {
+            code: SubsetCode::NoAddress,
+            at,
+        }))),
+        Operand::Place(PlaceKind::Frame | PlaceKind::Object, p) => {
+            let ty = pointer_to(alloc, &p.ty)?;
+            Ok(Ok(Operand::Value(Value::address(alloc, at, ty, p)?)))
+        }
+        Operand::Function(at) => Ok(Err(Some(Problem {
+            code: SubsetCode::BadPointer,
+            at,
+        }))),
+    }
+}
+
+/// The target of an assignment.
+pub fn target_found(
+    types: &Types<'_>,
+    at: At,
+    operand: Operand,
+) -> Result<(PlaceKind, Place), Option<Problem>>
+    requires { AreWholeStructures (plain_types types.now) }
+    ensures { ruled_target result ≡ target_found (plain_types types.now) at (plain_operand operand) }
+{
+    match operand {
+        Operand::Place(kind, p) => {
+            if types.is_modifiable(&p.ty) {
+                Ok((kind, p))
+            } else {
+                Err(Some(Problem {
+                    code: SubsetCode::FixedTarget,
+                    at,
+                }))
+            }
+        }
+        Operand::Value(_) | Operand::Function(_) => Err(Some(Problem {
+            code: SubsetCode::FixedTarget,
+            at,
+        })),
+    }
+}
+
+/// A type with one mark more, which an array has at its elements.
+pub fn qualified(alloc: Global, mark: bool, ty: &CType) -> Result<CType, AllocError>
+    ensures { IfOk result (λ t. plain_type t ≡ qualified mark (plain_type ty.now)) }
+{
+    match &ty.form {
+        TypeForm::Array(element, length) => {
+            let inner = qualified(alloc, mark, element)?;
+            let form = TypeForm::Array(Box::new(alloc, inner)?, *length);
+            Ok(CType {
+                is_const: ty.is_const,
+                form,
+            })
+        }
+        TypeForm::Void | TypeForm::Int(_) | TypeForm::Pointer(_) | TypeForm::Struct(_) => {
+            let CType { is_const, form } = ty.copy(alloc)?;
+            Ok(CType {
+                is_const: mark | is_const,
+                form,
+            })
+        }
+    }
+}

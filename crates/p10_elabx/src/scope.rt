@@ -1,0 +1,84 @@
+//! Scopes: what names stand for in the blocks that are open (C99 6.2.1).
+
+use crate::bindings::Bindings;
+use crate::named::Named;
+use p10_core::Types;
+use std::alloc::{AllocError, Global};
+
+/// The types that are declared, and the names in the open blocks, each with what it stands for. A tag and another name may
+/// be the same word. Looking a name up costs as much as it is long, however many names there are.
+#[derive(Drop)]
+pub struct Scope<'s> {
+    /// The structures that are declared.
+    pub types: Types<'s>,
+    names: Bindings<'s>,
+    tags: Bindings<'s>,
+    /// How many names and tags stood where each block inside the outermost one was opened.
+    floors: Vec<(usize, usize)>,
+}
+
+impl<'s> Scope<'s> {
+    ghost use Rattle.std.specs.Prelude.{◌≡◌, ◌<◌, length, option_map, option_copied, OnOk, OnErr};
+    ghost use Rattle.p10_elabx.specs.Scopes.{empty_scope, entered, left, declared, named, tagged};
+    ghost use Rattle.p10_elabx.specs.Views.{meaning_of};
+    ghost use Rattle.p10_elabx.specs.PlainScopes.{plain_scope};
+
+    /// No types, and one open block without names.
+    pub fn new(alloc: Global) -> Scope<'s>
+        ensures { plain_scope result ≡ empty_scope }
+    {
+        Scope {
+            types: Types::new(alloc),
+            names: Bindings::new(alloc),
+            tags: Bindings::new(alloc),
+            floors: Vec::new(alloc),
+        }
+    }
+
+    /// Opens a block. Out of memory, nothing is changed.
+    pub fn enter(&mut self) -> Result<(), AllocError>
+        ensures ok { OnOk result (plain_scope self.new ≡ entered (plain_scope self.old)) }
+        ensures err { OnErr result (plain_scope self.new ≡ plain_scope self.old) }
+    {
+        let floor = (self.names.count(), self.tags.count());
+        self.floors.push(floor)?;
+        Ok(())
+    }
+
+    /// Closes the innermost of at least two blocks, with all that was declared in it.
+    pub fn leave(&mut self)
+        requires { 0 < length (plain_scope self.old).floors }
+        ensures { plain_scope self.new ≡ left (plain_scope self.old) }
+    {
+        if let Some((names, tags)) = self.floors.pop() {
+            self.names.keep(names);
+            self.tags.keep(tags);
+        }
+    }
+
+    /// Declares a name in the innermost block. Out of memory, nothing is changed.
+    pub fn declare(&mut self, name: &'s [u8], what: Named) -> Result<(), AllocError>
+        ensures ok { OnOk result (plain_scope self.new ≡ declared (plain_scope self.old) name.now (meaning_of what)) }
+        ensures err { OnErr result (plain_scope self.new ≡ plain_scope self.old) }
+    {
+        if matches!(&what, Named::Tag(_) | Named::UnknownTag) {
+            self.tags.declare(name, what)
+        } else {
+            self.names.declare(name, what)
+        }
+    }
+
+    /// What a name stands for that is no tag.
+    pub fn named(&self, name: &[u8]) -> Option<&Named>
+        ensures { option_map meaning_of (option_copied result) ≡ named (plain_scope self.now) name.now }
+    {
+        self.names.find(name)
+    }
+
+    /// What a tag stands for.
+    pub fn tagged(&self, name: &[u8]) -> Option<&Named>
+        ensures { option_map meaning_of (option_copied result) ≡ tagged (plain_scope self.now) name.now }
+    {
+        self.tags.find(name)
+    }
+}

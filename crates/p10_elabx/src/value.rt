@@ -1,0 +1,128 @@
+//! Operands as values (C99 6.3.2.1).
+
+ghost use Rattle.std.specs.Prelude.{◌≡◌, IfOk};
+ghost use Rattle.p10_core.specs.Types.{plain_type};
+ghost use Rattle.p10_core.specs.Views.{plain_types, plain_value, plain_place, plain_form};
+ghost use Rattle.p10_elabx.specs.Operands.{converted, not_void, operand_value, place_value, read_value, sensed, read_form};
+ghost use Rattle.p10_elabx.specs.private.Built.{plain_operand, ruled_value};
+
+use crate::operand::{Operand, PlaceKind};
+use crate::problem::Problem;
+use crate::rows::pointer_to;
+use p10_base::SubsetCode;
+use p10_core::{CType, Place, PlaceForm, TypeForm, Types, Value, ValueForm};
+use std::alloc::{AllocError, Global};
+
+/// An operand as a value, which may be void.
+pub fn operand_value(
+    alloc: Global,
+    types: &Types<'_>,
+    operand: Operand,
+) -> Result<Result<Value, Option<Problem>>, AllocError>
+    ensures { IfOk result (λ r. ruled_value r ≡ operand_value (plain_types types.now) (plain_operand operand)) }
+{
+    match operand {
+        Operand::Value(v) => Ok(Ok(v)),
+        Operand::Place(kind, p) => {
+            let found = place_value(alloc, types, kind, p)?;
+            Ok(found)
+        }
+        Operand::Function(at) => Ok(Err(Some(Problem {
+            code: SubsetCode::BadPointer,
+            at,
+        }))),
+    }
+}
+
+/// The value of a place.
+fn place_value(
+    alloc: Global,
+    types: &Types<'_>,
+    kind: PlaceKind,
+    p: Place,
+) -> Result<Result<Value, Option<Problem>>, AllocError>
+    ensures { IfOk result (λ r. ruled_value r ≡ place_value (plain_types types.now) kind (plain_place p)) }
+{
+    match &p.ty.form {
+        TypeForm::Array(element, _) => {
+            let ty = pointer_to(alloc, element)?;
+            let at = p.at;
+            Ok(Ok(Value::decay(alloc, at, ty, p)?))
+        }
+        _ => {
+            let found = read_value(alloc, types, kind, p)?;
+            Ok(found)
+        }
+    }
+}
+
+/// The value of a place that has a size.
+fn read_value(
+    alloc: Global,
+    types: &Types<'_>,
+    kind: PlaceKind,
+    p: Place,
+) -> Result<Result<Value, Option<Problem>>, AllocError>
+    ensures { IfOk result (λ r. ruled_value r ≡ read_value (plain_types types.now) kind (plain_place p)) }
+{
+    if types.is_complete(&p.ty) {
+        let ty = p.ty.copy(alloc)?.unqualified();
+        let at = p.at;
+        Ok(Ok(Value {
+            at,
+            ty,
+            form: read_form(alloc, kind, p)?,
+        }))
+    } else {
+        Ok(Err(Some(Problem {
+            code: SubsetCode::OperandTypes,
+            at: p.at,
+        })))
+    }
+}
+
+/// How the value of a place is read.
+fn read_form(alloc: Global, kind: PlaceKind, p: Place) -> Result<ValueForm, AllocError>
+    ensures { IfOk result (λ f. plain_form f ≡ read_form kind (plain_place p)) }
+{
+    match kind {
+        PlaceKind::Sensor => sensed(alloc, p),
+        PlaceKind::Frame | PlaceKind::Object => Ok(ValueForm::Read(Box::new(alloc, p)?)),
+    }
+}
+
+/// The value of a sensor.
+fn sensed(alloc: Global, p: Place) -> Result<ValueForm, AllocError>
+    ensures { IfOk result (λ f. plain_form f ≡ sensed (plain_place p)) }
+{
+    match &p.form {
+        PlaceForm::Global(number) => Ok(ValueForm::Sense(*number)),
+        _ => Ok(ValueForm::Read(Box::new(alloc, p)?)),
+    }
+}
+
+/// A void expression has no value.
+pub fn not_void(v: Value) -> Result<Value, Option<Problem>>
+    ensures { ruled_value result ≡ not_void (plain_value v) }
+{
+    if v.ty.is_void() {
+        Err(Some(Problem {
+            code: SubsetCode::VoidValue,
+            at: v.at,
+        }))
+    } else {
+        Ok(v)
+    }
+}
+
+/// The value with the conversion that isn't written, where it changes the type.
+pub fn converted(alloc: Global, v: Value, ty: CType) -> Result<Value, AllocError>
+    ensures { IfOk result (λ r. plain_value r ≡ converted (plain_value v) (plain_type ty)) }
+{
+    if v.ty.is_same(&ty) {
+        Ok(v)
+    } else {
+        let at = v.at;
+        Value::convert(alloc, at, ty, v)
+    }
+}
