@@ -1,12 +1,12 @@
 -- The first row is the least of all that hold.
-use Rattle.std.specs.Prelude.{◌≡◌, ℕ, Bool, true, false, ◌||◌, ◌&&◌, Result, Ok, Err, Option, Some, None, List, [], ◌∷◌, ◌++◌, if◌then◌else◌, nat_lt, nat_le, refl, ◌⊎◌}
+use Rattle.std.specs.Prelude.{◌≡◌, ℕ, Bool, true, false, ◌||◌, ◌&&◌, Ok, Err, Some, None, List, [], ◌∷◌, ◌++◌, if◌then◌else◌, nat_lt, nat_le, refl}
 use Rattle.std.proofs.Common.{ap, sym, ◌∙◌, subst, arith, inl, inr}
 use Rattle.std.proofs.lemmas.Bool.Decides.{nat_tests}
 use Rattle.p10_base.specs.declared.at.At.{At}
 use Rattle.p10_base.specs.declared.codes.SubsetCode.{SubsetCode}
 use Rattle.p10_base.specs.Codes.{subset_number}
 use Rattle.p10_elabx.specs.declared.problem.Problem.{Problem}
-use Rattle.p10_elabx.specs.First.{is_before, least, Among, IsFirst, Found, Ruled, problems, lift, on, pair, joined, Keep, every, only_first, refused_where, Judged, plainly, on_part, on_parts, also, unordered, touches}
+use Rattle.p10_elabx.specs.First.{is_before, least, Among, IsFirst, Found, Ruled, lift, on, pair, joined, every, only_first, refused_where, Judged, plainly, on_part, on_parts, also, unordered}
 use Rattle.p10_elabx.specs.Laws.{IsKept, Tied}
 
 -- ## The order

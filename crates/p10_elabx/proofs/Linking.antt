@@ -1,10 +1,10 @@
 -- The last entry with a spelling, as it is found.
-use Rattle.std.proofs.Common.{◌≡◌, ℕ, zero, suc, ◌+◌, ◌<◌, ◌≤◌, Bool, true, false, if◌then◌else◌, Option, Some, None, List, [], ◌∷◌, ◌++◌, length, option_map, bytes_eq, slice_get, refl, sym, ◌∙◌, ap, subst, cond, arith}
+use Rattle.std.proofs.Common.{◌≡◌, ℕ, suc, ◌+◌, Bool, true, false, if◌then◌else◌, Option, Some, None, List, [], ◌∷◌, option_map, bytes_eq, slice_get, refl, sym, ◌∙◌, ap, arith}
 use Rattle.p10_base.specs.Words.{Text}
 use Rattle.p10_base.specs.Names.{place_in}
 use Rattle.p10_elabx.specs.declared.entry.Entry.{Entry}
 use Rattle.p10_elabx.specs.Scopes.{Meaning, last_named}
-use Rattle.p10_elabx.specs.private.Bound.{meaning_of, binding_of, bindings_of, last_place, written, what_at, IsLinked}
+use Rattle.p10_elabx.specs.private.Bound.{meaning_of, bindings_of, last_place, written, what_at, IsLinked}
 
 chosen : (all : List Entry) (found : Option ℕ) (i : ℕ) (m : Meaning) (b : Bool) → what_at all (Some i) ≡ Some m →
     (if b then Some m else what_at all found) ≡ what_at all (if b then Some i else found)

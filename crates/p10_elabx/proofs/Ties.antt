@@ -1,29 +1,28 @@
 -- Of the same tree the two ways to keep rows find the same, or the first of all.
-use Rattle.std.specs.Prelude.{◌≡◌, ℕ, ◌+◌, Bool, true, false, not, ◌||◌, ◌&&◌, Option, Some, None, Result, Ok, Err, List, [], ◌∷◌, ◌++◌, if◌then◌else◌, refl, slice_get}
-use Rattle.std.proofs.Common.{ap, sym, ◌∙◌, subst}
+use Rattle.std.specs.Prelude.{◌≡◌, ℕ, ◌+◌, Bool, true, false, not, ◌||◌, ◌&&◌, Option, Some, None, Ok, Err, List, [], if◌then◌else◌, refl, slice_get}
+use Rattle.std.proofs.Common.{ap, subst}
 use Rattle.p10_base.specs.Words.{Text}
 use Rattle.p10_base.specs.declared.at.At.{At}
-use Rattle.p10_base.specs.declared.codes.SubsetCode.{SubsetCode}
 use Rattle.p10_base.specs.declared.codes.SubsetCode.TheVariants as subset
 use Rattle.p10_int.specs.declared.operators.BinOp.{BinOp}
 use Rattle.p10_syn.specs.declared.sign.Sign.{Sign}
 use Rattle.p10_syn.specs.declared.sign.Sign.TheVariants as sign
-use Rattle.p10_syn.specs.Trees.{Identifier, Expression, expression, Form, Name, Number, Character, Strings, Unary, Step, Binary, Assign, Conditional, Call, Index, Member, Arrow, Cast, SizeofExpression, SizeofType, Comma, Expressions, NoExpressions, MoreExpressions, Optional, Absent, Present, TypeName, type_name, Specifiers, NoSpecifiers, MoreSpecifiers, Declarator, Named, Unnamed, Pointer, Parenthesised, Array, Function}
+use Rattle.p10_syn.specs.Trees.{Expression, expression, Name, Number, Character, Strings, Unary, Step, Binary, Assign, Conditional, Call, Index, Member, Arrow, Cast, SizeofExpression, SizeofType, Comma, Expressions, NoExpressions, MoreExpressions, Absent, Present, TypeName, type_name, Specifiers, NoSpecifiers, MoreSpecifiers, Declarator, Named, Unnamed, Pointer, Parenthesised, Array, Function}
 use Rattle.p10_core.specs.declared.typed.Library.{Library}
-use Rattle.p10_core.specs.declared.typed.Library.TheVariants.{Assert, CAssert, Getchar, Putchar, Malloc, Calloc, Free}
+use Rattle.p10_core.specs.declared.typed.Library.TheVariants.{Malloc, Calloc}
 use Rattle.p10_core.specs.declared.typed.LogicOp.{LogicOp}
 use Rattle.p10_core.specs.declared.statements.UpdateKind.TheVariants as kind
 use Rattle.p10_core.specs.Types.{PlainType, PlainStructure}
 use Rattle.p10_core.specs.Typed.{PlainValue, PlainPlace, PlainStatementForm}
 use Rattle.p10_elabx.specs.declared.problem.Problem.{Problem}
 use Rattle.p10_elabx.specs.declared.operand.PlaceKind.{PlaceKind}
-use Rattle.p10_elabx.specs.First.{Keep, every, only_first, Found, Ruled, lift, nothing_said, refused, pair, on, refused_where, Judged, plainly, on_part, on_parts, also, unordered}
+use Rattle.p10_elabx.specs.First.{every, only_first, Found, Ruled, nothing_said, refused, Judged, on_part, on_parts, unordered}
 use Rattle.p10_elabx.specs.Laws.{IsKept, Tied}
 use Rattle.p10_elabx.specs.Scopes.{PlainScope, named}
-use Rattle.p10_elabx.specs.Operands.{PlainOperand, a_value, operand_value, not_void, reads_object, reads_sensor, any_value, as_value}
+use Rattle.p10_elabx.specs.Operands.{PlainOperand, operand_value, not_void, reads_object, reads_sensor, any_value, as_value}
 use Rattle.p10_elabx.specs.Operators.{binary_value, logic_value, conditional_value, operand_size, indexed, member_found, arrow_found, address_found, target_found, assigned, updated}
 use Rattle.p10_elabx.specs.Calls.{Callee, callee_of, Wanted, wanted_value, wants_of, wanted_of, Listed, no_arguments, with_value, argument_judged, with_argument, call_problem, call_value, is_assert, is_allocator, is_counted, with_problem, call_judged, operand_call, other_call, element_count}
-use Rattle.p10_elabx.specs.TypeNames.{Shape, a_type, an_open_array, has_other_word, pointed, pointer_judged, element, array_of, array_judged, open_array_judged, gives, Said, said_of, nothing_specified, is_bad_mixture, specifier_rule, later, specifiers_found, specified_type, specifiers_at, specifiers_judged}
+use Rattle.p10_elabx.specs.TypeNames.{Shape, a_type, an_open_array, has_other_word, pointed, pointer_judged, element, array_of, array_judged, open_array_judged, gives, said_of, nothing_specified, is_bad_mixture, specifier_rule, later, specifiers_found, specified_type, specifiers_at, specifiers_judged}
 use Rattle.p10_elabx.specs.Literals.{number_found, character_found, strings_found}
 use Rattle.p10_elabx.specs.Judging.{name_found, valued, Operation, of_values, of_truth, no_operation, operation_of, assignment_of, step_of, unary_found, unary_judged, may_be_place, place_of, address_judged, values_judged, truth_judged, binary_judged, conditional_judged, index_judged, member_judged, arrow_judged, size_judged, shape_size, type_size_judged, cast_found, is_void_shape, cast_judged, target_judged, assignment_judged, counts_as_read, counts_as_act, with_read, update_judged, one_at, step_judged, by_sign, nested, comma_judged, sized_shape, Site, shape_allocation, one_element, counted_elements, either_shape, two_sizes, other_allocation, count_of, is_memory, for_memory, judge, judge_arguments, judge_allocation, judge_type, judge_declarator}
 use Rattle.p10_elabx.proofs.Firsts.{kept_lift, kept_on, kept_pair, kept_where, or_same, tied_plainly, tied_on_part, tied_on_parts, tied_also, unordered_same}

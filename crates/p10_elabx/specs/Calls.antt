@@ -1,19 +1,19 @@
 -- Calls: what is called, and what becomes of the arguments (C99 6.5.2.2); allocations.
-use Rattle.std.specs.Prelude.{◌≡◌, ℕ, ◌+◌, ℤ, pos, Bool, true, false, not, ◌&&◌, ◌||◌, nat_eq, Option, Some, None, Result, Ok, Err, if◌then◌else◌, List, [], ◌∷◌, ◌++◌, length, map, slice_get}
+use Rattle.std.specs.Prelude.{ℕ, pos, Bool, true, false, ◌&&◌, ◌||◌, nat_eq, Option, Some, None, Ok, if◌then◌else◌, List, [], ◌∷◌, length, map}
 use Rattle.p10_base.specs.Words.{Text}
 use Rattle.p10_base.specs.declared.at.At.{At}
 use Rattle.p10_base.specs.declared.codes.SubsetCode.TheVariants as subset
-use Rattle.p10_int.specs.declared.types.IntType.TheVariants.{Int, Char, ULong}
+use Rattle.p10_int.specs.declared.types.IntType.TheVariants.{Char, ULong}
 use Rattle.p10_core.specs.declared.typed.Library.{Library}
 use Rattle.p10_core.specs.declared.typed.Library.TheVariants.{Assert, CAssert, Getchar, Putchar, Malloc, Calloc, Free}
-use Rattle.p10_core.specs.Types.{PlainType, void, integer, pointer, array, structure, unqualified, PlainStructure}
+use Rattle.p10_core.specs.Types.{PlainType, void, integer, pointer, unqualified, PlainStructure}
 use Rattle.p10_core.specs.Sizes.{size_of}
 use Rattle.p10_core.specs.Typed.{PlainValue, value, constant, cast, call, built_in, PlainValues, no_values, more_values, at_of, type_of}
 use Rattle.p10_core.specs.Rows.{same, is_integer, is_pointer, is_scalar, int_type}
 use Rattle.p10_core.specs.Constants.{is_null}
 use Rattle.p10_elabx.specs.declared.problem.Problem.{Problem}
 use Rattle.p10_elabx.specs.First.{Keep, Found, Ruled, refused, nothing_said, Judged, pair, on, on_part, also, touches}
-use Rattle.p10_elabx.specs.Scopes.{Meaning, local, object, callable, number, named_type, tagged_type, unknown_name, unknown_tag, library_named}
+use Rattle.p10_elabx.specs.Scopes.{Meaning, callable, unknown_name, library_named}
 use Rattle.p10_elabx.specs.Operands.{PlainOperand, a_value, converted}
 use Rattle.p10_elabx.specs.Operators.{fitted}
 

@@ -1,5 +1,5 @@
 -- What is found in a tree: something, or the rows of the subset that hold in it; and which of them is the first.
-use Rattle.std.specs.Prelude.{◌≡◌, ℕ, Bool, true, false, not, ◌||◌, ◌&&◌, Result, Ok, Err, Option, Some, None, if◌then◌else◌, nat_lt, nat_le, List, [], ◌∷◌, ◌++◌, ◌⊎◌}
+use Rattle.std.specs.Prelude.{◌≡◌, Bool, true, false, ◌||◌, ◌&&◌, Result, Ok, Err, Option, Some, None, if◌then◌else◌, nat_lt, nat_le, List, [], ◌∷◌, ◌++◌, ◌⊎◌}
 use Rattle.p10_base.specs.declared.at.At.{At}
 use Rattle.p10_base.specs.declared.codes.SubsetCode.{SubsetCode}
 use Rattle.p10_base.specs.Codes.{subset_number}
@@ -120,6 +120,7 @@ on_parts h j k go = record {
 abbrev pub also : {A : Type 0} → Keep → Bool → SubsetCode → At → Judged A → Judged A
 also h holds code at j = record j { found = refused_where h holds code at j.found }
 
+-- whether a tree has a call, or reads an object or a sensor
 abbrev pub touches : {A : Type 0} → Judged A → Bool
 touches j = j.acts || j.reads
 

@@ -1,29 +1,27 @@
 -- What is found in an expression: an operand with its types and conversions, or the rows that hold in it.
-use Rattle.std.specs.Prelude.{◌≡◌, ℕ, ◌+◌, ℤ, pos, Bool, true, false, not, ◌&&◌, ◌||◌, Option, Some, None, Result, Ok, Err, if◌then◌else◌, List, [], ◌∷◌, slice_get}
+use Rattle.std.specs.Prelude.{ℕ, ◌+◌, pos, Bool, true, false, not, ◌||◌, Option, Some, None, Ok, Err, if◌then◌else◌, List, [], slice_get}
 use Rattle.p10_base.specs.Words.{Text}
 use Rattle.p10_base.specs.declared.at.At.{At}
 use Rattle.p10_base.specs.declared.codes.SubsetCode.TheVariants as subset
 use Rattle.p10_int.specs.declared.types.IntType.TheVariants.{Int}
 use Rattle.p10_int.specs.declared.operators.BinOp.{BinOp}
 use Rattle.p10_int.specs.declared.operators.BinOp.TheVariants as binary_operator
-use Rattle.p10_int.specs.declared.operators.UnOp.{UnOp}
 use Rattle.p10_int.specs.declared.operators.UnOp.TheVariants as unary_operator
 use Rattle.p10_syn.specs.declared.sign.Sign.{Sign}
 use Rattle.p10_syn.specs.declared.sign.Sign.TheVariants as sign
-use Rattle.p10_syn.specs.Trees.{Identifier, Expression, expression, Form, Name, Number, Character, Strings, Unary, Step, Binary, Assign, Conditional, Call, Index, Member, Arrow, Cast, SizeofExpression, SizeofType, Comma, Expressions, NoExpressions, MoreExpressions, Optional, Absent, Present, TypeName, type_name, Declarator, Named, Unnamed, Pointer, Parenthesised, Array, Function}
+use Rattle.p10_syn.specs.Trees.{Expression, expression, Name, Number, Character, Strings, Unary, Step, Binary, Assign, Conditional, Call, Index, Member, Arrow, Cast, SizeofExpression, SizeofType, Comma, Expressions, NoExpressions, MoreExpressions, Absent, Present, TypeName, type_name, Declarator, Named, Unnamed, Pointer, Parenthesised, Array, Function}
 use Rattle.p10_core.specs.declared.typed.Library.{Library}
 use Rattle.p10_core.specs.declared.typed.Library.TheVariants.{Malloc, Calloc}
 use Rattle.p10_core.specs.declared.typed.LogicOp.{LogicOp}
 use Rattle.p10_core.specs.declared.typed.LogicOp.TheVariants as logic_operator
-use Rattle.p10_core.specs.declared.statements.UpdateKind.{UpdateKind}
 use Rattle.p10_core.specs.declared.statements.UpdateKind.TheVariants as kind
-use Rattle.p10_core.specs.Types.{PlainType, void, integer, pointer, array, structure, PlainStructure}
-use Rattle.p10_core.specs.Typed.{PlainValue, value, constant, PlainPlace, place, variable, global, type_of, PlainStatementForm}
+use Rattle.p10_core.specs.Types.{PlainType, integer, PlainStructure}
+use Rattle.p10_core.specs.Typed.{PlainValue, value, constant, PlainPlace, place, variable, global, PlainStatementForm}
 use Rattle.p10_core.specs.Rows.{is_void, is_complete}
 use Rattle.p10_elabx.specs.declared.operand.PlaceKind.{PlaceKind}
 use Rattle.p10_elabx.specs.declared.operand.PlaceKind.TheVariants as place_kind
 use Rattle.p10_elabx.specs.First.{Keep, Found, Ruled, ruled, refused, nothing_said, Judged, plainly, pair, on, on_part, on_parts, also, unordered}
-use Rattle.p10_elabx.specs.Scopes.{PlainScope, Meaning, local, object, callable, number, named_type, tagged_type, unknown_name, unknown_tag, named, library_named}
+use Rattle.p10_elabx.specs.Scopes.{PlainScope, Meaning, local, object, callable, number, unknown_name, named, library_named}
 use Rattle.p10_elabx.specs.Operands.{PlainOperand, a_value, a_place, a_function, any_value, as_value}
 use Rattle.p10_elabx.specs.Operators.{unary_value, binary_value, logic_value, conditional_value, cast_value, size_value, operand_size, dereferenced, indexed, member_found, arrow_found, address_found, target_found, assigned, updated}
 use Rattle.p10_elabx.specs.Calls.{Callee, of_library, callee_of, Wanted, wants_of, wanted_of, Listed, no_arguments, argument_judged, with_argument, call_judged, operand_call, other_call, allocation, element_count, size_constant, points_to}
@@ -184,6 +182,7 @@ shape_size structures at (a_type t) = size_value structures at t
 shape_size structures at an_open_array = refused subset.NoSize at
 shape_size structures at a_function_type = refused subset.NoSize at
 
+-- `sizeof` of a type: nothing in it counts for the order of evaluation
 unfoldable pub type_size_judged : List PlainStructure → At → Judged Shape → Judged PlainOperand
 type_size_judged structures at j = record { found = on j.found (shape_size structures at); acts = false; reads = false }
 
@@ -220,6 +219,7 @@ counts_as_read (Ok (place_kind.Frame, p)) = false
 counts_as_read (Ok (k, p)) = true
 counts_as_read (Err rs) = false
 
+-- whether the read of a place is that of a sensor
 abbrev pub counts_as_act : Found (PlaceKind × PlainPlace) → Bool
 counts_as_act (Ok (place_kind.Sensor, p)) = true
 counts_as_act (Ok (k, p)) = false
@@ -299,6 +299,7 @@ either_size structures site left_at right_at t left right =
     if points_to t right then allocation site.cast_at t site.call_at site.name_at Malloc right (Some (size_constant structures left_at left))
     else allocation site.cast_at t site.call_at site.name_at Malloc left (Some (size_constant structures right_at right))
 
+-- the same under a cast to what may be no type
 abbrev pub either_shape : List PlainStructure → Site → At → At → Shape → PlainType → PlainType → Ruled PlainOperand
 either_shape structures site left_at right_at (a_type t) left right = either_size structures site left_at right_at t left right
 either_shape structures site left_at right_at an_open_array left right = refused subset.BadAllocation site.call_at

@@ -1,8 +1,7 @@
 -- What holds of what is found in expressions.
-use Rattle.std.specs.Prelude.{◌≡◌, ◌++◌, Bool, Result, Ok, Err, List, [], ◌∷◌}
+use Rattle.std.specs.Prelude.{◌≡◌, Ok, Err, [], ◌∷◌}
 use Rattle.p10_base.specs.declared.at.At.{At}
 use Rattle.p10_syn.specs.Trees.{Expression}
-use Rattle.p10_elabx.specs.declared.problem.Problem.{Problem}
 use Rattle.p10_elabx.specs.First.{IsFirst, Found, Judged, every, only_first}
 use Rattle.p10_elabx.specs.Scopes.{PlainScope}
 use Rattle.p10_elabx.specs.Operands.{PlainOperand}

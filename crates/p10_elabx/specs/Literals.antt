@@ -1,12 +1,12 @@
 -- The values of constants and strings (C99 6.4.4, 6.4.5).
-use Rattle.std.specs.Prelude.{◌≡◌, ℕ, ◌+◌, ℤ, pos, Bool, true, false, Option, Some, None, option_and_then, Ok, if◌then◌else◌, List, [], ◌∷◌, ◌++◌, length}
+use Rattle.std.specs.Prelude.{◌+◌, ℤ, pos, false, Option, Some, None, option_and_then, Ok, if◌then◌else◌, List, [], ◌∷◌, ◌++◌, length}
 use Rattle.p10_base.specs.Words.{Text}
 use Rattle.p10_base.specs.declared.at.At.{At}
 use Rattle.p10_int.specs.declared.types.IntType.{IntType}
 use Rattle.p10_int.specs.declared.types.IntType.TheVariants.{Int, UInt, Long, ULong, LLong, ULLong, Char}
 use Rattle.p10_int.specs.Types.{holds}
 use Rattle.p10_lex.specs.declared.integers.Base.{Base}
-use Rattle.p10_lex.specs.declared.integers.Base.TheVariants.{Octal, Decimal, Hexadecimal}
+use Rattle.p10_lex.specs.declared.integers.Base.TheVariants.{Decimal}
 use Rattle.p10_lex.specs.declared.integers.Suffix.{Suffix}
 use Rattle.p10_lex.specs.declared.integers.Suffix.TheVariants as suffix
 use Rattle.p10_lex.specs.declared.integers.Integer.{Integer}
@@ -67,6 +67,7 @@ abbrev pub joined_after : Text → Option Text → Option Text
 joined_after before None = None
 joined_after before (Some bytes) = Some (before ++ bytes)
 
+-- the bytes of strings after those before
 abbrev pub strings_value : Option Text → List Text → Option Text
 strings_value found [] = found
 strings_value None (text ∷ rest) = None

@@ -1,9 +1,9 @@
 -- Operands: values, places and functions' names, and what becomes of them as values (C99 6.3.2.1).
-use Rattle.std.specs.Prelude.{◌≡◌, ℕ, ℤ, pos, Bool, true, false, not, ◌&&◌, ◌||◌, Option, Some, None, Result, Ok, Err, if◌then◌else◌, List, [], ◌∷◌}
+use Rattle.std.specs.Prelude.{Bool, true, false, not, ◌&&◌, ◌||◌, Ok, if◌then◌else◌, List}
 use Rattle.p10_base.specs.declared.at.At.{At}
 use Rattle.p10_base.specs.declared.codes.SubsetCode.TheVariants as subset
-use Rattle.p10_core.specs.Types.{PlainType, void, integer, pointer, array, structure, unqualified, PlainStructure}
-use Rattle.p10_core.specs.Typed.{PlainValue, value, PlainForm, read, sense, address, decay, convert, PlainPlace, place, PlainPlaceForm, variable, global, literal, index, member, dereference, at_of, type_of, place_at, place_type}
+use Rattle.p10_core.specs.Types.{PlainType, pointer, array, unqualified, PlainStructure}
+use Rattle.p10_core.specs.Typed.{PlainValue, value, PlainForm, read, sense, decay, convert, PlainPlace, place, global, at_of, type_of, place_at, place_type}
 use Rattle.p10_core.specs.Rows.{same, is_void, is_array, is_complete}
 use Rattle.p10_elabx.specs.declared.operand.PlaceKind.{PlaceKind}
 use Rattle.p10_elabx.specs.declared.operand.PlaceKind.TheVariants.{Object, Frame, Sensor}

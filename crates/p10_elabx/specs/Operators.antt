@@ -1,22 +1,22 @@
 -- What the operators make of their operands, or that they may not be applied to them: a row for each (C99 6.5).
-use Rattle.std.specs.Prelude.{◌≡◌, ℕ, ℤ, pos, Bool, true, false, not, ◌&&◌, ◌||◌, Option, Some, None, Result, Ok, Err, if◌then◌else◌, List, [], ◌∷◌, slice_get}
+use Rattle.std.specs.Prelude.{ℕ, pos, Bool, false, ◌&&◌, Option, Some, None, Ok, if◌then◌else◌, List, slice_get}
 use Rattle.p10_base.specs.Words.{Text}
 use Rattle.p10_base.specs.declared.at.At.{At}
 use Rattle.p10_base.specs.declared.codes.SubsetCode.TheVariants as subset
 use Rattle.p10_int.specs.declared.types.IntType.{IntType}
-use Rattle.p10_int.specs.declared.types.IntType.TheVariants.{Int, ULong}
+use Rattle.p10_int.specs.declared.types.IntType.TheVariants.{ULong}
 use Rattle.p10_int.specs.declared.operators.BinOp.{BinOp}
 use Rattle.p10_int.specs.declared.operators.UnOp.{UnOp}
 use Rattle.p10_int.specs.Types.{promoted}
 use Rattle.p10_core.specs.declared.typed.LogicOp.{LogicOp}
 use Rattle.p10_core.specs.declared.statements.UpdateKind.{UpdateKind}
-use Rattle.p10_core.specs.Types.{PlainType, void, integer, pointer, array, structure, qualified, unqualified, PlainMember, PlainStructure, members_of, member_named}
+use Rattle.p10_core.specs.Types.{PlainType, integer, pointer, structure, qualified, unqualified, PlainMember, PlainStructure, members_of, member_named}
 use Rattle.p10_core.specs.Sizes.{size_of}
-use Rattle.p10_core.specs.Typed.{PlainValue, value, constant, read, address, convert, cast, unary, binary, logic, conditional, PlainPlace, place, index, member, dereference, at_of, type_of, place_at, place_type, PlainStatementForm, set, update, copy}
+use Rattle.p10_core.specs.Typed.{PlainValue, value, constant, read, address, cast, unary, binary, logic, conditional, PlainPlace, place, index, member, dereference, type_of, place_type, PlainStatementForm, set, update, copy}
 use Rattle.p10_core.specs.Rows.{Row, UnaryRow, unary_row, binary_row, conditional_row, fits, may_cast, same, is_scalar, is_complete, is_modifiable, int_type}
 use Rattle.p10_core.specs.Constants.{is_null}
 use Rattle.p10_elabx.specs.declared.operand.PlaceKind.{PlaceKind}
-use Rattle.p10_elabx.specs.declared.operand.PlaceKind.TheVariants.{Object, Frame, Sensor}
+use Rattle.p10_elabx.specs.declared.operand.PlaceKind.TheVariants.{Object}
 use Rattle.p10_elabx.specs.First.{Ruled, refused, ruled}
 use Rattle.p10_elabx.specs.Operands.{PlainOperand, a_value, a_place, a_function, converted, is_sensor_kind}
 

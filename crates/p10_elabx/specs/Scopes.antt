@@ -1,5 +1,5 @@
 -- Scopes: what names stand for (C99 6.2.1, 6.2.3), in the blocks that are open.
-use Rattle.std.specs.Prelude.{◌≡◌, ℕ, ◌-◌, ℤ, Bool, true, false, ◌&&◌, if◌then◌else◌, Option, Some, None, List, [], ◌∷◌, ◌++◌, take, length, slice_index_or, bytes_eq}
+use Rattle.std.specs.Prelude.{ℕ, ◌-◌, ℤ, Bool, true, false, if◌then◌else◌, Option, Some, None, List, [], ◌∷◌, ◌++◌, take, length, slice_index_or, bytes_eq}
 use Rattle.p10_base.specs.Words.{Text}
 use Rattle.p10_core.specs.Types.{PlainType, PlainStructure}
 use Rattle.p10_core.specs.declared.typed.Library.{Library}

@@ -1,6 +1,5 @@
 -- The types that specifiers and declarators name, as far as they declare nothing (C99 6.7.2, 6.7.3, 6.7.5, 6.7.6).
-use Rattle.std.specs.Prelude.{◌≡◌, ℕ, ◌+◌, ◌*◌, ◌≤◌, ℤ, pos, negsuc, Bool, true, false, not, ◌&&◌, ◌||◌, nat_eq, nat_le, Option, Some, None, is_some, Result, Ok, Err, if◌then◌else◌, List, [], ◌∷◌, ◌++◌}
-use Rattle.p10_base.specs.Words.{Text}
+use Rattle.std.specs.Prelude.{ℕ, ◌+◌, ◌*◌, ℤ, pos, negsuc, Bool, true, false, not, ◌&&◌, ◌||◌, nat_eq, nat_le, Option, Some, None, is_some, Result, Ok, Err, if◌then◌else◌, List, [], ◌∷◌}
 use Rattle.p10_base.specs.Words.{span_to}
 use Rattle.p10_base.specs.declared.at.At.{At}
 use Rattle.p10_base.specs.declared.codes.SubsetCode.TheVariants as subset
@@ -14,8 +13,8 @@ use Rattle.p10_core.specs.Typed.{PlainValue, at_of, type_of}
 use Rattle.p10_core.specs.Rows.{is_void, is_integer, is_complete}
 use Rattle.p10_core.specs.Constants.{inconstant_part, fold}
 use Rattle.p10_core.specs.WholePrograms.{most_bytes}
-use Rattle.p10_elabx.specs.First.{Keep, Found, Ruled, refused, nothing_said, lift, Judged, pair, on, on_part, on_parts, also, refused_where}
-use Rattle.p10_elabx.specs.Scopes.{Meaning, local, object, callable, number, named_type, tagged_type, unknown_name, unknown_tag, PlainScope, named, tagged}
+use Rattle.p10_elabx.specs.First.{Keep, Found, Ruled, refused, nothing_said, lift, Judged, pair, on, on_part, also, refused_where}
+use Rattle.p10_elabx.specs.Scopes.{Meaning, named_type, tagged_type, unknown_name, unknown_tag, PlainScope, named, tagged}
 use Rattle.p10_syn.specs.Trees.{Identifier, Specifiers, NoSpecifiers, MoreSpecifiers, Specifier, Keyword, Typedef, Structure, Enumeration}
 
 -- what a declarator makes of a type: a type, an array whose length is lacking, or a function
@@ -217,9 +216,11 @@ abbrev pub last_specifier_at : At → Specifiers At → At
 last_specifier_at at NoSpecifiers = at
 last_specifier_at at (MoreSpecifiers one rest) = last_specifier_at (specifier_at one) rest
 
+-- from the first word of one tree to the last of another
 abbrev pub from_to : At → At → At
 from_to a b = record { first = a.first; past = b.past; span = span_to a.span b.span }
 
+-- the place of specifiers, from the first to the last; where there are none, one that is given
 abbrev pub specifiers_at : At → Specifiers At → At
 specifiers_at at NoSpecifiers = at
 specifiers_at at (MoreSpecifiers one rest) = from_to (specifier_at one) (last_specifier_at (specifier_at one) rest)
@@ -272,6 +273,7 @@ abbrev pub folded_length : List PlainStructure → At → PlainType → Result �
 folded_length structures at t (Ok z) = sized_array structures at t z
 folded_length structures at t (Err part) = refused subset.ConstantStops part
 
+-- an array whose length is a constant expression, or which has none
 abbrev pub constant_length : List PlainStructure → At → PlainType → PlainValue → Option At → Ruled Shape
 constant_length structures at t v None = folded_length structures at t (fold v)
 constant_length structures at t v (Some part) = refused subset.BadLength at

@@ -1,5 +1,5 @@
 -- Names of the code as the definitions speak of them.
-use Rattle.std.specs.Prelude.{ℕ, List, map}
+use Rattle.std.specs.Prelude.{List, map}
 use Rattle.p10_core.specs.Types.{plain_type}
 use Rattle.p10_elabx.specs.declared.named.Named.{Named}
 use Rattle.p10_elabx.specs.declared.named.Named.TheVariants.{Var, Global, Function, Constant, Typedef, Tag, Unknown, UnknownTag}

@@ -1,12 +1,9 @@
 -- Names as the code keeps them.
-use Rattle.std.specs.Prelude.{◌≡◌, ℕ, ◌+◌, ◌≤◌, Bool, if◌then◌else◌, Option, Some, None, option_map, List, [], ◌∷◌, map, take, length, bytes_eq, slice_get}
+use Rattle.std.specs.Prelude.{◌≡◌, ℕ, ◌+◌, if◌then◌else◌, Option, Some, None, option_map, List, [], ◌∷◌, take, length, bytes_eq, slice_get}
 use Rattle.p10_base.specs.Words.{Text}
 use Rattle.p10_base.specs.Names.{place_in}
-use Rattle.p10_core.specs.Types.{plain_type}
-use Rattle.p10_elabx.specs.declared.named.Named.{Named}
-use Rattle.p10_elabx.specs.declared.named.Named.TheVariants.{Var, Global, Function, Constant, Typedef, Tag, Unknown, UnknownTag}
 use Rattle.p10_elabx.specs.declared.entry.Entry.{Entry}
-use Rattle.p10_elabx.specs.Scopes.{Meaning, local, object, callable, number, named_type, tagged_type, unknown_name, unknown_tag, Binding}
+use Rattle.p10_elabx.specs.Scopes.{Meaning}
 pub use Rattle.p10_elabx.specs.Views.{meaning_of, binding_of, bindings_of}
 
 -- the place of the last entry with a spelling, or what was found before; the first one has the place i

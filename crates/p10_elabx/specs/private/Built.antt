@@ -1,13 +1,11 @@
 -- What the code finds, as the definitions speak of it.
-use Rattle.std.specs.Prelude.{Result, Ok, Err, Option, Some, None, option_map, List, Vec, ℕ, Bool}
-use Rattle.std.specs.declared.alloc.Global.{Global}
+use Rattle.std.specs.Prelude.{Result, Ok, Err, Option}
 use Rattle.p10_core.specs.declared.typed.Value.{Value}
 use Rattle.p10_core.specs.declared.typed.Place.{Place}
-use Rattle.p10_core.specs.declared.c_type.CType.{CType}
 use Rattle.p10_core.specs.declared.statements.StmtForm.{StmtForm}
-use Rattle.p10_core.specs.Types.{PlainType, plain_type}
-use Rattle.p10_core.specs.Typed.{PlainValue, PlainPlace, PlainValues, PlainStatementForm}
-use Rattle.p10_core.specs.Views.{plain_value, plain_place, plain_values, plain_statement_form}
+use Rattle.p10_core.specs.Types.{plain_type}
+use Rattle.p10_core.specs.Typed.{PlainValue, PlainPlace, PlainStatementForm}
+use Rattle.p10_core.specs.Views.{plain_value, plain_place, plain_statement_form}
 use Rattle.p10_core.specs.Rows.{Row as PlainRow, UnaryRow as PlainUnaryRow}
 use Rattle.p10_elabx.specs.declared.problem.Problem.{Problem}
 use Rattle.p10_elabx.specs.declared.operand.PlaceKind.{PlaceKind}
@@ -15,7 +13,7 @@ use Rattle.p10_elabx.specs.declared.operand.Operand.{Operand}
 use Rattle.p10_elabx.specs.declared.operand.Operand.TheVariants.{Value as AValue, Place as APlace, Function as AFunction}
 use Rattle.p10_elabx.specs.declared.rows.Row.{Row}
 use Rattle.p10_elabx.specs.declared.rows.UnaryRow.{UnaryRow}
-use Rattle.p10_elabx.specs.First.{Found, Ruled, lift, problems}
+use Rattle.p10_elabx.specs.First.{Ruled}
 use Rattle.p10_elabx.specs.Operands.{PlainOperand, a_value, a_place, a_function}
 
 -- a row of the code

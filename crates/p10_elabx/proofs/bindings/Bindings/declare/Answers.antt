@@ -1,4 +1,4 @@
-use Rattle.std.proofs.Common.{sym, ◌∙◌, ap, length}
+use Rattle.std.proofs.Common.{◌∙◌}
 use Rattle.p10_elabx.proofs.Keeping.{linked_more}
 use Rattle.p10_elabx.proofs.bindings.Bindings.declare.Goals as goal
 

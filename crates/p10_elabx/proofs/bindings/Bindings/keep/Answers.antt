@@ -1,4 +1,4 @@
-use Rattle.std.proofs.Common.{ℕ, ◌<◌, length, arith}
+use Rattle.std.proofs.Common.{◌<◌, length, arith}
 use Rattle.p10_elabx.specs.Views.{bindings_of}
 use Rattle.p10_elabx.proofs.Keeping.{kept_on}
 use Rattle.p10_elabx.proofs.bindings.Bindings.keep.Goals as goal
