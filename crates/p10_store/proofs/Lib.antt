@@ -1,0 +1,10 @@
+pub mod FoundObjects
+pub mod CellsOfPointers
+pub mod NumberedSlots
+pub mod FreedObjects
+pub mod TrimmedSlots
+pub mod ClosedSlots
+pub mod VecSizes
+pub mod OpenedSlots
+pub mod Releasing
+pub mod ScalarsOfTypes
