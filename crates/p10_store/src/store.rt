@@ -146,9 +146,8 @@ impl Store {
         Ok(first as i128 - second as i128)
     }
 
-    /// The pointer to the first element of the live object in a slot.
+    /// The pointer to the first element of the live object in a slot; null where there is none.
     pub fn first(&self, slot: usize) -> Ptr
-        requires { IsLiveIn self.now.slots slot }
         ensures { result ≡ first_in (slice_get self.now.slots slot) }
     {
         match self.slots.get(slot) {
