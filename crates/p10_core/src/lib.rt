@@ -14,6 +14,7 @@ mod c_type;
 mod constants;
 pub mod laws;
 mod make;
+mod make_statements;
 mod program;
 mod sizes;
 mod statements;
@@ -23,6 +24,7 @@ mod typed;
 
 pub use c_type::{CType, TypeForm};
 pub use constants::{fold, inconstant_part, is_null};
+pub use make_statements::Clauses;
 pub use program::{Extent, Func, Global, Literal, Program, Variable};
 pub use sizes::size;
 pub use statements::{
