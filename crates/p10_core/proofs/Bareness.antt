@@ -143,7 +143,7 @@ structures_alike ss w (suc order) n m b d is is' same low =
     }
 
 -- all that lies in a type was completed
-below_all : (ss : List PlainStructure) → AreWholeStructures ss → (t : PlainType) → is_complete ss t ≡ true → ContainsBefore ss (length ss) t
+pub below_all : (ss : List PlainStructure) → AreWholeStructures ss → (t : PlainType) → is_complete ss t ≡ true → ContainsBefore ss (length ss) t
 below_all ss w (void c) full = tt
 below_all ss w (integer c i) full = tt
 below_all ss w (pointer c t) full = tt

@@ -7,7 +7,7 @@ use Rattle.p10_core.specs.Rows.{is_complete}
 use Rattle.p10_core.specs.WholePrograms.{order_in, ContainsBefore, IsWholeMember, IsWholeBody, AreWholeStructures}
 
 -- two layouts of types agree on the types of members
-abbrev Agree : (PlainType → Layout) → (PlainType → Layout) → List PlainMember → Type 0
+abbrev pub Agree : (PlainType → Layout) → (PlainType → Layout) → List PlainMember → Type 0
 Agree f g [] = Unit {0}
 Agree f g (m ∷ rest) = (f m.type ≡ g m.type) × Agree f g rest
 
@@ -46,10 +46,10 @@ body_there None h go = absurd cc
 body_there (Some b) h go = go b refl
 
 -- two layouts of structures agree below an order
-abbrev AgreeBelow : List PlainStructure → ℕ → (ℕ → Layout) → (ℕ → Layout) → Type 0
+abbrev pub AgreeBelow : List PlainStructure → ℕ → (ℕ → Layout) → (ℕ → Layout) → Type 0
 AgreeBelow ss order F G = (n : ℕ) (b : PlainBody) → body_of ss n ≡ Some b → b.order < order → F n ≡ G n
 
-type_same : (ss : List PlainStructure) (order : ℕ) (F G : ℕ → Layout) → AgreeBelow ss order F G → (t : PlainType) → ContainsBefore ss order t → is_complete ss t ≡ true → layout_by ss F t ≡ layout_by ss G t
+pub type_same : (ss : List PlainStructure) (order : ℕ) (F G : ℕ → Layout) → AgreeBelow ss order F G → (t : PlainType) → ContainsBefore ss order t → is_complete ss t ≡ true → layout_by ss F t ≡ layout_by ss G t
 type_same ss order F G agree (void c) before complete = refl
 type_same ss order F G agree (integer c i) before complete = refl
 type_same ss order F G agree (pointer c t) before complete = refl

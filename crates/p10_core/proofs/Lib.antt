@@ -1,6 +1,10 @@
 pub mod Bareness
+pub mod Completing
 pub mod Folding
+pub mod Growing
 pub mod Layouts
 pub mod Lists
+pub mod ScalarCounts
 pub mod SizesOfTypes
+pub mod StatementRows
 pub mod TypeViews

@@ -1,8 +1,8 @@
 -- What holds of the definitions of types.
-use Rattle.std.specs.Prelude.{◌≡◌, ℕ, Bool, List, Some}
-use Rattle.p10_core.specs.Types.{PlainType, structure, bare, PlainBody, PlainStructure, body_of}
-use Rattle.p10_core.specs.Sizes.{Layout, layout_of_members, with_mark, layout_of}
-use Rattle.p10_core.specs.WholePrograms.{AreWholeStructures, IsObjectType}
+use Rattle.std.specs.Prelude.{◌≡◌, ℕ, ◌≤◌, Bool, List, Some, length}
+use Rattle.p10_core.specs.Types.{PlainType, array, structure, bare, PlainBody, PlainStructure, body_of}
+use Rattle.p10_core.specs.Sizes.{Layout, layout_of_members, with_mark, layout_of, size_of, scalars_of}
+use Rattle.p10_core.specs.WholePrograms.{AreWholeStructures, IsWholeType, IsObjectType, most_bytes}
 
 -- a structure lies as its members do: none contains itself, so no bound on its depth counts (C99 6.7.2.1)
 abbrev pub StructuresLieAsTheirMembers : Type 0
@@ -21,3 +21,15 @@ abbrev pub CompatibleTypesLieAlike : Type 0
 CompatibleTypesLieAlike =
     (structures : List PlainStructure) → AreWholeStructures structures → (s t : PlainType) → IsObjectType structures s → IsObjectType structures t →
     bare structures s ≡ bare structures t → LiesLike (layout_of structures s) (layout_of structures t)
+
+-- a type that has a size has at least a byte, and a byte for each of its scalars (C99 6.2.6.1p2)
+abbrev pub ScalarsHaveBytes : Type 0
+ScalarsHaveBytes =
+    (structures : List PlainStructure) → AreWholeStructures structures → (t : PlainType) → IsObjectType structures t →
+    (1 ≤ size_of structures t) × (length (scalars_of structures t) ≤ size_of structures t)
+
+-- no array has more elements than a type may have bytes
+abbrev pub ArraysAreShort : Type 0
+ArraysAreShort =
+    (structures : List PlainStructure) → AreWholeStructures structures → (c : Bool) (t : PlainType) (n : ℕ) → IsWholeType structures (array c t n) →
+    n ≤ most_bytes

@@ -3,9 +3,11 @@ pub mod Types
 pub mod Sizes
 pub mod Typed
 pub mod Views
+pub mod Nodes
 pub mod Rows
 pub mod Constants
 pub mod Addresses
 pub mod Whole
 pub mod WholePrograms
+pub mod Completing
 pub mod Laws

@@ -68,10 +68,11 @@ pub record IsWholeMember (structures : List PlainStructure) (order : ℕ) (m : P
 abbrev pub bare_member : List PlainStructure → PlainMember → PlainMember
 bare_member structures m = record m { type = bare structures m.type }
 
--- the body of the structure with a number: its members have a size and contain only what was completed before; what it says
--- of itself is so; and the structure that stands for it has the same members (C99 6.2.7)
+-- the body of the structure with a number: it has a member (C99 6.7.2.1p7); its members have a size and contain only what was
+-- completed before; what it says of itself is so; and the structure that stands for it has the same members (C99 6.2.7)
 pub record IsWholeBody (structures : List PlainStructure) (n : ℕ) (b : PlainBody) : Type 0 where
   pub members : All (IsWholeMember structures b.order) b.members
+  pub some : 1 ≤ length b.members
   pub few : b.order < length structures
   pub bytes_are : b.bytes ≡ (layout_of structures (structure false n)).bytes
   pub alignment_is : b.alignment ≡ (layout_of structures (structure false n)).alignment
