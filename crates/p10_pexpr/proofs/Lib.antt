@@ -19,3 +19,10 @@ pub mod Again
 pub mod Unique
 pub mod Lengths
 pub mod Parsed
+pub mod Extending
+pub mod LeftWords
+pub mod Runs
+pub mod ReadingSteps
+pub mod ListSteps
+pub mod Linking
+pub mod Keeping

@@ -122,12 +122,16 @@ is_enumeration _ = false
 abbrev pub is_specifier_start : Sign → Bool
 is_specifier_start s = is_storage s || (is_qualifier s || (is_inline s || (is_type_word s || (is_structure s || is_enumeration s))))
 
+-- whether specifiers begin with this word
+abbrev pub begins_specifier : Scope → Symbol → Bool
+begins_specifier names (Name x) = is_type names x
+begins_specifier names (Fixed s) = is_specifier_start s
+begins_specifier names _ = false
+
 -- whether the words begin with a specifier
 abbrev pub begins_specifiers : Scope → List Symbol → Bool
 begins_specifiers names [] = false
-begins_specifiers names (Name x ∷ rest) = is_type names x
-begins_specifiers names (Fixed s ∷ rest) = is_specifier_start s
-begins_specifiers names (_ ∷ rest) = false
+begins_specifiers names (x ∷ rest) = begins_specifier names x
 
 -- what a keyword is after specifiers that said this of the type
 abbrev pub specifying_sign : Setting → Said → Sign → Specifying
@@ -136,12 +140,16 @@ specifying_sign setting said s =
     (cond (is_structure s && says_no_name said) (Structured s)
     (cond (is_enumeration s && says_no_name said) Enumerated Other))
 
+-- what any word is there
+abbrev pub specifying_by : Scope → Setting → Said → Symbol → Specifying
+specifying_by names setting said (Name x) = cond (is_type names x && says_nothing said) Renamed Other
+specifying_by names setting said (Fixed s) = specifying_sign setting said s
+specifying_by names setting said _ = Other
+
 -- what the next word is there
 abbrev pub specifying_at : Scope → Setting → Said → List Symbol → Specifying
 specifying_at names setting said [] = Other
-specifying_at names setting said (Name x ∷ rest) = cond (is_type names x && says_nothing said) Renamed Other
-specifying_at names setting said (Fixed s ∷ rest) = specifying_sign setting said s
-specifying_at names setting said (_ ∷ rest) = Other
+specifying_at names setting said (x ∷ rest) = specifying_by names setting said x
 
 -- whether the next word is no specifier there
 abbrev pub is_other : Specifying → Bool

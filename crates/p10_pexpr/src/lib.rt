@@ -3,10 +3,24 @@
 //! The definitions in `specs/` are readers that go a number of levels deep and choose by at most two words and the typedef
 //! names in scope; what the next word is to them are the tables [`Next`], [`Start`] and [`Specifying`]. In `proofs/` stand two laws of
 //! all of them: what is read is spelled (`Takes`), and what is spelled is read, whatever words follow (`Again`). From these an
-//! expression's tree is unique, which [`laws`] states. The code that computes these readers isn't here yet.
+//! expression's tree is unique, which [`laws`] states. The code computes these readers, one function for each, over a [`Cursor`]
+//! of the words that are left and the [`Scope`] of declared names.
 #![tactic(auto)]
 
+mod bindings;
+mod cursor;
+pub mod declarator;
+mod entry;
+pub mod expression;
+mod fault;
 pub mod laws;
 mod next;
+mod scope;
+pub mod specifier;
+mod trouble;
 
-pub use next::{Next, Specifying, Start};
+pub use cursor::Cursor;
+pub use fault::ParseFault;
+pub use next::{Next, Specifying, Start, begins_specifiers};
+pub use scope::Scope;
+pub use trouble::Trouble;
