@@ -1,0 +1,2 @@
+-- The definitions that the contracts of this crate cite: those of public clauses, and in `private` those of private ones alone.
+pub mod private

@@ -1,0 +1,6 @@
+-- What only the clauses of private functions cite: how the code comes to what is promised.
+pub mod Tasks
+pub mod Operations
+pub mod Resuming
+pub mod Acts
+pub mod Weights
