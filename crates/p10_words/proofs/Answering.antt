@@ -6,7 +6,8 @@ use Rattle.clap.specs.declared.parser.matches.ArgMatches.{ArgMatches}
 use Rattle.p10_words.specs.declared.command.Command.{Command}
 use Rattle.p10_words.specs.declared.command.Usage.{Usage}
 use Rattle.p10_words.specs.declared.command.Usage.TheVariants.{Refused, Memory}
-use Rattle.p10_words.specs.CommandLines.{Text, value_of}
+use Rattle.p10_base.specs.Words.{Text}
+use Rattle.p10_words.specs.CommandLines.{value_of}
 use Rattle.p10_words.specs.Commands.{verify_options, run_options, IsRestOf}
 use Rattle.p10_words.specs.private.Parsing.{file_id, some_list, Matched, IsParse}
 use Rattle.p10_words.specs.private.Deciding.{has_files, IsVerifyOf, IsRunOf, Answers}

@@ -8,7 +8,8 @@ use Rattle.std.proofs.lemmas.Fmt.{decimal_is_IsNumeral}
 use Rattle.clap.specs.Lexer.{long_of}
 use Rattle.p10_words.specs.declared.command.Command.{Command}
 use Rattle.p10_words.specs.declared.command.Command.TheVariants.{Verify, Run}
-use Rattle.p10_words.specs.CommandLines.{Text, Given, AreGivenOnce, value_of, directories_in, HasNumber}
+use Rattle.p10_base.specs.Words.{Text}
+use Rattle.p10_words.specs.CommandLines.{Given, AreGivenOnce, value_of, directories_in, HasNumber}
 use Rattle.p10_words.specs.Commands.{verify_options, run_options, IsSplit, AreDirectories, IsRun, IsRestOf}
 use Rattle.p10_words.specs.Laws.{LinesAreOneCommand}
 use Rattle.p10_words.specs.private.Scanning.{Split, is_among, is_name, scan, scan_value, scan_word, scan_long, with_option, with_file}

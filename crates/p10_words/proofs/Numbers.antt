@@ -3,7 +3,8 @@ use Rattle.std.proofs.Common.{◌≡◌, ℕ, ◌<◌, ◌≤◌, ◌^◌, ap, s
 use Rattle.std.proofs.lemmas.Fmt.{parse-decimal, decimal_is_IsNumeral}
 use Rattle.std.specs.Prelude.{IfNone}
 use Rattle.std.specs.Str.Parse.{ParsesUnsigned, digits_value}
-use Rattle.p10_words.specs.CommandLines.{Text, IsNumber, HasNumber}
+use Rattle.p10_base.specs.Words.{Text}
+use Rattle.p10_words.specs.CommandLines.{IsNumber, HasNumber}
 
 small : (n : ℕ) → n ≤ 10 ^ 18 → n < 2 ^ 64
 small n h = omega (arith, h)

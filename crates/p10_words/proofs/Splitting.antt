@@ -4,7 +4,8 @@ use Rattle.std.specs.Prelude.{◌&&◌, ◌||◌, not, if◌then◌else◌, opti
 use Rattle.std.specs.List.{list_all, before_first, after_first, position_or_len}
 use Rattle.clap.specs.Lexer.{long_of, long_of_rest, strip_byte, has_byte}
 use Rattle.clap.specs.Walk.{is_empty}
-use Rattle.p10_words.specs.CommandLines.{Text, Given, IsName, AreNames, Splits, no_words, file, option, option_joined, ended, dashed, joined}
+use Rattle.p10_base.specs.Words.{Text}
+use Rattle.p10_words.specs.CommandLines.{Given, IsName, AreNames, Splits, no_words, file, option, option_joined, ended, dashed, joined}
 use Rattle.p10_words.specs.private.Scanning.{Split, is_among, is_name, has_names, scan, scan_value, scan_word, scan_long, with_option, with_file}
 use Rattle.p10_words.specs.private.Parsing.{are_askable}
 use Rattle.p10_words.proofs.Rows.{same_text}

@@ -1,9 +1,7 @@
 -- Which command lines are which commands: the words after the program's name.
 use Rattle.std.specs.Prelude.{◌≡◌, ◌≢◌, ℕ, ◌^◌, ◌≤◌, List, [], ◌∷◌, ◌++◌, true, ◌==◌, codes, decimal, find, bytes_eq, Option, Some, None, option_map}
 use Rattle.std.specs.List.{list_any, slice_split}
-
-abbrev pub Text : Type 0
-Text = List ℕ
+use Rattle.p10_base.specs.Words.{Text}
 
 -- a file, a directory or a value of an option: a text that isn't empty and doesn't begin with `-`
 abbrev pub IsName : Text → Type 0

@@ -2,7 +2,8 @@
 use Rattle.std.specs.Prelude.{◌≡◌, ◌≢◌, ℕ, ◌≤◌, List, [], ◌∷◌, codes, length, Some}
 use Rattle.p10_words.specs.declared.command.Command.{Command}
 use Rattle.p10_words.specs.declared.command.Command.TheVariants.{Verify, Run}
-use Rattle.p10_words.specs.CommandLines.{Text, Given, AreNames, Splits, AreGivenOnce, value_of, directories_in, HasNumber}
+use Rattle.p10_base.specs.Words.{Text}
+use Rattle.p10_words.specs.CommandLines.{Given, AreNames, Splits, AreGivenOnce, value_of, directories_in, HasNumber}
 
 -- the options of `verify` and of `run`
 abbrev pub verify_options : List Text

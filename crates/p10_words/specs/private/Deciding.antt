@@ -5,7 +5,8 @@ use Rattle.p10_words.specs.declared.command.Command.{Command}
 use Rattle.p10_words.specs.declared.command.Command.TheVariants.{Verify, Run}
 use Rattle.p10_words.specs.declared.command.Usage.{Usage}
 use Rattle.p10_words.specs.declared.command.Usage.TheVariants.{Refused, Memory}
-use Rattle.p10_words.specs.CommandLines.{Text, directories_in, HasNumber}
+use Rattle.p10_base.specs.Words.{Text}
+use Rattle.p10_words.specs.CommandLines.{directories_in, HasNumber}
 use Rattle.p10_words.specs.private.Scanning.{is_name}
 
 -- a value is a name, if there is one

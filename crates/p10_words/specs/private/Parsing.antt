@@ -13,7 +13,8 @@ use Rattle.clap.specs.declared.error.kind.ErrorKind.{ErrorKind}
 use Rattle.clap.specs.declared.error.kind.ErrorKind.TheVariants.{OutOfMemory}
 use Rattle.p10_words.specs.declared.command.Usage.{Usage}
 use Rattle.p10_words.specs.declared.command.Usage.TheVariants.{Refused, Memory}
-use Rattle.p10_words.specs.CommandLines.{Text, IsAmong, AreGivenOnce, value_of}
+use Rattle.p10_base.specs.Words.{Text}
+use Rattle.p10_words.specs.CommandLines.{IsAmong, AreGivenOnce, value_of}
 use Rattle.p10_words.specs.private.Scanning.{Split, scan, has_names, is_among}
 
 abbrev pub file_id : Text

@@ -2,7 +2,8 @@
 use Rattle.std.specs.Prelude.{◌==◌, List, [], ◌∷◌, Bool, false, not, ◌&&◌, codes, bytes_eq, Option, Some, None, if◌then◌else◌}
 use Rattle.std.specs.List.{list_all, list_any}
 use Rattle.clap.specs.Lexer.{long_of}
-use Rattle.p10_words.specs.CommandLines.{Text, Given}
+use Rattle.p10_base.specs.Words.{Text}
+use Rattle.p10_words.specs.CommandLines.{Given}
 
 -- options and files, in their order
 pub record Split : Type 0 where
