@@ -26,3 +26,4 @@ pub mod ReadingSteps
 pub mod ListSteps
 pub mod Linking
 pub mod Keeping
+pub mod AllWords

@@ -10,3 +10,4 @@ pub mod Cut
 pub mod Reading
 pub mod Laws
 pub mod private
+pub mod Parses

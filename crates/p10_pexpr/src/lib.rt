@@ -10,17 +10,23 @@
 mod bindings;
 mod cursor;
 pub mod declarator;
+mod entire;
 mod entry;
 pub mod expression;
 mod fault;
 pub mod laws;
+mod names;
 mod next;
 mod scope;
 pub mod specifier;
+mod tokens;
 mod trouble;
 
 pub use cursor::Cursor;
+pub use entire::budget_of;
 pub use fault::ParseFault;
+pub use names::Names;
 pub use next::{Next, Specifying, Start, begins_specifiers};
 pub use scope::Scope;
+pub use tokens::tokens_of;
 pub use trouble::Trouble;
