@@ -10,8 +10,9 @@ use Rattle.p10_syn.specs.declared.statement.Landmarks as landmarks
 use Rattle.p10_syn.specs.declared.statement.Function as function
 use Rattle.p10_syn.specs.declared.statement.Unit as whole
 use Rattle.p10_syn.specs.declared.statement.Unit.TheVariants as unit
+use Rattle.p10_syn.specs.Bare.{bare_initializer, bare_init_declarator, bare_declaration, bare_statement, bare_external}
 use Rattle.p10_syn.specs.Built.{identifier_of, expression_of, specifiers_in, declarator_of}
-use Rattle.p10_syn.specs.Trees.{statement_row, Expression, Optional, Absent, Present, Initializer, Value, Braced, Initializers, NoInitializers, MoreInitializers, InitDeclarator, Declaration, Statement, Empty, Evaluate, Block, If, IfElse, Switch, While, Do, For, Case, Default, Label, Goto, Break, Continue, Return, Declare, Pragma, Statements, NoStatements, MoreStatements, Landmarks, Definition, External, Outer, Defines}
+use Rattle.p10_syn.specs.Trees.{Bare, statement_row, Expression, Optional, Absent, Present, Initializer, Value, Braced, Initializers, NoInitializers, MoreInitializers, InitDeclarator, Declaration, Statement, Empty, Evaluate, Block, If, IfElse, Switch, While, Do, For, Case, Default, Label, Goto, Break, Continue, Return, Declare, Pragma, Statements, NoStatements, MoreStatements, Landmarks, Definition, External, Outer, Defines}
 
 -- an expression that may be left out
 abbrev pub optional_expression : Option expr.Expr → Optional At
@@ -81,3 +82,30 @@ definition_of f = record { place = f.at; landmarks = landmarks_of f.landmarks; s
 abbrev pub external_of : whole.Unit → External At
 external_of (unit.Decl d) = Outer (declaration_of d)
 external_of (unit.Function f) = Defines (definition_of f)
+
+-- ## Trees of the code without their places
+
+-- an initialiser of the code without its places
+unfoldable pub bare_initializer_of : init.Init → Initializer Bare
+bare_initializer_of i = bare_initializer (initializer_of i)
+
+-- the initialiser of a declarator of the code without its places, if it has one
+abbrev pub bare_initial_of : Option init.Init → Option (Initializer Bare)
+bare_initial_of None = None
+bare_initial_of (Some i) = Some (bare_initializer_of i)
+
+-- a declarator of a declaration of the code, and its initialiser, without their places
+unfoldable pub bare_init_declarator_of : declared.InitDeclarator → InitDeclarator Bare
+bare_init_declarator_of d = bare_init_declarator (init_declarator_of d)
+
+-- a declaration of the code without its places
+unfoldable pub bare_declaration_of : declaration.Decl → Declaration Bare
+bare_declaration_of d = bare_declaration (declaration_of d)
+
+-- a statement of the code without its places
+unfoldable pub bare_statement_of : statement.Stmt → Statement Bare
+bare_statement_of s = bare_statement (statement_of s)
+
+-- a declaration outside of functions of the code, or a function of it, without their places
+unfoldable pub bare_external_of : whole.Unit → External Bare
+bare_external_of u = bare_external (external_of u)

@@ -3,7 +3,7 @@
 //! Definitions speak of plain trees (`specs/Trees.antt`), which have a place at each node: `spell` gives the words of a tree,
 //! `IsExpression`, `AreExternals` and their kin say which trees there are where names are in scope, and `Spells` joins both with
 //! the places. The code has [`Expr`], [`Stmt`], [`Decl`] and [`Unit`], which `specs/Built.antt` and `BuiltStatements.antt` lead to
-//! plain trees; [`make`] has a function for each node, so that no box is opened above.
+//! plain trees; [`make`] and [`make_statement`] have a function for each node, so that no box is opened above.
 //!
 //! `- x * y` is the product of `- x` and `y`: the level of an operator is [`level`], from 1 for a comma to 16 for a postfix
 //! expression. Invariant: an expression keeps its pairs of parentheses as a number, so a tree spells one list of words.
@@ -12,6 +12,8 @@
 
 #[tactic(auto, unfolding(crate::specs::Built::bare_of, crate::specs::Built::bare_kind_of, crate::specs::Built::bare_specifier_of, crate::specs::Built::bare_member_of, crate::specs::Built::bare_field_of, crate::specs::Built::bare_enumerator_of, crate::specs::Built::bare_declarator_of, crate::specs::Built::bare_parameter_of))]
 pub mod make;
+#[tactic(auto, unfolding(crate::specs::Built::bare_of, crate::specs::Built::bare_specifier_of, crate::specs::Built::bare_declarator_of, crate::specs::BuiltStatements::bare_initializer_of, crate::specs::BuiltStatements::bare_init_declarator_of, crate::specs::BuiltStatements::bare_declaration_of, crate::specs::BuiltStatements::bare_statement_of, crate::specs::BuiltStatements::bare_external_of))]
+pub mod make_statement;
 mod place;
 #[tactic(auto, unfolding(crate::specs::Built::bare_of, crate::specs::Built::bare_specifier_of, crate::specs::Built::bare_declarator_of))]
 mod query;
