@@ -5,3 +5,6 @@ pub mod RightStatements
 pub mod Right
 pub mod Following
 pub mod Lighter
+pub mod Ending
+pub mod ByStages
+pub mod Rows

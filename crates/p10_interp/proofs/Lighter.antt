@@ -20,8 +20,8 @@ use Rattle.p10_meaning.specs.Calling.{deeper, raised, entered}
 use Rattle.p10_meaning.specs.Laws.{Follows, EndsAfter}
 use Rattle.p10_meaning.proofs.Following.{follows_same, follows_trans, follows_objects, follows_open, follows_raised, follows_mark}
 use Rattle.p10_meaning.proofs.AgreeingCalls.{IsEntry, entered_is}
-use Rattle.p10_interp.specs.private.Tasks.{Operation, use_value, drop_value, give_none, convert_to, apply_unary, apply_binary, take_truth, call_library, read_at, read_none, take_address, decay_at, index_at, member_at, dereference_at, write_at, read_old, write_new, copy_between, fill_from, assert_at, give_back, Loop, Task, evaluate_value, discard_value, locate_place, evaluate_values, evaluate_items, decide, choose, call_function, execute_statement, execute_statements, copy_into, branch, begin_loop, test_loop, enter_turn, end_turn, end_block, select, end_switch, end_call, operate, Operand, evaluated, located, Open, Left, Rig}
-use Rattle.p10_interp.specs.private.Operations.{on_result, on_value, on_target, taken_before, on_taken, on_call, count_of_items, scalars_of_items, with_frame, block_closed, leaves_done, done_by}
+use Rattle.p10_interp.specs.private.Tasks.{Operation, use_value, drop_value, give_none, convert_to, apply_unary, apply_binary, take_truth, call_library, read_at, read_none, take_address, decay_at, index_at, member_at, dereference_at, write_at, read_old, write_new, copy_between, fill_from, assert_at, give_back, Loop, Task, evaluate_value, discard_value, locate_place, evaluate_values, evaluate_items, decide, choose, call_function, execute_statement, execute_statements, copy_into, branch, begin_loop, test_loop, enter_turn, end_turn, end_block, select, end_switch, end_call, operate, Operand, Open, Left, Rig}
+use Rattle.p10_interp.specs.private.Operations.{first_result, first_value, first_target, below, on_some, taken_before, on_taken, on_call, count_of_items, scalars_of_items, with_frame, block_closed, leaves_done, done_by}
 use Rattle.p10_interp.specs.private.Resuming.{depth_of}
 use Rattle.p10_interp.specs.private.Acts.{goes_back, sought, use_after, begun, begun_form, begun_unused, begun_values, begun_written, begun_items, entered_if, initialized, declared_by, tested_by, looped_by, without, entered_at, selected, executed, begun_statement, begun_statements, branched, act, pass, next_act}
 use Rattle.p10_interp.specs.private.Weights.{weight_of_statement, weight_of_form, weight_of_statements, weight_of_branch, weight, weights}
@@ -29,21 +29,9 @@ use Rattle.p10_interp.proofs.Following.{Goes, goes_to, goes_here, goes_from, goe
 
 -- ## Operations
 
-result_goes : {A : Type 0} (operands : List Operand) (w : State) (go : Option Scalar → List Operand → Progress A) → ((x : Option Scalar) (operands : List Operand) → Goes w (go x operands)) → Goes w (on_result operands w go)
-result_goes [] w go h = record { after = follows_same w }
-result_goes (evaluated x ∷ operands) w go h = h x operands
-result_goes (located target ∷ operands) w go h = record { after = follows_same w }
-
-value_goes : {A : Type 0} (operands : List Operand) (w : State) (go : Scalar → List Operand → Progress A) → ((x : Scalar) (operands : List Operand) → Goes w (go x operands)) → Goes w (on_value operands w go)
-value_goes [] w go h = record { after = follows_same w }
-value_goes (evaluated None ∷ operands) w go h = record { after = follows_same w }
-value_goes (evaluated (Some x) ∷ operands) w go h = h x operands
-value_goes (located target ∷ operands) w go h = record { after = follows_same w }
-
-target_goes : {A : Type 0} (operands : List Operand) (w : State) (go : Target → List Operand → Progress A) → ((x : Target) (operands : List Operand) → Goes w (go x operands)) → Goes w (on_target operands w go)
-target_goes [] w go h = record { after = follows_same w }
-target_goes (evaluated x ∷ operands) w go h = record { after = follows_same w }
-target_goes (located target ∷ operands) w go h = h target operands
+some_goes : {A B : Type 0} (o : Option A) (w : State) (go : A → Progress B) → ((x : A) → Goes w (go x)) → Goes w (on_some o w go)
+some_goes None w go h = record { after = follows_same w }
+some_goes (Some x) w go h = h x
 
 taken_goes : {A : Type 0} (taken : Option (List Scalar × List Operand)) (w : State) (go : List Scalar → List Operand → Progress A) → ((xs : List Scalar) (operands : List Operand) → Goes w (go xs operands)) →
     Goes w (on_taken taken w go)
@@ -58,34 +46,34 @@ left_goes : (operands : List Operand) (f : Open) (calls : List Open) (w : State)
 left_goes operands f calls w o h = goes_then w o _ h (λ done w. goes_here _ w)
 
 pub done_goes : (p : PlainProgram) (o : Operation) (operands : List Operand) (calls : List Open) (w : State) → Goes w (done_by p o operands calls w)
-done_goes p (use_value span) operands calls w = result_goes operands w _ (λ x operands. goes_or (used x) span w _ (λ x. goes_here _ w))
-done_goes p drop_value operands calls w = result_goes operands w _ (λ x operands. goes_here _ w)
+done_goes p (use_value span) operands calls w = some_goes (first_result operands) w _ (λ x. goes_or (used x) span w _ (λ x. goes_here _ w))
+done_goes p drop_value operands calls w = some_goes (first_result operands) w _ (λ x. goes_here _ w)
 done_goes p give_none operands calls w = goes_here _ w
-done_goes p (convert_to t) operands calls w = value_goes operands w _ (λ x operands. goes_here _ w)
-done_goes p (apply_unary op t span) operands calls w = value_goes operands w _ (λ x operands. goes_or (operated_unary op t x) span w _ (λ z. goes_here _ w))
-done_goes p (apply_binary op t span) operands calls w = value_goes operands w _ (λ y operands. value_goes operands w _ (λ x operands. goes_or (operated op t w.objects x y) span w _ (λ z. goes_here _ w)))
-done_goes p take_truth operands calls w = value_goes operands w _ (λ x operands. goes_here _ w)
+done_goes p (convert_to t) operands calls w = some_goes (first_value operands) w _ (λ x. goes_here _ w)
+done_goes p (apply_unary op t span) operands calls w = some_goes (first_value operands) w _ (λ x. goes_or (operated_unary op t x) span w _ (λ z. goes_here _ w))
+done_goes p (apply_binary op t span) operands calls w = some_goes (first_value operands) w _ (λ y. some_goes (first_value (below operands)) w _ (λ x. goes_or (operated op t w.objects x y) span w _ (λ z. goes_here _ w)))
+done_goes p take_truth operands calls w = some_goes (first_value operands) w _ (λ x. goes_here _ w)
 done_goes p (call_library function span t n) operands calls w = taken_goes (taken_before n [] operands) w _ (λ xs operands. goes_then w (library p function span t xs w) _ (library_goes p function span t xs w) (λ x w. goes_here _ w))
-done_goes p (read_at span t) operands calls w = target_goes operands w _ (λ target operands. call_goes calls w _ (λ f calls. goes_then w _ _ (read_goes span t f.frame.held target w) (λ x w. goes_here _ w)))
-done_goes p read_none operands calls w = target_goes operands w _ (λ target operands. goes_here _ w)
-done_goes p take_address operands calls w = target_goes operands w _ (λ target operands. goes_here _ w)
-done_goes p (decay_at span t) operands calls w = target_goes operands w _ (λ target operands. goes_or (inner w.objects (pointer_to target) 0 (width p (element_type t)) (element_count t)) span w _ (λ q. goes_here _ w))
-done_goes p (index_at span) operands calls w = value_goes operands w _ (λ y operands. value_goes operands w _ (λ x operands. goes_or (shift w.objects (pointer_of x) (number_of y)) span w _ (λ q. goes_here _ w)))
-done_goes p (member_at span whole m t) operands calls w = target_goes operands w _ (λ target operands.
+done_goes p (read_at span t) operands calls w = some_goes (first_target operands) w _ (λ target. call_goes calls w _ (λ f calls. goes_then w _ _ (read_goes span t f.frame.held target w) (λ x w. goes_here _ w)))
+done_goes p read_none operands calls w = some_goes (first_target operands) w _ (λ target. goes_here _ w)
+done_goes p take_address operands calls w = some_goes (first_target operands) w _ (λ target. goes_here _ w)
+done_goes p (decay_at span t) operands calls w = some_goes (first_target operands) w _ (λ target. goes_or (inner w.objects (pointer_to target) 0 (width p (element_type t)) (element_count t)) span w _ (λ q. goes_here _ w))
+done_goes p (index_at span) operands calls w = some_goes (first_value operands) w _ (λ y. some_goes (first_value (below operands)) w _ (λ x. goes_or (shift w.objects (pointer_of x) (number_of y)) span w _ (λ q. goes_here _ w)))
+done_goes p (member_at span whole m t) operands calls w = some_goes (first_target operands) w _ (λ target.
     goes_or (inner w.objects (pointer_to target) (scalars_before p (bare p.structures whole) m) (width p t) 1) span w _ (λ q. goes_here _ w))
-done_goes p (dereference_at span) operands calls w = value_goes operands w _ (λ x operands. goes_or (reach w.objects (pointer_of x)) span w _ (λ object. goes_here _ w))
-done_goes p (write_at span) operands calls w = value_goes operands w _ (λ x operands. target_goes operands w _ (λ target operands. call_goes calls w _ (λ f calls.
-    left_goes operands f calls w _ (write_goes span target (holding x) f.frame w))))
-done_goes p (read_old span t for) operands calls w = goes_step w _ (λ w. target_goes operands w _ (λ target operands. call_goes calls w _ (λ f calls.
+done_goes p (dereference_at span) operands calls w = some_goes (first_value operands) w _ (λ x. goes_or (reach w.objects (pointer_of x)) span w _ (λ object. goes_here _ w))
+done_goes p (write_at span) operands calls w = some_goes (first_value operands) w _ (λ x. some_goes (first_target (below operands)) w _ (λ target. call_goes calls w _ (λ f calls.
+    left_goes (below (below operands)) f calls w _ (write_goes span target (holding x) f.frame w))))
+done_goes p (read_old span t for) operands calls w = goes_step w _ (λ w. some_goes (first_target operands) w _ (λ target. call_goes calls w _ (λ f calls.
     goes_then w _ _ (read_goes span t f.frame.held target w) (λ x w. goes_here _ w))))
-done_goes p (write_new op at for span t) operands calls w = goes_step w _ (λ w. value_goes operands w _ (λ y operands. value_goes operands w _ (λ x operands. target_goes operands w _ (λ target operands. call_goes calls w _ (λ f calls.
-    goes_or (operated op for w.objects x y) at w _ (λ z. left_goes operands f calls w _ (write_goes span target (holding (converted_to t z)) f.frame w)))))))
-done_goes p (copy_between to_span from_span t) operands calls w = target_goes operands w _ (λ source operands. target_goes operands w _ (λ target operands. call_goes calls w _ (λ f calls.
-    left_goes operands f calls w _ (copy_goes (width p t) 0 to_span (pointer_to target) from_span (pointer_to source) f.frame w))))
-done_goes p (fill_from span t items) operands calls w = taken_goes (taken_before (count_of_items items) [] operands) w _ (λ xs operands. target_goes operands w _ (λ target operands. call_goes calls w _ (λ f calls.
-    left_goes operands f calls w _ (fill_goes span (scalars_of_items items xs) (scalars p t) 0 (pointer_to target) f.frame w))))
-done_goes p (assert_at span) operands calls w = value_goes operands w _ (λ x operands. goes_then w _ _ (asserted_goes span x w) (λ none w. goes_here _ w))
-done_goes p give_back operands calls w = value_goes operands w _ (λ x operands. goes_here _ w)
+done_goes p (write_new op at for span t) operands calls w = goes_step w _ (λ w. some_goes (first_value operands) w _ (λ y. some_goes (first_value (below operands)) w _ (λ x. some_goes (first_target (below (below operands))) w _ (λ target. call_goes calls w _ (λ f calls.
+    goes_or (operated op for w.objects x y) at w _ (λ z. left_goes (below (below (below operands))) f calls w _ (write_goes span target (holding (converted_to t z)) f.frame w)))))))
+done_goes p (copy_between to_span from_span t) operands calls w = some_goes (first_target operands) w _ (λ source. some_goes (first_target (below operands)) w _ (λ target. call_goes calls w _ (λ f calls.
+    left_goes (below (below operands)) f calls w _ (copy_goes (width p t) 0 to_span (pointer_to target) from_span (pointer_to source) f.frame w))))
+done_goes p (fill_from span t items) operands calls w = taken_goes (taken_before (count_of_items items) [] operands) w _ (λ xs operands. some_goes (first_target operands) w _ (λ target. call_goes calls w _ (λ f calls.
+    left_goes (below operands) f calls w _ (fill_goes span (scalars_of_items items xs) (scalars p t) 0 (pointer_to target) f.frame w))))
+done_goes p (assert_at span) operands calls w = some_goes (first_value operands) w _ (λ x. goes_then w _ _ (asserted_goes span x w) (λ none w. goes_here _ w))
+done_goes p give_back operands calls w = some_goes (first_value operands) w _ (λ x. goes_here _ w)
 
 -- ## Lighter
 
@@ -126,16 +114,9 @@ light_call : (calls : List Open) (w : State) (most : ℕ) (go : Open → List Op
 light_call [] w most go h = record { after = follows_same w; less = tt }
 light_call (f ∷ calls) w most go h = h f calls
 
-light_value : (operands : List Operand) (w : State) (most : ℕ) (go : Scalar → List Operand → Progress Rig) → ((x : Scalar) (operands : List Operand) → IsLighter w most (go x operands)) → IsLighter w most (on_value operands w go)
-light_value [] w most go h = record { after = follows_same w; less = tt }
-light_value (evaluated None ∷ operands) w most go h = record { after = follows_same w; less = tt }
-light_value (evaluated (Some x) ∷ operands) w most go h = h x operands
-light_value (located target ∷ operands) w most go h = record { after = follows_same w; less = tt }
-
-light_target : (operands : List Operand) (w : State) (most : ℕ) (go : Target → List Operand → Progress Rig) → ((x : Target) (operands : List Operand) → IsLighter w most (go x operands)) → IsLighter w most (on_target operands w go)
-light_target [] w most go h = record { after = follows_same w; less = tt }
-light_target (evaluated x ∷ operands) w most go h = record { after = follows_same w; less = tt }
-light_target (located target ∷ operands) w most go h = h target operands
+light_some : {A : Type 0} (o : Option A) (w : State) (most : ℕ) (go : A → Progress Rig) → ((x : A) → IsLighter w most (go x)) → IsLighter w most (on_some o w go)
+light_some None w most go h = record { after = follows_same w; less = tt }
+light_some (Some x) w most go h = h x
 
 light_taken : (taken : Option (List Scalar × List Operand)) (w : State) (most : ℕ) (go : List Scalar → List Operand → Progress Rig) → ((xs : List Scalar) (operands : List Operand) → IsLighter w most (go xs operands)) →
     IsLighter w most (on_taken taken w go)
@@ -297,29 +278,29 @@ act_light p (discard_value v) k operands calls w = light_call calls w _ _ (λ f 
 act_light p (locate_place q) k operands calls w = light_call calls w _ _ (λ f calls. sought_light p q k operands f calls w _ (omega arith))
 act_light p (evaluate_values vs) k operands calls w = light_call calls w _ _ (λ f calls. values_light p vs k operands f calls w)
 act_light p (evaluate_items items) k operands calls w = light_call calls w _ _ (λ f calls. items_light p items k operands f calls w)
-act_light p (decide op v) k operands calls w = light_value operands w _ _ (λ x operands. light_call calls w _ _ (λ f calls.
+act_light p (decide op v) k operands calls w = light_some (first_value operands) w _ _ (λ x. light_call calls w _ _ (λ f calls.
     light_if w _ (is_decided op (is_true x)) _ _ (free w _ normal k _ _ w (follows_same w) (omega arith)) (free w _ normal (evaluate_value v ∷ (operate take_truth ∷ k)) _ _ w (follows_same w) (omega arith))))
-act_light p (choose a c) k operands calls w = light_value operands w _ _ (λ x operands. light_call calls w _ _ (λ f calls.
+act_light p (choose a c) k operands calls w = light_some (first_value operands) w _ _ (λ x. light_call calls w _ _ (λ f calls.
     free w _ normal (evaluate_value (if is_true x then a else c) ∷ k) _ _ w (follows_same w) (omega arith)))
 act_light p (call_function g m) k operands calls w = light_taken (taken_before m [] operands) w _ _ (λ xs operands. paid w _ _ (λ w. entered_goes (slice_get p.functions g) xs k operands calls w))
 act_light p (execute_statement x) k operands calls w = light_call calls w _ _ (λ f calls. statement_light p x k operands f calls w)
 act_light p (execute_statements xs) k operands calls w = light_call calls w _ _ (λ f calls. statements_light p xs k operands f calls w)
-act_light p (copy_into span t q) k operands calls w = light_target operands w _ _ (λ target operands. light_call calls w _ _ (λ f calls. paid w _ _ (λ w. sought_goes p q _ _ f calls w)))
-act_light p (branch a c) k operands calls w = light_value operands w _ _ (λ x operands. light_call calls w _ _ (λ f calls. branched_light (is_true x) a c k operands (f ∷ calls) w))
+act_light p (copy_into span t q) k operands calls w = light_some (first_target operands) w _ _ (λ target. light_call calls w _ _ (λ f calls. paid w _ _ (λ w. sought_goes p q _ _ f calls w)))
+act_light p (branch a c) k operands calls w = light_some (first_value operands) w _ _ (λ x. light_call calls w _ _ (λ f calls. branched_light (is_true x) a c k (below operands) (f ∷ calls) w))
 act_light p (begin_loop keyword l) k operands calls w = light_call calls w _ _ (λ f calls. looped_light p keyword l k operands f calls w)
 act_light p (test_loop l) k operands calls w = light_call calls w _ _ (λ f calls. tested_light p l l.tested k operands f calls w _)
-act_light p (enter_turn l) k operands calls w = light_value operands w _ _ (λ x operands. light_call calls w _ _ (λ f calls.
+act_light p (enter_turn l) k operands calls w = light_some (first_value operands) w _ _ (λ x. light_call calls w _ _ (λ f calls.
     light_if w _ (is_true x) _ _ (free w _ normal (execute_statement l.body ∷ (end_turn l ∷ k)) _ _ w (follows_same w) (omega arith)) (free w _ normal k _ _ w (follows_same w) (omega arith))))
 act_light p (end_turn l) k operands calls w = light_call calls w _ _ (λ f calls. free w _ normal (execute_statements l.third ∷ (test_loop l ∷ k)) _ _ w (follows_same w) (omega arith))
 act_light p end_block k operands calls w = light_call calls w _ _ (λ f calls. free w _ normal k _ _ (block_closed f w) (follows_objects w (all_closed f.frame.opened w.objects)) (omega arith))
-act_light p (select labels body) k operands calls w = light_value operands w _ _ (λ x operands. light_call calls w _ _ (λ f calls.
-    selected_light (labelled (number_of x) labels.cases labels.otherwise) body k operands f calls w))
+act_light p (select labels body) k operands calls w = light_some (first_value operands) w _ _ (λ x. light_call calls w _ _ (λ f calls.
+    selected_light (labelled (number_of x) labels.cases labels.otherwise) body k (below operands) f calls w))
 act_light p end_switch k operands calls w = free w _ normal k _ _ w (follows_same w) (omega arith)
 act_light p end_call k operands calls w = light_call calls w _ _ (λ f calls. free w _ normal k _ _ (block_closed f w) (follows_objects w (all_closed f.frame.opened w.objects)) (omega arith))
 act_light p (operate o) k operands calls w = light_left w _ k (done_by p o operands calls w) (omega arith) (done_goes p o operands calls w)
 
 -- any task has a weight
-weighs : (t : Task) (k : List Task) → weights k < weights (t ∷ k)
+pub weighs : (t : Task) (k : List Task) → weights k < weights (t ∷ k)
 weighs t k = let h : 0 < weight t = some t in omega (arith, h)
   where
     positive : (x : PlainStatement) → 0 < weight_of_statement x

@@ -5,10 +5,10 @@ use Rattle.p10_core.specs.Typed.{PlainValue, PlainProgram}
 use Rattle.p10_meaning.specs.declared.pointers.Scalar.{Scalar}
 use Rattle.p10_meaning.specs.States.{State, Progress, and_then}
 use Rattle.p10_meaning.specs.Scalars.{number_of, is_true, truth_value}
-use Rattle.p10_meaning.specs.Values.{Target, is_decided, evaluate}
+use Rattle.p10_meaning.specs.Values.{is_decided, evaluate}
 use Rattle.p10_meaning.specs.Statements.{Flow, normal, broken, continued, returned, labelled}
-use Rattle.p10_interp.specs.private.Tasks.{Task, evaluate_value, discard_value, locate_place, evaluate_values, evaluate_items, decide, choose, call_function, execute_statement, execute_statements, copy_into, branch, begin_loop, test_loop, enter_turn, end_turn, end_block, select, end_switch, end_call, operate, Operand, evaluated, located, Open, Left, Rig}
-use Rattle.p10_interp.specs.private.Operations.{on_value, on_target, taken_before, on_taken, on_call, done_by}
+use Rattle.p10_interp.specs.private.Tasks.{Task, evaluate_value, discard_value, locate_place, evaluate_values, evaluate_items, decide, choose, call_function, execute_statement, execute_statements, copy_into, branch, begin_loop, test_loop, enter_turn, end_turn, end_block, select, end_switch, end_call, operate, Operand, evaluated, Open, Left, Rig}
+use Rattle.p10_interp.specs.private.Operations.{first_value, first_target, below, on_some, taken_before, on_taken, on_call, done_by}
 use Rattle.p10_interp.specs.private.Resuming.{setting_in, resume, unwind, proceed}
 use Rattle.p10_interp.specs.private.Acts.{goes_on, act, pass, next_act}
 use Rattle.p10_interp.proofs.Continuing.{after_right}
@@ -22,18 +22,10 @@ call_case : (calls : List Open) (w : State) (go : Open → List Open → Progres
 call_case [] w go to h e = refl
 call_case (f ∷ calls) w go to h e = e f calls
 
-value_case : (operands : List Operand) (w : State) (go : Scalar → List Operand → Progress Left) (to : Scalar → List Operand → Progress Rig) (h : Rig → State → Progress Left) →
-    ((x : Scalar) (operands : List Operand) → go x operands ≡ and_then (to x operands) h) → on_value operands w go ≡ and_then (on_value operands w to) h
-value_case [] w go to h e = refl
-value_case (evaluated None ∷ operands) w go to h e = refl
-value_case (evaluated (Some x) ∷ operands) w go to h e = e x operands
-value_case (located target ∷ operands) w go to h e = refl
-
-target_case : (operands : List Operand) (w : State) (go : Target → List Operand → Progress Left) (to : Target → List Operand → Progress Rig) (h : Rig → State → Progress Left) →
-    ((x : Target) (operands : List Operand) → go x operands ≡ and_then (to x operands) h) → on_target operands w go ≡ and_then (on_target operands w to) h
-target_case [] w go to h e = refl
-target_case (evaluated x ∷ operands) w go to h e = refl
-target_case (located target ∷ operands) w go to h e = e target operands
+some_case : {A : Type 0} (o : Option A) (w : State) (go : A → Progress Left) (to : A → Progress Rig) (h : Rig → State → Progress Left) →
+    ((x : A) → go x ≡ and_then (to x) h) → on_some o w go ≡ and_then (on_some o w to) h
+some_case None w go to h e = refl
+some_case (Some x) w go to h e = e x
 
 taken_case : (taken : Option (List Scalar × List Operand)) (w : State) (go : List Scalar → List Operand → Progress Left) (to : List Scalar → List Operand → Progress Rig) (h : Rig → State → Progress Left) →
     ((xs : List Scalar) (operands : List Operand) → go xs operands ≡ and_then (to xs operands) h) → on_taken taken w go ≡ and_then (on_taken taken w to) h
@@ -57,21 +49,21 @@ module _ (p : PlainProgram) (n : ℕ) where
   act_right (locate_place q) k operands calls w b = call_case calls w _ _ _ (λ f calls. sought_right p n q k operands f calls w)
   act_right (evaluate_values vs) k operands calls w b = call_case calls w _ _ _ (λ f calls. values_right p n vs k operands f calls w)
   act_right (evaluate_items items) k operands calls w b = call_case calls w _ _ _ (λ f calls. items_right p n items k operands f calls w)
-  act_right (decide op v) k operands calls w b = value_case operands w _ _ _ (λ x operands. call_case calls w _ _ _ (λ f calls.
-      decided_right p n (is_decided op (is_true x)) (truth_value (is_true x)) v k operands f calls w))
-  act_right (choose a c) k operands calls w b = value_case operands w _ _ _ (λ x operands. call_case calls w _ _ _ (λ f calls. chosen_right (is_true x) a c k operands f calls w))
+  act_right (decide op v) k operands calls w b = some_case (first_value operands) w _ _ _ (λ x. call_case calls w _ _ _ (λ f calls.
+      decided_right p n (is_decided op (is_true x)) (truth_value (is_true x)) v k (below operands) f calls w))
+  act_right (choose a c) k operands calls w b = some_case (first_value operands) w _ _ _ (λ x. call_case calls w _ _ _ (λ f calls. chosen_right (is_true x) a c k (below operands) f calls w))
   act_right (call_function g m) k operands calls w b = taken_case (taken_before m [] operands) w _ _ _ (λ xs operands. call_right p n g xs k operands calls w b)
   act_right (execute_statement x) k operands calls w b = call_case calls w _ _ _ (λ f calls. statement_right p n x k operands f calls w)
   act_right (execute_statements xs) k operands calls w b = call_case calls w _ _ _ (λ f calls. statements_right p n xs k operands f calls w)
-  act_right (copy_into span t q) k operands calls w b = target_case operands w _ _ _ (λ target operands. call_case calls w _ _ _ (λ f calls. copy_right p n span t q target k operands f calls w))
-  act_right (branch a c) k operands calls w b = value_case operands w _ _ _ (λ x operands. call_case calls w _ _ _ (λ f calls. branched_right p n (is_true x) a c k operands f calls w))
+  act_right (copy_into span t q) k operands calls w b = some_case (first_target operands) w _ _ _ (λ target. call_case calls w _ _ _ (λ f calls. copy_right p n span t q target k (below operands) f calls w))
+  act_right (branch a c) k operands calls w b = some_case (first_value operands) w _ _ _ (λ x. call_case calls w _ _ _ (λ f calls. branched_right p n (is_true x) a c k (below operands) f calls w))
   act_right (begin_loop keyword l) k operands calls w b = call_case calls w _ _ _ (λ f calls. looped_right p n keyword l k operands f calls w b)
   act_right (test_loop l) k operands calls w b = call_case calls w _ _ _ (λ f calls. test_right p n l k operands f calls w b)
-  act_right (enter_turn l) k operands calls w b = value_case operands w _ _ _ (λ x operands. call_case calls w _ _ _ (λ f calls. turn_right p n (is_true x) l k operands f calls w))
+  act_right (enter_turn l) k operands calls w b = some_case (first_value operands) w _ _ _ (λ x. call_case calls w _ _ _ (λ f calls. turn_right p n (is_true x) l k (below operands) f calls w))
   act_right (end_turn l) k operands calls w b = call_case calls w _ _ _ (λ f calls. end_turn_right p n l k operands f calls w)
   act_right end_block k operands calls w b = call_case calls w _ _ _ (λ f calls. refl)
-  act_right (select labels body) k operands calls w b = value_case operands w _ _ _ (λ x operands. call_case calls w _ _ _ (λ f calls.
-      selected_right p n (labelled (number_of x) labels.cases labels.otherwise) body k operands f calls w))
+  act_right (select labels body) k operands calls w b = some_case (first_value operands) w _ _ _ (λ x. call_case calls w _ _ _ (λ f calls.
+      selected_right p n (labelled (number_of x) labels.cases labels.otherwise) body k (below operands) f calls w))
   act_right end_switch k operands calls w b = refl
   act_right end_call k operands calls w b = call_case calls w _ _ _ (λ f calls. refl)
   act_right (operate o) k operands calls w b = sym (after_right (done_by p o operands calls w) _ _ _ (λ left w. refl))

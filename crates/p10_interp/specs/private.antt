@@ -4,3 +4,5 @@ pub mod Operations
 pub mod Resuming
 pub mod Acts
 pub mod Weights
+pub mod Views
+pub mod Standing

@@ -15,20 +15,45 @@ use Rattle.p10_interp.specs.private.Tasks.{Operation, use_value, drop_value, giv
 
 -- ## Operands on top
 
+-- what the tree on top gave, if one is on top
+abbrev pub first_result : List Operand → Option (Option Scalar)
+first_result [] = None
+first_result (evaluated x ∷ operands) = Some x
+first_result (located target ∷ operands) = None
+
+-- the value on top, if one is on top
+abbrev pub first_value : List Operand → Option Scalar
+first_value [] = None
+first_value (evaluated x ∷ operands) = x
+first_value (located target ∷ operands) = None
+
+-- the place on top, if one is on top
+abbrev pub first_target : List Operand → Option Target
+first_target [] = None
+first_target (evaluated x ∷ operands) = None
+first_target (located target ∷ operands) = Some target
+
+-- the operands below the one on top
+abbrev pub below : List Operand → List Operand
+below [] = []
+below (operand ∷ operands) = operands
+
+-- on with something, or the end as for want of steps
+abbrev pub on_some : {A B : Type 0} → Option A → State → (A → Progress B) → Progress B
+on_some None w go = ends StepsSpent w
+on_some (Some x) w go = go x
+
 -- on with what the tree on top gave
 abbrev pub on_result : {A : Type 0} → List Operand → State → (Option Scalar → List Operand → Progress A) → Progress A
-on_result (evaluated x ∷ operands) w go = go x operands
-on_result operands w go = ends StepsSpent w
+on_result operands w go = on_some (first_result operands) w (λ x. go x (below operands))
 
 -- on with the value on top
 abbrev pub on_value : {A : Type 0} → List Operand → State → (Scalar → List Operand → Progress A) → Progress A
-on_value (evaluated (Some x) ∷ operands) w go = go x operands
-on_value operands w go = ends StepsSpent w
+on_value operands w go = on_some (first_value operands) w (λ x. go x (below operands))
 
 -- on with the place on top
 abbrev pub on_target : {A : Type 0} → List Operand → State → (Target → List Operand → Progress A) → Progress A
-on_target (located target ∷ operands) w go = go target operands
-on_target operands w go = ends StepsSpent w
+on_target operands w go = on_some (first_target operands) w (λ target. go target (below operands))
 
 -- the n values on top before others, the last on top, and the operands below them
 abbrev pub taken_before : ℕ → List Scalar → List Operand → Option (List Scalar × List Operand)
