@@ -1,12 +1,15 @@
 -- Reading an expression that takes all the words.
-use Rattle.std.proofs.Common.{◌≡◌, ℕ, ◌+◌, ◌*◌, ◌≤◌, ◌<◌, List, [], ◌∷◌, map, length, true, false, Option, Some, None, sym, ◌∙◌, ap, subst, arith}
-use Rattle.std.proofs.lemmas.Bool.{true≢false}
+use Rattle.std.proofs.Common.{◌≡◌, ℕ, ◌+◌, ◌*◌, ◌≤◌, ◌<◌, List, [], ◌∷◌, map, length, Bool, true, false, IsTrue, ◌↔◌, inl, inr, Option, Some, None, sym, ◌∙◌, ap, subst, arith}
+use Rattle.std.proofs.lemmas.Bool.{true≢false, cases_lt}
 use Rattle.std.proofs.lemmas.List.{length-map}
 use Rattle.p10_base.specs.declared.at.At.{At}
+use Rattle.p10_base.specs.declared.report.TheConstants.Limit.{MOST_NESTING}
 use Rattle.p10_base.specs.Words.{Text, PlainWord}
 use Rattle.p10_syn.specs.declared.token.Token.{Token}
 use Rattle.p10_syn.specs.Tokens.{symbol_at}
+use Rattle.p10_syn.specs.declared.tree.Expr.{Expr}
 use Rattle.p10_syn.specs.Symbols.{Symbol, symbols_of}
+use Rattle.p10_syn.specs.Built.{bare_of, expression_of}
 use Rattle.p10_syn.specs.Scopes.{Scope, typedefs}
 use Rattle.p10_syn.specs.Bare.{bare}
 use Rattle.p10_syn.specs.Trees.{Bare, Expression}
@@ -58,10 +61,15 @@ pub none_placed : (types : List Text) (words : List PlainWord) → NoneSpells (t
 none_placed types words none t spells = none (bare t) (spells.formed, spells.spelled)
 
 -- a tree that is spelled, in its places
-pub in_places : (types : List Text) (words : List PlainWord) (t : Expression Bare) (u : Expression At) → IsSpelled (typedefs types) (symbols_of words) t → bare u ≡ t →
-    u ≡ locate (record { words = words; before = 0 }) 0 t → SpellsExpression types words u
-in_places types words t u is same placed = record {
+pub in_places : (types : List Text) (words : List PlainWord) (t : Expression Bare) (e : Expr) → IsSpelled (typedefs types) (symbols_of words) t → bare_of e ≡ t →
+    expression_of e ≡ locate (record { words = words; before = 0 }) 0 t → SpellsExpression types words (expression_of e)
+unfolding bare_of
+in_places types words t e is same placed = record {
   formed = subst (IsExpression (typedefs types)) (sym same) is.0;
   spelled = is.1 ∙ ap (λ t. spell t []) (sym same);
   placed = placed ∙ ap (locate (record { words = words; before = 0 }) 0) (sym same);
 }
+
+-- a nesting that isn't found to be over the limit
+pub not_over : (is_over : Bool) (n : ℕ) → (IsTrue is_over ↔ (MOST_NESTING < n)) → is_over ≡ false → n ≤ MOST_NESTING
+not_over is_over n tells isnt = elim (cases_lt MOST_NESTING n) [ inl high ↦ absurd (true≢false (sym (tells.1 high) ∙ isnt)) | inr low ↦ low ]
