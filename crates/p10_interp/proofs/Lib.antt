@@ -8,3 +8,5 @@ pub mod Lighter
 pub mod Ending
 pub mod ByStages
 pub mod Rows
+pub mod OpenedCalls
+pub mod Literals

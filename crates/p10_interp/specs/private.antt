@@ -6,3 +6,6 @@ pub mod Acts
 pub mod Weights
 pub mod Views
 pub mod Standing
+pub mod Nothing
+pub mod OpenCalls
+pub mod Machines

@@ -32,7 +32,7 @@ impl<T: Drop> Queue<T> {
 
     /// Takes the next item.
     pub fn next(&mut self) -> Option<T>
-        ensures { MatchOption result (self.old ≡ []) (λ item. self.old ≡ item ∷ self.new) }
+        ensures { MatchOption result ((self.old ≡ []) × (self.new ≡ [])) (λ item. self.old ≡ item ∷ self.new) }
     {
         self.items.pop()
     }

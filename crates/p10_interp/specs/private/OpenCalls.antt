@@ -1,0 +1,51 @@
+-- Open calls as ranges of two lists: what stands for their variables, and what their blocks opened.
+use Rattle.std.specs.Prelude.{ℕ, ◌≤◌, List, [], ◌∷◌, map, reverse, length, take, drop, Option, Some, None}
+use Rattle.p10_core.specs.Views.{plain_function}
+use Rattle.p10_meaning.specs.Values.{Held}
+use Rattle.p10_interp.specs.declared.held.Held.{Held as Standing}
+use Rattle.p10_interp.specs.declared.base.Base.{Base}
+use Rattle.p10_interp.specs.declared.calls.Calls.{Calls}
+use Rattle.p10_interp.specs.private.Standing.{held_of}
+use Rattle.p10_interp.specs.private.Tasks.{Open}
+
+-- the objects of the innermost block: those that were opened after its mark
+abbrev pub own : List (Option ℕ) → List ℕ
+own [] = []
+own (None ∷ marks) = []
+own (Some object ∷ marks) = object ∷ own marks
+
+-- the objects of each block round it
+abbrev pub around : List (Option ℕ) → List (List ℕ)
+around [] = []
+around (None ∷ marks) = own marks ∷ around marks
+around (Some object ∷ marks) = around marks
+
+-- an open call with what stands for its variables, and its marks, the last first
+abbrev pub open_of : Base → List Standing → List (Option ℕ) → Open
+open_of b held marks = record {
+  function = plain_function b.function.now;
+  depth = record { calls = b.calls; bytes = b.bytes };
+  frame = record { held = map held_of held; opened = own marks };
+  outer = around marks;
+}
+
+-- the open calls, the innermost first
+abbrev pub calls_of : List Base → List Standing → List (Option ℕ) → List Open
+calls_of [] held marks = []
+calls_of (b ∷ bases) held marks = open_of b (drop b.held held) (reverse (drop b.marks marks)) ∷ calls_of bases (take b.held held) (take b.marks marks)
+
+abbrev pub calls_in : Calls → List Open
+calls_in c = calls_of (reverse c.bases.items) c.held.items c.marks.items
+
+-- what stands for the variables of the innermost call
+abbrev pub innermost_held : List Open → List Held
+innermost_held [] = []
+innermost_held (f ∷ calls) = f.frame.held
+
+-- the marks of the innermost call stand among all
+abbrev pub IsMarkedBy : List Base → ℕ → Type 0
+IsMarkedBy [] n = ⊥
+IsMarkedBy (b ∷ bases) n = b.marks ≤ n
+
+abbrev pub IsMarked : Calls → Type 0
+IsMarked c = IsMarkedBy (reverse c.bases.items) (length c.marks.items)
