@@ -1,0 +1,13 @@
+-- The definitions that the contracts of this crate cite.
+pub mod Standing
+pub mod Tags
+pub mod Expressions
+pub mod Words
+pub mod Blocks
+pub mod Tagged
+pub mod Shapes
+pub mod Members
+pub mod Declared
+pub mod StaticValues
+pub mod Initializers
+pub mod Laws

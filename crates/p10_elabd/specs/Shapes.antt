@@ -1,0 +1,182 @@
+-- What declarators make of types (C99 6.7.5), and what may be declared with them.
+use Rattle.std.specs.Prelude.{Bool, true, false, not, if◌then◌else◌, List, Option, Some, None, Ok, drop, length}
+use Rattle.p10_base.specs.declared.at.At.{At}
+use Rattle.p10_base.specs.declared.codes.SubsetCode.TheVariants as subset
+use Rattle.p10_syn.specs.declared.sign.Sign.{Sign}
+use Rattle.p10_syn.specs.Trees.{Identifier, Expression, Declarator, Named, Unnamed, Pointer, Parenthesised, Array, Function}
+use Rattle.p10_core.specs.Types.{PlainType, void, pointer, array, structure, PlainStructure}
+use Rattle.p10_core.specs.Rows.{is_void, is_complete}
+use Rattle.p10_core.specs.Typed.{PlainValue}
+use Rattle.p10_elabx.specs.First.{Keep, Ruled, ruled, nothing_said, on}
+use Rattle.p10_elabx.specs.Scopes.{Binding, entered, left}
+use Rattle.p10_elabx.specs.TypeNames.{Shape, a_type, an_open_array, a_function_type, has_const_word, has_other_word, array_of}
+use Rattle.p10_elabd.specs.Standing.{Standing, Passed, passed, nothing_made, refusing, noted}
+use Rattle.p10_elabd.specs.Expressions.{value_found, for_expression}
+
+-- ## Declared types
+
+-- a parameter: where it stands, its name, if it has one, and its type
+pub record PlainParameter : Type 0 where
+  pub at : At
+  pub name : Option (Identifier At)
+  pub type : PlainType
+
+-- a function: its parameters and its result, and the names and tags that are declared among its parameters
+pub record FunctionType : Type 0 where
+  pub parameters : List PlainParameter
+  pub result : PlainType
+  pub names : List Binding
+  pub tags : List Binding
+
+-- what is declared: something of a type; an array whose length is lacking, with the type of its elements; a function
+pub data DeclaredType : Type 0 where
+  of_type : PlainType → DeclaredType
+  of_open_array : PlainType → DeclaredType
+  of_function : FunctionType → DeclaredType
+
+-- ## Places
+
+-- the name that a declarator declares
+abbrev pub name_in : Declarator At → Option (Identifier At)
+name_in (Named name) = Some name
+name_in (Unnamed at) = None
+name_in (Pointer at qualifiers d) = name_in d
+name_in (Parenthesised at d) = name_in d
+name_in (Array at d length) = name_in d
+name_in (Function at d _ _) = name_in d
+
+-- where a declarator stands
+abbrev pub declarator_at : Declarator At → At
+declarator_at (Named name) = name.place
+declarator_at (Unnamed at) = at
+declarator_at (Pointer at qualifiers d) = at
+declarator_at (Parenthesised at d) = at
+declarator_at (Array at d length) = at
+declarator_at (Function at d _ _) = at
+
+-- where a name stands, or where it doesn't a given tree
+abbrev pub place_or : At → Option (Identifier At) → At
+place_or at None = at
+place_or at (Some name) = name.place
+
+-- what follows the declarator inside an array's or a function's: its brackets
+abbrev pub after_inner : At → Declarator At → At
+after_inner at d =
+    let inner : At = declarator_at d in
+    record { first = inner.past; past = at.past; span = record { file = at.span.file; start = inner.span.end; end = at.span.end } }
+
+-- whether a declarator declares a function: what stands directly after its name are parameters
+abbrev pub declares_function : Declarator At → Bool
+declares_function d = function_from false d
+  where
+    function_from : Bool → Declarator At → Bool
+    function_from found (Named name) = found
+    function_from found (Unnamed at) = found
+    function_from found (Pointer at qualifiers d) = function_from false d
+    function_from found (Parenthesised at d) = function_from found d
+    function_from found (Array at d length) = function_from false d
+    function_from found (Function at d _ _) = function_from true d
+
+-- whether a declarator is a name alone, perhaps in parentheses
+abbrev pub is_plain_name : Declarator At → Bool
+is_plain_name (Named name) = true
+is_plain_name (Parenthesised at d) = is_plain_name d
+is_plain_name d = false
+
+-- ## Pointers
+
+-- a pointer to a type: not to `void` nor to a function; an array without a length has no type
+abbrev pub pointed_to : Keep → At → At → Bool → DeclaredType → Standing → Passed DeclaredType
+pointed_to h at name_at constant (of_type t) s =
+    if is_void t then nothing_made (refusing h true subset.BadPointer at s) else passed (of_type (pointer constant t)) s
+pointed_to h at name_at constant (of_open_array t) s = nothing_made (refusing h true subset.IncompleteType name_at s)
+pointed_to h at name_at constant (of_function f) s = nothing_made (refusing h true subset.BadPointer at s)
+
+-- a pointer where its target may be refused; of the qualifiers `const` alone is in the subset
+abbrev pub pointer_declared : Keep → At → At → List Sign → Option DeclaredType → Standing → Passed DeclaredType
+pointer_declared h at name_at qualifiers target s = by_target target (refusing h (has_other_word qualifiers) subset.BadSpecifier at s)
+  where
+    by_target : Option DeclaredType → Standing → Passed DeclaredType
+    by_target None s = nothing_made s
+    by_target (Some t) s = pointed_to h at name_at (has_const_word qualifiers) t s
+
+-- ## Arrays
+
+-- an element: it has a size, and is no function (C99 6.7.5.2p1)
+abbrev pub element_type : Keep → At → DeclaredType → Standing → Passed PlainType
+element_type h name_at (of_type t) s =
+    if is_complete s.scope.structures t then passed t s else nothing_made (refusing h true subset.IncompleteType name_at s)
+element_type h name_at d s = nothing_made (refusing h true subset.IncompleteType name_at s)
+
+-- an element whose type may be refused
+abbrev pub element_declared : Keep → At → Option DeclaredType → Standing → Passed PlainType
+element_declared h name_at None s = nothing_made s
+element_declared h name_at (Some d) s = element_type h name_at d s
+
+-- a type as what is declared
+abbrev pub as_declared : Shape → Ruled DeclaredType
+as_declared (a_type t) = Ok (of_type t)
+as_declared an_open_array = nothing_said
+as_declared a_function_type = nothing_said
+
+-- an array of elements with a length, which is at least 1 and constant, and makes it no larger than a type may be
+abbrev pub array_with : List PlainStructure → At → Option PlainType → PlainValue → Ruled DeclaredType
+array_with structures at None v = nothing_said
+array_with structures at (Some t) v = ruled (array_of structures at t v) as_declared
+
+-- an array with a length
+abbrev pub array_declared : Keep → At → Expression At → Passed PlainType → Passed DeclaredType
+array_declared h at e element =
+    let s : Standing = for_expression element.after e in
+    noted h (on (value_found h element.after e) (array_with s.scope.structures at element.made)) s
+
+-- an array without a length
+abbrev pub open_declared : Passed PlainType → Passed DeclaredType
+open_declared element = record { made = open_of element.made; after = element.after }
+  where
+    open_of : Option PlainType → Option DeclaredType
+    open_of None = None
+    open_of (Some t) = Some (of_open_array t)
+
+-- ## Functions
+
+-- the result of a function: no structure, array or function (C99 6.7.5.3p1)
+abbrev pub result_type : Keep → At → At → DeclaredType → Standing → Passed PlainType
+result_type h at name_at (of_type (structure c n)) s = nothing_made (refusing h true subset.StructurePassed at s)
+result_type h at name_at (of_type (array c t n)) s = nothing_made (refusing h true subset.IncompleteType name_at s)
+result_type h at name_at (of_type t) s = passed t s
+result_type h at name_at d s = nothing_made (refusing h true subset.IncompleteType name_at s)
+
+-- a result whose type may be refused
+abbrev pub result_declared : Keep → At → At → Option DeclaredType → Standing → Passed PlainType
+result_declared h at name_at None s = nothing_made s
+result_declared h at name_at (Some d) s = result_type h at name_at d s
+
+-- the type of a parameter: that of an array is a pointer to its elements (C99 6.7.5.3p7), and that of a function would be one to
+-- it; a structure isn't passed, and `void` is no type of a parameter
+abbrev pub parameter_type : Keep → At → At → At → DeclaredType → Standing → Passed PlainType
+parameter_type h at name_at declarator (of_type (structure c n)) s = nothing_made (refusing h true subset.StructurePassed at s)
+parameter_type h at name_at declarator (of_type (array c t n)) s = passed (pointer false t) s
+parameter_type h at name_at declarator (of_type (void c)) s = nothing_made (refusing h true subset.IncompleteType name_at s)
+parameter_type h at name_at declarator (of_type t) s = passed t s
+parameter_type h at name_at declarator (of_open_array t) s = passed (pointer false t) s
+parameter_type h at name_at declarator (of_function f) s = nothing_made (refusing h true subset.BadPointer declarator s)
+
+-- the type of a parameter that may be refused
+abbrev pub parameter_declared : Keep → At → At → At → Option DeclaredType → Standing → Passed PlainType
+parameter_declared h at name_at declarator None s = nothing_made s
+parameter_declared h at name_at declarator (Some d) s = parameter_type h at name_at declarator d s
+
+-- what stands where parameters are declared: names among them hide others up to the end of the declarator (C99 6.2.1p4)
+abbrev pub among_parameters : Standing → Standing
+among_parameters s = record s { scope = entered s.scope }
+
+-- a function with these parameters, whose names end with its declarator
+abbrev pub function_declared : Standing → Option PlainType → Option (List PlainParameter) → Standing → Passed DeclaredType
+function_declared before (Some result) (Some parameters) s = passed (of_function (record {
+  parameters = parameters;
+  result = result;
+  names = drop (length before.scope.names) s.scope.names;
+  tags = drop (length before.scope.tags) s.scope.tags;
+})) (record s { scope = left s.scope })
+function_declared before result parameters s = nothing_made (record s { scope = left s.scope })
