@@ -1,14 +1,13 @@
 -- Of problems the first is answered.
-use Rattle.std.proofs.Common.{◌≡◌, Bool, true, false, if◌then◌else◌, Ok, Err, Some, None, List, [], ◌∷◌, ◌++◌, refl, sym, ◌∙◌, ap, subst, append_assoc}
+use Rattle.std.proofs.Common.{◌≡◌, Bool, true, false, if◌then◌else◌, Err, Some, List, [], ◌∷◌, ◌++◌, refl, sym, ◌∙◌, ap, subst, append_assoc}
 use Rattle.p10_base.specs.declared.at.At.{At}
 use Rattle.p10_syn.specs.Trees.{External}
 use Rattle.p10_core.specs.Typed.{PlainProgram}
 use Rattle.std.proofs.lemmas.List.{append-nil}
 use Rattle.p10_elabx.specs.declared.problem.Problem.{Problem}
-use Rattle.p10_elabx.specs.First.{IsFirst, Found, Ruled, least, every}
-use Rattle.p10_elabx.specs.Laws.{IsKept}
+use Rattle.p10_elabx.specs.First.{IsFirst, least, every}
 use Rattle.p10_elabx.proofs.Firsts.{kept_lift, kept_pair}
-use Rattle.p10_elab.specs.Programs.{Elaborated, program, refusal, too_large, first_of, unless_problem, elaborated, standing_of, whole_of, is_too_large}
+use Rattle.p10_elab.specs.Programs.{Elaborated, program, too_large, first_of, unless_problem, elaborated, standing_of, whole_of, is_too_large}
 use Rattle.p10_elab.specs.Laws.{TheFirstIsAnswered, undefined_in, main_problems, IsAccepted, IsTooLarge, AnswersHaveCauses}
 
 alone : (r : Problem) → IsFirst r (r ∷ [])

@@ -18,7 +18,7 @@ use Rattle.p10_lex.specs.Splices.{joined_after, splice_length, line_end_length}
 use Rattle.p10_lex.specs.Integers.{value_from, small_value, suffix_of, integer_constant}
 use Rattle.p10_lex.specs.Literals.{begin_character, add_octal, add_hexadecimal, begin_escape, read_byte, last_values, values_from, character_value}
 use Rattle.p10_syn.specs.Places.{place_at}
-use Rattle.p10_elab.specs.Examples.{Said, fine, large, row, said_of, loops_of_roots, frames_of_roots, objects_of_roots, ProgramsAreSettled, s1_1, s2_1, s3_1, s4_1, s4_2, s4_3, s5_1, s6_1, s7_1, s8_1, s9_1, s9_2, s10_1, s11_1, s12_1, s13_1, s14_1, s15_1, s16_1, s17_1, s18_1, s19_1, s20_1, s21_1, s22_1, s22_2, s23_1, s24_1, s25_1, s25_2, s26_1, s26_2, s27_1, s28_1, s29_1, s29_2, s30_1, s30_2, fine_1, fine_2, fine_3, fine_4, fine_5, fine_6, loops, padding, tentative, order}
+use Rattle.p10_elab.specs.Examples.{fine, row, said_of, loops_of_roots, frames_of_roots, objects_of_roots, ProgramsAreSettled, s1_1, s2_1, s3_1, s4_1, s4_2, s4_3, s5_1, s6_1, s7_1, s8_1, s9_1, s9_2, s10_1, s11_1, s12_1, s13_1, s14_1, s15_1, s16_1, s17_1, s18_1, s19_1, s20_1, s21_1, s22_1, s22_2, s23_1, s24_1, s25_1, s25_2, s26_1, s26_2, s27_1, s28_1, s29_1, s29_2, s30_1, s30_2, fine_1, fine_2, fine_3, fine_4, fine_5, fine_6, loops, padding, tentative, order}
 
 s1_1_holds : said_of s1_1 ≡ row 1 9
 unfolding layout_of most_bytes argument_judged with_argument call_judged operand_call other_call unary_judged address_judged values_judged truth_judged conditional_judged index_judged member_judged arrow_judged size_judged type_size_judged cast_judged target_judged assignment_judged with_read update_judged step_judged nested comma_judged one_element counted_elements two_sizes other_allocation any_value as_value specifiers_judged pointer_judged array_judged open_array_judged taken_together declared_locally declared_outside defined_outside known_of reduced fitted quotient remainder shifted_left shifted_right bitwise complement is_digit is_octal is_hexadecimal digit_value simple_escape value_from small_value suffix_of integer_constant begin_character add_octal add_hexadecimal begin_escape read_byte last_values values_from character_value is_allowed joined_after splice_length line_end_length place_at
@@ -208,7 +208,7 @@ tentative_holds : objects_of_roots tentative ≡ 4 ∷ []
 unfolding layout_of most_bytes argument_judged with_argument call_judged operand_call other_call unary_judged address_judged values_judged truth_judged conditional_judged index_judged member_judged arrow_judged size_judged type_size_judged cast_judged target_judged assignment_judged with_read update_judged step_judged nested comma_judged one_element counted_elements two_sizes other_allocation any_value as_value specifiers_judged pointer_judged array_judged open_array_judged taken_together declared_locally declared_outside defined_outside known_of reduced fitted quotient remainder shifted_left shifted_right bitwise complement is_digit is_octal is_hexadecimal digit_value simple_escape value_from small_value suffix_of integer_constant begin_character add_octal add_hexadecimal begin_escape read_byte last_values values_from character_value is_allowed joined_after splice_length line_end_length place_at
 tentative_holds = refl
 
-order_holds : said_of order ≡ row 1 16
+order_holds : said_of order ≡ row 1 27
 unfolding layout_of most_bytes argument_judged with_argument call_judged operand_call other_call unary_judged address_judged values_judged truth_judged conditional_judged index_judged member_judged arrow_judged size_judged type_size_judged cast_judged target_judged assignment_judged with_read update_judged step_judged nested comma_judged one_element counted_elements two_sizes other_allocation any_value as_value specifiers_judged pointer_judged array_judged open_array_judged taken_together declared_locally declared_outside defined_outside known_of reduced fitted quotient remainder shifted_left shifted_right bitwise complement is_digit is_octal is_hexadecimal digit_value simple_escape value_from small_value suffix_of integer_constant begin_character add_octal add_hexadecimal begin_escape read_byte last_values values_from character_value is_allowed joined_after splice_length line_end_length place_at
 order_holds = refl
 

@@ -1,14 +1,13 @@
 -- Small programs, worked out by hand: which row of the subset refuses each, and at which of its words.
-use Rattle.std.specs.Prelude.{◌≡◌, ℕ, ◌+◌, List, [], ◌∷◌, true, false, Option, None, Some, codes, map, flat_map}
+use Rattle.std.specs.Prelude.{◌≡◌, ℕ, ◌+◌, List, [], ◌∷◌, false, Option, None, Some, codes, map, flat_map}
 use Rattle.p10_base.specs.Words.{Text}
 use Rattle.p10_base.specs.Codes.{subset_number}
 use Rattle.p10_base.specs.declared.at.At.{At}
 use Rattle.p10_syn.specs.declared.sign.Sign.{Sign}
 use Rattle.p10_syn.specs.declared.sign.Sign.TheVariants as sign
-use Rattle.p10_syn.specs.declared.place.Side.TheVariants.{Before, After}
 use Rattle.p10_syn.specs.Counts.{count_external}
 use Rattle.p10_syn.specs.Places.{locate_externals}
-use Rattle.p10_syn.specs.Trees.{Bare, Landmarks, Identifier, Expression, expression, Name, Number, Character, Strings, Unary, Step, Binary, Assign, Conditional, Call, Index, Member, Arrow, Cast, SizeofExpression, SizeofType, Comma, Absent, Present, type_name, Specifiers, Specifier, NoSpecifiers, Keyword, Typedef, Structure, Enumeration, NoMembers, member_declaration, field, NoEnumerators, enumerator, Declarator, Named, Unnamed, Pointer, Parenthesised, Array, Function, parameter, Initializer, Value, Braced, InitDeclarator, Declaration, Statement, Empty, Evaluate, Block, If, IfElse, Switch, While, Do, For, Case, Default, Label, Goto, Break, Continue, Return, Declare, Pragma, Definition, External, Outer, Defines, expression_row, specifier_row, member_row, field_row, enumerator_row, parameter_row, initializer_row, statement_row}
+use Rattle.p10_syn.specs.Trees.{Bare, Landmarks, Identifier, Expression, expression, Name, Number, Strings, Unary, Binary, Assign, Call, Member, Cast, SizeofType, Comma, Absent, Present, type_name, Specifiers, Specifier, Keyword, Structure, Enumeration, NoMembers, member_declaration, field, NoEnumerators, enumerator, Declarator, Named, Unnamed, Pointer, Array, Function, parameter, Initializer, Value, Braced, InitDeclarator, Statement, Empty, Evaluate, Block, If, Switch, While, Do, For, Case, Label, Goto, Return, Declare, Pragma, External, Outer, Defines, expression_row, specifier_row, member_row, field_row, enumerator_row, parameter_row, initializer_row, statement_row}
 use Rattle.p10_core.specs.declared.statements.LoopHead.{LoopHead}
 use Rattle.p10_core.specs.Typed.{PlainFunction, PlainObject}
 use Rattle.p10_core.specs.WholePrograms.{loops_of, frame_bytes}
@@ -379,9 +378,9 @@ padding = ((main_of ((local_of (specifier_row ((Structure tt sign.Struct (Some (
 abbrev pub tentative : List (List (External Bare))
 tentative = ((outer_of int ((one (called (codes "x")) None) ∷ [])) ∷ (outer_of int ((one (called (codes "x")) (Some (Value (num (codes "1"))))) ∷ [])) ∷ (outer_of int ((one (called (codes "x")) None) ∷ [])) ∷ (main_of ((Return tt tt (Present (name (codes "x")))) ∷ [])) ∷ []) ∷ []
 
--- int f(int a); int main(void) { return f(nope); }
+-- int f(int a); int g(void) { return f(1); } int main(void) { return nope; }
 abbrev pub order : List (List (External Bare))
-order = ((outer_of int ((one (Function tt (called (codes "f")) (parameter_row ((parameter tt int (called (codes "a"))) ∷ [])) false) None) ∷ [])) ∷ (main_of ((Return tt tt (Present (expression tt 0 (Call (name (codes "f")) (expression_row ((name (codes "nope")) ∷ [])))))) ∷ [])) ∷ []) ∷ []
+order = ((outer_of int ((one (Function tt (called (codes "f")) (parameter_row ((parameter tt int (called (codes "a"))) ∷ [])) false) None) ∷ [])) ∷ (function_of int (of_void (codes "g")) ((Return tt tt (Present (expression tt 0 (Call (name (codes "f")) (expression_row ((num (codes "1")) ∷ [])))))) ∷ [])) ∷ (main_of ((Return tt tt (Present (name (codes "nope")))) ∷ [])) ∷ []) ∷ []
 
 -- ## What is said of each
 
@@ -433,4 +432,4 @@ pub record ProgramsAreSettled : Type 0 where
   pub loops_is : loops_of_roots loops ≡ 0 ∷ 1 ∷ 2 ∷ []
   pub padding_is : frames_of_roots padding ≡ 12 ∷ []
   pub tentative_is : objects_of_roots tentative ≡ 4 ∷ []
-  pub order_is : said_of order ≡ row 1 16
+  pub order_is : said_of order ≡ row 1 27

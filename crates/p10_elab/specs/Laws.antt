@@ -1,5 +1,5 @@
 -- What holds of what trees come to.
-use Rattle.std.specs.Prelude.{◌≡◌, Bool, true, false, List, [], ◌∷◌, length, ◌++◌}
+use Rattle.std.specs.Prelude.{◌≡◌, true, false, List, [], ◌∷◌, length, ◌++◌}
 use Rattle.p10_base.specs.declared.at.At.{At}
 use Rattle.p10_syn.specs.Trees.{External}
 use Rattle.p10_core.specs.Typed.{PlainProgram}

@@ -7,16 +7,16 @@ use Rattle.p10_syn.specs.Trees.{Identifier, Declarator, Pointer, Parenthesised, 
 use Rattle.p10_core.specs.Types.{PlainType, array}
 use Rattle.p10_core.specs.Sizes.{size_of}
 use Rattle.p10_core.specs.Rows.{is_integer, is_complete}
-use Rattle.p10_core.specs.Typed.{statement, PlainInitializer, not_initialized, PlainVariable, PlainObject}
+use Rattle.p10_core.specs.Typed.{PlainInitializer, not_initialized, PlainVariable, PlainObject}
 use Rattle.p10_core.specs.WholePrograms.{most_bytes}
 use Rattle.p10_elabx.specs.First.{Keep}
-use Rattle.p10_elabx.specs.Scopes.{object, named_type, unknown_name, entered, left}
+use Rattle.p10_elabx.specs.Scopes.{named_type, unknown_name, entered, left}
 use Rattle.p10_elabd.specs.Standing.{Standing, Passed, passed, nothing_made, refusing}
 use Rattle.p10_elabd.specs.Words.{Site, Storage, no_storage, for_typedef, for_extern, for_static, storage_of, Allowed, has_word, is_volatile, is_other_word}
 use Rattle.p10_elabd.specs.Blocks.{declaring}
 use Rattle.p10_elabd.specs.Shapes.{DeclaredType, of_type, of_open_array, of_function, declarator_at, after_inner, declares_function, is_plain_name}
 use Rattle.p10_elabd.specs.Declared.{specified}
-use Rattle.p10_elabd.specs.Initializers.{Lifetime, static, initialized, elements_given, surplus_item}
+use Rattle.p10_elabd.specs.Initializers.{Lifetime, initialized, elements_given, surplus_item}
 use Rattle.p10_elab.specs.Heads.{Heads}
 
 -- ## What is known

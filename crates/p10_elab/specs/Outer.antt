@@ -10,7 +10,7 @@ use Rattle.p10_core.specs.Rows.{is_complete, is_void}
 use Rattle.p10_core.specs.Typed.{PlainInitializer, PlainVariable, PlainFunction, PlainObject, statements_of_list, PlainStatement}
 use Rattle.p10_elabx.specs.declared.problem.Problem.{Problem}
 use Rattle.p10_elabx.specs.First.{Keep}
-use Rattle.p10_elabx.specs.Scopes.{Meaning, local, object, callable, number, unknown_name, PlainScope, entered, left, Binding}
+use Rattle.p10_elabx.specs.Scopes.{Meaning, local, object, callable, unknown_name, PlainScope, entered, left, Binding}
 use Rattle.p10_elabd.specs.Standing.{Standing, Passed, refusing}
 use Rattle.p10_elabd.specs.Words.{outside, of_definition, Storage, storage_of, Allowed}
 use Rattle.p10_elabd.specs.Blocks.{with_name}

@@ -1,10 +1,10 @@
 -- The first problem of both parts is kept.
-use Rattle.std.proofs.Common.{◌≡◌, Bool, Ok, Err, List, [], ◌∷◌, ◌++◌, refl, sym, ◌∙◌, ap, subst}
+use Rattle.std.proofs.Common.{Bool, Err, List, [], ◌∷◌, ◌++◌, sym, ◌∙◌, ap, subst}
 use Rattle.std.proofs.lemmas.List.{append-nil}
 use Rattle.p10_elabx.specs.declared.problem.Problem.{Problem}
-use Rattle.p10_elabx.specs.First.{IsFirst, Found, least}
+use Rattle.p10_elabx.specs.First.{IsFirst, least}
 use Rattle.p10_elabx.proofs.Firsts.{kept_pair}
-use Rattle.p10_elabd.specs.Laws.{AreKept, TheFirstOfBothIsKept}
+use Rattle.p10_elabd.specs.Laws.{TheFirstOfBothIsKept}
 
 first_of_both : (r q : Problem) (rs qs : List Problem) → IsFirst r rs → IsFirst q qs → IsFirst (least r q) (rs ++ qs)
 first_of_both r q rs qs f g = kept_pair {A = Bool} {B = Bool} (Err rs) (Err (r ∷ [])) (Err qs) (Err (q ∷ [])) f g

@@ -1,5 +1,5 @@
 -- Initialisers (C99 6.7.8). Braces aren't left out, but that `{0}` may stand for any aggregate.
-use Rattle.std.specs.Prelude.{ℕ, zero, ◌+◌, ◌-◌, pos, nat_le, nat_lt, Bool, true, false, not, if◌then◌else◌, List, [], ◌∷◌, ◌++◌, length, slice_get, Option, Some, None, Ok, codes, bytes_eq}
+use Rattle.std.specs.Prelude.{ℕ, zero, ◌+◌, ◌-◌, pos, nat_le, nat_lt, Bool, true, false, if◌then◌else◌, List, [], ◌∷◌, ◌++◌, length, slice_get, Option, Some, None, Ok, codes, bytes_eq}
 use Rattle.p10_base.specs.Words.{Text}
 use Rattle.p10_base.specs.declared.at.At.{At}
 use Rattle.p10_base.specs.declared.codes.SubsetCode.TheVariants as subset

@@ -5,7 +5,7 @@ use Rattle.p10_base.specs.declared.codes.SubsetCode.{SubsetCode}
 use Rattle.p10_base.specs.declared.codes.SubsetCode.TheVariants as subset
 use Rattle.p10_syn.specs.declared.sign.Sign.{Sign}
 use Rattle.p10_syn.specs.declared.sign.Sign.TheVariants as sign
-use Rattle.p10_syn.specs.Trees.{Specifiers, NoSpecifiers, MoreSpecifiers, Keyword, Typedef}
+use Rattle.p10_syn.specs.Trees.{Specifiers, NoSpecifiers, MoreSpecifiers, Keyword}
 use Rattle.p10_elabx.specs.First.{Keep}
 use Rattle.p10_elabd.specs.Standing.{Standing, refusing}
 
