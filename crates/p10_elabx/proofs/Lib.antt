@@ -1,4 +1,11 @@
 pub mod Firsts
 pub mod Keeping
+pub mod KnownSizes
 pub mod Linking
+pub mod Members
+pub mod Nulls
+pub mod SpecifierTrees
+pub mod TreeRows
+pub mod Strings
 pub mod Ties
+pub mod Turns

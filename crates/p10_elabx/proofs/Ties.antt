@@ -3,11 +3,12 @@ use Rattle.std.specs.Prelude.{◌≡◌, ℕ, ◌+◌, Bool, true, false, not, �
 use Rattle.std.proofs.Common.{ap, subst}
 use Rattle.p10_base.specs.Words.{Text}
 use Rattle.p10_base.specs.declared.at.At.{At}
+use Rattle.p10_base.specs.declared.codes.SubsetCode.{SubsetCode}
 use Rattle.p10_base.specs.declared.codes.SubsetCode.TheVariants as subset
 use Rattle.p10_int.specs.declared.operators.BinOp.{BinOp}
 use Rattle.p10_syn.specs.declared.sign.Sign.{Sign}
 use Rattle.p10_syn.specs.declared.sign.Sign.TheVariants as sign
-use Rattle.p10_syn.specs.Trees.{Expression, expression, Name, Number, Character, Strings, Unary, Step, Binary, Assign, Conditional, Call, Index, Member, Arrow, Cast, SizeofExpression, SizeofType, Comma, Expressions, NoExpressions, MoreExpressions, Absent, Present, TypeName, type_name, Specifiers, NoSpecifiers, MoreSpecifiers, Declarator, Named, Unnamed, Pointer, Parenthesised, Array, Function}
+use Rattle.p10_syn.specs.Trees.{Identifier, Expression, expression, Name, Number, Character, Strings, Unary, Step, Binary, Assign, Conditional, Call, Index, Member, Arrow, Cast, SizeofExpression, SizeofType, Comma, Expressions, NoExpressions, MoreExpressions, Absent, Present, TypeName, type_name, Specifiers, NoSpecifiers, MoreSpecifiers, Declarator, Named, Unnamed, Pointer, Parenthesised, Array, Function, Parameters, NoParameters, MoreParameters, parameter}
 use Rattle.p10_core.specs.declared.typed.Library.{Library}
 use Rattle.p10_core.specs.declared.typed.Library.TheVariants.{Malloc, Calloc}
 use Rattle.p10_core.specs.declared.typed.LogicOp.{LogicOp}
@@ -16,15 +17,20 @@ use Rattle.p10_core.specs.Types.{PlainType, PlainStructure}
 use Rattle.p10_core.specs.Typed.{PlainValue, PlainPlace, PlainStatementForm}
 use Rattle.p10_elabx.specs.declared.problem.Problem.{Problem}
 use Rattle.p10_elabx.specs.declared.operand.PlaceKind.{PlaceKind}
+use Rattle.p10_elabx.specs.declared.allocations.Site.{Site}
+use Rattle.p10_elabx.specs.declared.signs.Operation.{Operation}
+use Rattle.p10_elabx.specs.declared.signs.Operation.TheVariants.{Values, Truth, Nothing}
+use Rattle.p10_elabx.specs.declared.shape.Made.{Made}
+use Rattle.p10_elabx.specs.declared.shape.Made.TheVariants as around
 use Rattle.p10_elabx.specs.First.{every, only_first, Found, Ruled, nothing_said, refused, Judged, on_part, on_parts, unordered}
 use Rattle.p10_elabx.specs.Laws.{IsKept, Tied}
 use Rattle.p10_elabx.specs.Scopes.{PlainScope, named}
 use Rattle.p10_elabx.specs.Operands.{PlainOperand, operand_value, not_void, reads_object, reads_sensor, any_value, as_value}
 use Rattle.p10_elabx.specs.Operators.{binary_value, logic_value, conditional_value, operand_size, indexed, member_found, arrow_found, address_found, target_found, assigned, updated}
-use Rattle.p10_elabx.specs.Calls.{Callee, callee_of, Wanted, wanted_value, wants_of, wanted_of, Listed, no_arguments, with_value, argument_judged, with_argument, call_problem, call_value, is_assert, is_allocator, is_counted, with_problem, call_judged, operand_call, other_call, element_count}
-use Rattle.p10_elabx.specs.TypeNames.{Shape, a_type, an_open_array, has_other_word, pointed, pointer_judged, element, array_of, array_judged, open_array_judged, gives, said_of, nothing_specified, is_bad_mixture, specifier_rule, later, specifiers_found, specified_type, specifiers_at, specifiers_judged}
+use Rattle.p10_elabx.specs.Calls.{Callee, of_library, callee_of, library_wants, Wanted, wanted_value, wants_of, wanted_of, Listed, no_arguments, with_value, argument_judged, with_argument, call_problem, call_value, is_assert, is_allocator, is_counted, with_problem, call_judged, operand_call, other_call, element_count}
+use Rattle.p10_elabx.specs.TypeNames.{Shape, a_type, an_open_array, a_function_type, word_of, words_after, declarator_place, name_place, other_word, also_word, is_of_function, is_of_aggregate, pointed, pointer_judged, element, array_of, array_judged, open_array_judged, given_type, no_parameters, is_alone, parameter_type, with_type, lacks_prototype, made_by, parameter_judged, with_parameter, function_judged, said_of, nothing_specified, is_bad_mixture, specifier_rule, later, specifiers_found, specified_type, specifiers_at, specifiers_judged}
 use Rattle.p10_elabx.specs.Literals.{number_found, character_found, strings_found}
-use Rattle.p10_elabx.specs.Judging.{name_found, valued, Operation, of_values, of_truth, no_operation, operation_of, assignment_of, step_of, unary_found, unary_judged, may_be_place, place_of, address_judged, values_judged, truth_judged, binary_judged, conditional_judged, index_judged, member_judged, arrow_judged, size_judged, shape_size, type_size_judged, cast_found, is_void_shape, cast_judged, target_judged, assignment_judged, counts_as_read, counts_as_act, with_read, update_judged, one_at, step_judged, by_sign, nested, comma_judged, sized_shape, Site, shape_allocation, one_element, counted_elements, either_shape, two_sizes, other_allocation, count_of, is_memory, for_memory, judge, judge_arguments, judge_allocation, judge_type, judge_declarator}
+use Rattle.p10_elabx.specs.Judging.{within, name_found, valued, operation_of, assignment_of, step_of, is_and, is_star, unary_found, unary_judged, unary_by_sign, may_be_place, place_of, address_judged, values_judged, truth_judged, binary_judged, conditional_judged, index_judged, member_judged, arrow_judged, size_judged, shape_size, type_size_judged, cast_found, is_void_shape, cast_judged, target_judged, assignment_judged, counts_as_read, counts_as_act, with_read, update_judged, one_at, step_judged, by_sign, nested, comma_judged, sized_shape, shape_allocation, one_element, counted_elements, size_shape, either_shape, two_sizes, other_allocation, Factor, product_judged, cleared_judged, count_of, called_name, for_name, memory_called, for_memory, judge, judge_arguments, judge_cast, judge_allocation, judge_bytes, judge_size, judge_type, judge_declarator, judge_parameters}
 use Rattle.p10_elabx.proofs.Firsts.{kept_lift, kept_on, kept_pair, kept_where, or_same, tied_plainly, tied_on_part, tied_on_parts, tied_also, unordered_same}
 
 -- a test of what is found
@@ -67,9 +73,9 @@ tied_truth at op j j' k k' s t = tied_on_parts j j' k k' (λ x y. valued (logic_
 
 tied_binary : (ss : List PlainStructure) (at : At) (o : Operation) (j j' k k' : Judged PlainValue) → Tied PlainValue j j' → Tied PlainValue k k' →
     Tied PlainOperand (binary_judged every ss at o j k) (binary_judged only_first ss at o j' k')
-tied_binary ss at (of_values op) j j' k k' s t = tied_values ss at op j j' k k' s t
-tied_binary ss at (of_truth op) j j' k k' s t = tied_truth at op j j' k k' s t
-tied_binary ss at no_operation j j' k k' s t = tied_plainly nothing_said
+tied_binary ss at (Values op) j j' k k' s t = tied_values ss at op j j' k k' s t
+tied_binary ss at (Truth op) j j' k k' s t = tied_truth at op j j' k k' s t
+tied_binary ss at Nothing j j' k k' s t = tied_plainly nothing_said
 
 tied_conditional : (at : At) (i i' j j' k k' : Judged PlainValue) → Tied PlainValue i i' → Tied PlainValue j j' → Tied PlainValue k k' →
     Tied PlainOperand (conditional_judged every at i j k) (conditional_judged only_first at i' j' k')
@@ -210,27 +216,58 @@ kept_specifiers s (MoreSpecifiers one rest) f g e =
 tied_specifiers : (s : PlainScope) (at : At) (all : Specifiers At) → Tied Shape (specifiers_judged every s at all) (specifiers_judged only_first s at all)
 unfolding specifiers_judged
 tied_specifiers s at all = record {
-  found = kept_on _ _ (λ t. Ok (a_type t)) (kept_where (is_bad_mixture (said_of all nothing_specified)) subset.BadSpecifier (specifiers_at at all) _ _
-      (kept_on _ _ (specified_type (said_of all nothing_specified)) (kept_specifiers s all (Ok None) (Ok None) refl)));
+  found = kept_where (is_bad_mixture (said_of all nothing_specified)) subset.BadSpecifier (specifiers_at at all) _ _
+      (kept_on _ _ (λ t. Ok (a_type t)) (kept_on _ _ (specified_type (said_of all nothing_specified)) (kept_specifiers s all (Ok None) (Ok None) refl)));
   acts = refl;
   reads = refl;
 }
 
-tied_pointer : (at : At) (qualifiers : List Sign) (j k : Judged Shape) → Tied Shape j k → Tied Shape (pointer_judged every at qualifiers j) (pointer_judged only_first at qualifiers k)
+tied_word : {A : Type 0} (o : Option ℕ) (code : SubsetCode) (at : At) (j k : Judged A) → Tied A j k → Tied A (also_word every o code at j) (also_word only_first o code at k)
+tied_word None code at j k t = t
+tied_word (Some i) code at j k t = tied_also true true code (word_of at i) j k refl t
+
+tied_pointer : (at name_at : At) (qualifiers : List Sign) (made : Made) (j k : Judged Shape) → Tied Shape j k →
+    Tied Shape (pointer_judged every at name_at qualifiers made j) (pointer_judged only_first at name_at qualifiers made k)
 unfolding pointer_judged
-tied_pointer at qualifiers j k t = tied_also (has_other_word qualifiers) (has_other_word qualifiers) subset.BadSpecifier at _ _ refl (tied_on_part j k (pointed at qualifiers) t)
+tied_pointer at name_at qualifiers made j k t =
+    tied_also (is_of_function made) (is_of_function made) subset.BadPointer at _ _ refl
+    (tied_word (other_word 1 qualifiers) subset.BadSpecifier at _ _ (tied_on_part j k (pointed at name_at qualifiers) t))
 
-tied_array : (ss : List PlainStructure) (at : At) (i i' : Judged PlainValue) (j j' : Judged Shape) → Tied PlainValue i i' → Tied Shape j j' → Tied Shape (array_judged every ss at i j) (array_judged only_first ss at i' j')
+tied_array : (ss : List PlainStructure) (name_at : At) (made : Made) (i i' : Judged PlainValue) (j j' : Judged Shape) → Tied PlainValue i i' → Tied Shape j j' →
+    Tied Shape (array_judged every ss name_at made i j) (array_judged only_first ss name_at made i' j')
 unfolding array_judged
-tied_array ss at i i' j j' s t = record {
-  found = kept_on _ _ (λ (t, v). array_of ss at t v) (kept_pair _ _ i.found i'.found (kept_on j.found j'.found (element ss at) t.found) s.found);
-  acts = refl;
-  reads = refl;
-}
+tied_array ss name_at made i i' j j' s t =
+    tied_also (is_of_function made) (is_of_function made) subset.IncompleteType name_at _ _ refl
+    (record {
+      found = kept_on _ _ (λ (t, v). array_of ss t v) (kept_pair _ _ i.found i'.found (kept_on j.found j'.found (element ss name_at) t.found) s.found);
+      acts = refl;
+      reads = refl;
+    })
 
-tied_open_array : (ss : List PlainStructure) (at : At) (j k : Judged Shape) → Tied Shape j k → Tied Shape (open_array_judged ss at j) (open_array_judged ss at k)
+tied_open_array : (ss : List PlainStructure) (name_at : At) (made : Made) (j k : Judged Shape) → Tied Shape j k →
+    Tied Shape (open_array_judged every ss name_at made j) (open_array_judged only_first ss name_at made k)
 unfolding open_array_judged
-tied_open_array ss at j k t = tied_on_part (on_part j (element ss at)) (on_part k (element ss at)) (λ t. Ok an_open_array) (tied_on_part j k (element ss at) t)
+tied_open_array ss name_at made j k t =
+    tied_also (is_of_function made) (is_of_function made) subset.IncompleteType name_at _ _ refl
+    (tied_on_part (on_part j (element ss name_at)) (on_part k (element ss name_at)) (λ t. Ok (an_open_array t)) (tied_on_part j k (element ss name_at) t))
+
+tied_function : (at name_at inner_at : At) (lacking : Bool) (made : Made) (f g : Found (List PlainType)) (j k : Judged Shape) → IsKept f g → Tied Shape j k →
+    Tied Shape (function_judged every at name_at inner_at lacking made f j) (function_judged only_first at name_at inner_at lacking made g k)
+unfolding function_judged
+tied_function at name_at inner_at lacking made f g j k e t =
+    tied_also lacking lacking subset.NoPrototype (words_after inner_at at) _ _ refl
+    (tied_also (is_of_aggregate made) (is_of_aggregate made) subset.IncompleteType name_at _ _ refl
+    (record {
+      found = kept_on _ _ (λ (ts, t). Ok (a_function_type ts t)) (kept_pair f g _ _ e (kept_on j.found k.found (given_type at name_at) t.found));
+      acts = refl;
+      reads = refl;
+    }))
+
+kept_parameter : (alone : Bool) (at : At) (d : Declarator At) (j k : Judged Shape) → Tied Shape j k → IsKept (parameter_judged every alone at d j) (parameter_judged only_first alone at d k)
+unfolding parameter_judged
+kept_parameter alone at d j k t =
+    kept_where (is_of_function (made_by around.Nothing d)) subset.BadPointer (declarator_place d) _ _
+    (kept_on j.found k.found (parameter_type alone at (name_place at d) (declarator_place d)) t.found)
 
 -- ## Allocations
 
@@ -257,8 +294,8 @@ tied_two : (ss : List PlainStructure) (site : Site) (i i' : Judged Shape) (a : A
     Tied PlainOperand (two_sizes every ss site i a j b k) (two_sizes only_first ss site i' a j' b k')
 unfolding two_sizes
 tied_two ss site i i' a j j' b k k' r s t = record {
-  found = kept_on _ _ (λ (s, (x, y)). either_shape ss site a b s x y)
-      (kept_pair i.found i'.found _ _ r.found (kept_pair _ _ _ _ (kept_on j.found j'.found (sized_shape ss a) s.found) (kept_on k.found k'.found (sized_shape ss b) t.found)));
+  found = kept_on _ _ (λ (s, (x, y)). either_shape site s x y)
+      (kept_pair i.found i'.found _ _ r.found (kept_pair _ _ _ _ (kept_on j.found j'.found (size_shape ss a) s.found) (kept_on k.found k'.found (size_shape ss b) t.found)));
   acts = refl;
   reads = refl;
 }
@@ -267,9 +304,52 @@ tied_other : (site : Site) (i i' : Judged Shape) (j j' : Judged PlainOperand) �
 unfolding other_allocation
 tied_other site i i' j j' s t = tied_on_parts i i' _ _ (λ _ o. Ok o) s (tied_also true true subset.BadAllocation site.call_at j j' refl t)
 
-tied_memory : {A : Type 0} (o : Option Library) (go go' : Library → Judged A) (x x' : Judged A) → ((f : Library) → Tied A (go f) (go' f)) → Tied A x x' → Tied A (for_memory o go x) (for_memory o go' x')
+-- the same type of a `sizeof`, or none
+abbrev TiedSize : Option (Judged Shape) → Option (Judged Shape) → Type 0
+TiedSize None None = Unit {0}
+TiedSize (Some j) (Some k) = Tied Shape j k
+TiedSize None (Some k) = ⊥
+TiedSize (Some j) None = ⊥
+
+tied_product : (ss : List PlainStructure) (site : Site) (t t' : Judged Shape) (j j' : Judged PlainOperand) (at : At) (star : Bool)
+    (a_at b_at : At) (x x' y y' : Option (Judged Shape)) (v v' w w' : Judged PlainValue) →
+    Tied Shape t t' → Tied PlainOperand j j' → TiedSize x x' → TiedSize y y' → Tied PlainValue v v' → Tied PlainValue w w' →
+    Tied PlainOperand (product_judged every ss site t j at star (record { at = a_at; size = x; value = v }) (record { at = b_at; size = y; value = w }))
+    (product_judged only_first ss site t' j' at star (record { at = a_at; size = x'; value = v' }) (record { at = b_at; size = y'; value = w' }))
+tied_product ss site t t' j j' at false a_at b_at x x' y y' v v' w w' p q d e f g = tied_other site t t' j j' p q
+tied_product ss site t t' j j' at true a_at b_at (Some x) (Some x') (Some y) (Some y') v v' w w' p q d e f g = tied_two ss site t t' a_at x x' b_at y y' p d e
+tied_product ss site t t' j j' at true a_at b_at None None (Some y) (Some y') v v' w w' p q d e f g =
+    tied_counted ss site Malloc (refused subset.OperandTypes at) t t' b_at y y' v v' p e f
+tied_product ss site t t' j j' at true a_at b_at (Some x) (Some x') None None v v' w w' p q d e f g =
+    tied_counted ss site Malloc (refused subset.OperandTypes at) t t' a_at x x' w w' p d g
+tied_product ss site t t' j j' at true a_at b_at None None None None v v' w w' p q d e f g = tied_other site t t' j j' p q
+tied_product ss site t t' j j' at true a_at b_at None (Some x') y y' v v' w w' p q d e f g = absurd d
+tied_product ss site t t' j j' at true a_at b_at (Some x) None y y' v v' w w' p q d e f g = absurd d
+tied_product ss site t t' j j' at true a_at b_at x x' None (Some y') v v' w w' p q d e f g = absurd e
+tied_product ss site t t' j j' at true a_at b_at x x' (Some y) None v v' w w' p q d e f g = absurd e
+
+tied_cleared : (ss : List PlainStructure) (site : Site) (t t' : Judged Shape) (j j' : Judged PlainOperand) (at : At) (v v' : Judged PlainValue) (size_at : At) (x x' : Option (Judged Shape)) →
+    Tied Shape t t' → Tied PlainOperand j j' → Tied PlainValue v v' → TiedSize x x' →
+    Tied PlainOperand (cleared_judged every ss site t j at v size_at x) (cleared_judged only_first ss site t' j' at v' size_at x')
+tied_cleared ss site t t' j j' at v v' size_at None None p q f d = tied_other site t t' j j' p q
+tied_cleared ss site t t' j j' at v v' size_at (Some x) (Some x') p q f d = tied_counted ss site Calloc (refused subset.TypesDiffer at) t t' size_at x x' v v' p d f
+tied_cleared ss site t t' j j' at v v' size_at None (Some x') p q f d = absurd d
+tied_cleared ss site t t' j j' at v v' size_at (Some x) None p q f d = absurd d
+
+tied_memory : {A : Type 0} (o : Option (Library × At)) (go go' : Library → At → Judged A) (x x' : Judged A) → ((f : Library) (at : At) → Tied A (go f at) (go' f at)) → Tied A x x' →
+    Tied A (for_memory o go x) (for_memory o go' x')
 tied_memory None go go' x x' h t = t
-tied_memory (Some f) go go' x x' h t = h f
+tied_memory (Some (f, at)) go go' x x' h t = h f at
+
+tied_name : {A : Type 0} (o : Option (Identifier At)) (go go' : Identifier At → Judged A) (x x' : Judged A) → ((f : Identifier At) → Tied A (go f) (go' f)) → Tied A x x' →
+    Tied A (for_name o go x) (for_name o go' x')
+tied_name None go go' x x' h t = t
+tied_name (Some f) go go' x x' h t = h f
+
+tied_by_unary : (ss : List PlainStructure) (at : At) (b : Bool) (word : Sign) (may : Bool) (j k : Judged PlainOperand) → Tied PlainOperand j k →
+    Tied PlainOperand (unary_by_sign every ss at b word may j) (unary_by_sign only_first ss at b word may k)
+tied_by_unary ss at true word may j k t = tied_address at may j k t
+tied_by_unary ss at false word may j k t = tied_unary at word _ _ (tied_value ss j k t)
 
 -- ## The trees
 
@@ -278,12 +358,11 @@ nothing_tied = record { found = refl; acts = refl; reads = refl; unordered_is = 
 
 mutual
   pub tied : (s : PlainScope) (e : Expression At) → Tied PlainOperand (judge every s e) (judge only_first s e)
-  tied s (expression at n (Name text)) = tied_plainly (name_found at text (named s text))
+  tied s (expression at n (Name text)) = tied_plainly (name_found at (within at n) text (named s text))
   tied s (expression at n (Number text)) = tied_plainly (number_found at text)
   tied s (expression at n (Character text)) = tied_plainly (character_found at text)
   tied s (expression at n (Strings texts)) = tied_plainly (strings_found at texts)
-  tied s (expression at n (Unary sign.And e)) = tied_address at (may_be_place e) _ _ (tied s e)
-  tied s (expression at n (Unary word e)) = tied_unary at word _ _ (tied_value s.structures _ _ (tied s e))
+  tied s (expression at n (Unary word e)) = tied_by_unary s.structures at (is_and word) word (may_be_place e) _ _ (tied s e)
   tied s (expression at n (Step side word e)) =
       tied_nested at _ _ (tied_step s.structures at (step_of word) _ _ (tied_target s.structures (place_of e) (may_be_place e) _ _ (tied s e)))
   tied s (expression at n (Binary word a b)) =
@@ -292,20 +371,15 @@ mutual
       tied_nested at _ _ (tied_by_sign s.structures at (assignment_of word) _ _ _ _ (tied_target s.structures (place_of a) (may_be_place a) _ _ (tied s a)) (tied_value s.structures _ _ (tied s b)))
   tied s (expression at n (Conditional c a b)) =
       tied_conditional at _ _ _ _ _ _ (tied_value s.structures _ _ (tied s c)) (tied_value s.structures _ _ (tied s a)) (tied_value s.structures _ _ (tied s b))
-  tied s (expression at n (Call (expression name_at m (Name text)) all)) =
-      let callee : Callee = callee_of (named s text) text in
-      tied_operand_call at callee _ _ (tied_call at name_at callee (count_of all) _ _ (tied_arguments s (wanted_of (wants_of callee) (count_of all)) 0 no_arguments no_arguments all nothing_tied))
-  tied s (expression at n (Call e all)) = tied_other_call at _ _ _ _ (tied s e) (tied_arguments s [] 0 no_arguments no_arguments all nothing_tied)
+  tied s (expression at n (Call e all)) =
+      tied_name (called_name e) _ _ _ _
+      (λ f. let callee : Callee = callee_of (named s f.name) f.name in
+      tied_operand_call at callee _ _ (tied_call at f.place callee (count_of all) _ _ (tied_arguments s (wanted_of (wants_of callee) (count_of all)) 0 no_arguments no_arguments all nothing_tied)))
+      (tied_other_call at _ _ _ _ (tied s e) (tied_arguments s [] 0 no_arguments no_arguments all nothing_tied))
   tied s (expression at n (Index a i)) = tied_index s.structures at _ _ _ _ (tied_value s.structures _ _ (tied s a)) (tied_value s.structures _ _ (tied s i))
   tied s (expression at n (Member e name)) = tied_member s.structures at name.name _ _ (tied s e)
   tied s (expression at n (Arrow e name)) = tied_arrow s.structures at name.name _ _ (tied_value s.structures _ _ (tied s e))
-  tied s (expression at n (Cast t (expression call_at m (Call (expression name_at k (Name text)) all)))) =
-      let callee : Callee = callee_of (named s text) text in
-      let call : Tied PlainOperand _ _ = tied_call call_at name_at callee (count_of all) _ _ (tied_arguments s (wanted_of (wants_of callee) (count_of all)) 0 no_arguments no_arguments all nothing_tied) in
-      tied_memory (is_memory callee) _ _ _ _
-      (λ f. tied_allocation s (record { cast_at = at; call_at = call_at; name_at = name_at }) _ _ f _ _ all (tied_type s t) call)
-      (tied_cast s.structures at _ _ _ _ (tied_type s t) (tied_operand_call call_at callee _ _ call))
-  tied s (expression at n (Cast t e)) = tied_cast s.structures at _ _ _ _ (tied_type s t) (tied s e)
+  tied s (expression at n (Cast t e)) = tied_cast_of s at _ _ _ _ e (tied_type s t) (tied s e)
   tied s (expression at n (SizeofExpression e)) = tied_size s.structures at _ _ (tied s e)
   tied s (expression at n (SizeofType t)) = tied_type_size s.structures at _ _ (tied_type s t)
   tied s (expression at n (Comma all)) = tied_comma at _ _ (tied_arguments s [] 0 no_arguments no_arguments all nothing_tied)
@@ -315,28 +389,53 @@ mutual
   tied_arguments s wanted i j k (MoreExpressions e rest) t =
       tied_arguments s wanted (i + 1) _ _ rest (tied_more j k _ _ t (tied_argument (slice_get wanted i) _ _ (tied_value s.structures _ _ (tied s e))))
 
+  tied_cast_of : (s : PlainScope) (at : At) (t t' : Judged Shape) (j j' : Judged PlainOperand) (e : Expression At) → Tied Shape t t' → Tied PlainOperand j j' →
+      Tied PlainOperand (judge_cast every s at t j e) (judge_cast only_first s at t' j' e)
+  tied_cast_of s at t t' j j' (expression call_at m (Call e all)) p q =
+      tied_memory (memory_called s (called_name e)) _ _ _ _
+      (λ f name_at. tied_allocation s (record { cast_at = at; call_at = call_at; name_at = name_at }) _ _ f _ _ all p
+      (tied_call call_at name_at (of_library f) (count_of all) _ _ (tied_arguments s (wanted_of (Some (library_wants f)) (count_of all)) 0 no_arguments no_arguments all nothing_tied)))
+      (tied_cast s.structures at _ _ _ _ p q)
+  tied_cast_of s at t t' j j' e p q = tied_cast s.structures at _ _ _ _ p q
+
   tied_allocation : (s : PlainScope) (site : Site) (t t' : Judged Shape) (f : Library) (j j' : Judged PlainOperand) (all : Expressions At) → Tied Shape t t' → Tied PlainOperand j j' →
       Tied PlainOperand (judge_allocation every s site t f j all) (judge_allocation only_first s site t' f j' all)
-  tied_allocation s site t t' Malloc j j' (MoreExpressions (expression at n (SizeofType element)) NoExpressions) p q =
-      tied_one s.structures site t t' at _ _ p (tied_type s element)
-  tied_allocation s site t t' Malloc j j' (MoreExpressions (expression at n (Binary sign.Star (expression a m (SizeofType left)) (expression b k (SizeofType right)))) NoExpressions) p q =
-      tied_two s.structures site t t' a _ _ b _ _ p (tied_type s left) (tied_type s right)
-  tied_allocation s site t t' Malloc j j' (MoreExpressions (expression at n (Binary sign.Star e (expression b k (SizeofType element)))) NoExpressions) p q =
-      tied_counted s.structures site Malloc (refused subset.OperandTypes at) t t' b _ _ _ _ p (tied_type s element) (tied_value s.structures _ _ (tied s e))
-  tied_allocation s site t t' Malloc j j' (MoreExpressions (expression at n (Binary sign.Star (expression a m (SizeofType element)) e)) NoExpressions) p q =
-      tied_counted s.structures site Malloc (refused subset.OperandTypes at) t t' a _ _ _ _ p (tied_type s element) (tied_value s.structures _ _ (tied s e))
-  tied_allocation s site t t' Calloc j j' (MoreExpressions e (MoreExpressions (expression b k (SizeofType element)) NoExpressions)) p q =
-      tied_counted s.structures site Calloc (refused subset.TypesDiffer (place_of e)) t t' b _ _ _ _ p (tied_type s element) (tied_value s.structures _ _ (tied s e))
+  tied_allocation s site t t' Malloc j j' (MoreExpressions e NoExpressions) p q = tied_bytes s site t t' j j' e p q
+  tied_allocation s site t t' Calloc j j' (MoreExpressions e (MoreExpressions size NoExpressions)) p q =
+      tied_cleared s.structures site t t' j j' (place_of e) _ _ (place_of size) _ _ p q (tied_value s.structures _ _ (tied s e)) (tied_size_of s size)
   tied_allocation s site t t' f j j' all p q = tied_other site t t' j j' p q
 
-  tied_type : (s : PlainScope) (t : TypeName At) → Tied Shape (judge_type every s t) (judge_type only_first s t)
-  tied_type s (type_name at specifiers d) = tied_declarator s _ _ d (tied_specifiers s at specifiers)
+  tied_bytes : (s : PlainScope) (site : Site) (t t' : Judged Shape) (j j' : Judged PlainOperand) (e : Expression At) → Tied Shape t t' → Tied PlainOperand j j' →
+      Tied PlainOperand (judge_bytes every s site t j e) (judge_bytes only_first s site t' j' e)
+  tied_bytes s site t t' j j' (expression at n (SizeofType element)) p q = tied_one s.structures site t t' at _ _ p (tied_type s element)
+  tied_bytes s site t t' j j' (expression at n (Binary word a b)) p q =
+      tied_product s.structures site t t' j j' at (is_star word) (place_of a) (place_of b) _ _ _ _ _ _ _ _ p q (tied_size_of s a) (tied_size_of s b)
+      (tied_value s.structures _ _ (tied s a)) (tied_value s.structures _ _ (tied s b))
+  tied_bytes s site t t' j j' e p q = tied_other site t t' j j' p q
 
-  tied_declarator : (s : PlainScope) (j k : Judged Shape) (d : Declarator At) → Tied Shape j k → Tied Shape (judge_declarator every s j d) (judge_declarator only_first s k d)
-  tied_declarator s j k (Named name) t = t
-  tied_declarator s j k (Unnamed at) t = t
-  tied_declarator s j k (Pointer at qualifiers d) t = tied_declarator s _ _ d (tied_pointer at qualifiers j k t)
-  tied_declarator s j k (Parenthesised at d) t = tied_declarator s j k d t
-  tied_declarator s j k (Array at d Absent) t = tied_declarator s _ _ d (tied_open_array s.structures at j k t)
-  tied_declarator s j k (Array at d (Present e)) t = tied_declarator s _ _ d (tied_array s.structures at _ _ j k (tied_value s.structures _ _ (tied s e)) t)
-  tied_declarator s j k (Function at d _ _) t = tied_declarator s _ _ d (tied_on_part j k (gives at) t)
+  tied_size_of : (s : PlainScope) (e : Expression At) → TiedSize (judge_size every s e) (judge_size only_first s e)
+  tied_size_of s (expression at n (SizeofType t)) = tied_type s t
+  tied_size_of s e = tt
+
+  tied_type : (s : PlainScope) (t : TypeName At) → Tied Shape (judge_type every s t) (judge_type only_first s t)
+  tied_type s (type_name at specifiers d) = tied_declarator s (declarator_place d) around.Nothing _ _ d (tied_specifiers s at specifiers)
+
+  tied_declarator : (s : PlainScope) (name_at : At) (made : Made) (j k : Judged Shape) (d : Declarator At) → Tied Shape j k →
+      Tied Shape (judge_declarator every s name_at made j d) (judge_declarator only_first s name_at made k d)
+  tied_declarator s name_at made j k (Named name) t = t
+  tied_declarator s name_at made j k (Unnamed at) t = t
+  tied_declarator s name_at made j k (Pointer at qualifiers d) t = tied_declarator s name_at around.Pointer _ _ d (tied_pointer at name_at qualifiers made j k t)
+  tied_declarator s name_at made j k (Parenthesised at d) t = tied_declarator s name_at made j k d t
+  tied_declarator s name_at made j k (Array at d Absent) t = tied_declarator s name_at around.Array _ _ d (tied_open_array s.structures name_at made j k t)
+  tied_declarator s name_at made j k (Array at d (Present e)) t =
+      tied_declarator s name_at around.Array _ _ d (tied_array s.structures name_at made _ _ j k (tied_value s.structures _ _ (tied s e)) t)
+  tied_declarator s name_at made j k (Function at d all dots) t =
+      tied_declarator s name_at around.Function _ _ d
+      (tied_function at name_at (declarator_place d) (lacks_prototype all dots) made _ _ j k (kept_parameters s (is_alone all) no_parameters no_parameters all refl) t)
+
+  kept_parameters : (s : PlainScope) (alone : Bool) (f g : Found (List PlainType)) (all : Parameters At) → IsKept f g → IsKept (judge_parameters every s alone f all) (judge_parameters only_first s alone g all)
+  kept_parameters s alone f g NoParameters e = e
+  kept_parameters s alone f g (MoreParameters (parameter at specifiers d) rest) e =
+      kept_parameters s alone _ _ rest
+      (kept_on _ _ (λ (ts, o). Ok (with_type ts o))
+      (kept_pair f g _ _ e (kept_parameter alone at d _ _ (tied_declarator s (name_place at d) around.Nothing _ _ d (tied_specifiers s at specifiers)))))

@@ -10,4 +10,5 @@ pub mod Judging
 pub mod Laws
 pub mod Views
 pub mod PlainScopes
+pub mod Built
 pub mod private

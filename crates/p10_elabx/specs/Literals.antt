@@ -1,7 +1,8 @@
 -- The values of constants and strings (C99 6.4.4, 6.4.5).
-use Rattle.std.specs.Prelude.{◌+◌, ℤ, pos, false, Option, Some, None, option_and_then, Ok, if◌then◌else◌, List, [], ◌∷◌, ◌++◌, length}
+use Rattle.std.specs.Prelude.{ℤ, pos, false, nat_le, Option, Some, None, option_and_then, Ok, if◌then◌else◌, List, [], ◌∷◌, ◌++◌, length}
 use Rattle.p10_base.specs.Words.{Text}
 use Rattle.p10_base.specs.declared.at.At.{At}
+use Rattle.p10_base.specs.declared.codes.SubsetCode.TheVariants as subset
 use Rattle.p10_int.specs.declared.types.IntType.{IntType}
 use Rattle.p10_int.specs.declared.types.IntType.TheVariants.{Int, UInt, Long, ULong, LLong, ULLong, Char}
 use Rattle.p10_int.specs.Types.{holds}
@@ -14,8 +15,9 @@ use Rattle.p10_lex.specs.Integers.{integer_constant}
 use Rattle.p10_lex.specs.Literals.{character_value, values_of, inside}
 use Rattle.p10_core.specs.Types.{integer, array}
 use Rattle.p10_core.specs.Typed.{value, constant, place, literal}
+use Rattle.p10_core.specs.WholePrograms.{most_bytes}
 use Rattle.p10_elabx.specs.declared.operand.PlaceKind.TheVariants.{Object}
-use Rattle.p10_elabx.specs.First.{Ruled, nothing_said}
+use Rattle.p10_elabx.specs.First.{Ruled, refused, nothing_said}
 use Rattle.p10_elabx.specs.Operands.{PlainOperand, a_value, a_place}
 
 -- the types that a constant of a base with a suffix may have, in the order in which they are tried (C99 6.4.4.1p5)
@@ -69,14 +71,21 @@ joined_after before (Some bytes) = Some (before ++ bytes)
 
 -- the bytes of strings after those before
 abbrev pub strings_value : Option Text → List Text → Option Text
-strings_value found [] = found
-strings_value None (text ∷ rest) = None
+strings_value None texts = None
+strings_value (Some bytes) [] = Some bytes
 strings_value (Some bytes) (text ∷ rest) = strings_value (joined_after bytes (string_value text)) rest
 
--- a string is an array of `char` with a 0 at its end (C99 6.4.5p5); its number is that of its first word
+-- a string is an array of `char` with a 0 at its end (C99 6.4.5p5), which isn't larger than a type may be; its number is that of
+-- its first word
+abbrev pub string_of : At → Text → Ruled PlainOperand
+string_of at bytes =
+    if nat_le (length bytes) most_bytes then Ok (a_place Object (place at (array false (integer false Char) (length bytes)) (literal at.first bytes)))
+    else refused subset.BadLength at
+
+-- a string of bytes, if there are some
 abbrev pub string_by : At → Option Text → Ruled PlainOperand
 string_by at None = nothing_said
-string_by at (Some bytes) = Ok (a_place Object (place at (array false (integer false Char) (length bytes + 1)) (literal at.first (bytes ++ 0 ∷ []))))
+string_by at (Some bytes) = string_of at (bytes ++ 0 ∷ [])
 
 -- strings that stand side by side
 abbrev pub strings_found : At → List Text → Ruled PlainOperand

@@ -1,5 +1,5 @@
 -- What the operators make of their operands, or that they may not be applied to them: a row for each (C99 6.5).
-use Rattle.std.specs.Prelude.{ℕ, pos, Bool, false, ◌&&◌, Option, Some, None, Ok, if◌then◌else◌, List, slice_get}
+use Rattle.std.specs.Prelude.{ℕ, pos, Bool, false, ◌&&◌, nat_le, Option, Some, None, Ok, if◌then◌else◌, List, slice_get}
 use Rattle.p10_base.specs.Words.{Text}
 use Rattle.p10_base.specs.declared.at.At.{At}
 use Rattle.p10_base.specs.declared.codes.SubsetCode.TheVariants as subset
@@ -10,7 +10,8 @@ use Rattle.p10_int.specs.declared.operators.UnOp.{UnOp}
 use Rattle.p10_int.specs.Types.{promoted}
 use Rattle.p10_core.specs.declared.typed.LogicOp.{LogicOp}
 use Rattle.p10_core.specs.declared.statements.UpdateKind.{UpdateKind}
-use Rattle.p10_core.specs.Types.{PlainType, integer, pointer, structure, qualified, unqualified, PlainMember, PlainStructure, members_of, member_named}
+use Rattle.p10_core.specs.WholePrograms.{most_bytes}
+use Rattle.p10_core.specs.Types.{PlainType, integer, pointer, array, structure, qualified, unqualified, PlainMember, PlainStructure, members_of, member_named}
 use Rattle.p10_core.specs.Sizes.{size_of}
 use Rattle.p10_core.specs.Typed.{PlainValue, value, constant, read, address, cast, unary, binary, logic, conditional, PlainPlace, place, index, member, dereference, type_of, place_type, PlainStatementForm, set, update, copy}
 use Rattle.p10_core.specs.Rows.{Row, UnaryRow, unary_row, binary_row, conditional_row, fits, may_cast, same, is_scalar, is_complete, is_modifiable, int_type}
@@ -65,10 +66,15 @@ abbrev pub cast_value : At → PlainType → PlainValue → Ruled PlainValue
 cast_value at t v =
     if may_cast (is_null v) (type_of v) t then Ok (value at (unqualified t) (cast v)) else refused subset.BadCast at
 
+-- whether a type has a size, which isn't larger than a type may be (C99 6.2.5p1)
+abbrev pub has_size : List PlainStructure → PlainType → Bool
+has_size structures (array c t n) = has_size structures t && nat_le (size_of structures (array c t n)) most_bytes
+has_size structures t = is_complete structures t && nat_le (size_of structures t) most_bytes
+
 -- the size of a type, which is a constant (C99 6.5.3.4)
 abbrev pub size_value : List PlainStructure → At → PlainType → Ruled PlainOperand
 size_value structures at t =
-    if is_complete structures t then Ok (a_value (value at (integer false ULong) (constant (pos (size_of structures t))))) else refused subset.NoSize at
+    if has_size structures t then Ok (a_value (value at (integer false ULong) (constant (pos (size_of structures t))))) else refused subset.NoSize at
 
 -- `sizeof` of an operand: of a place that of its type, also of an array
 abbrev pub operand_size : List PlainStructure → At → PlainOperand → Ruled PlainOperand
@@ -98,14 +104,16 @@ indexed structures at (value b (pointer c t) f) (value d (integer e i) g) =
     element_of structures at t (value b (pointer c t) f) (promoted_value (value d (integer e i) g) i)
 indexed structures at a i = refused subset.OperandTypes at
 
--- a member by its place among the members, with the marks of the structure
+-- a member that is there, with the marks of the structure: members have numbers of 32 bits, as words have
+abbrev pub member_there : At → Bool → PlainPlace → ℕ → Option PlainMember → Ruled PlainOperand
+member_there at c p m None = refused subset.UnknownMember at
+member_there at c p m (Some found) =
+    if nat_le m 4294967295 then Ok (a_place Object (place at (qualified c found.type) (member p m))) else refused subset.UnknownMember at
+
+-- a member by its place among the members
 abbrev pub member_by : At → Bool → PlainPlace → List PlainMember → Option ℕ → Ruled PlainOperand
 member_by at c p members None = refused subset.UnknownMember at
 member_by at c p members (Some m) = member_there at c p m (slice_get members m)
-  where
-    member_there : At → Bool → PlainPlace → ℕ → Option PlainMember → Ruled PlainOperand
-    member_there at c p m None = refused subset.UnknownMember at
-    member_there at c p m (Some found) = Ok (a_place Object (place at (qualified c found.type) (member p m)))
 
 -- the member with a name of a place that is a structure
 abbrev pub member_in : List PlainStructure → At → Text → PlainPlace → Ruled PlainOperand

@@ -1,56 +1,43 @@
 -- The types that specifiers and declarators name, as far as they declare nothing (C99 6.7.2, 6.7.3, 6.7.5, 6.7.6).
-use Rattle.std.specs.Prelude.{ℕ, ◌+◌, ◌*◌, ℤ, pos, negsuc, Bool, true, false, not, ◌&&◌, ◌||◌, nat_eq, nat_le, Option, Some, None, is_some, Result, Ok, Err, if◌then◌else◌, List, [], ◌∷◌}
+use Rattle.std.specs.Prelude.{ℕ, ◌+◌, min, ℤ, pos, negsuc, Bool, true, false, not, ◌&&◌, ◌||◌, nat_eq, nat_le, Option, Some, None, is_some, Result, Ok, Err, if◌then◌else◌, List, [], ◌∷◌, ◌++◌}
 use Rattle.p10_base.specs.Words.{span_to}
 use Rattle.p10_base.specs.declared.at.At.{At}
+use Rattle.p10_base.specs.declared.codes.SubsetCode.{SubsetCode}
 use Rattle.p10_base.specs.declared.codes.SubsetCode.TheVariants as subset
 use Rattle.p10_int.specs.declared.types.IntType.{IntType}
 use Rattle.p10_int.specs.declared.types.IntType.TheVariants as type
 use Rattle.p10_syn.specs.declared.sign.Sign.{Sign}
 use Rattle.p10_syn.specs.declared.sign.Sign.TheVariants as sign
 use Rattle.p10_core.specs.Types.{PlainType, void, integer, pointer, array, structure, qualified, PlainStructure}
-use Rattle.p10_core.specs.Sizes.{size_of}
 use Rattle.p10_core.specs.Typed.{PlainValue, at_of, type_of}
 use Rattle.p10_core.specs.Rows.{is_void, is_integer, is_complete}
 use Rattle.p10_core.specs.Constants.{inconstant_part, fold}
 use Rattle.p10_core.specs.WholePrograms.{most_bytes}
+use Rattle.p10_elabx.specs.declared.words.Words.{Words}
+use Rattle.p10_elabx.specs.declared.words.Said.{Said}
+use Rattle.p10_elabx.specs.declared.shape.Made.{Made}
+use Rattle.p10_elabx.specs.declared.shape.Made.TheVariants as around
 use Rattle.p10_elabx.specs.First.{Keep, Found, Ruled, refused, nothing_said, lift, Judged, pair, on, on_part, also, refused_where}
+use Rattle.p10_elabx.specs.Operators.{has_size}
 use Rattle.p10_elabx.specs.Scopes.{Meaning, named_type, tagged_type, unknown_name, unknown_tag, PlainScope, named, tagged}
-use Rattle.p10_syn.specs.Trees.{Identifier, Specifiers, NoSpecifiers, MoreSpecifiers, Specifier, Keyword, Typedef, Structure, Enumeration}
+use Rattle.p10_syn.specs.Trees.{Identifier, Specifiers, NoSpecifiers, MoreSpecifiers, Specifier, Keyword, Typedef, Structure, Enumeration, Declarator, Named, Unnamed, Pointer, Parenthesised, Array, Function, Parameters, NoParameters, MoreParameters, parameter}
 
--- what a declarator makes of a type: a type, an array whose length is lacking, or a function
+-- what a declarator makes of a type: a type; an array of a type, whose length is lacking; or a function with the types of its
+-- parameters and its result
 pub data Shape : Type 0 where
   a_type : PlainType → Shape
-  an_open_array : Shape
-  a_function_type : Shape
+  an_open_array : PlainType → Shape
+  a_function_type : List PlainType → PlainType → Shape
 
 -- ## Specifiers
-
--- how often each word of a type stands among the specifiers
-pub record Words : Type 0 where
-  pub void_words : ℕ
-  pub char_words : ℕ
-  pub short_words : ℕ
-  pub int_words : ℕ
-  pub long_words : ℕ
-  pub signed_words : ℕ
-  pub unsigned_words : ℕ
-  pub bool_words : ℕ
 
 -- no words
 abbrev pub no_words : Words
 no_words = record { void_words = 0; char_words = 0; short_words = 0; int_words = 0; long_words = 0; signed_words = 0; unsigned_words = 0; bool_words = 0 }
 
--- what specifiers say by their form: their words, how many typedef names, structures and enumerations stand among them, whether one
--- is `const`, and whether a word names a floating or complex type
-pub record Said : Type 0 where
-  pub words : Words
-  pub names : ℕ
-  pub const : Bool
-  pub floating : Bool
-
 -- nothing
 abbrev pub nothing_specified : Said
-nothing_specified = record { words = no_words; names = 0; const = false; floating = false }
+nothing_specified = record { words = no_words; names = 0; is_const = false; floating = false }
 
 -- one word more of a type (C99 6.7.2)
 abbrev pub with_word : Sign → Words → Words
@@ -115,20 +102,24 @@ is_bad_mixture s = not s.floating && not (is_mixture s)
 
 -- what a keyword adds by its form
 abbrev pub said_keyword : Sign → Said → Said
-said_keyword sign.Const s = record s { const = true }
+said_keyword sign.Const s = record s { is_const = true }
 said_keyword sign.Float s = record s { floating = true }
 said_keyword sign.Double s = record s { floating = true }
 said_keyword sign.Complex s = record s { floating = true }
 said_keyword sign.Imaginary s = record s { floating = true }
 said_keyword word s = record s { words = with_word word s.words }
 
--- what specifiers say by their form
+-- what one specifier adds by its form
+abbrev pub said_by : {P : Type 0} → Specifier P → Said → Said
+said_by (Keyword at word) s = said_keyword word s
+said_by (Typedef name) s = record s { names = s.names + 1 }
+said_by (Structure at word tag _) s = record s { names = s.names + 1 }
+said_by (Enumeration at tag _ _) s = record s { names = s.names + 1 }
+
+-- what specifiers say by their form, after those before
 abbrev pub said_of : {P : Type 0} → Specifiers P → Said → Said
 said_of NoSpecifiers s = s
-said_of (MoreSpecifiers (Keyword at word) rest) s = said_of rest (said_keyword word s)
-said_of (MoreSpecifiers (Typedef name) rest) s = said_of rest (record s { names = s.names + 1 })
-said_of (MoreSpecifiers (Structure at word tag _) rest) s = said_of rest (record s { names = s.names + 1 })
-said_of (MoreSpecifiers (Enumeration at tag _ _) rest) s = said_of rest (record s { names = s.names + 1 })
+said_of (MoreSpecifiers one rest) s = said_of rest (said_by one s)
 
 -- a keyword where a type is named: storage, `inline` and other qualifiers than `const` don't stand there
 abbrev pub keyword_rule : At → Sign → Ruled (Option PlainType)
@@ -189,20 +180,23 @@ abbrev pub later : Option PlainType → Option PlainType → Option PlainType
 later a None = a
 later a (Some t) = Some t
 
+-- one specifier more
+abbrev pub with_specifier : Keep → Found (Option PlainType) → Ruled (Option PlainType) → Found (Option PlainType)
+with_specifier h before one = on (pair h before (lift one)) (λ (a, b). Ok (later a b))
+
 -- what the specifiers name, from the left
 abbrev pub specifiers_found : Keep → PlainScope → Found (Option PlainType) → Specifiers At → Found (Option PlainType)
 specifiers_found h s found NoSpecifiers = found
-specifiers_found h s found (MoreSpecifiers one rest) =
-    specifiers_found h s (on (pair h found (lift (specifier_rule s one))) (λ (a, b). Ok (later a b))) rest
+specifiers_found h s found (MoreSpecifiers one rest) = specifiers_found h s (with_specifier h found (specifier_rule s one)) rest
 
 -- the type that a mixture of words and names is, with its mark
 abbrev pub specified_type : Said → Option PlainType → Ruled PlainType
-specified_type s (Some t) = Ok (qualified s.const t)
+specified_type s (Some t) = Ok (qualified s.is_const t)
 specified_type s None = word_type s (type_of_words s.words)
   where
     word_type : Said → Option PlainType → Ruled PlainType
     word_type s None = nothing_said
-    word_type s (Some t) = Ok (qualified s.const t)
+    word_type s (Some t) = Ok (qualified s.is_const t)
 
 -- the place of a specifier
 abbrev pub specifier_at : Specifier At → At
@@ -229,43 +223,96 @@ specifiers_at at (MoreSpecifiers one rest) = from_to (specifier_at one) (last_sp
 unfoldable pub specifiers_judged : Keep → PlainScope → At → Specifiers At → Judged Shape
 specifiers_judged h s at specifiers =
     let said : Said = said_of specifiers nothing_specified in
-    let found : Found PlainType = on (specifiers_found h s (Ok None) specifiers) (specified_type said) in
-    record { found = on (refused_where h (is_bad_mixture said) subset.BadSpecifier (specifiers_at at specifiers) found) (λ t. Ok (a_type t)); acts = false; reads = false }
+    record {
+      found = refused_where h (is_bad_mixture said) subset.BadSpecifier (specifiers_at at specifiers)
+          (on (on (specifiers_found h s (Ok None) specifiers) (specified_type said)) (λ t. Ok (a_type t)));
+      acts = false;
+      reads = false;
+    }
+
+-- ## Places in declarators
+
+-- word number i of a tree, counted from 0: trees keep no bytes of it, so those of the tree stand for them
+abbrev pub word_of : At → ℕ → At
+word_of at i = record { first = min (at.first + i) at.past; past = min (at.first + (i + 1)) at.past; span = at.span }
+
+-- the words of a tree after those of a part with which it begins: the bytes are those of the tree
+abbrev pub words_after : At → At → At
+words_after part whole = record { first = part.past; past = whole.past; span = whole.span }
+
+-- the place of a declarator
+abbrev pub declarator_place : Declarator At → At
+declarator_place (Named name) = name.place
+declarator_place (Unnamed at) = at
+declarator_place (Pointer at qualifiers d) = at
+declarator_place (Parenthesised at d) = at
+declarator_place (Array at d length) = at
+declarator_place (Function at d _ _) = at
+
+-- where an incomplete type is told: at the declared name; where nothing is named, at a tree that is given
+abbrev pub name_place : At → Declarator At → At
+name_place otherwise (Named name) = name.place
+name_place otherwise (Unnamed at) = otherwise
+name_place otherwise (Pointer at qualifiers d) = name_place otherwise d
+name_place otherwise (Parenthesised at d) = name_place otherwise d
+name_place otherwise (Array at d length) = name_place otherwise d
+name_place otherwise (Function at d _ _) = name_place otherwise d
 
 -- ## Declarators
+
+-- whether a qualifier is `const`
+abbrev pub is_const_word : Sign → Bool
+is_const_word sign.Const = true
+is_const_word s = false
 
 -- whether `const` stands among the qualifiers of a pointer
 abbrev pub has_const_word : List Sign → Bool
 has_const_word [] = false
-has_const_word (sign.Const ∷ rest) = true
-has_const_word (s ∷ rest) = has_const_word rest
+has_const_word (s ∷ rest) = is_const_word s || has_const_word rest
 
--- whether another qualifier than `const` stands there
-abbrev pub has_other_word : List Sign → Bool
-has_other_word [] = false
-has_other_word (sign.Const ∷ rest) = has_other_word rest
-has_other_word (s ∷ rest) = true
+-- the number of the first qualifier that isn't `const`, counted from the number of the first one
+abbrev pub other_word : ℕ → List Sign → Option ℕ
+other_word i [] = None
+other_word i (s ∷ rest) = if is_const_word s then other_word (i + 1) rest else Some i
+
+-- a row on a word that may be there
+abbrev pub also_word : {A : Type 0} → Keep → Option ℕ → SubsetCode → At → Judged A → Judged A
+also_word h None code at j = j
+also_word h (Some i) code at j = also h true code (word_of at i) j
+
+-- whether a function stands round
+abbrev pub is_of_function : Made → Bool
+is_of_function around.Function = true
+is_of_function made = false
+
+-- whether a function or an array stands round
+abbrev pub is_of_aggregate : Made → Bool
+is_of_aggregate around.Function = true
+is_of_aggregate around.Array = true
+is_of_aggregate made = false
 
 -- a pointer to a type: not to `void`, nor to a function; one to an array without a length has no type here (C99 6.7.5.1)
-abbrev pub pointed : At → List Sign → Shape → Ruled Shape
-pointed at qualifiers (a_type t) = if is_void t then refused subset.BadPointer at else Ok (a_type (pointer (has_const_word qualifiers) t))
-pointed at qualifiers an_open_array = refused subset.IncompleteType at
-pointed at qualifiers a_function_type = refused subset.BadPointer at
+abbrev pub pointed : At → At → List Sign → Shape → Ruled Shape
+pointed at name_at qualifiers (a_type t) = if is_void t then refused subset.BadPointer at else Ok (a_type (pointer (has_const_word qualifiers) t))
+pointed at name_at qualifiers (an_open_array t) = refused subset.IncompleteType name_at
+pointed at name_at qualifiers (a_function_type parameters t) = refused subset.BadPointer at
 
--- the qualifiers of a pointer: `const` alone
-unfoldable pub pointer_judged : Keep → At → List Sign → Judged Shape → Judged Shape
-pointer_judged h at qualifiers j = also h (has_other_word qualifiers) subset.BadSpecifier at (on_part j (pointed at qualifiers))
+-- a pointer: not to a function, which is a row on the form, and `const` is its only qualifier
+unfoldable pub pointer_judged : Keep → At → At → List Sign → Made → Judged Shape → Judged Shape
+pointer_judged h at name_at qualifiers made j =
+    also h (is_of_function made) subset.BadPointer at
+    (also_word h (other_word 1 qualifiers) subset.BadSpecifier at (on_part j (pointed at name_at qualifiers)))
 
 -- an element of an array has a size (C99 6.7.5.2p1)
 abbrev pub element : List PlainStructure → At → Shape → Ruled PlainType
-element structures at (a_type t) = if is_complete structures t then Ok t else refused subset.IncompleteType at
-element structures at an_open_array = refused subset.IncompleteType at
-element structures at a_function_type = refused subset.IncompleteType at
+element structures name_at (a_type t) = if is_complete structures t then Ok t else refused subset.IncompleteType name_at
+element structures name_at (an_open_array t) = refused subset.IncompleteType name_at
+element structures name_at (a_function_type parameters t) = refused subset.IncompleteType name_at
 
--- a length that is at least 1, of a type that isn't too large
+-- a length from 1 on, of an array that isn't larger than a type may be
 abbrev pub sized_array : List PlainStructure → At → PlainType → ℤ → Ruled Shape
 sized_array structures at t (pos n) =
-    if nat_le 1 n && nat_le (n * size_of structures t) most_bytes then Ok (a_type (array false t n)) else refused subset.BadLength at
+    if (nat_le 1 n && nat_le n most_bytes) && has_size structures (array false t n) then Ok (a_type (array false t n)) else refused subset.BadLength at
 sized_array structures at t (negsuc n) = refused subset.BadLength at
 
 -- a length that is a constant expression (C99 6.7.5.2p1): the first part that isn't constant refuses it as no length
@@ -279,25 +326,102 @@ constant_length structures at t v None = folded_length structures at t (fold v)
 constant_length structures at t v (Some part) = refused subset.BadLength at
 
 -- an array of elements with a length
-abbrev pub array_of : List PlainStructure → At → PlainType → PlainValue → Ruled Shape
-array_of structures at t v =
+abbrev pub array_of : List PlainStructure → PlainType → PlainValue → Ruled Shape
+array_of structures t v =
     if is_integer (type_of v) then constant_length structures (at_of v) t v (inconstant_part v) else refused subset.BadLength (at_of v)
 
--- an array with a length; nothing in the length is evaluated for the order of evaluation
-unfoldable pub array_judged : Keep → List PlainStructure → At → Judged PlainValue → Judged Shape → Judged Shape
-array_judged h structures at length j = record {
-  found = on (pair h (on j.found (element structures at)) length.found) (λ (t, v). array_of structures at t v);
+-- an array with a length: not of functions, which is a row on the form. Nothing in the length counts for the order of
+-- evaluation
+unfoldable pub array_judged : Keep → List PlainStructure → At → Made → Judged PlainValue → Judged Shape → Judged Shape
+array_judged h structures name_at made length j = also h (is_of_function made) subset.IncompleteType name_at (record {
+  found = on (pair h (on j.found (element structures name_at)) length.found) (λ (t, v). array_of structures t v);
   acts = false;
   reads = false;
-}
+})
 
 -- an array whose length is lacking
-unfoldable pub open_array_judged : List PlainStructure → At → Judged Shape → Judged Shape
-open_array_judged structures at j = on_part (on_part j (element structures at)) (λ t. Ok an_open_array)
+unfoldable pub open_array_judged : Keep → List PlainStructure → At → Made → Judged Shape → Judged Shape
+open_array_judged h structures name_at made j =
+    also h (is_of_function made) subset.IncompleteType name_at (on_part (on_part j (element structures name_at)) (λ t. Ok (an_open_array t)))
 
--- a function that gives a type: no function and no array
-abbrev pub gives : At → Shape → Ruled Shape
-gives at (a_type (array c t n)) = refused subset.IncompleteType at
-gives at (a_type t) = Ok a_function_type
-gives at an_open_array = refused subset.IncompleteType at
-gives at a_function_type = refused subset.IncompleteType at
+-- what a function gives: a value or nothing, no array and no structure (C99 6.7.5.3p1)
+abbrev pub given_type : At → At → Shape → Ruled PlainType
+given_type at name_at (a_type (void c)) = Ok (void c)
+given_type at name_at (a_type (integer c i)) = Ok (integer c i)
+given_type at name_at (a_type (pointer c t)) = Ok (pointer c t)
+given_type at name_at (a_type (array c t n)) = refused subset.IncompleteType name_at
+given_type at name_at (a_type (structure c n)) = refused subset.StructurePassed at
+given_type at name_at (an_open_array t) = refused subset.IncompleteType name_at
+given_type at name_at (a_function_type parameters t) = refused subset.IncompleteType name_at
+
+-- ## Parameters
+
+-- before the first parameter
+abbrev pub no_parameters : Found (List PlainType)
+no_parameters = Ok []
+
+-- whether a declarator names nothing and adds nothing
+abbrev pub is_unnamed : Declarator At → Bool
+is_unnamed (Unnamed at) = true
+is_unnamed d = false
+
+-- whether there is one parameter alone, whose declarator names nothing
+abbrev pub is_alone : Parameters At → Bool
+is_alone (MoreParameters (parameter at _ d) NoParameters) = is_unnamed d
+is_alone all = false
+
+-- a parameter of type `void`: alone and unnamed it says that there are none (C99 6.7.5.3p10)
+abbrev pub void_parameter : Bool → At → Ruled (Option PlainType)
+void_parameter alone name_at = if alone then Ok None else refused subset.IncompleteType name_at
+
+-- the type of a parameter that has one: an array becomes a pointer to its elements (C99 6.7.5.3p7)
+abbrev pub plain_parameter : Bool → At → At → PlainType → Ruled (Option PlainType)
+plain_parameter alone at name_at (void c) = void_parameter alone name_at
+plain_parameter alone at name_at (integer c i) = Ok (Some (integer c i))
+plain_parameter alone at name_at (pointer c t) = Ok (Some (pointer c t))
+plain_parameter alone at name_at (array c t n) = Ok (Some (pointer false t))
+plain_parameter alone at name_at (structure c n) = refused subset.StructurePassed at
+
+-- the type of a parameter; a function would become a pointer to it
+abbrev pub parameter_type : Bool → At → At → At → Shape → Ruled (Option PlainType)
+parameter_type alone at name_at declarator_at (a_type t) = plain_parameter alone at name_at t
+parameter_type alone at name_at declarator_at (an_open_array t) = Ok (Some (pointer false t))
+parameter_type alone at name_at declarator_at (a_function_type parameters t) = refused subset.BadPointer declarator_at
+
+-- what a declarator makes by its form, if it stands in one that makes something
+abbrev pub made_by : Made → Declarator At → Made
+made_by made (Named name) = made
+made_by made (Unnamed at) = made
+made_by made (Pointer at qualifiers d) = made_by around.Pointer d
+made_by made (Parenthesised at d) = made_by made d
+made_by made (Array at d length) = made_by around.Array d
+made_by made (Function at d _ _) = made_by around.Function d
+
+-- a parameter: that it is a function is a row on the form
+unfoldable pub parameter_judged : Keep → Bool → At → Declarator At → Judged Shape → Found (Option PlainType)
+parameter_judged h alone at d j =
+    refused_where h (is_of_function (made_by around.Nothing d)) subset.BadPointer (declarator_place d)
+    (on j.found (parameter_type alone at (name_place at d) (declarator_place d)))
+
+-- types with one more at the end, if there is one
+abbrev pub with_type : List PlainType → Option PlainType → List PlainType
+with_type ts None = ts
+with_type ts (Some t) = ts ++ t ∷ []
+
+-- one parameter more
+abbrev pub with_parameter : Keep → Found (List PlainType) → Found (Option PlainType) → Found (List PlainType)
+with_parameter h before one = on (pair h before one) (λ (ts, o). Ok (with_type ts o))
+
+-- `()`, or `...` after the parameters
+abbrev pub lacks_prototype : Parameters At → Bool → Bool
+lacks_prototype NoParameters dots = true
+lacks_prototype (MoreParameters p rest) dots = dots
+
+-- a function with its parameters: that it has a prototype, and gives neither a function nor an array, are rows on the form
+unfoldable pub function_judged : Keep → At → At → At → Bool → Made → Found (List PlainType) → Judged Shape → Judged Shape
+function_judged h at name_at inner_at lacking made parameters j =
+    also h lacking subset.NoPrototype (words_after inner_at at) (also h (is_of_aggregate made) subset.IncompleteType name_at (record {
+      found = on (pair h parameters (on j.found (given_type at name_at))) (λ (ts, t). Ok (a_function_type ts t));
+      acts = false;
+      reads = false;
+    }))

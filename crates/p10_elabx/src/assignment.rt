@@ -4,14 +4,14 @@ ghost use Rattle.std.specs.Prelude.{◌≡◌, IfOk, option_map, false};
 ghost use Rattle.p10_core.specs.Types.{plain_type, unqualified};
 ghost use Rattle.p10_core.specs.Views.{plain_types, plain_value, plain_place, plain_statement_form};
 ghost use Rattle.p10_elabx.specs.Operators.{copied_from, assigned, updated_by, updated};
-ghost use Rattle.p10_elabx.specs.private.Built.{plain_row, ruled_form};
+ghost use Rattle.p10_elabx.specs.Built.{plain_row, ruled_form};
 
-use crate::operators::fitted;
+use crate::operators::{fitted, null_beside};
 use crate::problem::Problem;
 use crate::rows::{Row, binary_row, fits};
-use crate::value::converted;
+use crate::values::converted;
 use p10_base::{At, SubsetCode};
-use p10_core::{CType, Place, StmtForm, Types, UpdateKind, Value, ValueForm, is_null};
+use p10_core::{CType, Place, StmtForm, Types, UpdateKind, Value, ValueForm};
 use p10_int::BinOp;
 use std::alloc::{AllocError, Global};
 
@@ -66,6 +66,7 @@ fn copied_from(
 }
 
 /// `P op= e`, `P++` and `P--`.
+#[tactic(auto, using(crate::proofs::Nulls::update_null))]
 pub fn updated(
     alloc: Global,
     types: &Types<'_>,
@@ -78,7 +79,7 @@ pub fn updated(
     ensures { IfOk result (λ r. ruled_form r ≡ updated (plain_types types.now) at kind op (plain_place p) (plain_value v)) }
 {
     let target = p.ty.copy(alloc)?.unqualified();
-    let nulls = (false, is_null(&v));
+    let nulls = (false, null_beside(&v, &target));
     let row = binary_row(alloc, types, op, nulls, &target, &v.ty)?;
     updated_by(alloc, at, (kind, op), p, v, row)
 }

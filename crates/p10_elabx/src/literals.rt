@@ -1,15 +1,21 @@
-//! The values of constants (C99 6.4.4).
+//! The values of constants and strings (C99 6.4.4, 6.4.5).
 
-ghost use Rattle.std.specs.Prelude.{◌≡◌, ℤ, pos};
-ghost use Rattle.p10_elabx.specs.Literals.{constant_types, first_type, constant_of_type, integer_value, number_found, character_by, character_found};
-ghost use Rattle.p10_elabx.specs.private.Built.{ruled_operand};
+ghost use Rattle.std.specs.Prelude.{◌≡◌, ℤ, pos, IfOk, Some, [], map, option_map, length, false};
+ghost use Rattle.p10_int.specs.declared.types.IntType.TheVariants.{Char};
+ghost use Rattle.p10_core.specs.Types.{integer, array};
+ghost use Rattle.p10_core.specs.Typed.{place, literal};
+ghost use Rattle.p10_core.specs.Views.{plain_place};
+ghost use Rattle.p10_elabx.specs.Literals.{constant_types, first_type, constant_of_type, integer_value, number_found, character_by, character_found, string_value, strings_value, string_of, strings_found};
+ghost use Rattle.p10_elabx.specs.Built.{ruled_operand};
 
-use crate::operand::Operand;
+use crate::operand::{Operand, PlaceKind};
 use crate::problem::Problem;
-use p10_base::At;
-use p10_core::{CType, Value};
+use crate::sizes::is_small;
+use p10_base::{At, SubsetCode};
+use p10_core::{CType, Place, Value};
 use p10_int::{IntType, holds};
-use p10_lex::{Base, Integer, Suffix, character_value, integer_constant};
+use p10_lex::{Base, Integer, Suffix, character_value, integer_constant, string_bytes};
+use std::alloc::{AllocError, Global};
 
 /// A number (C99 6.4.4.1).
 pub fn number_found(at: At, text: &[u8]) -> Result<Operand, Option<Problem>>
@@ -86,5 +92,72 @@ pub fn character_found(at: At, text: &[u8]) -> Result<Operand, Option<Problem>>
     match character_value(text) {
         None => Err(None),
         Some(value) => Ok(Operand::Value(Value::constant(at, CType::integer(IntType::Int), value))),
+    }
+}
+
+/// The bytes of a string, without the last 0.
+fn string_value(alloc: Global, text: &[u8]) -> Result<Option<Vec<u8>>, AllocError>
+    ensures { IfOk result (λ found. option_map (λ bytes. bytes.items) found ≡ string_value text.now) }
+{
+    string_bytes(alloc, text)
+}
+
+/// The bytes of strings that stand side by side.
+fn strings_value(alloc: Global, texts: &[&[u8]]) -> Result<Option<Vec<u8>>, AllocError>
+    ensures { IfOk result (λ found. option_map (λ bytes. bytes.items) found ≡ strings_value (Some []) (map (λ text. text.now) texts.now)) }
+{
+    let mut bytes = Vec::new(alloc);
+    for text in texts {
+        match string_value(alloc, text)? {
+            Some(more) => bytes.extend_from_slice(more.as_slice())?,
+            None => return Ok(None),
+        }
+    }
+    Ok(Some(bytes))
+}
+
+/// The place of a string of bytes with its last 0.
+fn string_place(alloc: Global, at: At, bytes: Vec<u8>) -> Result<Place, AllocError>
+    ensures { IfOk result (λ p. plain_place p ≡ place at (array false (integer false Char) (length bytes.items)) (literal at.first bytes.items)) }
+{
+    let ty = CType::array(alloc, CType::integer(IntType::Char), bytes.len() as u64)?;
+    Ok(Place::literal(at, ty, at.first, bytes))
+}
+
+/// A string of bytes with its last 0.
+fn string_of(
+    alloc: Global,
+    at: At,
+    bytes: Vec<u8>,
+) -> Result<Result<Operand, Option<Problem>>, AllocError>
+    ensures { IfOk result (λ r. ruled_operand r ≡ string_of at bytes.items) }
+{
+    if is_small(bytes.len() as u64) {
+        let whole = string_place(alloc, at, bytes)?;
+        Ok(Ok(Operand::Place(PlaceKind::Object, whole)))
+    } else {
+        Ok(Err(Some(Problem {
+            code: SubsetCode::BadLength,
+            at,
+        })))
+    }
+}
+
+/// Strings that stand side by side (C99 6.4.5).
+pub fn strings_found(
+    alloc: Global,
+    at: At,
+    texts: &[&[u8]],
+) -> Result<Result<Operand, Option<Problem>>, AllocError>
+    ensures { IfOk result (λ r. ruled_operand r ≡ strings_found at (map (λ text. text.now) texts.now)) }
+{
+    match strings_value(alloc, texts)? {
+        Some(bytes) => {
+            let mut bytes = bytes;
+            bytes.push(0)?;
+            let found = string_of(alloc, at, bytes)?;
+            Ok(found)
+        }
+        None => Ok(Err(None)),
     }
 }

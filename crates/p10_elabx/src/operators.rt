@@ -1,20 +1,28 @@
 //! What operators make of values (C99 6.5).
 
-ghost use Rattle.std.specs.Prelude.{◌≡◌, IfOk, option_map, Some};
+ghost use Rattle.std.specs.Prelude.{◌≡◌, ◌&&◌, IfOk, option_map, Some};
 ghost use Rattle.p10_core.specs.Types.{plain_type};
 ghost use Rattle.p10_core.specs.Views.{plain_types, plain_value};
-ghost use Rattle.p10_core.specs.WholePrograms.{AreWholeStructures, IsWholeType};
-ghost use Rattle.p10_elabx.specs.Operators.{unary_by, unary_value, binary_by, binary_value, logic_value, conditional_by, conditional_value, fitted, cast_value, size_value};
-ghost use Rattle.p10_elabx.specs.private.Built.{plain_row, plain_unary_row, ruled_value, ruled_operand};
+ghost use Rattle.p10_core.specs.Rows.{is_pointer};
+ghost use Rattle.p10_core.specs.Constants.{is_null};
+ghost use Rattle.p10_elabx.specs.Operators.{unary_by, unary_value, binary_by, binary_value, logic_value, conditional_by, conditional_value, fitted, cast_value};
+ghost use Rattle.p10_elabx.specs.Built.{plain_row, plain_unary_row, ruled_value};
 
-use crate::operand::Operand;
 use crate::problem::Problem;
 use crate::rows::{Row, UnaryRow, binary_row, conditional_row, fits, may_cast, unary_row};
-use crate::value::converted;
+use crate::values::converted;
 use p10_base::{At, SubsetCode};
 use p10_core::{CType, LogicOp, Types, Value, is_null};
 use p10_int::{BinOp, IntType, UnOp};
 use std::alloc::{AllocError, Global};
+
+/// Whether a value is a null constant where it stands beside a type. Only a pointer asks for one, so that no constant is folded
+/// anew by each operator round it.
+pub fn null_beside(v: &Value, other: &CType) -> bool
+    ensures { result ≡ (is_pointer (plain_type other.now) && is_null (plain_value v.now)) }
+{
+    other.is_pointer() && is_null(v)
+}
 
 /// Unary `+`, `-`, `~` and `!`.
 pub fn unary_value(
@@ -52,6 +60,7 @@ fn unary_by(
 }
 
 /// A binary operator on two values.
+#[tactic(auto, using(crate::proofs::Nulls::binary_nulls))]
 pub fn binary_value(
     alloc: Global,
     types: &Types<'_>,
@@ -62,7 +71,7 @@ pub fn binary_value(
 ) -> Result<Result<Value, Option<Problem>>, AllocError>
     ensures { IfOk result (λ r. ruled_value r ≡ binary_value (plain_types types.now) at op (plain_value left) (plain_value right)) }
 {
-    let nulls = (is_null(&left), is_null(&right));
+    let nulls = (null_beside(&left, &right.ty), null_beside(&right, &left.ty));
     let row = binary_row(alloc, types, op, nulls, &left.ty, &right.ty)?;
     binary_by(alloc, at, op, left, right, row)
 }
@@ -112,6 +121,7 @@ pub fn logic_value(
 }
 
 /// `?:`.
+#[tactic(auto, using(crate::proofs::Nulls::conditional_nulls))]
 pub fn conditional_value(
     alloc: Global,
     at: At,
@@ -122,7 +132,7 @@ pub fn conditional_value(
     ensures { IfOk result (λ r. ruled_value r ≡ conditional_value at (plain_value test) (plain_value left) (plain_value right)) }
 {
     if test.ty.is_scalar() {
-        let nulls = (is_null(&left), is_null(&right));
+        let nulls = (null_beside(&left, &right.ty), null_beside(&right, &left.ty));
         let row = conditional_row(alloc, nulls, &left.ty, &right.ty)?;
         conditional_by(alloc, at, test, left, right, row)
     } else {
@@ -158,6 +168,7 @@ fn conditional_by(
 }
 
 /// A value where one of a type is needed, as in an assignment; the tree at which it is refused is given.
+#[tactic(auto, using(crate::proofs::Nulls::fits_null))]
 pub fn fitted(
     alloc: Global,
     at: At,
@@ -166,7 +177,7 @@ pub fn fitted(
 ) -> Result<Result<Value, Option<Problem>>, AllocError>
     ensures { IfOk result (λ r. ruled_value r ≡ fitted at (plain_value v) (plain_type ty.now)) }
 {
-    if fits(is_null(&v), &v.ty, ty) {
+    if fits(null_beside(&v, ty), &v.ty, ty) {
         let ty = ty.copy(alloc)?.unqualified();
         Ok(Ok(converted(alloc, v, ty)?))
     } else {
@@ -178,6 +189,7 @@ pub fn fitted(
 }
 
 /// A written cast.
+#[tactic(auto, using(crate::proofs::Nulls::casts_null))]
 pub fn cast_value(
     alloc: Global,
     at: At,
@@ -186,7 +198,7 @@ pub fn cast_value(
 ) -> Result<Result<Value, Option<Problem>>, AllocError>
     ensures { IfOk result (λ r. ruled_value r ≡ cast_value at (plain_type ty.now) (plain_value v)) }
 {
-    if may_cast(is_null(&v), &v.ty, ty) {
+    if may_cast(null_beside(&v, ty), &v.ty, ty) {
         let ty = ty.copy(alloc)?.unqualified();
         Ok(Ok(Value::cast(alloc, at, ty, v)?))
     } else {
@@ -194,22 +206,5 @@ pub fn cast_value(
             code: SubsetCode::BadCast,
             at,
         })))
-    }
-}
-
-/// The size of a type as a constant.
-pub fn size_value(types: &Types<'_>, at: At, ty: &CType) -> Result<Operand, Option<Problem>>
-    requires structures { AreWholeStructures (plain_types types.now) }
-    requires whole { IsWholeType (plain_types types.now) (plain_type ty.now) }
-    ensures { ruled_operand result ≡ size_value (plain_types types.now) at (plain_type ty.now) }
-{
-    if types.is_complete(ty) {
-        let size = i128::from(types.size(ty));
-        Ok(Operand::Value(Value::constant(at, CType::integer(IntType::ULong), size)))
-    } else {
-        Err(Some(Problem {
-            code: SubsetCode::NoSize,
-            at,
-        }))
     }
 }

@@ -1,21 +1,25 @@
 //! The places that operators give, and what is done with places (C99 6.5.2.1, 6.5.2.3, 6.5.3.2, 6.5.3.4).
 
-ghost use Rattle.std.specs.Prelude.{◌≡◌, IfOk, option_map, option_copied, slice_get, Some, false};
-ghost use Rattle.p10_core.specs.Types.{plain_type, qualified, members_of, integer};
+ghost use Rattle.std.specs.Prelude.{◌≡◌, IfOk, Some, false, map};
+ghost use Rattle.p10_core.specs.Types.{plain_type, plain_member, qualified, members_of, member_named, integer};
 ghost use Rattle.p10_core.specs.Views.{plain_types, plain_value, plain_place};
+ghost use Rattle.p10_core.specs.Rows.{mark_of};
 ghost use Rattle.p10_core.specs.WholePrograms.{AreWholeStructures};
 ghost use Rattle.p10_int.specs.Types.{promoted};
-ghost use Rattle.p10_elabx.specs.Operators.{dereferenced, indexed, element_of, promoted_value, member_by, member_in, member_found, arrow_found, address_found, target_found};
-ghost use Rattle.p10_elabx.specs.private.Built.{plain_operand, ruled_operand, ruled_target};
+ghost use Rattle.p10_elabx.specs.Operators.{dereferenced, indexed, element_of, promoted_value, member_there, member_by, member_in, member_found, arrow_found, address_found, target_found};
+ghost use Rattle.p10_elabx.specs.Built.{plain_operand, ruled_operand, ruled_target};
 
 use crate::operand::{Operand, PlaceKind};
 use crate::problem::Problem;
 use crate::rows::pointer_to;
-use crate::value::converted;
+use crate::values::converted;
 use p10_base::{At, SubsetCode};
-use p10_core::{CType, Place, TypeForm, Types, Value};
+use p10_core::{CType, Member, Place, TypeForm, Types, Value};
 use p10_int::{IntType, promote};
 use std::alloc::{AllocError, Global};
+
+/// The greatest number of a member: it has 32 bits, as numbers of words have.
+const LAST_MEMBER: usize = 4_294_967_295;
 
 /// `*`.
 pub fn dereferenced(
@@ -140,6 +144,164 @@ pub fn target_found(
             code: SubsetCode::FixedTarget,
             at,
         })),
+    }
+}
+
+/// The member with a name of a place that is a structure.
+#[tactic(auto, using(crate::proofs::Members::mark_of_plain))]
+fn member_in(
+    alloc: Global,
+    types: &Types<'_>,
+    at: At,
+    name: &[u8],
+    p: Place,
+) -> Result<Result<Operand, Option<Problem>>, AllocError>
+    ensures { IfOk result (λ r. ruled_operand r ≡ member_in (plain_types types.now) at name.now (plain_place p)) }
+{
+    match &p.ty.form {
+        TypeForm::Struct(number) => {
+            let number = *number;
+            let found = structure_member(alloc, types, at, name, number, p)?;
+            Ok(found)
+        }
+        _ => Ok(Err(Some(Problem {
+            code: SubsetCode::OperandTypes,
+            at,
+        }))),
+    }
+}
+
+/// The member with a name of a place that is the structure with a number.
+#[tactic(auto, using(crate::proofs::Members::mark_of_plain))]
+fn structure_member(
+    alloc: Global,
+    types: &Types<'_>,
+    at: At,
+    name: &[u8],
+    number: u32,
+    p: Place,
+) -> Result<Result<Operand, Option<Problem>>, AllocError>
+    ensures { IfOk result (λ r. ruled_operand r ≡ member_by at (mark_of (plain_type p.ty)) (plain_place p) (members_of (plain_types types.now) number) (member_named name.now (members_of (plain_types types.now) number))) }
+{
+    let place = types.member_named(number, name);
+    match types.body(number) {
+        Some(body) => {
+            let found = member_by(alloc, at, p, body.members.as_slice(), place)?;
+            Ok(found)
+        }
+        None => Ok(Err(Some(Problem {
+            code: SubsetCode::UnknownMember,
+            at,
+        }))),
+    }
+}
+
+/// A member by its place among the members, with the marks of the structure.
+#[tactic(auto, using(crate::proofs::Members::member_at))]
+fn member_by(
+    alloc: Global,
+    at: At,
+    p: Place,
+    members: &[Member<'_>],
+    place: Option<usize>,
+) -> Result<Result<Operand, Option<Problem>>, AllocError>
+    ensures { IfOk result (λ r. ruled_operand r ≡ member_by at (mark_of (plain_type p.ty)) (plain_place p) (map plain_member members.now) place) }
+{
+    match place {
+        Some(place) => match members.get(place) {
+            Some(member) => {
+                let found = member_there(alloc, at, p, place, member)?;
+                Ok(found)
+            }
+            None => Ok(Err(Some(Problem {
+                code: SubsetCode::UnknownMember,
+                at,
+            }))),
+        },
+        None => Ok(Err(Some(Problem {
+            code: SubsetCode::UnknownMember,
+            at,
+        }))),
+    }
+}
+
+/// A member that is there.
+#[tactic(auto, using(crate::proofs::Members::mark_of_plain))]
+fn member_there(
+    alloc: Global,
+    at: At,
+    p: Place,
+    place: usize,
+    member: &Member<'_>,
+) -> Result<Result<Operand, Option<Problem>>, AllocError>
+    ensures { IfOk result (λ r. ruled_operand r ≡ member_there at (mark_of (plain_type p.ty)) (plain_place p) place (Some (plain_member member.now))) }
+{
+    if place <= LAST_MEMBER {
+        let mark = p.ty.is_const;
+        let ty = qualified(alloc, mark, &member.ty)?;
+        let whole = Place::member(alloc, at, ty, p, place as u32)?;
+        Ok(Ok(Operand::Place(PlaceKind::Object, whole)))
+    } else {
+        Ok(Err(Some(Problem {
+            code: SubsetCode::UnknownMember,
+            at,
+        })))
+    }
+}
+
+/// `.` with the name of a member.
+pub fn member_found(
+    alloc: Global,
+    types: &Types<'_>,
+    at: At,
+    name: &[u8],
+    operand: Operand,
+) -> Result<Result<Operand, Option<Problem>>, AllocError>
+    ensures { IfOk result (λ r. ruled_operand r ≡ member_found (plain_types types.now) at name.now (plain_operand operand)) }
+{
+    match operand {
+        Operand::Place(_, p) => {
+            let found = member_in(alloc, types, at, name, p)?;
+            Ok(found)
+        }
+        Operand::Value(_) => Ok(Err(Some(Problem {
+            code: SubsetCode::OperandTypes,
+            at,
+        }))),
+        Operand::Function(at) => Ok(Err(Some(Problem {
+            code: SubsetCode::BadPointer,
+            at,
+        }))),
+    }
+}
+
+/// `->` with the name of a member.
+pub fn arrow_found(
+    alloc: Global,
+    types: &Types<'_>,
+    at: At,
+    name: &[u8],
+    v: Value,
+) -> Result<Result<Operand, Option<Problem>>, AllocError>
+    ensures { IfOk result (λ r. ruled_operand r ≡ arrow_found (plain_types types.now) at name.now (plain_value v)) }
+{
+    match &v.ty.form {
+        TypeForm::Pointer(target) => match &target.form {
+            TypeForm::Struct(_) => {
+                let ty = target.copy(alloc)?;
+                let whole = Place::dereference(alloc, at, ty, v)?;
+                let found = member_in(alloc, types, at, name, whole)?;
+                Ok(found)
+            }
+            _ => Ok(Err(Some(Problem {
+                code: SubsetCode::OperandTypes,
+                at,
+            }))),
+        },
+        _ => Ok(Err(Some(Problem {
+            code: SubsetCode::OperandTypes,
+            at,
+        }))),
     }
 }
 

@@ -4,7 +4,7 @@ ghost use Rattle.std.specs.Prelude.{◌≡◌, IfOk, Some, option_map, false};
 ghost use Rattle.p10_core.specs.Types.{plain_type, pointer};
 ghost use Rattle.p10_core.specs.Views.{plain_types};
 ghost use Rattle.p10_core.specs.Rows.{usual_row, compared_row, row_where, moved_row, integers_row, sum_row, difference_row, shift_row, order_row, equality_row, binary_row, conditional_row, unary_row, promoted_row, negation_row, fits, may_cast, is_complete, same};
-ghost use Rattle.p10_elabx.specs.private.Built.{plain_row, plain_unary_row};
+ghost use Rattle.p10_elabx.specs.Built.{plain_row, plain_unary_row};
 
 use p10_core::{CType, TypeForm, Types};
 use p10_int::{BinOp, IntType, UnOp, promote, usual};

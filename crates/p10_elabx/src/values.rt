@@ -3,9 +3,11 @@
 ghost use Rattle.std.specs.Prelude.{◌≡◌, IfOk};
 ghost use Rattle.p10_core.specs.Types.{plain_type};
 ghost use Rattle.p10_core.specs.Views.{plain_types, plain_value, plain_place, plain_form};
-ghost use Rattle.p10_elabx.specs.Operands.{converted, not_void, operand_value, place_value, read_value, sensed, read_form};
-ghost use Rattle.p10_elabx.specs.private.Built.{plain_operand, ruled_value};
+ghost use Rattle.p10_elabx.specs.First.{lift};
+ghost use Rattle.p10_elabx.specs.Operands.{converted, not_void, operand_value, place_value, read_value, sensed, read_form, reads_object, reads_sensor, any_value, as_value};
+ghost use Rattle.p10_elabx.specs.Built.{plain_operand, ruled_value, ruled_operand, judged_operand, judged_value};
 
+use crate::judged::Judged;
 use crate::operand::{Operand, PlaceKind};
 use crate::problem::Problem;
 use crate::rows::pointer_to;
@@ -125,4 +127,62 @@ pub fn converted(alloc: Global, v: Value, ty: CType) -> Result<Value, AllocError
         let at = v.at;
         Value::convert(alloc, at, ty, v)
     }
+}
+
+/// Whether the value of an operand is read from an object or a sensor.
+fn reads_object(found: &Result<Operand, Option<Problem>>) -> bool
+    ensures { result ≡ reads_object (lift (ruled_operand found.now)) }
+{
+    match found {
+        Ok(Operand::Place(PlaceKind::Frame, _)) => false,
+        Ok(Operand::Place(PlaceKind::Object | PlaceKind::Sensor, p)) => !p.ty.is_array(),
+        Ok(Operand::Value(_) | Operand::Function(_)) | Err(_) => false,
+    }
+}
+
+/// Whether the value of an operand is read from a sensor.
+fn reads_sensor(found: &Result<Operand, Option<Problem>>) -> bool
+    ensures { result ≡ reads_sensor (lift (ruled_operand found.now)) }
+{
+    match found {
+        Ok(Operand::Place(PlaceKind::Sensor, _)) => true,
+        Ok(Operand::Place(PlaceKind::Frame | PlaceKind::Object, _)) => false,
+        Ok(Operand::Value(_) | Operand::Function(_)) | Err(_) => false,
+    }
+}
+
+/// What is found in an operand, as a value that may be void.
+#[tactic(auto, unfolding(crate::specs::Operands::any_value))]
+pub fn any_value(
+    alloc: Global,
+    types: &Types<'_>,
+    j: Judged<Operand>,
+) -> Result<Judged<Value>, AllocError>
+    ensures { IfOk result (λ r. judged_value r ≡ any_value (plain_types types.now) (judged_operand j)) }
+{
+    let Judged { found, acts, reads } = j;
+    let acts = acts || reads_sensor(&found);
+    let reads = reads || reads_object(&found);
+    let found = match found {
+        Ok(operand) => operand_value(alloc, types, operand)?,
+        Err(r) => Err(r),
+    };
+    Ok(Judged { found, acts, reads })
+}
+
+/// What is found in an operand where a value is needed.
+#[tactic(auto, unfolding(crate::specs::Operands::as_value))]
+pub fn as_value(
+    alloc: Global,
+    types: &Types<'_>,
+    j: Judged<Operand>,
+) -> Result<Judged<Value>, AllocError>
+    ensures { IfOk result (λ r. judged_value r ≡ as_value (plain_types types.now) (judged_operand j)) }
+{
+    let Judged { found, acts, reads } = any_value(alloc, types, j)?;
+    let found = match found {
+        Ok(v) => not_void(v),
+        Err(r) => Err(r),
+    };
+    Ok(Judged { found, acts, reads })
 }
