@@ -14,3 +14,4 @@ pub mod Lengths
 pub mod RootTakes
 pub mod Roots
 pub mod Examples
+pub mod UnitLaws

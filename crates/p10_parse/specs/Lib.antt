@@ -6,3 +6,4 @@ pub mod ExternalReading
 pub mod Roots
 pub mod Examples
 pub mod Laws
+pub mod Units

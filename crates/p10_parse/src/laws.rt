@@ -1,7 +1,7 @@
 //! Laws of the grammar of declarations and functions.
 
 ghost use Rattle.p10_parse.specs.Examples.{ExamplesAreRead};
-ghost use Rattle.p10_parse.specs.Laws.{ExternalsAreApart, LongestsAreOne, ReadingIsLongest, RootsAreUnique};
+ghost use Rattle.p10_parse.specs.Laws.{ExternalsAreApart, FaultsAreOne, LongestsAreOne, ReadingIsLongest, RootsAreUnique, SpelledHaveNoFault, UnitsAreOne};
 
 /// Trees are unique, and no declaration or function spells a proper prefix of what another spells.
 pub fn no_prefixes()
@@ -26,4 +26,19 @@ pub fn reads_longest()
 /// Where the words alone would allow several trees, the right one is read.
 pub fn reads_examples()
     ensures { ExamplesAreRead }
+{}
+
+/// The trees of all roots are one.
+pub fn one_list_of_units()
+    ensures { UnitsAreOne }
+{}
+
+/// Roots that are within the limit and that trees spell have no fault.
+pub fn no_fault_where_spelled()
+    ensures { SpelledHaveNoFault }
+{}
+
+/// Roots have one fault at most.
+pub fn one_fault()
+    ensures { FaultsAreOne }
 {}
