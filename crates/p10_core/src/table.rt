@@ -6,6 +6,7 @@ ghost use Rattle.p10_core.specs.Views.{plain_types};
 ghost use Rattle.p10_core.specs.Sizes.{integer_bytes, size_of, alignment_of, has_constant};
 ghost use Rattle.p10_core.specs.Rows.{is_complete, is_modifiable};
 ghost use Rattle.p10_core.specs.WholePrograms.{AreWholeStructures, IsWholeType};
+ghost use Rattle.p10_core.specs.Completing.{with_structure};
 
 use crate::c_type::{CType, TypeForm};
 use crate::structures::{Body, Member, Structure};
@@ -26,6 +27,22 @@ impl<'s> Types<'s> {
         Types {
             structures: Vec::new(alloc),
         }
+    }
+
+    /// Declares a structure, which isn't complete, and gives its number (C99 6.7.2.3). Out of memory, nothing is declared.
+    pub fn add(&mut self, tag: Option<&'s [u8]>) -> Result<u32, AllocError>
+        requires room { length (plain_types self.old) < 2 ^ 32 }
+        ensures number { IfOk result (λ n. n ≡ length (plain_types self.old)) }
+        ensures ok { OnOk result (plain_types self.new ≡ with_structure (plain_types self.old) (option_map (λ t. t.now) tag.entry)) }
+        ensures err { OnErr result (plain_types self.new ≡ plain_types self.old) }
+    {
+        let number = self.structures.len() as u32;
+        self.structures.push(Structure {
+            tag,
+            body: None,
+            representative: number,
+        })?;
+        Ok(number)
     }
 
     /// The structure with a number.
