@@ -1,6 +1,5 @@
 -- Members by their places.
-use Rattle.std.specs.Prelude.{◌≡◌, ℕ, Bool, List, map, Option, Some, None, option_map, slice_get, refl}
-use Rattle.std.proofs.Common.{◌∙◌, ap, sym}
+use Rattle.std.specs.Prelude.{◌≡◌, ℕ, Bool, List, map, option_map, slice_get, refl}
 use Rattle.std.proofs.lemmas.Option.{slice_get-map}
 use Rattle.p10_core.specs.declared.c_type.TypeForm.{TypeForm}
 use Rattle.p10_core.specs.declared.c_type.TypeForm.TheVariants.{Void, Int, Pointer', Array', Struct}

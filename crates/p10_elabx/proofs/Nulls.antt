@@ -2,7 +2,7 @@
 use Rattle.std.specs.Prelude.{◌≡◌, Bool, false, ◌&&◌, List, refl}
 use Rattle.p10_int.specs.declared.operators.BinOp.{BinOp}
 use Rattle.p10_int.specs.declared.operators.BinOp.TheVariants.{Eq, Ne}
-use Rattle.p10_core.specs.Types.{PlainType, void, integer, pointer, array, structure, PlainStructure}
+use Rattle.p10_core.specs.Types.{PlainType, integer, pointer, PlainStructure}
 use Rattle.p10_core.specs.Rows.{is_pointer, equality_row, binary_row, conditional_row, fits, may_cast}
 
 equal_nulls : (a b : Bool) (s t : PlainType) → equality_row (is_pointer t && a) (is_pointer s && b) s t ≡ equality_row a b s t

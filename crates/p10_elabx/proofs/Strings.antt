@@ -4,7 +4,7 @@ use Rattle.std.specs.Prelude.{Option, Some, None, IfSome, IfNone, IfOk, Result, 
 use Rattle.std.specs.declared.alloc.Global.{Global}
 use Rattle.p10_base.specs.Words.{Text}
 use Rattle.p10_lex.specs.Splices.{joined}
-use Rattle.p10_lex.specs.Characters.{IsString, IsLiteral}
+use Rattle.p10_lex.specs.Characters.{IsString}
 use Rattle.p10_lex.specs.Literals.{inside, values_of}
 use Rattle.p10_lex.proofs.CharacterLaws.{agains, reads}
 use Rattle.p10_lex.proofs.Enclosing.{inside_takes, inside_again}

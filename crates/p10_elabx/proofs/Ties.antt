@@ -7,7 +7,6 @@ use Rattle.p10_base.specs.declared.codes.SubsetCode.{SubsetCode}
 use Rattle.p10_base.specs.declared.codes.SubsetCode.TheVariants as subset
 use Rattle.p10_int.specs.declared.operators.BinOp.{BinOp}
 use Rattle.p10_syn.specs.declared.sign.Sign.{Sign}
-use Rattle.p10_syn.specs.declared.sign.Sign.TheVariants as sign
 use Rattle.p10_syn.specs.Trees.{Identifier, Expression, expression, Name, Number, Character, Strings, Unary, Step, Binary, Assign, Conditional, Call, Index, Member, Arrow, Cast, SizeofExpression, SizeofType, Comma, Expressions, NoExpressions, MoreExpressions, Absent, Present, TypeName, type_name, Specifiers, NoSpecifiers, MoreSpecifiers, Declarator, Named, Unnamed, Pointer, Parenthesised, Array, Function, Parameters, NoParameters, MoreParameters, parameter}
 use Rattle.p10_core.specs.declared.typed.Library.{Library}
 use Rattle.p10_core.specs.declared.typed.Library.TheVariants.{Malloc, Calloc}
@@ -28,9 +27,9 @@ use Rattle.p10_elabx.specs.Scopes.{PlainScope, named}
 use Rattle.p10_elabx.specs.Operands.{PlainOperand, operand_value, not_void, reads_object, reads_sensor, any_value, as_value}
 use Rattle.p10_elabx.specs.Operators.{binary_value, logic_value, conditional_value, operand_size, indexed, member_found, arrow_found, address_found, target_found, assigned, updated}
 use Rattle.p10_elabx.specs.Calls.{Callee, of_library, callee_of, library_wants, Wanted, wanted_value, wants_of, wanted_of, Listed, no_arguments, with_value, argument_judged, with_argument, call_problem, call_value, is_assert, is_allocator, is_counted, with_problem, call_judged, operand_call, other_call, element_count}
-use Rattle.p10_elabx.specs.TypeNames.{Shape, a_type, an_open_array, a_function_type, word_of, words_after, declarator_place, name_place, other_word, also_word, is_of_function, is_of_aggregate, pointed, pointer_judged, element, array_of, array_judged, open_array_judged, given_type, no_parameters, is_alone, parameter_type, with_type, lacks_prototype, made_by, parameter_judged, with_parameter, function_judged, said_of, nothing_specified, is_bad_mixture, specifier_rule, later, specifiers_found, specified_type, specifiers_at, specifiers_judged}
+use Rattle.p10_elabx.specs.TypeNames.{Shape, a_type, an_open_array, a_function_type, word_of, words_after, declarator_place, name_place, other_word, also_word, is_of_function, is_of_aggregate, pointed, pointer_judged, element, array_of, array_judged, open_array_judged, given_type, no_parameters, is_alone, parameter_type, with_type, lacks_prototype, made_by, parameter_judged, function_judged, said_of, nothing_specified, is_bad_mixture, specifier_rule, later, specifiers_found, specified_type, specifiers_at, specifiers_judged}
 use Rattle.p10_elabx.specs.Literals.{number_found, character_found, strings_found}
-use Rattle.p10_elabx.specs.Judging.{within, name_found, valued, operation_of, assignment_of, step_of, is_and, is_star, unary_found, unary_judged, unary_by_sign, may_be_place, place_of, address_judged, values_judged, truth_judged, binary_judged, conditional_judged, index_judged, member_judged, arrow_judged, size_judged, shape_size, type_size_judged, cast_found, is_void_shape, cast_judged, target_judged, assignment_judged, counts_as_read, counts_as_act, with_read, update_judged, one_at, step_judged, by_sign, nested, comma_judged, sized_shape, shape_allocation, one_element, counted_elements, size_shape, either_shape, two_sizes, other_allocation, Factor, product_judged, cleared_judged, count_of, called_name, for_name, memory_called, for_memory, judge, judge_arguments, judge_cast, judge_allocation, judge_bytes, judge_size, judge_type, judge_declarator, judge_parameters}
+use Rattle.p10_elabx.specs.Judging.{within, name_found, valued, operation_of, assignment_of, step_of, is_and, is_star, unary_found, unary_judged, unary_by_sign, may_be_place, place_of, address_judged, values_judged, truth_judged, binary_judged, conditional_judged, index_judged, member_judged, arrow_judged, size_judged, shape_size, type_size_judged, cast_found, is_void_shape, cast_judged, target_judged, assignment_judged, counts_as_read, counts_as_act, with_read, update_judged, one_at, step_judged, by_sign, nested, comma_judged, sized_shape, shape_allocation, one_element, counted_elements, size_shape, either_shape, two_sizes, other_allocation, product_judged, cleared_judged, count_of, called_name, for_name, memory_called, for_memory, judge, judge_arguments, judge_cast, judge_allocation, judge_bytes, judge_size, judge_type, judge_declarator, judge_parameters}
 use Rattle.p10_elabx.proofs.Firsts.{kept_lift, kept_on, kept_pair, kept_where, or_same, tied_plainly, tied_on_part, tied_on_parts, tied_also, unordered_same}
 
 -- a test of what is found

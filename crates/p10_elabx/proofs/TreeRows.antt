@@ -1,22 +1,18 @@
 -- Rows of trees and of values as lists.
-use Rattle.std.specs.Prelude.{◌≡◌, ℕ, suc, ◌+◌, List, [], ◌∷◌, ◌++◌, length, map, Option, Some, None, option_map, slice_get, Vec, refl}
-use Rattle.std.specs.declared.alloc.Global.{Global}
-use Rattle.std.proofs.lemmas.Option.{slice_get-map}
-use Rattle.std.proofs.Common.{◌∙◌, ◌<◌, ap, sym, arith, rules, drop, drop-cons, get_or, add-one}
-use Rattle.p10_base.specs.declared.at.At.{At}
+use Rattle.std.specs.Prelude.{◌≡◌, ℕ, suc, ◌+◌, List, [], ◌∷◌, ◌++◌, length, map, refl}
+use Rattle.std.proofs.Common.{◌∙◌, ◌<◌, ap, sym, arith, drop, drop-cons, get_or, add-one}
 use Rattle.p10_syn.specs.declared.tree.Expr.{Expr}
 use Rattle.p10_syn.specs.declared.tree.Spec.{Spec}
 use Rattle.p10_syn.specs.declared.tree.Parameter.{Parameter}
 use Rattle.p10_syn.specs.declared.tree.Form.{Row_of-Expr, end_of-Expr, more_of-Expr, items-the_row-Expr}
-use Rattle.p10_syn.specs.declared.tree.Declarator.{Row_of-Parameter, end_of-Parameter, more_of-Parameter, items-the_row-Parameter}
-use Rattle.p10_syn.specs.Trees.{expression, Expressions, MoreExpressions, expression_row, Specifiers, MoreSpecifiers, specifier_row, Parameters, parameter, MoreParameters, parameter_row}
-use Rattle.p10_syn.specs.Built.{form_of, expression_of, expressions_of, specifier_of, specifiers_of, declarator_of, parameter_of, parameters_of}
+use Rattle.p10_syn.specs.Trees.{expression, MoreExpressions, expression_row, MoreSpecifiers, specifier_row, MoreParameters, parameter_row}
+use Rattle.p10_syn.specs.Built.{form_of, expression_of, expressions_of, specifier_of, parameter_of}
 use Rattle.p10_core.specs.declared.c_type.CType.{CType}
 use Rattle.p10_core.specs.declared.typed.Value.{Value}
 use Rattle.p10_core.specs.Types.{plain_type}
 use Rattle.p10_core.specs.Typed.{more_values}
 use Rattle.p10_core.specs.Views.{plain_value, plain_values}
-use Rattle.p10_elabx.specs.Calls.{Wanted, of_type, with_value}
+use Rattle.p10_elabx.specs.Calls.{with_value}
 use Rattle.p10_elabx.specs.Judging.{count_of}
 
 -- ## Values and types

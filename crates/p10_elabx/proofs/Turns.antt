@@ -1,5 +1,5 @@
 -- Loops over specifiers and strings, one turn at a time.
-use Rattle.std.specs.Prelude.{◌≡◌, ℕ, suc, ◌+◌, Some, Option, List, ◌∷◌, ◌++◌, length, map, refl}
+use Rattle.std.specs.Prelude.{◌≡◌, ℕ, suc, ◌+◌, Some, Option, List, ◌∷◌, ◌++◌, length, map}
 use Rattle.std.proofs.Common.{◌∙◌, ◌<◌, ap, sym, drop, drop-cons, get_or, add-one}
 use Rattle.std.specs.Borrow.{Bor}
 use Rattle.p10_base.specs.Words.{Text}

@@ -5,7 +5,6 @@ use Rattle.p10_core.specs.declared.typed.Value.{Value}
 use Rattle.p10_core.specs.declared.typed.Place.{Place}
 use Rattle.p10_core.specs.declared.statements.StmtForm.{StmtForm}
 use Rattle.p10_core.specs.declared.c_type.CType.{CType}
-use Rattle.p10_core.specs.declared.typed.Library.{Library}
 use Rattle.p10_core.specs.Types.{PlainType, plain_type}
 use Rattle.p10_core.specs.Typed.{PlainValue, PlainValues, PlainPlace, PlainStatementForm}
 use Rattle.p10_core.specs.Views.{plain_value, plain_values, plain_place, plain_statement_form}
@@ -26,7 +25,7 @@ use Rattle.p10_elabx.specs.declared.callee.Wanted.{Wanted}
 use Rattle.p10_elabx.specs.declared.callee.Wanted.TheVariants.{Anything, Plain as OfType, Integer, Scalar, Pointer}
 use Rattle.p10_elabx.specs.declared.callee.Wants.{Wants}
 use Rattle.p10_elabx.specs.declared.callee.Wants.TheVariants.{Nothing, Types as OfTypes, Library as OfLibraryFunction}
-use Rattle.p10_elabx.specs.First.{Found, Ruled, lift, Judged as PlainJudged}
+use Rattle.p10_elabx.specs.First.{Ruled, lift, Judged as PlainJudged}
 use Rattle.p10_elabx.specs.Calls.{Callee as PlainCallee, of_program, of_library, not_declared, no_function, refused_before, Wanted as PlainWanted, anything, of_type, any_scalar, any_pointer, library_wants, Listed as PlainListed}
 use Rattle.p10_elabx.specs.TypeNames.{Shape as PlainShape, a_type, an_open_array, a_function_type}
 use Rattle.p10_elabx.specs.Operands.{PlainOperand, a_value, a_place, a_function}
