@@ -175,7 +175,7 @@ abbrev mutual
   declarator_passed h name_at p (Pointer at qualifiers d) = declarator_passed h name_at (pointer_declared h at name_at qualifiers p.made p.after) d
   declarator_passed h name_at p (Parenthesised at d) = declarator_passed h name_at p d
   declarator_passed h name_at p (Array at d Absent) = declarator_passed h name_at (open_declared (element_declared h name_at p.made p.after)) d
-  declarator_passed h name_at p (Array at d (Present e)) = declarator_passed h name_at (array_declared h at e (element_declared h name_at p.made p.after)) d
+  declarator_passed h name_at p (Array at d (Present e)) = declarator_passed h name_at (array_declared h e (element_declared h name_at p.made p.after)) d
   declarator_passed h name_at p (Function at d all more) =
       let r : Passed PlainType = result_declared h at name_at p.made p.after in
       let q : Passed (List PlainParameter) = all_parameters_passed h (among_parameters (refusing h more subset.NoPrototype (after_inner at d) r.after)) (after_inner at d) all in

@@ -9,7 +9,7 @@ use Rattle.p10_core.specs.Rows.{is_void, is_complete}
 use Rattle.p10_core.specs.Typed.{PlainValue}
 use Rattle.p10_elabx.specs.First.{Keep, Ruled, ruled, nothing_said, on}
 use Rattle.p10_elabx.specs.Scopes.{Binding, entered, left}
-use Rattle.p10_elabx.specs.TypeNames.{Shape, a_type, an_open_array, a_function_type, has_const_word, has_other_word, array_of}
+use Rattle.p10_elabx.specs.TypeNames.{Shape, a_type, an_open_array, a_function_type, has_const_word, other_word, word_of, array_of}
 use Rattle.p10_elabd.specs.Standing.{Standing, Passed, passed, nothing_made, refusing, noted}
 use Rattle.p10_elabd.specs.Expressions.{value_found, for_expression}
 
@@ -94,8 +94,12 @@ pointed_to h at name_at constant (of_function f) s = nothing_made (refusing h tr
 
 -- a pointer where its target may be refused; of the qualifiers `const` alone is in the subset
 abbrev pub pointer_declared : Keep → At → At → List Sign → Option DeclaredType → Standing → Passed DeclaredType
-pointer_declared h at name_at qualifiers target s = by_target target (refusing h (has_other_word qualifiers) subset.BadSpecifier at s)
+pointer_declared h at name_at qualifiers target s = by_target target (refusing_word (other_word 1 qualifiers) s)
   where
+    refusing_word : Option ℕ → Standing → Standing
+    refusing_word None s = s
+    refusing_word (Some i) s = refusing h true subset.BadSpecifier (word_of at i) s
+
     by_target : Option DeclaredType → Standing → Passed DeclaredType
     by_target None s = nothing_made s
     by_target (Some t) s = pointed_to h at name_at (has_const_word qualifiers) t s
@@ -116,19 +120,19 @@ element_declared h name_at (Some d) s = element_type h name_at d s
 -- a type as what is declared
 abbrev pub as_declared : Shape → Ruled DeclaredType
 as_declared (a_type t) = Ok (of_type t)
-as_declared an_open_array = nothing_said
-as_declared a_function_type = nothing_said
+as_declared (an_open_array t) = nothing_said
+as_declared (a_function_type parameters t) = nothing_said
 
 -- an array of elements with a length, which is at least 1 and constant, and makes it no larger than a type may be
-abbrev pub array_with : List PlainStructure → At → Option PlainType → PlainValue → Ruled DeclaredType
-array_with structures at None v = nothing_said
-array_with structures at (Some t) v = ruled (array_of structures at t v) as_declared
+abbrev pub array_with : List PlainStructure → Option PlainType → PlainValue → Ruled DeclaredType
+array_with structures None v = nothing_said
+array_with structures (Some t) v = ruled (array_of structures t v) as_declared
 
 -- an array with a length
-abbrev pub array_declared : Keep → At → Expression At → Passed PlainType → Passed DeclaredType
-array_declared h at e element =
+abbrev pub array_declared : Keep → Expression At → Passed PlainType → Passed DeclaredType
+array_declared h e element =
     let s : Standing = for_expression element.after e in
-    noted h (on (value_found h element.after e) (array_with s.scope.structures at element.made)) s
+    noted h (on (value_found h element.after e) (array_with s.scope.structures element.made)) s
 
 -- an array without a length
 abbrev pub open_declared : Passed PlainType → Passed DeclaredType
