@@ -193,9 +193,13 @@ mutual
   counts_statement (Do p k u t) rest =
       omega (arith, counts_statement u (Fixed sign.While ∷ (Fixed sign.Open ∷ spell t (Fixed sign.Close ∷ (Fixed sign.Semicolon ∷ rest)))), counts t (Fixed sign.Close ∷ (Fixed sign.Semicolon ∷ rest)))
   counts_statement (For p k start test step u) rest =
-      omega (arith, counts_statement start (spell_optional test (Fixed sign.Semicolon ∷ spell_optional step (Fixed sign.Close ∷ spell_statement u rest))),
-             counts_optional test (Fixed sign.Semicolon ∷ spell_optional step (Fixed sign.Close ∷ spell_statement u rest)),
-             counts_optional step (Fixed sign.Close ∷ spell_statement u rest), counts_statement u rest)
+      omega (
+        arith,
+        counts_statement start (spell_optional test (Fixed sign.Semicolon ∷ spell_optional step (Fixed sign.Close ∷ spell_statement u rest))),
+        counts_optional test (Fixed sign.Semicolon ∷ spell_optional step (Fixed sign.Close ∷ spell_statement u rest)),
+        counts_optional step (Fixed sign.Close ∷ spell_statement u rest),
+        counts_statement u rest,
+      )
   counts_statement (Case p t u) rest = omega (arith, counts t (Fixed sign.Colon ∷ spell_statement u rest), counts_statement u rest)
   counts_statement (Default p u) rest = omega (arith, counts_statement u rest)
   counts_statement (Label p x u) rest = omega (arith, counts_statement u rest)
@@ -212,8 +216,12 @@ mutual
 
 pub counts_definition : (d : Definition Bare) (rest : List Symbol) → length (spell_definition d rest) ≡ count_definition d + length rest
 counts_definition d rest =
-    omega (arith, counts_specifiers d.specifiers (spell_declarator d.declarator (Fixed sign.OpenBrace ∷ spell_statements d.body (Fixed sign.CloseBrace ∷ rest))),
-           counts_declarator d.declarator (Fixed sign.OpenBrace ∷ spell_statements d.body (Fixed sign.CloseBrace ∷ rest)), counts_statements d.body (Fixed sign.CloseBrace ∷ rest))
+    omega (
+      arith,
+      counts_specifiers d.specifiers (spell_declarator d.declarator (Fixed sign.OpenBrace ∷ spell_statements d.body (Fixed sign.CloseBrace ∷ rest))),
+      counts_declarator d.declarator (Fixed sign.OpenBrace ∷ spell_statements d.body (Fixed sign.CloseBrace ∷ rest)),
+      counts_statements d.body (Fixed sign.CloseBrace ∷ rest),
+    )
 
 pub counts_external : (e : External Bare) (rest : List Symbol) → length (spell_external e rest) ≡ count_external e + length rest
 counts_external (Outer d) rest = counts_declaration d rest

@@ -81,14 +81,14 @@ module _ (R T U : Type 0) (view : R → T) (bare : T → U) (place : ℕ → U �
   has_room k n start now past d h p =
       let e = as_before k n start now past d h p in
       let w : start_of T U bare place size gap k n (map view start) + size (bare (get_or (map view start) k (view d))) + gap ≤ start_of T U bare place size gap (length (map view start)) n (map view start) =
-          ends_within T U bare place size gap k n (map view start) (view d) (rw (length-map start view) h) in
+      ends_within T U bare place size gap k n (map view start) (view d) (rw (length-map start view) h) in
       rw (e, p.reached) (subst (λ (m : ℕ). start_of T U bare place size gap k n (map view start) + size (bare (get_or (map view start) k (view d))) + gap ≤ start_of T U bare place size gap m n (map view start)) (length-map start view) w)
 
   -- one more element is placed
   pub one_more : (k n : ℕ) (start now : List R) (past : ℕ) (d r : R) → gap ≤ 1 → k < length start → Placing k n start now past →
       view r ≡ place (past + min k gap) (bare (view (get_or now k d))) →
       Placing (k + 1) n start (set now k r) (past + min k gap + size (bare (view (get_or now k d))))
-  one_more k n start now past d r small h p e = 
+  one_more k n start now past d r small h p e =
       let same = as_before k n start now past d h p in
       let inside : k < length (map view start) = rw (length-map start view) h in
       record {
@@ -119,7 +119,7 @@ module _ (R T U : Type 0) (view : R → T) (bare : T → U) (place : ℕ → U �
       past + min k gap + gap ≤ start_of T U bare place size gap (length start) n (map view start)
   has_start k n start now past h p =
       let w : start_of T U bare place size gap k n (map view start) + gap ≤ start_of T U bare place size gap (length (map view start)) n (map view start) =
-          begins_within T U bare place size gap k n (map view start) (rw (length-map start view) h) in
+      begins_within T U bare place size gap k n (map view start) (rw (length-map start view) h) in
       rw (p.reached) (subst (λ (m : ℕ). start_of T U bare place size gap k n (map view start) + gap ≤ start_of T U bare place size gap m n (map view start)) (length-map start view) w)
 
 -- what isn't gone through yet is as it was

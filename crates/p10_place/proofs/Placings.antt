@@ -1,5 +1,5 @@
 -- What is placed of a list in an expression or declarator while its elements are gone through, and when all are.
-use Rattle.std.proofs.Common.{◌≡◌, ℕ, zero, suc, ◌+◌, ◌*◌, ◌<◌, ◌≤◌, ◌^◌, min, List, [], ◌∷◌, length, map, Bool, refl, sym, ◌∙◌, ap, subst, arith, add-zero}
+use Rattle.std.proofs.Common.{◌≡◌, ℕ, ◌+◌, ◌<◌, ◌≤◌, min, List, [], ◌∷◌, length, map, Bool, refl, sym, ◌∙◌, ap, subst, arith, add-zero}
 use Rattle.std.proofs.Math.ListN.{get_or}
 use Rattle.std.proofs.lemmas.List.{length-map}
 use Rattle.p10_base.specs.declared.at.At.{At}
@@ -44,8 +44,8 @@ pub fits_expressions : (s : Source) (k n : ℕ) (start now : List code_expressio
 fits_expressions s k n start now past d old h p o =
     let some : 0 < length (map expression_of start) = rw (length-map start expression_of) (omega (arith, h)) in
     subst (λ (t : code_expressions.Expr). past + min k 1 + count (bare (expression_of t)) ≤ n + count_list (bare_list (expression_row (map expression_of start)))) (sym o)
-      (room_expressions s n (past + min k 1 + count (bare (expression_of (get_or now k d)))) (map expression_of start) some
-        (rw (length-map start expression_of) (has_room code_expressions.Expr (Expression At) (Expression Bare) expression_of bare (locate s) count 1 k n start now past d h p)))
+    (room_expressions s n (past + min k 1 + count (bare (expression_of (get_or now k d)))) (map expression_of start) some
+    (rw (length-map start expression_of) (has_room code_expressions.Expr (Expression At) (Expression Bare) expression_of bare (locate s) count 1 k n start now past d h p)))
 
 -- what stands before the next one is there
 pub starts_expressions : (s : Source) (k n : ℕ) (start now : List code_expressions.Expr) (past : ℕ) → k < length start → Placing_expressions s k n start now past →
@@ -94,8 +94,8 @@ pub fits_specifiers : (s : Source) (k n : ℕ) (start now : List code_specifiers
 fits_specifiers s k n start now past d old h p o =
     let some : 0 < length (map specifier_of start) = rw (length-map start specifier_of) (omega (arith, h)) in
     subst (λ (t : code_specifiers.Spec). past + min k 0 + count_specifier (bare_specifier (specifier_of t)) ≤ n + count_specifiers (bare_specifiers (specifier_row (map specifier_of start)))) (sym o)
-      (room_specifiers s n (past + min k 0 + count_specifier (bare_specifier (specifier_of (get_or now k d)))) (map specifier_of start) some
-        (rw (length-map start specifier_of) (has_room code_specifiers.Spec (Specifier At) (Specifier Bare) specifier_of bare_specifier (locate_specifier s) count_specifier 0 k n start now past d h p)))
+    (room_specifiers s n (past + min k 0 + count_specifier (bare_specifier (specifier_of (get_or now k d)))) (map specifier_of start) some
+    (rw (length-map start specifier_of) (has_room code_specifiers.Spec (Specifier At) (Specifier Bare) specifier_of bare_specifier (locate_specifier s) count_specifier 0 k n start now past d h p)))
 
 -- what stands before the next one is there
 pub starts_specifiers : (s : Source) (k n : ℕ) (start now : List code_specifiers.Spec) (past : ℕ) → k < length start → Placing_specifiers s k n start now past →
@@ -144,8 +144,8 @@ pub fits_members : (s : Source) (k n : ℕ) (start now : List code_members.Membe
 fits_members s k n start now past d old h p o =
     let some : 0 < length (map member_of start) = rw (length-map start member_of) (omega (arith, h)) in
     subst (λ (t : code_members.Member). past + min k 0 + count_member (bare_member (member_of t)) + 2 ≤ n + count_members (bare_members (member_row (map member_of start)))) (sym o)
-      (room_members s n (past + min k 0 + count_member (bare_member (member_of (get_or now k d)))) (map member_of start) some
-        (rw (length-map start member_of) (has_room code_members.Member (MemberDeclaration At) (MemberDeclaration Bare) member_of bare_member (locate_member s) count_member 0 k n start now past d h p)))
+    (room_members s n (past + min k 0 + count_member (bare_member (member_of (get_or now k d)))) (map member_of start) some
+    (rw (length-map start member_of) (has_room code_members.Member (MemberDeclaration At) (MemberDeclaration Bare) member_of bare_member (locate_member s) count_member 0 k n start now past d h p)))
 
 -- what stands before the next one is there
 pub starts_members : (s : Source) (k n : ℕ) (start now : List code_members.Member) (past : ℕ) → k < length start → Placing_members s k n start now past →
@@ -194,8 +194,8 @@ pub fits_fields : (s : Source) (k n : ℕ) (start now : List code_fields.Field) 
 fits_fields s k n start now past d old h p o =
     let some : 0 < length (map field_of start) = rw (length-map start field_of) (omega (arith, h)) in
     subst (λ (t : code_fields.Field). past + min k 1 + count_field (bare_field (field_of t)) + 1 ≤ n + count_fields (bare_fields (field_row (map field_of start)))) (sym o)
-      (room_fields s n (past + min k 1 + count_field (bare_field (field_of (get_or now k d)))) (map field_of start) some
-        (rw (length-map start field_of) (has_room code_fields.Field (Field At) (Field Bare) field_of bare_field (locate_field s) count_field 1 k n start now past d h p)))
+    (room_fields s n (past + min k 1 + count_field (bare_field (field_of (get_or now k d)))) (map field_of start) some
+    (rw (length-map start field_of) (has_room code_fields.Field (Field At) (Field Bare) field_of bare_field (locate_field s) count_field 1 k n start now past d h p)))
 
 -- what stands before the next one is there
 pub starts_fields : (s : Source) (k n : ℕ) (start now : List code_fields.Field) (past : ℕ) → k < length start → Placing_fields s k n start now past →
@@ -244,8 +244,8 @@ pub fits_enumerators : (s : Source) (k n : ℕ) (start now : List code_enumerato
 fits_enumerators s k n start now past d old comma h p o =
     let some : 0 < length (map enumerator_of start) = rw (length-map start enumerator_of) (omega (arith, h)) in
     subst (λ (t : code_enumerators.Enumerator). past + min k 1 + count_enumerator (bare_enumerator (enumerator_of t)) + 2 + count_bool comma ≤ n + count_enumerators (bare_enumerators (enumerator_row (map enumerator_of start))) comma) (sym o)
-      (room_enumerators s n (past + min k 1 + count_enumerator (bare_enumerator (enumerator_of (get_or now k d)))) comma (map enumerator_of start) some
-        (rw (length-map start enumerator_of) (has_room code_enumerators.Enumerator (Enumerator At) (Enumerator Bare) enumerator_of bare_enumerator (locate_enumerator s) count_enumerator 1 k n start now past d h p)))
+    (room_enumerators s n (past + min k 1 + count_enumerator (bare_enumerator (enumerator_of (get_or now k d)))) comma (map enumerator_of start) some
+    (rw (length-map start enumerator_of) (has_room code_enumerators.Enumerator (Enumerator At) (Enumerator Bare) enumerator_of bare_enumerator (locate_enumerator s) count_enumerator 1 k n start now past d h p)))
 
 -- what stands before the next one is there
 pub starts_enumerators : (s : Source) (k n : ℕ) (start now : List code_enumerators.Enumerator) (past : ℕ) (comma : Bool) → k < length start → Placing_enumerators s k n start now past →
@@ -294,8 +294,8 @@ pub fits_parameters : (s : Source) (k n : ℕ) (start now : List code_parameters
 fits_parameters s k n start now past d old h p o =
     let some : 0 < length (map parameter_of start) = rw (length-map start parameter_of) (omega (arith, h)) in
     subst (λ (t : code_parameters.Parameter). past + min k 1 + count_parameter (bare_parameter (parameter_of t)) ≤ n + count_parameters (bare_parameters (parameter_row (map parameter_of start)))) (sym o)
-      (room_parameters s n (past + min k 1 + count_parameter (bare_parameter (parameter_of (get_or now k d)))) (map parameter_of start) some
-        (rw (length-map start parameter_of) (has_room code_parameters.Parameter (Parameter At) (Parameter Bare) parameter_of bare_parameter (locate_parameter s) count_parameter 1 k n start now past d h p)))
+    (room_parameters s n (past + min k 1 + count_parameter (bare_parameter (parameter_of (get_or now k d)))) (map parameter_of start) some
+    (rw (length-map start parameter_of) (has_room code_parameters.Parameter (Parameter At) (Parameter Bare) parameter_of bare_parameter (locate_parameter s) count_parameter 1 k n start now past d h p)))
 
 -- what stands before the next one is there
 pub starts_parameters : (s : Source) (k n : ℕ) (start now : List code_parameters.Parameter) (past : ℕ) → k < length start → Placing_parameters s k n start now past →
@@ -315,4 +315,3 @@ pub past_parameters : (s : Source) (k n : ℕ) (start now : List code_parameters
     past ≡ n + count_parameters (bare_parameters (parameter_row (map parameter_of start)))
 past_parameters s k n start now past e p =
     ends_parameters s n past (map parameter_of start) (rw (length-map start parameter_of) (subst (λ (k : ℕ). past + min k 1 ≡ start_of (Parameter At) (Parameter Bare) bare_parameter (locate_parameter s) count_parameter 1 k n (map parameter_of start)) e p.reached))
-

@@ -1,5 +1,5 @@
 -- Rows of the code's trees as lists.
-use Rattle.std.proofs.Common.{◌≡◌, ℕ, map, refl, ap, ◌∙◌, rules, Bool, Vec, Box}
+use Rattle.std.proofs.Common.{◌≡◌, map, refl, ap, ◌∙◌, rules, Bool, Vec, Box}
 use Rattle.std.specs.declared.alloc.Global.{Global}
 use Rattle.p10_base.specs.declared.at.At.{At}
 use Rattle.p10_syn.specs.declared.tree.Form.{Row_of-Spec}

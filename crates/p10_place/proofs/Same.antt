@@ -1,5 +1,5 @@
 -- A tree that is put into its place is the same tree.
-use Rattle.std.proofs.Common.{◌≡◌, ℕ, ◌+◌, length, List, [], ◌∷◌, Bool, Option, Some, None, refl}
+use Rattle.std.proofs.Common.{◌≡◌, ℕ, ◌+◌, length, List, [], ◌∷◌, Option, Some, None, refl}
 use Rattle.p10_syn.specs.declared.place.Side.TheVariants.{Before, After}
 use Rattle.p10_syn.specs.Counts.{count_tag, count, count_optional, count_type, count_specifiers, count_specifier, count_member, count_field, count_enumerator, count_declarator, count_parameter, count_initializer, count_init_declarator, count_head, count_statement, count_external}
 use Rattle.p10_syn.specs.Trees.{Bare, Identifier, Expression, expression, Form, Name, Number, Character, Strings, Unary, Step, Binary, Assign, Conditional, Call, Index, Member, Arrow, Cast, SizeofExpression, SizeofType, Comma, Expressions, NoExpressions, MoreExpressions, Optional, Absent, Present, TypeName, type_name, Specifiers, NoSpecifiers, MoreSpecifiers, Specifier, Keyword, Typedef, Structure, Enumeration, Members, NoMembers, MoreMembers, MemberDeclaration, member_declaration, Fields, NoFields, MoreFields, Field, field, Enumerators, NoEnumerators, MoreEnumerators, Enumerator, enumerator, Declarator, Named, Unnamed, Pointer, Parenthesised, Array, Function, Parameters, NoParameters, MoreParameters, Parameter, parameter}
@@ -126,9 +126,12 @@ mutual
   same_statement s n (While p k t u) = rw (same s (n + 2) t, same_statement s (n + 2 + count t + 1) u)
   same_statement s n (Do p k u t) = rw (same_statement s (n + 1) u, same s (n + 1 + count_statement u + 2) t)
   same_statement s n (For p k start test step u) =
-      rw (same_statement s (n + 2) start, same_optional s (n + 2 + count_statement start) test,
-          same_optional s (n + 2 + count_statement start + count_optional test + 1) step,
-          same_statement s (n + 2 + count_statement start + count_optional test + 1 + count_optional step + 1) u)
+      rw (
+        same_statement s (n + 2) start,
+        same_optional s (n + 2 + count_statement start) test,
+        same_optional s (n + 2 + count_statement start + count_optional test + 1) step,
+        same_statement s (n + 2 + count_statement start + count_optional test + 1 + count_optional step + 1) u,
+      )
   same_statement s n (Case p t u) = rw (same s (n + 1) t, same_statement s (n + 1 + count t + 1) u)
   same_statement s n (Default p u) = rw (same_statement s (n + 2) u)
   same_statement s n (Label p x u) = rw (same_statement s (n + 2) u)

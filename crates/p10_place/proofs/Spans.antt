@@ -1,5 +1,5 @@
 -- The bytes of rows of words.
-use Rattle.std.proofs.Common.{◌≡◌, ℕ, suc, ◌+◌, ◌-◌, ◌≤◌, ◌≢◌, List, Option, slice_get, refl, sym, ◌∙◌, ap, arith}
+use Rattle.std.proofs.Common.{◌≡◌, ℕ, suc, ◌+◌, ◌-◌, ◌≤◌, ◌≢◌, List, Option, slice_get, ◌∙◌, ap, arith}
 use Rattle.p10_base.specs.declared.span.Span.{Span}
 use Rattle.p10_base.specs.Words.{PlainWord}
 use Rattle.p10_syn.specs.Places.{span_between, span_at}
@@ -11,5 +11,5 @@ spans words n past a b r h ne f g e =
     let count : suc (past - n - 1) ≡ past - n = omega arith in
     let last : past - 1 ≡ n + (past - n - 1) = omega arith in
     e ∙ ap (λ a. span_between a b) f
-      ∙ ap (λ b. span_between (slice_get words n) b) (g ∙ ap (λ m. slice_get words m) last)
-      ∙ ap (λ m. span_at words n m) count
+    ∙ ap (λ b. span_between (slice_get words n) b) (g ∙ ap (λ m. slice_get words m) last)
+    ∙ ap (λ m. span_at words n m) count

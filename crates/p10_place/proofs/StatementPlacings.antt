@@ -1,5 +1,5 @@
 -- What is placed of a list of initialisers, declarators, statements or functions while its elements are gone through.
-use Rattle.std.proofs.Common.{◌≡◌, ℕ, zero, suc, ◌+◌, ◌*◌, ◌<◌, ◌≤◌, ◌^◌, min, List, [], ◌∷◌, length, map, Bool, refl, sym, ◌∙◌, ap, subst, arith, add-zero}
+use Rattle.std.proofs.Common.{◌≡◌, ℕ, ◌+◌, ◌<◌, ◌≤◌, min, List, [], ◌∷◌, length, map, refl, sym, ◌∙◌, ap, subst, arith, add-zero}
 use Rattle.std.proofs.Math.ListN.{get_or}
 use Rattle.std.proofs.lemmas.List.{length-map}
 use Rattle.p10_base.specs.declared.at.At.{At}
@@ -10,7 +10,7 @@ use Rattle.p10_syn.specs.declared.statement.Stmt as code_statements
 use Rattle.p10_syn.specs.Trees.{Bare, Initializer, InitDeclarator, External, Statement, initializer_row, statement_row, MoreInitializers, MoreStatements}
 use Rattle.p10_syn.specs.Bare.{bare_initializer, bare_init_declarator, bare_external, bare_statement, bare_initializers, bare_init_declarators, bare_externals, bare_statements}
 use Rattle.p10_syn.specs.BuiltStatements.{initializer_of, init_declarator_of, external_of, statement_of}
-use Rattle.p10_syn.specs.Counts.{count_bool, count_initializer, count_init_declarator, count_external, count_statement, count_initializers, count_declarators, count_statements, count_more_initializers, count_more_declarators}
+use Rattle.p10_syn.specs.Counts.{count_initializer, count_init_declarator, count_external, count_statement, count_initializers, count_declarators, count_statements, count_more_initializers, count_more_declarators}
 use Rattle.p10_place.specs.Roots.{count_externals}
 use Rattle.p10_syn.specs.Places.{Source, locate_initializer, locate_init_declarator, locate_external, locate_statement, locate_initializers, locate_init_declarators, locate_externals, locate_statements}
 use Rattle.p10_place.proofs.Parts.{placed_first, start_of, Placing, has_room, has_start}
@@ -43,8 +43,8 @@ pub fits_initializers : (s : Source) (k n : ℕ) (start now : List code_initiali
 fits_initializers s k n start now past d old h p o =
     let some : 0 < length (map initializer_of start) = rw (length-map start initializer_of) (omega (arith, h)) in
     subst (λ (t : code_initializers.Init). past + min k 1 + count_initializer (bare_initializer (initializer_of t)) ≤ n + count_initializers (bare_initializers (initializer_row (map initializer_of start)))) (sym o)
-      (room_initializers s n (past + min k 1 + count_initializer (bare_initializer (initializer_of (get_or now k d)))) (map initializer_of start) some
-        (rw (length-map start initializer_of) (has_room code_initializers.Init (Initializer At) (Initializer Bare) initializer_of bare_initializer (locate_initializer s) count_initializer 1 k n start now past d h p)))
+    (room_initializers s n (past + min k 1 + count_initializer (bare_initializer (initializer_of (get_or now k d)))) (map initializer_of start) some
+    (rw (length-map start initializer_of) (has_room code_initializers.Init (Initializer At) (Initializer Bare) initializer_of bare_initializer (locate_initializer s) count_initializer 1 k n start now past d h p)))
 
 -- what stands before the next one is there
 pub starts_initializers : (s : Source) (k n : ℕ) (start now : List code_initializers.Init) (past : ℕ) → k < length start → Placing_initializers s k n start now past →
@@ -93,8 +93,8 @@ pub fits_declarators : (s : Source) (k n : ℕ) (start now : List code_declarato
 fits_declarators s k n start now past d old h p o =
     let some : 0 < length (map init_declarator_of start) = rw (length-map start init_declarator_of) (omega (arith, h)) in
     subst (λ (t : code_declarators.InitDeclarator). past + min k 1 + count_init_declarator (bare_init_declarator (init_declarator_of t)) + 1 ≤ n + count_declarators (bare_init_declarators (map init_declarator_of start))) (sym o)
-      (room_declarators s n (past + min k 1 + count_init_declarator (bare_init_declarator (init_declarator_of (get_or now k d)))) (map init_declarator_of start) some
-        (rw (length-map start init_declarator_of) (has_room code_declarators.InitDeclarator (InitDeclarator At) (InitDeclarator Bare) init_declarator_of bare_init_declarator (locate_init_declarator s) count_init_declarator 1 k n start now past d h p)))
+    (room_declarators s n (past + min k 1 + count_init_declarator (bare_init_declarator (init_declarator_of (get_or now k d)))) (map init_declarator_of start) some
+    (rw (length-map start init_declarator_of) (has_room code_declarators.InitDeclarator (InitDeclarator At) (InitDeclarator Bare) init_declarator_of bare_init_declarator (locate_init_declarator s) count_init_declarator 1 k n start now past d h p)))
 
 -- what stands before the next one is there
 pub starts_declarators : (s : Source) (k n : ℕ) (start now : List code_declarators.InitDeclarator) (past : ℕ) → k < length start → Placing_declarators s k n start now past →
@@ -143,8 +143,8 @@ pub fits_units : (s : Source) (k n : ℕ) (start now : List code_units.Unit) (pa
 fits_units s k n start now past d old h p o =
     let some : 0 < length (map external_of start) = rw (length-map start external_of) (omega (arith, h)) in
     subst (λ (t : code_units.Unit). past + min k 0 + count_external (bare_external (external_of t)) ≤ n + count_externals (bare_externals (map external_of start))) (sym o)
-      (room_units s n (past + min k 0 + count_external (bare_external (external_of (get_or now k d)))) (map external_of start) some
-        (rw (length-map start external_of) (has_room code_units.Unit (External At) (External Bare) external_of bare_external (locate_external s) count_external 0 k n start now past d h p)))
+    (room_units s n (past + min k 0 + count_external (bare_external (external_of (get_or now k d)))) (map external_of start) some
+    (rw (length-map start external_of) (has_room code_units.Unit (External At) (External Bare) external_of bare_external (locate_external s) count_external 0 k n start now past d h p)))
 
 -- what stands before the next one is there
 pub starts_units : (s : Source) (k n : ℕ) (start now : List code_units.Unit) (past : ℕ) → k < length start → Placing_units s k n start now past →
@@ -193,8 +193,8 @@ pub fits_statements : (s : Source) (k n : ℕ) (start now : List code_statements
 fits_statements s k n start now past d old h p o =
     let some : 0 < length (map statement_of start) = rw (length-map start statement_of) (omega (arith, h)) in
     subst (λ (t : code_statements.Stmt). past + min k 0 + count_statement (bare_statement (statement_of t)) ≤ n + count_statements (bare_statements (statement_row (map statement_of start)))) (sym o)
-      (room_statements s n (past + min k 0 + count_statement (bare_statement (statement_of (get_or now k d)))) (map statement_of start) some
-        (rw (length-map start statement_of) (has_room code_statements.Stmt (Statement At) (Statement Bare) statement_of bare_statement (locate_statement s) count_statement 0 k n start now past d h p)))
+    (room_statements s n (past + min k 0 + count_statement (bare_statement (statement_of (get_or now k d)))) (map statement_of start) some
+    (rw (length-map start statement_of) (has_room code_statements.Stmt (Statement At) (Statement Bare) statement_of bare_statement (locate_statement s) count_statement 0 k n start now past d h p)))
 
 -- what stands before the next one is there
 pub starts_statements : (s : Source) (k n : ℕ) (start now : List code_statements.Stmt) (past : ℕ) → k < length start → Placing_statements s k n start now past →
@@ -214,4 +214,3 @@ pub past_statements : (s : Source) (k n : ℕ) (start now : List code_statements
     past ≡ n + count_statements (bare_statements (statement_row (map statement_of start)))
 past_statements s k n start now past e p =
     ends_statements s n past (map statement_of start) (rw (length-map start statement_of) (subst (λ (k : ℕ). past + min k 0 ≡ start_of (Statement At) (Statement Bare) bare_statement (locate_statement s) count_statement 0 k n (map statement_of start)) e p.reached))
-

@@ -1,14 +1,14 @@
 -- Laws of places.
-use Rattle.std.proofs.Common.{◌≡◌, ℕ, ◌+◌, length, List, [], map, refl, sym, ◌∙◌, ap, subst, arith}
+use Rattle.std.proofs.Common.{◌≡◌, ℕ, length, List, [], sym, ◌∙◌, ap, subst, arith}
 use Rattle.std.proofs.lemmas.List.{length-map}
 use Rattle.p10_base.specs.Words.{Text, PlainWord}
 use Rattle.p10_base.specs.declared.at.At.{At}
-use Rattle.p10_syn.specs.Symbols.{Symbol, symbol_of, symbols_of}
-use Rattle.p10_syn.specs.Trees.{Bare, Expression, External}
+use Rattle.p10_syn.specs.Symbols.{symbol_of}
+use Rattle.p10_syn.specs.Trees.{Expression, External}
 use Rattle.p10_syn.specs.Bare.{bare, bare_externals}
 use Rattle.p10_syn.specs.Spelling.{spell, spell_externals}
 use Rattle.p10_syn.specs.Spells.{SpellsExpression, SpellsRoot}
-use Rattle.p10_syn.specs.Places.{Source, locate}
+use Rattle.p10_syn.specs.Places.{Source}
 use Rattle.p10_place.specs.Standing.{Stands}
 use Rattle.p10_place.specs.StatementStanding.{ExternalsStand}
 use Rattle.p10_place.specs.Laws.{PartsStand, PlacesAdd, WordsAreCounted}

@@ -1,5 +1,5 @@
 -- Where the parts of small trees stand, worked out by hand.
-use Rattle.std.specs.Prelude.{◌≡◌, ℕ, List, [], ◌∷◌, true, false, Some, None}
+use Rattle.std.specs.Prelude.{◌≡◌, ℕ, List, [], ◌∷◌, true, false, None}
 use Rattle.p10_base.specs.declared.word.Kind.TheVariants as kind
 use Rattle.p10_base.specs.declared.at.At.{At}
 use Rattle.p10_base.specs.Words.{Text, PlainWord, span_of}
@@ -106,7 +106,7 @@ pub record ExamplesStand : Type 0 where
   -- a name that is left out stands before the next word and has no bytes
   pub no_name : locate_declarator (root 0 declarator) 0 (Pointer tt [] (Function tt (Named (name a)) (MoreParameters (parameter tt (MoreSpecifiers (Keyword tt sign.Int) NoSpecifiers) (Unnamed tt)) NoParameters) false)) ≡
       Pointer (place 0 5 0 8) [] (Function (place 1 5 2 8) (Named (name_at (place 1 2 2 3) a))
-        (MoreParameters (parameter (place 3 4 4 7) (MoreSpecifiers (Keyword (place 3 4 4 7) sign.Int) NoSpecifiers) (Unnamed (place 4 4 0 0))) NoParameters) false)
+      (MoreParameters (parameter (place 3 4 4 7) (MoreSpecifiers (Keyword (place 3 4 4 7) sign.Int) NoSpecifiers) (Unnamed (place 4 4 0 0))) NoParameters) false)
   pub keyword_of_loop : locate_statement (root 0 loop) 0 (While tt tt (named a) (Empty tt)) ≡ While (place 0 5 0 11) (place 0 1 0 5) (named_at (place 2 3 7 8) a) (Empty (place 4 5 10 11))
   -- the marks of a function are counted in its root
   pub marks_of_function : locate_definition (root 100 function) 0 defined ≡ defined_at

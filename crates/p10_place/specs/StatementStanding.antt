@@ -1,12 +1,12 @@
 -- Where the parts of a declaration, statement or function stand, said by the words that are left where a part begins and
 -- where it ends.
-use Rattle.std.specs.Prelude.{◌≡◌, ℕ, List, [], ◌∷◌, drop, Option, Some, None}
+use Rattle.std.specs.Prelude.{List, [], ◌∷◌, drop, Option, Some, None}
 use Rattle.p10_base.specs.declared.at.At.{At}
 use Rattle.p10_syn.specs.declared.sign.Sign.TheVariants as sign
 use Rattle.p10_syn.specs.Symbols.{Symbol, Fixed}
 use Rattle.p10_syn.specs.Symbols as symbol
-use Rattle.p10_syn.specs.Trees.{Bare, Identifier, Expression, Optional, Specifiers, Declarator, Initializer, Value, Braced, Initializers, NoInitializers, MoreInitializers, InitDeclarator, Declaration, Statement, Empty, Evaluate, Block, If, IfElse, Switch, While, Do, For, Case, Default, Label, Goto, Break, Continue, Return, Declare, Pragma, Statements, NoStatements, MoreStatements, Definition, External, Outer, Defines}
-use Rattle.p10_syn.specs.Bare.{bare, bare_optional, bare_initializer, bare_initializers, bare_initial, bare_init_declarator, bare_init_declarators, bare_declaration, bare_declarator, bare_statement, bare_statements, bare_definition, bare_external, bare_externals}
+use Rattle.p10_syn.specs.Trees.{Initializer, Value, Braced, Initializers, NoInitializers, MoreInitializers, InitDeclarator, Declaration, Statement, Empty, Evaluate, Block, If, IfElse, Switch, While, Do, For, Case, Default, Label, Goto, Break, Continue, Return, Declare, Pragma, Statements, NoStatements, MoreStatements, Definition, External, Outer, Defines}
+use Rattle.p10_syn.specs.Bare.{bare, bare_optional, bare_initializer, bare_initializers, bare_initial, bare_init_declarator, bare_init_declarators, bare_declaration, bare_declarator, bare_statement, bare_statements, bare_definition, bare_externals}
 use Rattle.p10_syn.specs.Spelling.{spell_last_comma, spell_declarator, spell, spell_optional, spell_initializer, spell_more_initializers, spell_initial, spell_init_declarator, spell_more_declarators, spell_declarators, spell_declaration, spell_statement, spell_statements, spell_definition, spell_externals}
 use Rattle.p10_syn.specs.Places.{Source}
 use Rattle.p10_place.specs.Standing.{IsBetween, NameStands, Stands, OptionalStands, SpecifiersStand, DeclaratorStands}
@@ -67,13 +67,13 @@ abbrev mutual
   StatementStands s (Do p k u t) rest =
       IsBetween s p (spell_statement (bare_statement (Do p k u t)) rest) rest
       × IsBetween s k (spell_statement (bare_statement (Do p k u t)) rest)
-          (spell_statement (bare_statement u) (Fixed sign.While ∷ (Fixed sign.Open ∷ spell (bare t) (Fixed sign.Close ∷ (Fixed sign.Semicolon ∷ rest)))))
+      (spell_statement (bare_statement u) (Fixed sign.While ∷ (Fixed sign.Open ∷ spell (bare t) (Fixed sign.Close ∷ (Fixed sign.Semicolon ∷ rest)))))
       × StatementStands s u (Fixed sign.While ∷ (Fixed sign.Open ∷ spell (bare t) (Fixed sign.Close ∷ (Fixed sign.Semicolon ∷ rest))))
       × Stands s t (Fixed sign.Close ∷ (Fixed sign.Semicolon ∷ rest))
   StatementStands s (For p k start test step u) rest =
       IsBetween s p (spell_statement (bare_statement (For p k start test step u)) rest) rest
       × IsBetween s k (spell_statement (bare_statement (For p k start test step u)) rest)
-          (Fixed sign.Open ∷ spell_statement (bare_statement start) (spell_optional (bare_optional test) (Fixed sign.Semicolon ∷ spell_optional (bare_optional step) (Fixed sign.Close ∷ spell_statement (bare_statement u) rest))))
+      (Fixed sign.Open ∷ spell_statement (bare_statement start) (spell_optional (bare_optional test) (Fixed sign.Semicolon ∷ spell_optional (bare_optional step) (Fixed sign.Close ∷ spell_statement (bare_statement u) rest))))
       × StatementStands s start (spell_optional (bare_optional test) (Fixed sign.Semicolon ∷ spell_optional (bare_optional step) (Fixed sign.Close ∷ spell_statement (bare_statement u) rest)))
       × OptionalStands s test (Fixed sign.Semicolon ∷ spell_optional (bare_optional step) (Fixed sign.Close ∷ spell_statement (bare_statement u) rest))
       × OptionalStands s step (Fixed sign.Close ∷ spell_statement (bare_statement u) rest)

@@ -41,8 +41,13 @@ fn set_parts<'s>(root: &Root<'_, '_>, first: usize, init: Init<'s>) -> (Init<'s>
             (Init::Value(value), past)
         }
         Init::Braced(_, mut all, ends_with_comma) => {
-            let past = set_initializers(root, first + 1, &mut all) + last_comma(ends_with_comma) + 1;
-            (Init::Braced(root.place_between(first, past), all, ends_with_comma), past)
+            let past = set_initializers(root, first + 1, &mut all)
+                + last_comma(ends_with_comma)
+                + 1;
+            (
+                Init::Braced(root.place_between(first, past), all, ends_with_comma),
+                past,
+            )
         }
     }
 }
@@ -90,7 +95,11 @@ fn set_initial(root: &Root<'_, '_>, first: usize, init: &mut Option<Init<'_>>) -
 }
 
 /// Sets the places in a declarator with its initialiser.
-fn set_init_declarator(root: &Root<'_, '_>, first: usize, declarator: &mut InitDeclarator<'_>) -> usize
+fn set_init_declarator(
+    root: &Root<'_, '_>,
+    first: usize,
+    declarator: &mut InitDeclarator<'_>,
+) -> usize
     requires { first + count_init_declarator (bare_init_declarator (init_declarator_of declarator.old)) < 2 ^ 64 }
     ensures placed { init_declarator_of declarator.new ≡ locate_init_declarator (source_of root.now) first (bare_init_declarator (init_declarator_of declarator.old)) }
     ensures past { result ≡ first + count_init_declarator (bare_init_declarator (init_declarator_of declarator.old)) }
@@ -102,7 +111,11 @@ fn set_init_declarator(root: &Root<'_, '_>, first: usize, declarator: &mut InitD
 }
 
 /// Sets the places in what a declaration declares, and gives the word past its `;`.
-fn set_init_declarators(root: &Root<'_, '_>, first: usize, all: &mut Vec<InitDeclarator<'_>>) -> usize
+fn set_init_declarators(
+    root: &Root<'_, '_>,
+    first: usize,
+    all: &mut Vec<InitDeclarator<'_>>,
+) -> usize
     requires { first + count_declarators (bare_init_declarators (map init_declarator_of all.old.items)) < 2 ^ 64 }
     ensures placed { map init_declarator_of all.new.items ≡ locate_init_declarators (source_of root.now) first (bare_init_declarators (map init_declarator_of all.old.items)) }
     ensures past { result ≡ first + count_declarators (bare_init_declarators (map init_declarator_of all.old.items)) }
@@ -115,7 +128,11 @@ fn set_init_declarators(root: &Root<'_, '_>, first: usize, all: &mut Vec<InitDec
 }
 
 /// Sets the places in a declaration.
-pub(crate) fn set_declaration(root: &Root<'_, '_>, first: usize, declaration: &mut Decl<'_>) -> usize
+pub(crate) fn set_declaration(
+    root: &Root<'_, '_>,
+    first: usize,
+    declaration: &mut Decl<'_>,
+) -> usize
     requires { first + count_declaration (bare_declaration (declaration_of declaration.old)) < 2 ^ 64 }
     ensures placed { declaration_of declaration.new ≡ locate_declaration (source_of root.now) first (bare_declaration (declaration_of declaration.old)) }
     ensures past { result ≡ first + count_declaration (bare_declaration (declaration_of declaration.old)) }

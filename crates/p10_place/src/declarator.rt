@@ -16,7 +16,11 @@ use std::mem::replace;
 
 /// Sets the places in a declarator; a name that is left out stands before word `first`.
 #[cycle(setting)]
-pub(crate) fn set_declarator(root: &Root<'_, '_>, first: usize, declarator: &mut Declarator<'_>) -> usize
+pub(crate) fn set_declarator(
+    root: &Root<'_, '_>,
+    first: usize,
+    declarator: &mut Declarator<'_>,
+) -> usize
     requires { first + count_declarator (bare_declarator (declarator_of declarator.old)) < 2 ^ 64 }
     ensures placed { declarator_of declarator.new ≡ locate_declarator (source_of root.now) first (bare_declarator (declarator_of declarator.old)) }
     ensures past { result ≡ first + count_declarator (bare_declarator (declarator_of declarator.old)) }
@@ -29,7 +33,11 @@ pub(crate) fn set_declarator(root: &Root<'_, '_>, first: usize, declarator: &mut
 
 /// A declarator with its places set, and the number of the word past it.
 #[cycle(setting)]
-fn set_parts<'s>(root: &Root<'_, '_>, first: usize, declarator: Declarator<'s>) -> (Declarator<'s>, usize)
+fn set_parts<'s>(
+    root: &Root<'_, '_>,
+    first: usize,
+    declarator: Declarator<'s>,
+) -> (Declarator<'s>, usize)
     requires { first + count_declarator (bare_declarator (declarator_of declarator)) < 2 ^ 64 }
     ensures placed { declarator_of result.0 ≡ locate_declarator (source_of root.now) first (bare_declarator (declarator_of declarator.entry)) }
     ensures past { result.1 ≡ first + count_declarator (bare_declarator (declarator_of declarator.entry)) }
@@ -60,7 +68,10 @@ fn set_parts<'s>(root: &Root<'_, '_>, first: usize, declarator: Declarator<'s>) 
             let past = set_declarator(root, first, &mut inner);
             let past = set_parameters(root, past + 1, &mut parameters) + ellipsis(has_ellipsis) + 1;
             let at = root.place_between(first, past);
-            (Declarator::Function(at, inner, parameters, has_ellipsis), past)
+            (
+                Declarator::Function(at, inner, parameters, has_ellipsis),
+                past,
+            )
         }
     }
 }

@@ -146,7 +146,11 @@ pub(crate) fn comma_before(i: usize) -> usize
 
 /// Sets the places in an expression that may be left out.
 #[cycle(setting)]
-pub(crate) fn set_optional(root: &Root<'_, '_>, first: usize, value: &mut Option<Box<Expr<'_>>>) -> usize
+pub(crate) fn set_optional(
+    root: &Root<'_, '_>,
+    first: usize,
+    value: &mut Option<Box<Expr<'_>>>,
+) -> usize
     requires { first + count_optional (bare_optional (boxed_of value.old)) < 2 ^ 64 }
     ensures placed { boxed_of value.new ≡ locate_optional (source_of root.now) first (bare_optional (boxed_of value.old)) }
     ensures past { result ≡ first + count_optional (bare_optional (boxed_of value.old)) }

@@ -61,10 +61,18 @@ ghost use Rattle.p10_base.specs.Words.{plain_word};
 ghost use Rattle.p10_syn.specs.Places.{joined as joined_span, span_between as between};
 
 /// The bytes of no word.
-const NO_SPAN: Span = Span { file: 0, start: 0, end: 0 };
+const NO_SPAN: Span = Span {
+    file: 0,
+    start: 0,
+    end: 0,
+};
 
 /// The place of a tree whose place isn't set yet.
-pub(crate) const NOWHERE: At = At { first: 0, past: 0, span: NO_SPAN };
+pub(crate) const NOWHERE: At = At {
+    first: 0,
+    past: 0,
+    span: NO_SPAN,
+};
 
 /// The bytes from the first of two words to the last, where both are there.
 fn span_to(first: Option<&Word<'_>>, last: Option<&Word<'_>>) -> Span

@@ -149,14 +149,24 @@ fn set_enumeration(root: &Root<'_, '_>, first: usize, enumeration: &mut Enumerat
     ensures past { result ≡ first + count_specifier (bare_specifier (enumeration_of enumeration.old)) }
 {
     let past = set_tag(root, first + 1, &mut enumeration.tag);
-    let past = set_enumerators(root, past, &mut enumeration.enumerators, enumeration.ends_with_comma);
+    let past = set_enumerators(
+        root,
+        past,
+        &mut enumeration.enumerators,
+        enumeration.ends_with_comma,
+    );
     enumeration.at = root.place_between(first, past);
     past
 }
 
 /// Sets the places in the body of an enumeration from its `{` on, if it has one.
 #[cycle(setting)]
-fn set_enumerators(root: &Root<'_, '_>, first: usize, enumerators: &mut Vec<Enumerator<'_>>, ends_with_comma: bool) -> usize
+fn set_enumerators(
+    root: &Root<'_, '_>,
+    first: usize,
+    enumerators: &mut Vec<Enumerator<'_>>,
+    ends_with_comma: bool,
+) -> usize
     requires { first + count_enumerators (bare_enumerators (enumerators_in enumerators.old)) ends_with_comma < 2 ^ 64 }
     ensures placed { enumerators_in enumerators.new ≡ locate_enumerators (source_of root.now) (first + 1) (bare_enumerators (enumerators_in enumerators.old)) }
     ensures past { result ≡ first + count_enumerators (bare_enumerators (enumerators_in enumerators.old)) ends_with_comma }

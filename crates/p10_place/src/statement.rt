@@ -53,23 +53,35 @@ fn set_parts<'s>(root: &Root<'_, '_>, first: usize, statement: Stmt<'s>) -> (Stm
         Stmt::IfElse(_, mut test, mut then, mut other) => {
             let past = set_headed(root, first, &mut then, &mut test);
             let past = set_statement(root, past + 1, &mut other);
-            (Stmt::IfElse(root.place_between(first, past), test, then, other), past)
+            (
+                Stmt::IfElse(root.place_between(first, past), test, then, other),
+                past,
+            )
         }
         Stmt::Switch(_, _, mut value, mut body) => {
             let keyword = root.place_between(first, first + 1);
             let past = set_headed(root, first, &mut body, &mut value);
-            (Stmt::Switch(root.place_between(first, past), keyword, value, body), past)
+            (
+                Stmt::Switch(root.place_between(first, past), keyword, value, body),
+                past,
+            )
         }
         Stmt::While(_, _, mut test, mut body) => {
             let keyword = root.place_between(first, first + 1);
             let past = set_headed(root, first, &mut body, &mut test);
-            (Stmt::While(root.place_between(first, past), keyword, test, body), past)
+            (
+                Stmt::While(root.place_between(first, past), keyword, test, body),
+                past,
+            )
         }
         Stmt::Do(_, _, mut body, mut test) => {
             let keyword = root.place_between(first, first + 1);
             let past = set_statement(root, first + 1, &mut body);
             let past = set_expression(root, past + 2, &mut test) + 2;
-            (Stmt::Do(root.place_between(first, past), keyword, body, test), past)
+            (
+                Stmt::Do(root.place_between(first, past), keyword, body, test),
+                past,
+            )
         }
         Stmt::For(_, _, mut start, mut test, mut step, mut body) => {
             let keyword = root.place_between(first, first + 1);
@@ -83,7 +95,10 @@ fn set_parts<'s>(root: &Root<'_, '_>, first: usize, statement: Stmt<'s>) -> (Stm
         Stmt::Case(_, mut value, mut body) => {
             let past = set_expression(root, first + 1, &mut value);
             let past = set_statement(root, past + 1, &mut body);
-            (Stmt::Case(root.place_between(first, past), value, body), past)
+            (
+                Stmt::Case(root.place_between(first, past), value, body),
+                past,
+            )
         }
         Stmt::Default(_, mut body) => {
             let past = set_statement(root, first + 2, &mut body);
@@ -92,24 +107,36 @@ fn set_parts<'s>(root: &Root<'_, '_>, first: usize, statement: Stmt<'s>) -> (Stm
         Stmt::Label(_, mut name, mut body) => {
             let past = set_name(root, first, &mut name);
             let past = set_statement(root, past + 1, &mut body);
-            (Stmt::Label(root.place_between(first, past), name, body), past)
+            (
+                Stmt::Label(root.place_between(first, past), name, body),
+                past,
+            )
         }
         Stmt::Goto(_, mut name) => {
             let past = set_name(root, first + 1, &mut name) + 1;
             (Stmt::Goto(root.place_between(first, past), name), past)
         }
         Stmt::Break(_) => (Stmt::Break(root.place_between(first, first + 2)), first + 2),
-        Stmt::Continue(_) => (Stmt::Continue(root.place_between(first, first + 2)), first + 2),
+        Stmt::Continue(_) => (
+            Stmt::Continue(root.place_between(first, first + 2)),
+            first + 2,
+        ),
         Stmt::Return(_, _, mut value) => {
             let keyword = root.place_between(first, first + 1);
             let past = set_value(root, first + 1, &mut value) + 1;
-            (Stmt::Return(root.place_between(first, past), keyword, value), past)
+            (
+                Stmt::Return(root.place_between(first, past), keyword, value),
+                past,
+            )
         }
         Stmt::Decl(mut declaration) => {
             let past = set_declaration(root, first, &mut declaration);
             (Stmt::Decl(declaration), past)
         }
-        Stmt::Mark(_, text) => (Stmt::Mark(root.place_between(first, first + 1), text), first + 1),
+        Stmt::Mark(_, text) => (
+            Stmt::Mark(root.place_between(first, first + 1), text),
+            first + 1,
+        ),
     }
 }
 

@@ -1,4 +1,4 @@
-use Rattle.std.proofs.Common.{rules, ◌≡◌, ◌+◌, refl, ap, ◌∙◌, arith}
+use Rattle.std.proofs.Common.{rules, ◌+◌, refl, ap, ◌∙◌, arith}
 use Rattle.std.proofs.lemmas.Grind.{common_steps}
 use Rattle.p10_syn.specs.declared.tree.Declarator.TheViews.{the_lemmas}
 use Rattle.p10_syn.specs.Built.{form_of, declarator_of}
@@ -6,7 +6,7 @@ use Rattle.p10_syn.specs.Counts.{count_bool}
 use Rattle.p10_syn.proofs.Rows.{specifiers_listed}
 use Rattle.p10_place.specs.Roots.{source_of}
 use Rattle.p10_place.proofs.Parts.{begins, goes_on, unvisited_next}
-use Rattle.p10_place.proofs.Placings.{fits_expressions, starts_expressions, all_expressions, past_expressions, fits_specifiers, starts_specifiers, all_specifiers, past_specifiers, fits_members, starts_members, all_members, past_members, fits_fields, starts_fields, all_fields, past_fields, fits_enumerators, starts_enumerators, all_enumerators, past_enumerators, fits_parameters, starts_parameters, all_parameters, past_parameters}
+use Rattle.p10_place.proofs.Placings.{fits_expressions, starts_expressions, all_expressions, past_expressions, fits_specifiers, all_specifiers, past_specifiers, fits_members, starts_members, all_members, past_members, fits_fields, starts_fields, all_fields, past_fields, fits_enumerators, starts_enumerators, all_enumerators, past_enumerators, fits_parameters, starts_parameters, all_parameters, past_parameters}
 use Rattle.p10_place.proofs.Rows.{expressions_listed, members_listed, fields_listed, enumerators_listed, parameters_listed, call_is, comma_is, cast_is, sizeof_is, function_is, structure_is, enumeration_is, member_is}
 use Rattle.p10_place.proofs.+setting.Goals as goal
 

@@ -1,4 +1,4 @@
-use Rattle.std.proofs.Common.{◌≡◌, ◌+◌, refl, ap, arith}
+use Rattle.std.proofs.Common.{◌+◌, refl, ap, arith}
 use Rattle.p10_place.specs.Roots.{source_of}
 use Rattle.p10_place.proofs.Parts.{goes_on}
 use Rattle.p10_place.proofs.StatementPlacings.{fits_declarators, starts_declarators, all_declarators, past_declarators}

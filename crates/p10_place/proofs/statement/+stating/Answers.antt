@@ -1,4 +1,4 @@
-use Rattle.std.proofs.Common.{rules, ◌≡◌, ◌+◌, refl, ap, ◌∙◌, arith}
+use Rattle.std.proofs.Common.{rules, refl, ap, ◌∙◌, arith}
 use Rattle.std.proofs.lemmas.Grind.{common_steps}
 use Rattle.p10_syn.specs.declared.statement.Stmt.TheViews.{the_lemmas}
 use Rattle.p10_syn.specs.BuiltStatements.{statement_of}
