@@ -4,12 +4,14 @@ use Rattle.std.proofs.lemmas.Bool.{true≢false, cases_lt}
 use Rattle.std.proofs.lemmas.List.{length-map}
 use Rattle.p10_base.specs.declared.at.At.{At}
 use Rattle.p10_base.specs.declared.report.TheConstants.Limit.{MOST_NESTING}
-use Rattle.p10_base.specs.Words.{Text, PlainWord}
+use Rattle.p10_base.specs.declared.word.Word.{Word}
+use Rattle.p10_base.specs.Words.{Text, PlainWord, plain_word, plain_words}
 use Rattle.p10_syn.specs.declared.token.Token.{Token}
 use Rattle.p10_syn.specs.Tokens.{symbol_at}
 use Rattle.p10_syn.specs.declared.tree.Expr.{Expr}
-use Rattle.p10_syn.specs.Symbols.{Symbol, symbols_of}
+use Rattle.p10_syn.specs.Symbols.{Symbol, symbol_of, symbols_of}
 use Rattle.p10_syn.specs.Built.{bare_of, expression_of}
+use Rattle.p10_syn.specs.Counts.{count}
 use Rattle.p10_syn.specs.Scopes.{Scope, typedefs}
 use Rattle.p10_syn.specs.Bare.{bare}
 use Rattle.p10_syn.specs.Trees.{Bare, Expression}
@@ -21,6 +23,7 @@ use Rattle.p10_pexpr.specs.Heads.{Read}
 use Rattle.p10_pexpr.specs.Fronts.{first, is_none}
 use Rattle.p10_pexpr.specs.Reading.{readers}
 use Rattle.p10_pexpr.specs.Parses.{IsSpelled, NoneSpells}
+use Rattle.p10_place.proofs.Counting.{counts}
 use Rattle.p10_pexpr.proofs.Parsed.{found, none_spells, left_spells}
 
 -- as deep as these words ask for
@@ -69,6 +72,12 @@ in_places types words t e is same placed = record {
   spelled = is.1 ∙ ap (λ t. spell t []) (sym same);
   placed = placed ∙ ap (locate (record { words = words; before = 0 }) 0) (sym same);
 }
+
+-- a tree that spells words has no more words
+pub fits : (names : Scope) (words : List Word) (t : Expression Bare) → IsSpelled names (symbols_of (plain_words words)) t → count t ≤ length words
+fits names words t is =
+    let n : length words ≡ count t + 0 = sym (length-map words plain_word) ∙ sym (length-map (plain_words words) symbol_of) ∙ ap length is.1 ∙ counts t [] in
+    omega (arith, n)
 
 -- a nesting that isn't found to be over the limit
 pub not_over : (is_over : Bool) (n : ℕ) → (IsTrue is_over ↔ (MOST_NESTING < n)) → is_over ≡ false → n ≤ MOST_NESTING

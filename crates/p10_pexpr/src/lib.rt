@@ -23,7 +23,7 @@ mod tokens;
 mod trouble;
 
 pub use cursor::Cursor;
-pub use entire::budget_of;
+pub use entire::{budget_of, expr};
 pub use fault::ParseFault;
 pub use names::Names;
 pub use next::{Next, Specifying, Start, begins_specifiers};
