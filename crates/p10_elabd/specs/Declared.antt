@@ -10,7 +10,8 @@ use Rattle.p10_core.specs.Types.{PlainType, void, PlainMember}
 use Rattle.p10_core.specs.Rows.{int_type}
 use Rattle.p10_elabx.specs.First.{Keep, Ruled, lift}
 use Rattle.p10_elabx.specs.Scopes.{local, unknown_name, named}
-use Rattle.p10_elabx.specs.TypeNames.{Said, said_of, nothing_specified, is_bad_mixture, typedef_rule, specified_type, specifiers_at, later}
+use Rattle.p10_elabx.specs.declared.words.Said.{Said}
+use Rattle.p10_elabx.specs.TypeNames.{said_of, nothing_specified, is_bad_mixture, typedef_rule, specified_type, specifiers_at, later}
 use Rattle.p10_elabd.specs.Standing.{Standing, Passed, passed, nothing_made, refusing, noted}
 use Rattle.p10_elabd.specs.Words.{Site, of_members, of_parameter, Allowed, none_allowed, is_storage, word_row, by_row}
 use Rattle.p10_elabd.specs.Blocks.{declaring}

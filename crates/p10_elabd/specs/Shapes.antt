@@ -1,5 +1,5 @@
 -- What declarators make of types (C99 6.7.5), and what may be declared with them.
-use Rattle.std.specs.Prelude.{Bool, true, false, if◌then◌else◌, List, Option, Some, None, Ok, drop, length}
+use Rattle.std.specs.Prelude.{ℕ, Bool, true, false, if◌then◌else◌, List, Option, Some, None, Ok, drop, length}
 use Rattle.p10_base.specs.declared.at.At.{At}
 use Rattle.p10_base.specs.declared.codes.SubsetCode.TheVariants as subset
 use Rattle.p10_syn.specs.declared.sign.Sign.{Sign}
