@@ -1,3 +1,2 @@
-pub mod Rows
 pub mod Bodies
-pub mod StatementRows
+pub mod Rows

@@ -1,6 +1,6 @@
 -- A tree without its places: its form.
-use Rattle.std.specs.Prelude.{ℕ, List, [], ◌∷◌, Bool, Option, Some, None}
-use Rattle.p10_syn.specs.Trees.{Bare, Identifier, Expression, expression, Form, Name, Number, Character, Strings, Unary, Step, Binary, Assign, Conditional, Call, Index, Member, Arrow, Cast, SizeofExpression, SizeofType, Comma, Expressions, NoExpressions, MoreExpressions, Optional, Absent, Present, TypeName, type_name, Specifiers, NoSpecifiers, MoreSpecifiers, Specifier, Keyword, Typedef, Structure, Enumeration, Members, NoMembers, MoreMembers, MemberDeclaration, member_declaration, Fields, NoFields, MoreFields, Field, field, Enumerators, NoEnumerators, MoreEnumerators, Enumerator, enumerator, Declarator, Named, Unnamed, Pointer, Parenthesised, Array, Function, Parameters, NoParameters, MoreParameters, Parameter, parameter}
+use Rattle.std.specs.Prelude.{List, [], ◌∷◌, Option, Some, None}
+use Rattle.p10_syn.specs.Trees.{Bare, Identifier, Qualifier, Expression, expression, Form, Name, Number, Character, Strings, Unary, Step, Binary, Assign, Conditional, Call, Index, Member, Arrow, Cast, SizeofExpression, SizeofType, Comma, Expressions, NoExpressions, MoreExpressions, Optional, Absent, Present, TypeName, type_name, Specifiers, NoSpecifiers, MoreSpecifiers, Specifier, Keyword, Typedef, Structure, Enumeration, Members, NoMembers, MoreMembers, MemberDeclaration, member_declaration, Fields, NoFields, MoreFields, Field, field, Enumerators, NoEnumerators, MoreEnumerators, Enumerator, enumerator, Declarator, Named, Unnamed, Pointer, Parenthesised, Array, Function, Parameters, NoParameters, MoreParameters, Parameter, parameter}
 use Rattle.p10_syn.specs.Trees.{Initializer, Value, Braced, Initializers, NoInitializers, MoreInitializers, InitDeclarator, Declaration, Statement, Empty, Evaluate, Block, If, IfElse, Switch, While, Do, For, Case, Default, Label, Goto, Break, Continue, Return, Declare, Pragma, Statements, NoStatements, MoreStatements, Landmarks, Definition, External, Outer, Defines}
 
 -- a name without its place: how it is written
@@ -12,6 +12,15 @@ abbrev pub bare_tag : {P : Type 0} → Option (Identifier P) → Option (Identif
 bare_tag None = None
 bare_tag (Some x) = Some (bare_name x)
 
+-- a qualifier without its place
+abbrev pub bare_qualifier : {P : Type 0} → Qualifier P → Qualifier Bare
+bare_qualifier q = record { place = tt; word = q.word }
+
+-- each of these qualifiers without its place
+abbrev pub bare_qualifiers : {P : Type 0} → List (Qualifier P) → List (Qualifier Bare)
+bare_qualifiers [] = []
+bare_qualifiers (q ∷ qs) = bare_qualifier q ∷ bare_qualifiers qs
+
 abbrev mutual
   -- an expression without its places; the pairs of parentheses round it still count
   pub bare : {P : Type 0} → Expression P → Expression Bare
@@ -19,7 +28,7 @@ abbrev mutual
 
   -- the same operator, name or constant, and each operand without its places
   pub bare_form : {P : Type 0} → Form P → Form Bare
-  bare_form (Name x) = Name x
+  bare_form (Name x) = Name (bare_name x)
   bare_form (Number x) = Number x
   bare_form (Character x) = Character x
   bare_form (Strings xs) = Strings xs
@@ -94,10 +103,10 @@ abbrev mutual
   pub bare_declarator : {P : Type 0} → Declarator P → Declarator Bare
   bare_declarator (Named x) = Named (bare_name x)
   bare_declarator (Unnamed p) = Unnamed tt
-  bare_declarator (Pointer p qs d) = Pointer tt qs (bare_declarator d)
+  bare_declarator (Pointer p qs d) = Pointer tt (bare_qualifiers qs) (bare_declarator d)
   bare_declarator (Parenthesised p d) = Parenthesised tt (bare_declarator d)
-  bare_declarator (Array p d size) = Array tt (bare_declarator d) (bare_optional size)
-  bare_declarator (Function p d ps ellipsis) = Function tt (bare_declarator d) (bare_parameters ps) ellipsis
+  bare_declarator (Array p d b size) = Array tt (bare_declarator d) tt (bare_optional size)
+  bare_declarator (Function p d b ps ellipsis) = Function tt (bare_declarator d) tt (bare_parameters ps) ellipsis
 
   -- each parameter of a function's declarator without its places
   pub bare_parameters : {P : Type 0} → Parameters P → Parameters Bare
@@ -174,7 +183,7 @@ bare_definition d = record { place = tt; landmarks = no_landmarks; specifiers = 
 
 -- a declaration outside of functions, or a function, without its places
 abbrev pub bare_external : {P : Type 0} → External P → External Bare
-bare_external (Outer d) = Outer (bare_declaration d)
+bare_external (Outer p d) = Outer tt (bare_declaration d)
 bare_external (Defines d) = Defines (bare_definition d)
 
 -- each of these declarations and functions without its places

@@ -1,9 +1,10 @@
 -- The trees of the code as the definitions see them.
-use Rattle.std.specs.Prelude.{ℕ, suc, List, [], ◌∷◌, map, Bool, Option, Some, None, Vec}
+use Rattle.std.specs.Prelude.{suc, map, Option, Some, None, Vec}
 use Rattle.std.specs.declared.alloc.Global.{Global}
 use Rattle.p10_base.specs.Words.{Text}
 use Rattle.p10_base.specs.declared.at.At.{At}
 use Rattle.p10_syn.specs.declared.tree.Identifier as name
+use Rattle.p10_syn.specs.declared.tree.Qualifier as qualifying
 use Rattle.p10_syn.specs.declared.tree.Expr as expr
 use Rattle.p10_syn.specs.declared.tree.Form as form
 use Rattle.p10_syn.specs.declared.tree.TypeName as kind
@@ -15,8 +16,8 @@ use Rattle.p10_syn.specs.declared.tree.Enumeration as enumeration
 use Rattle.p10_syn.specs.declared.tree.Enumerator as constant
 use Rattle.p10_syn.specs.declared.tree.Declarator as declarator
 use Rattle.p10_syn.specs.declared.tree.Parameter as given
-use Rattle.p10_syn.specs.Bare.{bare, bare_type, bare_specifier, bare_member, bare_field, bare_enumerator, bare_declarator, bare_parameter}
-use Rattle.p10_syn.specs.Trees.{Bare, specifier_row, Identifier, Expression, expression, Form, Name, Number, Character, Strings, Unary, Step, Binary, Assign, Conditional, Call, Index, Member, Arrow, Cast, SizeofExpression, SizeofType, Comma, Expressions, NoExpressions, MoreExpressions, Optional, Absent, Present, TypeName, type_name, Specifiers, NoSpecifiers, MoreSpecifiers, Specifier, Keyword, Typedef, Structure, Enumeration, Members, NoMembers, MoreMembers, MemberDeclaration, member_declaration, Fields, NoFields, MoreFields, Field, field, Enumerators, NoEnumerators, MoreEnumerators, Enumerator, enumerator, Declarator, Named, Unnamed, Pointer, Parenthesised, Array, Function, Parameters, NoParameters, MoreParameters, Parameter, parameter}
+use Rattle.p10_syn.specs.Bare.{bare_qualifier, bare, bare_type, bare_specifier, bare_member, bare_field, bare_enumerator, bare_declarator, bare_parameter}
+use Rattle.p10_syn.specs.Trees.{Bare, specifier_row, Identifier, Qualifier, Expression, expression, Form, Name, Number, Character, Strings, Unary, Step, Binary, Assign, Conditional, Call, Index, Member, Arrow, Cast, SizeofExpression, SizeofType, Comma, Expressions, NoExpressions, MoreExpressions, Optional, Absent, Present, TypeName, type_name, Specifiers, NoSpecifiers, MoreSpecifiers, Specifier, Keyword, Typedef, Structure, Enumeration, Members, NoMembers, MoreMembers, MemberDeclaration, member_declaration, Fields, NoFields, MoreFields, Field, field, Enumerators, NoEnumerators, MoreEnumerators, Enumerator, enumerator, Declarator, Named, Unnamed, Pointer, Parenthesised, Array, Function, Parameters, NoParameters, MoreParameters, Parameter, parameter}
 
 -- how a name of the code is written, and where it stands
 abbrev pub identifier_of : name.Identifier → Identifier At
@@ -27,10 +28,14 @@ abbrev pub tag_of : Option name.Identifier → Option (Identifier At)
 tag_of None = None
 tag_of (Some x) = Some (identifier_of x)
 
+-- a qualifier of a pointer of the code
+abbrev pub qualifier_of : qualifying.Qualifier → Qualifier At
+qualifier_of q = record { place = q.at; word = q.sign }
+
 abbrev mutual
   -- what an expression of the code is inside its parentheses, each of its operands with its place
   pub form_of : form.Form → Form At
-  form_of (form.Name text) = Name text.now
+  form_of (form.Name x) = Name (identifier_of x)
   form_of (form.Number text) = Number text.now
   form_of (form.Char text) = Character text.now
   form_of (form.Str texts) = Strings (map (λ text. text.now) texts.items)
@@ -54,7 +59,7 @@ abbrev mutual
   expressions_of (form.more_of-Expr at n f rest) = MoreExpressions (expression at n (form_of f)) (expressions_of rest)
 
   -- an expression of the code that may be left out: a length, a width or the value of a constant
-  pub optional_of : declarator.Held-Declarator-Array-2 → Optional At
+  pub optional_of : declarator.Held-Declarator-Array-3 → Optional At
   optional_of declarator.None' = Absent
   optional_of (declarator.Some' p at n f) = Present (expression at n (form_of f))
 
@@ -109,10 +114,10 @@ abbrev mutual
   pub declarator_of : declarator.Declarator → Declarator At
   declarator_of (declarator.Named x) = Named (identifier_of x)
   declarator_of (declarator.Unnamed at) = Unnamed at
-  declarator_of (declarator.Pointer' at signs p d) = Pointer at signs.items (declarator_of d)
+  declarator_of (declarator.Pointer' at qualifiers p d) = Pointer at (map qualifier_of qualifiers.items) (declarator_of d)
   declarator_of (declarator.Parenthesised' at p d) = Parenthesised at (declarator_of d)
-  declarator_of (declarator.Array' at p d size) = Array at (declarator_of d) (optional_of size)
-  declarator_of (declarator.Function' at p d shape all ellipsis) = Function at (declarator_of d) (parameters_of all) ellipsis
+  declarator_of (declarator.Array' at p d brackets size) = Array at (declarator_of d) brackets (optional_of size)
+  declarator_of (declarator.Function' at p d parentheses shape all ellipsis) = Function at (declarator_of d) parentheses (parameters_of all) ellipsis
 
   -- the parameters of a function's declarator of the code, in their order
   pub parameters_of : {m : _} → declarator.Row_of-Parameter m → Parameters At
@@ -122,6 +127,10 @@ abbrev mutual
 -- the expression of the grammar that one of the code stands for, with its place and its pairs of parentheses
 abbrev pub expression_of : expr.Expr → Expression At
 expression_of e = expression e.at e.parens (form_of e.form)
+
+-- a qualifier of a pointer of the code without its place
+abbrev pub bare_qualifier_of : qualifying.Qualifier → Qualifier Bare
+bare_qualifier_of q = bare_qualifier (qualifier_of q)
 
 -- lists of specifiers
 abbrev pub specifiers_in : Vec spec.Spec Global → Specifiers At

@@ -1,5 +1,5 @@
 -- The trees of declarations, statements and functions of the code as the definitions see them.
-use Rattle.std.specs.Prelude.{List, [], ◌∷◌, map, Option, Some, None}
+use Rattle.std.specs.Prelude.{map, Option, Some, None}
 use Rattle.p10_base.specs.declared.at.At.{At}
 use Rattle.p10_syn.specs.declared.tree.Expr as expr
 use Rattle.p10_syn.specs.declared.statement.Init as init
@@ -12,7 +12,7 @@ use Rattle.p10_syn.specs.declared.statement.Unit as whole
 use Rattle.p10_syn.specs.declared.statement.Unit.TheVariants as unit
 use Rattle.p10_syn.specs.Bare.{bare_initializer, bare_init_declarator, bare_declaration, bare_statement, bare_external}
 use Rattle.p10_syn.specs.Built.{identifier_of, expression_of, specifiers_in, declarator_of}
-use Rattle.p10_syn.specs.Trees.{Bare, statement_row, Expression, Optional, Absent, Present, Initializer, Value, Braced, Initializers, NoInitializers, MoreInitializers, InitDeclarator, Declaration, Statement, Empty, Evaluate, Block, If, IfElse, Switch, While, Do, For, Case, Default, Label, Goto, Break, Continue, Return, Declare, Pragma, Statements, NoStatements, MoreStatements, Landmarks, Definition, External, Outer, Defines}
+use Rattle.p10_syn.specs.Trees.{Bare, statement_row, Optional, Absent, Present, Initializer, Value, Braced, Initializers, NoInitializers, MoreInitializers, InitDeclarator, Declaration, Statement, Empty, Evaluate, Block, If, IfElse, Switch, While, Do, For, Case, Default, Label, Goto, Break, Continue, Return, Declare, Pragma, Statements, NoStatements, MoreStatements, Landmarks, Definition, External, Outer, Defines}
 
 -- an expression that may be left out
 abbrev pub optional_expression : Option expr.Expr → Optional At
@@ -80,7 +80,7 @@ definition_of f = record { place = f.at; landmarks = landmarks_of f.landmarks; s
 
 -- a declaration outside of functions of the code, or a function of it
 abbrev pub external_of : whole.Unit → External At
-external_of (unit.Decl d) = Outer (declaration_of d)
+external_of (unit.Decl at d) = Outer at (declaration_of d)
 external_of (unit.Function f) = Defines (definition_of f)
 
 -- ## Trees of the code without their places

@@ -122,8 +122,8 @@ abbrev mutual
   count_declarator (Unnamed p) = 0
   count_declarator (Pointer p qs d) = 1 + length qs + count_declarator d
   count_declarator (Parenthesised p d) = 1 + count_declarator d + 1
-  count_declarator (Array p d length) = count_declarator d + 1 + count_optional length + 1
-  count_declarator (Function p d ps ellipsis) = count_declarator d + 1 + count_parameters ps + 2 * count_bool ellipsis + 1
+  count_declarator (Array p d b length) = count_declarator d + 1 + count_optional length + 1
+  count_declarator (Function p d b ps ellipsis) = count_declarator d + 1 + count_parameters ps + 2 * count_bool ellipsis + 1
 
   -- with commas between them
   pub count_parameters : Parameters Bare → ℕ
@@ -215,5 +215,5 @@ count_definition d = count_head d + 1 + count_statements d.body + 1
 
 -- the words of a declaration outside of functions, or of a function
 abbrev pub count_external : External Bare → ℕ
-count_external (Outer d) = count_declaration d
+count_external (Outer p d) = count_declaration d
 count_external (Defines d) = count_definition d

@@ -12,8 +12,8 @@ identifier_in (Named x) = Some x
 identifier_in (Unnamed p) = None
 identifier_in (Pointer p qs d) = identifier_in d
 identifier_in (Parenthesised p d) = identifier_in d
-identifier_in (Array p d length) = identifier_in d
-identifier_in (Function p d ps ellipsis) = identifier_in d
+identifier_in (Array p d b length) = identifier_in d
+identifier_in (Function p d b ps ellipsis) = identifier_in d
 
 -- how the name is written that a declarator declares, if it has one
 abbrev pub name_in : {P : Type 0} → Declarator P → Option Text
@@ -21,8 +21,8 @@ name_in (Named x) = Some x.name
 name_in (Unnamed p) = None
 name_in (Pointer p qs d) = name_in d
 name_in (Parenthesised p d) = name_in d
-name_in (Array p d length) = name_in d
-name_in (Function p d ps ellipsis) = name_in d
+name_in (Array p d b length) = name_in d
+name_in (Function p d b ps ellipsis) = name_in d
 
 -- whether a keyword makes declared names typedef names (C99 6.7.1, 6.7.7)
 abbrev pub is_typedef_sign : Sign → Bool
@@ -110,8 +110,8 @@ first_parameters (Named x) = None
 first_parameters (Unnamed p) = None
 first_parameters (Pointer p qs d) = first_parameters d
 first_parameters (Parenthesised p d) = first_parameters d
-first_parameters (Array p d length) = first_parameters d
-first_parameters (Function p d ps ellipsis) = cond (is_only_name d) (Some ps) (first_parameters d)
+first_parameters (Array p d b length) = first_parameters d
+first_parameters (Function p d b ps ellipsis) = cond (is_only_name d) (Some ps) (first_parameters d)
 
 -- the scope after a list of parameters, if there is one
 abbrev pub with_parameters : {P : Type 0} → Scope → Option (Parameters P) → Scope
@@ -124,5 +124,5 @@ in_body names d = with_parameters names (first_parameters d)
 
 -- the scope after a declaration or a function; the parameters of a function aren't in it
 abbrev pub after_external : {P : Type 0} → Scope → External P → Scope
-after_external names (Outer d) = after_declaration names d
+after_external names (Outer p d) = after_declaration names d
 after_external names (Defines d) = after_declarator (after_specifiers names d.specifiers) d.specifiers d.declarator

@@ -10,10 +10,10 @@ use Rattle.p10_syn.specs.declared.setting.Said.{Said}
 use Rattle.p10_syn.specs.declared.setting.Said.TheVariants.{Nothing, Words, TypedefName}
 use Rattle.p10_syn.specs.declared.setting.Setting.{Setting}
 use Rattle.p10_syn.specs.declared.setting.Setting.TheVariants as setting
-use Rattle.p10_syn.specs.Scopes.{Scope, is_type, with_name}
+use Rattle.p10_syn.specs.Scopes.{Scope, is_type}
 use Rattle.p10_syn.specs.Precedence.{binary_level, is_unary, is_step, is_assign, level_of}
-use Rattle.p10_syn.specs.Declaring.{name_in, makes_types, after_enumerator, after_specifier, after_specifiers, after_member, after_parameter}
-use Rattle.p10_syn.specs.Trees.{Bare, Identifier, Expression, expression, Form, Name, Number, Character, Strings, Unary, Step, Binary, Assign, Conditional, Call, Index, Member, Arrow, Cast, SizeofExpression, SizeofType, Comma, Expressions, NoExpressions, MoreExpressions, Optional, Absent, Present, TypeName, type_name, Specifiers, NoSpecifiers, MoreSpecifiers, Specifier, Keyword, Typedef, Structure, Enumeration, Members, NoMembers, MoreMembers, MemberDeclaration, member_declaration, Fields, NoFields, MoreFields, Field, field, Enumerators, NoEnumerators, MoreEnumerators, Enumerator, enumerator, Declarator, Named, Unnamed, Pointer, Parenthesised, Array, Function, Parameters, NoParameters, MoreParameters, Parameter, parameter}
+use Rattle.p10_syn.specs.Declaring.{after_enumerator, after_specifier, after_specifiers, after_member, after_parameter}
+use Rattle.p10_syn.specs.Trees.{Bare, Identifier, Qualifier, Expression, expression, Form, Name, Number, Character, Strings, Unary, Step, Binary, Assign, Conditional, Call, Index, Member, Arrow, Cast, SizeofExpression, SizeofType, Comma, Expressions, NoExpressions, MoreExpressions, Optional, Absent, Present, TypeName, type_name, Specifiers, NoSpecifiers, MoreSpecifiers, Specifier, Keyword, Typedef, Structure, Enumeration, Members, NoMembers, MoreMembers, MemberDeclaration, member_declaration, Fields, NoFields, MoreFields, Field, field, Enumerators, NoEnumerators, MoreEnumerators, Enumerator, enumerator, Declarator, Named, Unnamed, Pointer, Parenthesised, Array, Function, Parameters, NoParameters, MoreParameters, Parameter, parameter}
 
 -- ## Specifiers
 
@@ -161,8 +161,8 @@ leads names (Named x) = is_type names x.name
 leads names (Unnamed p) = false
 leads names (Pointer p qs d) = false
 leads names (Parenthesised p d) = false
-leads names (Array p d length) = leads names d
-leads names (Function p d ps ellipsis) = leads names d
+leads names (Array p d b length) = leads names d
+leads names (Function p d b ps ellipsis) = leads names d
 
 -- a declarator directly after specifiers that say nothing of a type doesn't begin with a typedef name
 abbrev pub IsApart : {P : Type 0} → Scope → Said → Declarator P → Type 0
@@ -175,9 +175,9 @@ AreApart names said NoFields = Unit {0}
 AreApart names said (MoreFields (field p d width) fs) = IsApart names said d
 
 -- each of these is a qualifier, as those of a pointer are (C99 6.7.5.1)
-abbrev pub AreQualifiers : List Sign → Type 0
+abbrev pub AreQualifiers : List (Qualifier Bare) → Type 0
 AreQualifiers [] = Unit {0}
-AreQualifiers (s ∷ signs) = (is_qualifier s ≡ true) × AreQualifiers signs
+AreQualifiers (q ∷ qs) = (is_qualifier q.word ≡ true) × AreQualifiers qs
 
 -- `...` only after a parameter
 abbrev pub MayEnd : {P : Type 0} → Parameters P → Bool → Type 0
@@ -208,7 +208,7 @@ abbrev mutual
   -- asks (C99 6.5.1 to 6.5.17)
   pub IsForm : Scope → Form Bare → Type 0
   -- a typedef name is no expression
-  IsForm names (Name x) = is_type names x ≡ false
+  IsForm names (Name x) = is_type names x.name ≡ false
   IsForm names (Number x) = Unit {0}
   IsForm names (Character x) = Unit {0}
   IsForm names (Strings xs) = AreSome xs
@@ -288,8 +288,8 @@ abbrev mutual
   IsDeclarator names setting naming (Pointer p qs d) = AreQualifiers qs × IsDeclarator names setting naming d
   -- where a declarator may lack its name, `(` before a typedef name opens parameters
   IsDeclarator names setting naming (Parenthesised p d) = IsDeclarator names setting naming d × IsSomething d × (may_be_nameless naming ≡ true → leads names d ≡ false)
-  IsDeclarator names setting naming (Array p d length) = IsDeclarator names setting naming d × IsSuffixed d × IsOptional names 3 length
-  IsDeclarator names setting naming (Function p d ps ellipsis) = IsDeclarator names setting naming d × IsSuffixed d × AreParameters names setting ps × MayEnd ps ellipsis
+  IsDeclarator names setting naming (Array p d b length) = IsDeclarator names setting naming d × IsSuffixed d × IsOptional names 3 length
+  IsDeclarator names setting naming (Function p d b ps ellipsis) = IsDeclarator names setting naming d × IsSuffixed d × AreParameters names setting ps × MayEnd ps ellipsis
 
   -- each in the scope after those before it
   pub AreParameters : Scope → Setting → Parameters Bare → Type 0

@@ -1,11 +1,11 @@
 -- Where the parts of a tree stand among the words that it spells.
-use Rattle.std.specs.Prelude.{ℕ, zero, suc, ◌+◌, ◌*◌, nat_eq, nat_le, min, ◌&&◌, cond, slice_get, length, List, [], ◌∷◌, Bool, true, false, Option, Some, None}
+use Rattle.std.specs.Prelude.{ℕ, zero, suc, ◌+◌, ◌*◌, nat_eq, nat_le, min, ◌&&◌, cond, slice_get, length, List, [], ◌∷◌, Option, Some, None}
 use Rattle.p10_base.specs.declared.span.Span.{Span}
 use Rattle.p10_base.specs.Words.{PlainWord, span_of}
 use Rattle.p10_base.specs.declared.at.At.{At}
 use Rattle.p10_syn.specs.declared.place.Side.TheVariants.{Before, After}
-use Rattle.p10_syn.specs.Counts.{count_bool, count_tag, count, count_form, count_list, count_more, count_optional, count_valued, count_type, count_specifiers, count_specifier, count_members, count_more_members, count_member, count_fields, count_more_fields, count_field, count_enumerators, count_more_enumerators, count_enumerator, count_declarator, count_parameters, count_more_parameters, count_parameter, count_initializer, count_initializers, count_more_initializers, count_initial, count_init_declarator, count_declaration, count_statement, count_statements, count_head, count_definition, count_external}
-use Rattle.p10_syn.specs.Trees.{Bare, Identifier, Expression, expression, Form, Name, Number, Character, Strings, Unary, Step, Binary, Assign, Conditional, Call, Index, Member, Arrow, Cast, SizeofExpression, SizeofType, Comma, Expressions, NoExpressions, MoreExpressions, Optional, Absent, Present, TypeName, type_name, Specifiers, NoSpecifiers, MoreSpecifiers, Specifier, Keyword, Typedef, Structure, Enumeration, Members, NoMembers, MoreMembers, MemberDeclaration, member_declaration, Fields, NoFields, MoreFields, Field, field, Enumerators, NoEnumerators, MoreEnumerators, Enumerator, enumerator, Declarator, Named, Unnamed, Pointer, Parenthesised, Array, Function, Parameters, NoParameters, MoreParameters, Parameter, parameter}
+use Rattle.p10_syn.specs.Counts.{count_bool, count_tag, count, count_form, count_optional, count_valued, count_type, count_specifiers, count_specifier, count_members, count_member, count_fields, count_field, count_enumerators, count_enumerator, count_declarator, count_parameters, count_parameter, count_initializer, count_initializers, count_init_declarator, count_declaration, count_statement, count_statements, count_head, count_definition, count_external}
+use Rattle.p10_syn.specs.Trees.{Bare, Identifier, Qualifier, Expression, expression, Form, Name, Number, Character, Strings, Unary, Step, Binary, Assign, Conditional, Call, Index, Member, Arrow, Cast, SizeofExpression, SizeofType, Comma, Expressions, NoExpressions, MoreExpressions, Optional, Absent, Present, TypeName, type_name, Specifiers, NoSpecifiers, MoreSpecifiers, Specifier, Keyword, Typedef, Structure, Enumeration, Members, NoMembers, MoreMembers, MemberDeclaration, member_declaration, Fields, NoFields, MoreFields, Field, field, Enumerators, NoEnumerators, MoreEnumerators, Enumerator, enumerator, Declarator, Named, Unnamed, Pointer, Parenthesised, Array, Function, Parameters, NoParameters, MoreParameters, Parameter, parameter}
 use Rattle.p10_syn.specs.Trees.{Initializer, Value, Braced, Initializers, NoInitializers, MoreInitializers, InitDeclarator, Declaration, Statement, Empty, Evaluate, Block, If, IfElse, Switch, While, Do, For, Case, Default, Label, Goto, Break, Continue, Return, Declare, Pragma, Statements, NoStatements, MoreStatements, Landmarks, Definition, External, Outer, Defines}
 
 -- ## Places
@@ -53,6 +53,15 @@ abbrev pub locate_tag : Source → ℕ → Option (Identifier Bare) → Option (
 locate_tag s n None = None
 locate_tag s n (Some x) = Some (locate_name s n x)
 
+-- a qualifier that is word n
+abbrev pub locate_qualifier : Source → ℕ → Qualifier Bare → Qualifier At
+locate_qualifier s n q = record { place = place_at s n 1; word = q.word }
+
+-- qualifiers one after the other, the first of which is word n
+abbrev pub locate_qualifiers : Source → ℕ → List (Qualifier Bare) → List (Qualifier At)
+locate_qualifiers s n [] = []
+locate_qualifiers s n (q ∷ qs) = locate_qualifier s n q ∷ locate_qualifiers s (n + 1) qs
+
 -- each part where its words stand, if the whole begins at word n
 abbrev mutual
   pub locate : Source → ℕ → Expression Bare → Expression At
@@ -60,7 +69,7 @@ abbrev mutual
 
   -- the operands of a form whose first word is word n
   pub locate_form : Source → ℕ → Form Bare → Form At
-  locate_form s n (Name x) = Name x
+  locate_form s n (Name x) = Name (locate_name s n x)
   locate_form s n (Number x) = Number x
   locate_form s n (Character x) = Character x
   locate_form s n (Strings xs) = Strings xs
@@ -139,11 +148,14 @@ abbrev mutual
   pub locate_declarator : Source → ℕ → Declarator Bare → Declarator At
   locate_declarator s n (Named x) = Named (locate_name s n x)
   locate_declarator s n (Unnamed p) = Unnamed (place_at s n 0)
-  locate_declarator s n (Pointer p qs d) = Pointer (place_at s n (1 + length qs + count_declarator d)) qs (locate_declarator s (n + 1 + length qs) d)
+  locate_declarator s n (Pointer p qs d) = Pointer (place_at s n (1 + length qs + count_declarator d)) (locate_qualifiers s (n + 1) qs) (locate_declarator s (n + 1 + length qs) d)
   locate_declarator s n (Parenthesised p d) = Parenthesised (place_at s n (1 + count_declarator d + 1)) (locate_declarator s (n + 1) d)
-  locate_declarator s n (Array p d size) = Array (place_at s n (count_declarator d + 1 + count_optional size + 1)) (locate_declarator s n d) (locate_optional s (n + count_declarator d + 1) size)
-  locate_declarator s n (Function p d ps ellipsis) =
-      Function (place_at s n (count_declarator d + 1 + count_parameters ps + 2 * count_bool ellipsis + 1)) (locate_declarator s n d) (locate_parameters s (n + count_declarator d + 1) ps) ellipsis
+  locate_declarator s n (Array p d b size) =
+      Array (place_at s n (count_declarator d + 1 + count_optional size + 1)) (locate_declarator s n d) (place_at s (n + count_declarator d) (1 + count_optional size + 1))
+      (locate_optional s (n + count_declarator d + 1) size)
+  locate_declarator s n (Function p d b ps ellipsis) =
+      Function (place_at s n (count_declarator d + 1 + count_parameters ps + 2 * count_bool ellipsis + 1)) (locate_declarator s n d)
+      (place_at s (n + count_declarator d) (1 + count_parameters ps + 2 * count_bool ellipsis + 1)) (locate_parameters s (n + count_declarator d + 1) ps) ellipsis
 
   -- with a comma between each two
   pub locate_parameters : Source → ℕ → Parameters Bare → Parameters At
@@ -235,7 +247,7 @@ locate_definition s n d = record {
 
 -- a declaration outside of functions, or a function, from word n on
 abbrev pub locate_external : Source → ℕ → External Bare → External At
-locate_external s n (Outer d) = Outer (locate_declaration s n d)
+locate_external s n (Outer p d) = Outer (place_at (record { words = s.words; before = 0 }) n (count_declaration d)) (locate_declaration s n d)
 locate_external s n (Defines d) = Defines (locate_definition s n d)
 
 -- one after the other

@@ -4,11 +4,10 @@ use Rattle.std.specs.Prelude.{ℕ, zero, suc, List, [], ◌∷◌, Bool, true, f
 use Rattle.p10_base.specs.Words.{Text}
 use Rattle.p10_syn.specs.declared.sign.Sign.{Sign}
 use Rattle.p10_syn.specs.declared.sign.Sign.TheVariants as sign
-use Rattle.p10_syn.specs.declared.place.Side.{Side}
 use Rattle.p10_syn.specs.declared.place.Side.TheVariants.{Before, After}
 use Rattle.p10_syn.specs.Symbols.{Symbol, Fixed}
 use Rattle.p10_syn.specs.Symbols as symbol
-use Rattle.p10_syn.specs.Trees.{Bare, Identifier, Expression, expression, Form, Name, Number, Character, Strings, Unary, Step, Binary, Assign, Conditional, Call, Index, Member, Arrow, Cast, SizeofExpression, SizeofType, Comma, Expressions, NoExpressions, MoreExpressions, Optional, Absent, Present, TypeName, type_name, Specifiers, NoSpecifiers, MoreSpecifiers, Specifier, Keyword, Typedef, Structure, Enumeration, Members, NoMembers, MoreMembers, MemberDeclaration, member_declaration, Fields, NoFields, MoreFields, Field, field, Enumerators, NoEnumerators, MoreEnumerators, Enumerator, enumerator, Declarator, Named, Unnamed, Pointer, Parenthesised, Array, Function, Parameters, NoParameters, MoreParameters, Parameter, parameter}
+use Rattle.p10_syn.specs.Trees.{Bare, Identifier, Qualifier, Expression, expression, Form, Name, Number, Character, Strings, Unary, Step, Binary, Assign, Conditional, Call, Index, Member, Arrow, Cast, SizeofExpression, SizeofType, Comma, Expressions, NoExpressions, MoreExpressions, Optional, Absent, Present, TypeName, type_name, Specifiers, NoSpecifiers, MoreSpecifiers, Specifier, Keyword, Typedef, Structure, Enumeration, Members, NoMembers, MoreMembers, MemberDeclaration, member_declaration, Fields, NoFields, MoreFields, Field, field, Enumerators, NoEnumerators, MoreEnumerators, Enumerator, enumerator, Declarator, Named, Unnamed, Pointer, Parenthesised, Array, Function, Parameters, NoParameters, MoreParameters, Parameter, parameter}
 use Rattle.p10_syn.specs.Trees.{Initializer, Value, Braced, Initializers, NoInitializers, MoreInitializers, InitDeclarator, Declaration, Statement, Empty, Evaluate, Block, If, IfElse, Switch, While, Do, For, Case, Default, Label, Goto, Break, Continue, Return, Declare, Pragma, Statements, NoStatements, MoreStatements, Definition, External, Outer, Defines}
 
 -- ## Expressions, types and declarators
@@ -28,10 +27,10 @@ abbrev pub spell_strings : List Text → List Symbol → List Symbol
 spell_strings [] rest = rest
 spell_strings (text ∷ texts) rest = symbol.String text ∷ spell_strings texts rest
 
--- keywords one after the other, such as the qualifiers of a pointer (C99 6.7.5.1)
-abbrev pub spell_keywords : List Sign → List Symbol → List Symbol
-spell_keywords [] rest = rest
-spell_keywords (s ∷ signs) rest = Fixed s ∷ spell_keywords signs rest
+-- the qualifiers of a pointer, one after the other (C99 6.7.5.1)
+abbrev pub spell_qualifiers : List (Qualifier Bare) → List Symbol → List Symbol
+spell_qualifiers [] rest = rest
+spell_qualifiers (q ∷ qs) rest = Fixed q.word ∷ spell_qualifiers qs rest
 
 -- the own name of a structure or enumeration, if it has one
 abbrev pub spell_tag : Option (Identifier Bare) → List Symbol → List Symbol
@@ -55,7 +54,7 @@ abbrev mutual
 
   -- what stands inside the parentheses: operators and operands in the order in which they are written (C99 6.5.1 to 6.5.17)
   pub spell_form : Form Bare → List Symbol → List Symbol
-  spell_form (Name x) rest = symbol.Name x ∷ rest
+  spell_form (Name x) rest = symbol.Name x.name ∷ rest
   spell_form (Number x) rest = symbol.Number x ∷ rest
   spell_form (Character x) rest = symbol.Character x ∷ rest
   spell_form (Strings xs) rest = spell_strings xs rest
@@ -158,10 +157,10 @@ abbrev mutual
   pub spell_declarator : Declarator Bare → List Symbol → List Symbol
   spell_declarator (Named x) rest = symbol.Name x.name ∷ rest
   spell_declarator (Unnamed p) rest = rest
-  spell_declarator (Pointer p qs d) rest = Fixed sign.Star ∷ spell_keywords qs (spell_declarator d rest)
+  spell_declarator (Pointer p qs d) rest = Fixed sign.Star ∷ spell_qualifiers qs (spell_declarator d rest)
   spell_declarator (Parenthesised p d) rest = Fixed sign.Open ∷ spell_declarator d (Fixed sign.Close ∷ rest)
-  spell_declarator (Array p d length) rest = spell_declarator d (Fixed sign.OpenSquare ∷ spell_optional length (Fixed sign.CloseSquare ∷ rest))
-  spell_declarator (Function p d ps ellipsis) rest = spell_declarator d (Fixed sign.Open ∷ spell_parameters ps (spell_ellipsis ellipsis (Fixed sign.Close ∷ rest)))
+  spell_declarator (Array p d b length) rest = spell_declarator d (Fixed sign.OpenSquare ∷ spell_optional length (Fixed sign.CloseSquare ∷ rest))
+  spell_declarator (Function p d b ps ellipsis) rest = spell_declarator d (Fixed sign.Open ∷ spell_parameters ps (spell_ellipsis ellipsis (Fixed sign.Close ∷ rest)))
 
   -- with commas between them
   pub spell_parameters : Parameters Bare → List Symbol → List Symbol
@@ -256,7 +255,7 @@ spell_definition d rest = spell_specifiers d.specifiers (spell_declarator d.decl
 
 -- a declaration up to its `;`, or a function up to its `}` (C99 6.9)
 abbrev pub spell_external : External Bare → List Symbol → List Symbol
-spell_external (Outer d) rest = spell_declaration d rest
+spell_external (Outer p d) rest = spell_declaration d rest
 spell_external (Defines d) rest = spell_definition d rest
 
 -- one after the other

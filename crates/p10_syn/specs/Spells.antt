@@ -3,13 +3,13 @@ use Rattle.std.specs.Prelude.{◌≡◌, ℕ, ◌+◌, length, List, [], ◌∷�
 use Rattle.p10_base.specs.Words.{Text, PlainWord}
 use Rattle.p10_base.specs.declared.at.At.{At}
 use Rattle.p10_syn.specs.Symbols.{symbols_of}
-use Rattle.p10_syn.specs.Scopes.{Scope, typedefs}
+use Rattle.p10_syn.specs.Scopes.{typedefs}
 use Rattle.p10_syn.specs.Trees.{Expression, External}
 use Rattle.p10_syn.specs.Bare.{bare, bare_externals}
 use Rattle.p10_syn.specs.Spelling.{spell, spell_externals}
 use Rattle.p10_syn.specs.Forms.{IsExpression}
 use Rattle.p10_syn.specs.StatementForms.{AreExternals}
-use Rattle.p10_syn.specs.Places.{Source, locate, locate_externals}
+use Rattle.p10_syn.specs.Places.{locate, locate_externals}
 
 -- the tree of an expression spells these words, where just these names are typedef names: it is one of the grammar,
 -- its words are these, and each part of it stands where its words stand

@@ -1,14 +1,13 @@
 -- Which declarations, statements and functions there are where names are in scope: the conditions of the grammar (C99
 -- 6.7 to 6.9), in its order.
-use Rattle.std.specs.Prelude.{◌≡◌, ℕ, ◌≤◌, List, [], ◌∷◌, Bool, true, false, Option, Some, None}
-use Rattle.p10_base.specs.Words.{Text}
+use Rattle.std.specs.Prelude.{◌≡◌, ◌≤◌, List, [], ◌∷◌, Bool, true, false, Option, Some, None}
 use Rattle.p10_syn.specs.declared.setting.Naming.TheVariants.{Required}
 use Rattle.p10_syn.specs.declared.setting.Said.{Said}
 use Rattle.p10_syn.specs.declared.setting.Said.TheVariants.{Nothing}
 use Rattle.p10_syn.specs.declared.setting.Setting.TheVariants.{Outside}
 use Rattle.p10_syn.specs.Scopes.{Scope}
 use Rattle.p10_syn.specs.Precedence.{level_of}
-use Rattle.p10_syn.specs.Declaring.{after_specifiers, after_declarator, after_declaration, after_statement, in_body, after_external}
+use Rattle.p10_syn.specs.Declaring.{after_specifiers, after_declarator, after_statement, in_body, after_external}
 use Rattle.p10_syn.specs.Forms.{said_by, IsExpression, IsOptional, AreSpecifiers, HasSpecifiers, IsApart, IsDeclarator}
 use Rattle.p10_syn.specs.Trees.{Bare, Specifiers, Initializer, Value, Braced, Initializers, NoInitializers, MoreInitializers, InitDeclarator, Declaration, Statement, Empty, Evaluate, Block, If, IfElse, Switch, While, Do, For, Case, Default, Label, Goto, Break, Continue, Return, Declare, Pragma, Statements, NoStatements, MoreStatements, Definition, External, Outer, Defines}
 
@@ -131,7 +130,7 @@ IsDefinition names d =
 
 -- a declaration outside of functions, or a function, that may stand here (C99 6.9)
 abbrev pub IsExternal : Scope → External Bare → Type 0
-IsExternal names (Outer d) = IsDeclaration names d
+IsExternal names (Outer p d) = IsDeclaration names d
 IsExternal names (Defines d) = IsDefinition names d
 
 -- each in the scope after those before it

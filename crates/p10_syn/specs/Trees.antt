@@ -14,6 +14,11 @@ pub record Identifier (P : Type 0) : Type 0 where
   pub place : P
   pub name : Text
 
+-- a qualifier of a pointer and where it stands (C99 6.7.5.1)
+pub record Qualifier (P : Type 0) : Type 0 where
+  pub place : P
+  pub word : Sign
+
 -- ## Expressions, types and declarators
 
 mutual
@@ -24,7 +29,8 @@ mutual
   -- what an expression is inside its parentheses: a name, a constant, strings, or an operator with its operands (C99 6.5.1
   -- to 6.5.17)
   pub data Form (P : Type 0) : Type 0 where
-    Name : Text → Form P
+    -- a name; its place is that of its word, without parentheses
+    Name : Identifier P → Form P
     Number : Text → Form P
     Character : Text → Form P
     -- adjacent strings are one
@@ -110,11 +116,12 @@ mutual
     Named : Identifier P → Declarator P
     Unnamed : P → Declarator P
     -- with its qualifiers
-    Pointer : P → List Sign → Declarator P → Declarator P
+    Pointer : P → List (Qualifier P) → Declarator P → Declarator P
     Parenthesised : P → Declarator P → Declarator P
-    Array : P → Declarator P → Optional P → Declarator P
-    -- with its parameters, and whether `...` stands after the last
-    Function : P → Declarator P → Parameters P → Bool → Declarator P
+    -- with where its brackets stand
+    Array : P → Declarator P → P → Optional P → Declarator P
+    -- with where its parentheses stand, its parameters, and whether `...` stands after the last
+    Function : P → Declarator P → P → Parameters P → Bool → Declarator P
 
   -- what stands between the parentheses of a function's declarator, in its order (C99 6.7.5.3)
   pub data Parameters (P : Type 0) : Type 0 where
@@ -203,9 +210,10 @@ pub record Definition (P : Type 0) : Type 0 where
   pub body_place : P
   pub body : Statements P
 
--- a declaration outside of functions, or a function (C99 6.9)
+-- a declaration outside of functions, with where it stands in its root, whose words are counted by themselves; or a function
+-- (C99 6.9)
 pub data External (P : Type 0) : Type 0 where
-  Outer : Declaration P → External P
+  Outer : P → Declaration P → External P
   Defines : Definition P → External P
 
 -- ## Rows as lists

@@ -3,17 +3,13 @@
 //! Definitions speak of plain trees (`specs/Trees.antt`), which have a place at each node: `spell` gives the words of a tree,
 //! `IsExpression`, `AreExternals` and their kin say which trees there are where names are in scope, and `Spells` joins both with
 //! the places. The code has [`Expr`], [`Stmt`], [`Decl`] and [`Unit`], which `specs/Built.antt` and `BuiltStatements.antt` lead to
-//! plain trees; [`make`] and [`make_statement`] have a function for each node, so that no box is opened above.
+//! plain trees. Trees are made by `p10_make`, and get their places, here [`nowhere`], by `p10_place`.
 //!
 //! `- x * y` is the product of `- x` and `y`: the level of an operator is [`level`], from 1 for a comma to 16 for a postfix
 //! expression. Invariant: an expression keeps its pairs of parentheses as a number, so a tree spells one list of words.
 //! Reading words is left to the parsers, and types and scopes beyond typedef names to the elaborator.
 #![tactic(auto)]
 
-#[tactic(auto, unfolding(crate::specs::Built::bare_of, crate::specs::Built::bare_kind_of, crate::specs::Built::bare_specifier_of, crate::specs::Built::bare_member_of, crate::specs::Built::bare_field_of, crate::specs::Built::bare_enumerator_of, crate::specs::Built::bare_declarator_of, crate::specs::Built::bare_parameter_of))]
-pub mod make;
-#[tactic(auto, unfolding(crate::specs::Built::bare_of, crate::specs::Built::bare_specifier_of, crate::specs::Built::bare_declarator_of, crate::specs::BuiltStatements::bare_initializer_of, crate::specs::BuiltStatements::bare_init_declarator_of, crate::specs::BuiltStatements::bare_declaration_of, crate::specs::BuiltStatements::bare_statement_of, crate::specs::BuiltStatements::bare_external_of))]
-pub mod make_statement;
 mod place;
 #[tactic(auto, unfolding(crate::specs::Built::bare_of, crate::specs::Built::bare_specifier_of, crate::specs::Built::bare_declarator_of))]
 mod query;
@@ -24,7 +20,7 @@ mod statement;
 mod token;
 mod tree;
 
-pub use place::Side;
+pub use place::{Side, nowhere};
 pub use query::{binary_level, is_type_word, level, makes_types, name_of, said_after};
 pub use setting::{Naming, Said, Setting};
 pub use sign::Sign;
@@ -32,6 +28,6 @@ pub use sign_table::{is_same, keyword, punctuator, spelling};
 pub use statement::{Decl, Function, Init, InitDeclarator, Landmarks, Stmt, Unit};
 pub use token::{Token, token_of};
 pub use tree::{
-    Declarator, Enumeration, Enumerator, Expr, Field, Form, Identifier, Member, Parameter, Spec,
-    Structure, TypeName,
+    Declarator, Enumeration, Enumerator, Expr, Field, Form, Identifier, Member, Parameter,
+    Qualifier, Spec, Structure, TypeName,
 };

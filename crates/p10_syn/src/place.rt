@@ -15,7 +15,7 @@ pub enum Side {
 }
 
 /// The place of a tree whose place isn't set yet.
-pub(crate) fn nowhere() -> At
+pub fn nowhere() -> At
     ensures { result ≡ no_place }
 {
     At {

@@ -63,8 +63,8 @@ pub fn name_of<'s>(declarator: &Declarator<'s>) -> Option<&'s [u8]>
         Declarator::Unnamed(_) => None,
         Declarator::Pointer(_, _, inner) => name_of(inner),
         Declarator::Parenthesised(_, inner) => name_of(inner),
-        Declarator::Array(_, inner, _) => name_of(inner),
-        Declarator::Function(_, inner, _, _) => name_of(inner),
+        Declarator::Array(_, inner, _, _) => name_of(inner),
+        Declarator::Function(_, inner, _, _, _) => name_of(inner),
     }
 }
 

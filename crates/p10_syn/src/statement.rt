@@ -84,6 +84,7 @@ pub struct Function<'s> {
 /// A declaration outside of functions, or a function (C99 6.9).
 #[derive(Drop)]
 pub enum Unit<'s> {
-    Decl(Decl<'s>),
+    /// A declaration, and where it stands in its root, whose words are counted by themselves.
+    Decl(At, Decl<'s>),
     Function(Function<'s>),
 }

@@ -11,6 +11,13 @@ pub struct Identifier<'s> {
     pub text: &'s [u8],
 }
 
+/// A qualifier of a pointer and where it stands (C99 6.7.5.1).
+#[derive(Clone, Copy, Debug)]
+pub struct Qualifier {
+    pub at: At,
+    pub sign: Sign,
+}
+
 /// An expression (C99 6.5).
 #[cycle(tree)]
 #[derive(Drop)]
@@ -26,7 +33,8 @@ pub struct Expr<'s> {
 #[cycle(tree)]
 #[derive(Drop)]
 pub enum Form<'s> {
-    Name(&'s [u8]),
+    /// A name; it stands where its word does, without parentheses.
+    Name(Identifier<'s>),
     Number(&'s [u8]),
     Char(&'s [u8]),
     /// Strings that stand side by side, at least one: they are one string (C99 6.4.5).
@@ -140,13 +148,13 @@ pub enum Declarator<'s> {
     /// No word: the declarator lacks its name.
     Unnamed(At),
     /// `*`, its qualifiers, and the declarator after them.
-    Pointer(At, Vec<Sign>, Box<Declarator<'s>>),
+    Pointer(At, Vec<Qualifier>, Box<Declarator<'s>>),
     /// In a pair of parentheses.
     Parenthesised(At, Box<Declarator<'s>>),
-    /// An array, and its length if one is written.
-    Array(At, Box<Declarator<'s>>, Option<Box<Expr<'s>>>),
-    /// A function with its parameters, and whether `...` stands after the last.
-    Function(At, Box<Declarator<'s>>, Vec<Parameter<'s>>, bool),
+    /// An array, where its brackets stand, and its length if one is written.
+    Array(At, Box<Declarator<'s>>, At, Option<Box<Expr<'s>>>),
+    /// A function, where its parentheses stand, its parameters, and whether `...` stands after the last.
+    Function(At, Box<Declarator<'s>>, At, Vec<Parameter<'s>>, bool),
 }
 
 /// A parameter.
