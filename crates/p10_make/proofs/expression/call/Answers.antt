@@ -1,0 +1,9 @@
+use Rattle.std.proofs.Common.{rules}
+use Rattle.p10_syn.specs.declared.tree.Declarator.TheViews.{the_lemmas}
+use Rattle.p10_syn.specs.Built.{bare_of, bare_kind_of, bare_specifier_of, bare_member_of, bare_field_of, bare_enumerator_of, bare_declarator_of, bare_parameter_of}
+use Rattle.p10_make.proofs.Rows.{expressions_items}
+use Rattle.p10_make.proofs.expression.call.Goals as goal
+
+pub returns-clause-tree : goal.returns-clause-tree
+unfolding bare_of bare_kind_of bare_specifier_of bare_member_of bare_field_of bare_enumerator_of bare_declarator_of bare_parameter_of
+returns-clause-tree c = search (rules, the_lemmas, expressions_items)
