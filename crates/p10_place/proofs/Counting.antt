@@ -6,9 +6,9 @@ use Rattle.p10_syn.specs.declared.sign.Sign.TheVariants as sign
 use Rattle.p10_syn.specs.declared.place.Side.TheVariants.{Before, After}
 use Rattle.p10_syn.specs.Symbols.{Symbol, Fixed}
 use Rattle.p10_syn.specs.Symbols as symbol
-use Rattle.p10_syn.specs.Spelling.{open_all, close_all, spell_strings, spell_keywords, spell_tag, spell_last_comma, spell_ellipsis, spell, spell_form, spell_list, spell_more, spell_optional, spell_valued, spell_type, spell_specifiers, spell_specifier, spell_members, spell_more_members, spell_member, spell_fields, spell_more_fields, spell_field, spell_enumerators, spell_more_enumerators, spell_enumerator, spell_declarator, spell_parameters, spell_more_parameters, spell_parameter, spell_initializer, spell_initializers, spell_more_initializers, spell_initial, spell_init_declarator, spell_more_declarators, spell_declarators, spell_declaration, spell_statement, spell_statements, spell_definition, spell_external}
+use Rattle.p10_syn.specs.Spelling.{open_all, close_all, spell_strings, spell_qualifiers, spell_tag, spell_last_comma, spell_ellipsis, spell, spell_form, spell_list, spell_more, spell_optional, spell_valued, spell_type, spell_specifiers, spell_specifier, spell_members, spell_more_members, spell_member, spell_fields, spell_more_fields, spell_field, spell_enumerators, spell_more_enumerators, spell_enumerator, spell_declarator, spell_parameters, spell_more_parameters, spell_parameter, spell_initializer, spell_initializers, spell_more_initializers, spell_initial, spell_init_declarator, spell_more_declarators, spell_declarators, spell_declaration, spell_statement, spell_statements, spell_definition, spell_external}
 use Rattle.p10_syn.specs.Counts.{count_bool, count_tag, count, count_form, count_list, count_more, count_optional, count_valued, count_type, count_specifiers, count_specifier, count_members, count_more_members, count_member, count_fields, count_more_fields, count_field, count_enumerators, count_more_enumerators, count_enumerator, count_declarator, count_parameters, count_more_parameters, count_parameter, count_initializer, count_initializers, count_more_initializers, count_initial, count_init_declarator, count_more_declarators, count_declarators, count_declaration, count_statement, count_statements, count_definition, count_external}
-use Rattle.p10_syn.specs.Trees.{Bare, Identifier, Expression, expression, Form, Name, Number, Character, Strings, Unary, Step, Binary, Assign, Conditional, Call, Index, Member, Arrow, Cast, SizeofExpression, SizeofType, Comma, Expressions, NoExpressions, MoreExpressions, Optional, Absent, Present, TypeName, type_name, Specifiers, NoSpecifiers, MoreSpecifiers, Specifier, Keyword, Typedef, Structure, Enumeration, Members, NoMembers, MoreMembers, MemberDeclaration, member_declaration, Fields, NoFields, MoreFields, Field, field, Enumerators, NoEnumerators, MoreEnumerators, Enumerator, enumerator, Declarator, Named, Unnamed, Pointer, Parenthesised, Array, Function, Parameters, NoParameters, MoreParameters, Parameter, parameter}
+use Rattle.p10_syn.specs.Trees.{Bare, Identifier, Qualifier, Expression, expression, Form, Name, Number, Character, Strings, Unary, Step, Binary, Assign, Conditional, Call, Index, Member, Arrow, Cast, SizeofExpression, SizeofType, Comma, Expressions, NoExpressions, MoreExpressions, Optional, Absent, Present, TypeName, type_name, Specifiers, NoSpecifiers, MoreSpecifiers, Specifier, Keyword, Typedef, Structure, Enumeration, Members, NoMembers, MoreMembers, MemberDeclaration, member_declaration, Fields, NoFields, MoreFields, Field, field, Enumerators, NoEnumerators, MoreEnumerators, Enumerator, enumerator, Declarator, Named, Unnamed, Pointer, Parenthesised, Array, Function, Parameters, NoParameters, MoreParameters, Parameter, parameter}
 use Rattle.p10_syn.specs.Trees.{Initializer, Value, Braced, Initializers, NoInitializers, MoreInitializers, InitDeclarator, Declaration, Statement, Empty, Evaluate, Block, If, IfElse, Switch, While, Do, For, Case, Default, Label, Goto, Break, Continue, Return, Declare, Pragma, Statements, NoStatements, MoreStatements, Definition, External, Outer, Defines}
 
 pub length-open_all : (n : ℕ) (rest : List Symbol) → length (open_all n rest) ≡ n + length rest
@@ -23,9 +23,9 @@ pub length-strings : (xs : List Text) (rest : List Symbol) → length (spell_str
 length-strings [] rest = omega arith
 length-strings (x ∷ xs) rest = omega (arith, length-strings xs rest)
 
-pub length-keywords : (qs : List Sign) (rest : List Symbol) → length (spell_keywords qs rest) ≡ length qs + length rest
-length-keywords [] rest = omega arith
-length-keywords (s ∷ qs) rest = omega (arith, length-keywords qs rest)
+pub length-qualifiers : (qs : List (Qualifier Bare)) (rest : List Symbol) → length (spell_qualifiers qs rest) ≡ length qs + length rest
+length-qualifiers [] rest = omega arith
+length-qualifiers (q ∷ qs) rest = omega (arith, length-qualifiers qs rest)
 
 pub length-tag : (tag : Option (Identifier Bare)) (rest : List Symbol) → length (spell_tag tag rest) ≡ count_tag tag + length rest
 length-tag None rest = omega arith
@@ -130,11 +130,11 @@ mutual
   pub counts_declarator : (d : Declarator Bare) (rest : List Symbol) → length (spell_declarator d rest) ≡ count_declarator d + length rest
   counts_declarator (Named x) rest = omega arith
   counts_declarator (Unnamed p) rest = omega arith
-  counts_declarator (Pointer p qs d) rest = omega (arith, length-keywords qs (spell_declarator d rest), counts_declarator d rest)
+  counts_declarator (Pointer p qs d) rest = omega (arith, length-qualifiers qs (spell_declarator d rest), counts_declarator d rest)
   counts_declarator (Parenthesised p d) rest = omega (arith, counts_declarator d (Fixed sign.Close ∷ rest))
-  counts_declarator (Array p d size) rest =
+  counts_declarator (Array p d b size) rest =
       omega (arith, counts_declarator d (Fixed sign.OpenSquare ∷ spell_optional size (Fixed sign.CloseSquare ∷ rest)), counts_optional size (Fixed sign.CloseSquare ∷ rest))
-  counts_declarator (Function p d ps ellipsis) rest =
+  counts_declarator (Function p d b ps ellipsis) rest =
       omega (arith, counts_declarator d (Fixed sign.Open ∷ spell_parameters ps (spell_ellipsis ellipsis (Fixed sign.Close ∷ rest))), counts_parameters ps (spell_ellipsis ellipsis (Fixed sign.Close ∷ rest)), length-ellipsis ellipsis (Fixed sign.Close ∷ rest))
 
   pub counts_parameters : (xs : Parameters Bare) (rest : List Symbol) → length (spell_parameters xs rest) ≡ count_parameters xs + length rest
@@ -224,5 +224,5 @@ counts_definition d rest =
     )
 
 pub counts_external : (e : External Bare) (rest : List Symbol) → length (spell_external e rest) ≡ count_external e + length rest
-counts_external (Outer d) rest = counts_declaration d rest
+counts_external (Outer p d) rest = counts_declaration d rest
 counts_external (Defines d) rest = counts_definition d rest

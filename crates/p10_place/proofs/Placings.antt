@@ -4,16 +4,17 @@ use Rattle.std.proofs.Math.ListN.{get_or}
 use Rattle.std.proofs.lemmas.List.{length-map}
 use Rattle.p10_base.specs.declared.at.At.{At}
 use Rattle.p10_syn.specs.declared.tree.Expr as code_expressions
+use Rattle.p10_syn.specs.declared.tree.Qualifier as code_qualifiers
 use Rattle.p10_syn.specs.declared.tree.Spec as code_specifiers
 use Rattle.p10_syn.specs.declared.tree.Member as code_members
 use Rattle.p10_syn.specs.declared.tree.Field as code_fields
 use Rattle.p10_syn.specs.declared.tree.Enumerator as code_enumerators
 use Rattle.p10_syn.specs.declared.tree.Parameter as code_parameters
-use Rattle.p10_syn.specs.Trees.{Bare, Expression, Specifier, MemberDeclaration, Field, Enumerator, Parameter, expression_row, specifier_row, member_row, field_row, enumerator_row, parameter_row, MoreExpressions, MoreSpecifiers, MoreMembers, MoreFields, MoreEnumerators, MoreParameters}
-use Rattle.p10_syn.specs.Bare.{bare, bare_specifier, bare_member, bare_field, bare_enumerator, bare_parameter, bare_list, bare_specifiers, bare_members, bare_fields, bare_enumerators, bare_parameters}
-use Rattle.p10_syn.specs.Built.{expression_of, specifier_of, member_of, field_of, enumerator_of, parameter_of}
+use Rattle.p10_syn.specs.Trees.{Bare, Qualifier, Expression, Specifier, MemberDeclaration, Field, Enumerator, Parameter, expression_row, specifier_row, member_row, field_row, enumerator_row, parameter_row, MoreExpressions, MoreSpecifiers, MoreMembers, MoreFields, MoreEnumerators, MoreParameters}
+use Rattle.p10_syn.specs.Bare.{bare, bare_qualifier, bare_qualifiers, bare_specifier, bare_member, bare_field, bare_enumerator, bare_parameter, bare_list, bare_specifiers, bare_members, bare_fields, bare_enumerators, bare_parameters}
+use Rattle.p10_syn.specs.Built.{expression_of, qualifier_of, specifier_of, member_of, field_of, enumerator_of, parameter_of}
 use Rattle.p10_syn.specs.Counts.{count_bool, count, count_specifier, count_member, count_field, count_enumerator, count_parameter, count_list, count_specifiers, count_members, count_fields, count_enumerators, count_parameters, count_more, count_more_members, count_more_fields, count_more_enumerators, count_more_parameters}
-use Rattle.p10_syn.specs.Places.{Source, locate, locate_specifier, locate_member, locate_field, locate_enumerator, locate_parameter, locate_list, locate_specifiers, locate_members, locate_fields, locate_enumerators, locate_parameters}
+use Rattle.p10_syn.specs.Places.{Source, locate, locate_qualifier, locate_qualifiers, locate_specifier, locate_member, locate_field, locate_enumerator, locate_parameter, locate_list, locate_specifiers, locate_members, locate_fields, locate_enumerators, locate_parameters}
 use Rattle.p10_place.proofs.Parts.{placed_first, start_of, Placing, has_room, has_start}
 
 -- ## Expressions
@@ -115,6 +116,46 @@ pub past_specifiers : (s : Source) (k n : ℕ) (start now : List code_specifiers
     past ≡ n + count_specifiers (bare_specifiers (specifier_row (map specifier_of start)))
 past_specifiers s k n start now past e p =
     ends_specifiers s n past (map specifier_of start) (rw (length-map start specifier_of) (subst (λ (k : ℕ). past + min k 0 ≡ start_of (Specifier At) (Specifier Bare) bare_specifier (locate_specifier s) count_specifier 0 k n (map specifier_of start)) e p.reached))
+
+-- ## Qualifiers
+
+-- a qualifier is one word
+abbrev pub one_word : Qualifier Bare → ℕ
+one_word q = 1
+
+-- the first k are placed, from word n on, up to and without word `past`
+abbrev pub Placing_qualifiers : Source → ℕ → ℕ → List code_qualifiers.Qualifier → List code_qualifiers.Qualifier → ℕ → Type 0
+Placing_qualifiers s k n start now past = Placing code_qualifiers.Qualifier (Qualifier At) (Qualifier Bare) qualifier_of bare_qualifier (locate_qualifier s) one_word 0 k n start now past
+
+rows_qualifiers : (s : Source) (n : ℕ) (ts : List (Qualifier At)) → placed_first (Qualifier At) (Qualifier Bare) bare_qualifier (locate_qualifier s) one_word 0 (length ts) n ts ≡ locate_qualifiers s n (bare_qualifiers ts)
+rows_qualifiers s n [] = refl
+rows_qualifiers s n (t ∷ ts) = ap (λ xs. locate_qualifier s n (bare_qualifier t) ∷ xs) (rows_qualifiers s (n + 1 + 0) ts ∙ ap (λ m. locate_qualifiers s m (bare_qualifiers ts)) (add-zero (n + 1)))
+
+more_qualifiers : (s : Source) (n : ℕ) (ts : List (Qualifier At)) → start_of (Qualifier At) (Qualifier Bare) bare_qualifier (locate_qualifier s) one_word 0 (length ts) n ts ≡ n + length (bare_qualifiers ts)
+more_qualifiers s n [] = omega arith
+more_qualifiers s n (t ∷ ts) = omega (arith, more_qualifiers s (n + 1 + 0) ts)
+
+-- the words of the next one are there
+pub fits_qualifiers : (s : Source) (k n : ℕ) (start now : List code_qualifiers.Qualifier) (past : ℕ) (d : code_qualifiers.Qualifier) → k < length start → Placing_qualifiers s k n start now past →
+    past + 1 ≤ n + length (bare_qualifiers (map qualifier_of start))
+fits_qualifiers s k n start now past d h p =
+    let room : past + min k 0 + 1 + 0 ≤ start_of (Qualifier At) (Qualifier Bare) bare_qualifier (locate_qualifier s) one_word 0 (length (map qualifier_of start)) n (map qualifier_of start) =
+    rw (length-map start qualifier_of) (has_room code_qualifiers.Qualifier (Qualifier At) (Qualifier Bare) qualifier_of bare_qualifier (locate_qualifier s) one_word 0 k n start now past d h p) in
+    omega (arith, room, more_qualifiers s n (map qualifier_of start))
+
+-- all are placed
+pub all_qualifiers : (s : Source) (k n : ℕ) (start now : List code_qualifiers.Qualifier) (past : ℕ) → k ≡ length start → Placing_qualifiers s k n start now past →
+    map qualifier_of now ≡ locate_qualifiers s n (bare_qualifiers (map qualifier_of start))
+all_qualifiers s k n start now past e p =
+    p.placed ∙ ap (λ k. placed_first (Qualifier At) (Qualifier Bare) bare_qualifier (locate_qualifier s) one_word 0 k n (map qualifier_of start)) (e ∙ sym (length-map start qualifier_of)) ∙ rows_qualifiers s n (map qualifier_of start)
+
+-- the word past all of them
+pub past_qualifiers : (s : Source) (k n : ℕ) (start now : List code_qualifiers.Qualifier) (past : ℕ) → k ≡ length start → Placing_qualifiers s k n start now past →
+    past ≡ n + length (bare_qualifiers (map qualifier_of start))
+past_qualifiers s k n start now past e p =
+    let reached : past + min (length (map qualifier_of start)) 0 ≡ start_of (Qualifier At) (Qualifier Bare) bare_qualifier (locate_qualifier s) one_word 0 (length (map qualifier_of start)) n (map qualifier_of start) =
+    rw (length-map start qualifier_of) (subst (λ (k : ℕ). past + min k 0 ≡ start_of (Qualifier At) (Qualifier Bare) bare_qualifier (locate_qualifier s) one_word 0 k n (map qualifier_of start)) e p.reached) in
+    omega (arith, reached, more_qualifiers s n (map qualifier_of start))
 
 -- ## Members
 

@@ -2,7 +2,6 @@
 use Rattle.std.proofs.Common.{◌≡◌, map, refl, ap, ◌∙◌, rules, Bool, Vec, Box}
 use Rattle.std.specs.declared.alloc.Global.{Global}
 use Rattle.p10_base.specs.declared.at.At.{At}
-use Rattle.p10_syn.specs.declared.tree.Form.{Row_of-Spec}
 use Rattle.p10_syn.specs.declared.tree.Form.TheVariants as form
 use Rattle.p10_syn.specs.declared.tree.Declarator.TheVariants as declarator
 use Rattle.p10_syn.specs.declared.statement.Init.TheVariants as init
@@ -19,7 +18,7 @@ use Rattle.p10_syn.specs.declared.tree.Declarator.{Declarator}
 use Rattle.p10_syn.specs.declared.tree.Parameter.{Parameter}
 use Rattle.p10_syn.specs.declared.statement.Init.{Init}
 use Rattle.p10_syn.specs.declared.statement.Stmt.{Stmt}
-use Rattle.p10_syn.proofs.Rows.{specifiers_listed}
+use Rattle.p10_syn.proofs.Rows.{specifiers_listed, specifiers_shown}
 use Rattle.p10_place.specs.private.Lists.{expressions_in, members_in, fields_in, enumerators_in, parameters_in, initializers_in, statements_in}
 use Rattle.p10_syn.specs.declared.tree.Form.{Row_of-Expr, end_of-Expr, more_of-Expr, items-the_row-Expr}
 use Rattle.p10_syn.specs.declared.tree.Structure.{Row_of-Member, end_of-Member, more_of-Member, items-the_row-Member}
@@ -30,7 +29,7 @@ use Rattle.p10_syn.specs.declared.statement.Stmt.{Row_of-Stmt, end_of-Stmt, more
 use Rattle.p10_syn.specs.declared.tree.Declarator.{Row_of-Parameter, end_of-Parameter, more_of-Parameter, items-the_row-Parameter}
 use Rattle.p10_syn.specs.declared.tree.Declarator.TheViews.{the_lemmas}
 use Rattle.p10_syn.specs.Trees.{expression, parameter, Braced, Block, Call, Comma, Cast, SizeofType, Function, Structure as Structured, Enumeration as Enumerated, member_declaration, MoreExpressions, MoreMembers, MoreFields, MoreEnumerators, MoreInitializers, MoreStatements, MoreParameters, expression_row, member_row, field_row, enumerator_row, initializer_row, statement_row, parameter_row}
-use Rattle.p10_syn.specs.Built.{form_of, kind_of, tag_of, structure_of, enumeration_of, specifiers_of, specifiers_in, expressions_of, members_of, fields_of, enumerators_of, parameters_of, expression_of, member_of, field_of, enumerator_of, parameter_of, declarator_of}
+use Rattle.p10_syn.specs.Built.{form_of, kind_of, tag_of, structure_of, enumeration_of, specifiers_in, expressions_of, members_of, fields_of, enumerators_of, parameters_of, expression_of, member_of, field_of, enumerator_of, parameter_of, declarator_of}
 use Rattle.p10_syn.specs.BuiltStatements.{initializers_of, initializer_of, statements_of, statement_of}
 
 pub expressions_listed : (n : _) (all : Row_of-Expr n) → expressions_of all ≡ expression_row (map expression_of (items-the_row-Expr n all))
@@ -56,10 +55,6 @@ initializers_listed n (more_of-Init x rest) = ap (MoreInitializers (initializer_
 pub statements_listed : (n : _) (all : Row_of-Stmt n) → statements_of all ≡ statement_row (map statement_of (items-the_row-Stmt n all))
 statements_listed n end_of-Stmt = refl
 statements_listed n (more_of-Stmt x rest) = ap (MoreStatements (statement_of x)) (statements_listed _ rest)
-
--- specifiers in a parameter
-specifiers_shown : (shape : _) (specs : Row_of-Spec _) → specifiers_of specs ≡ specifiers_in (shown-the_row-Spec-0 shape specs)
-specifiers_shown shape specs = search (rules, the_lemmas, specifiers_listed)
 
 pub parameters_listed : (n : _) (all : Row_of-Parameter n) → parameters_of all ≡ parameter_row (map parameter_of (items-the_row-Parameter n all))
 parameters_listed n end_of-Parameter = refl
@@ -87,8 +82,8 @@ cast_is k e = search (rules, the_lemmas, specifiers_listed)
 pub sizeof_is : (k : Box TypeName Global) → form_of (form.SizeofType k) ≡ SizeofType (kind_of k.value)
 sizeof_is k = search (rules, the_lemmas, specifiers_listed)
 
-pub function_is : (at : At) (d : Box Declarator Global) (all : Vec Parameter Global) (ellipsis : Bool) → declarator_of (declarator.Function at d all ellipsis) ≡ Function at (declarator_of d.value) (parameters_in all) ellipsis
-function_is at d all ellipsis = search (rules, the_lemmas, parameters_listed)
+pub function_is : (at : At) (d : Box Declarator Global) (b : At) (all : Vec Parameter Global) (ellipsis : Bool) → declarator_of (declarator.Function at d b all ellipsis) ≡ Function at (declarator_of d.value) b (parameters_in all) ellipsis
+function_is at d b all ellipsis = search (rules, the_lemmas, parameters_listed)
 
 pub structure_is : (x : Structure) → structure_of x ≡ Structured (out-Structure x).at (out-Structure x).sign (tag_of (out-Structure x).tag) (members_in (out-Structure x).members)
 structure_is (Structure' at sign tag shape all) = search (rules, the_lemmas, members_listed)

@@ -1,15 +1,19 @@
 -- A tree that is put into its place is the same tree.
-use Rattle.std.proofs.Common.{◌≡◌, ℕ, ◌+◌, length, List, [], ◌∷◌, Option, Some, None, refl}
+use Rattle.std.proofs.Common.{◌≡◌, ℕ, ◌+◌, length, List, [], ◌∷◌, Option, Some, None, refl, ap}
 use Rattle.p10_syn.specs.declared.place.Side.TheVariants.{Before, After}
 use Rattle.p10_syn.specs.Counts.{count_tag, count, count_optional, count_type, count_specifiers, count_specifier, count_member, count_field, count_enumerator, count_declarator, count_parameter, count_initializer, count_init_declarator, count_head, count_statement, count_external}
-use Rattle.p10_syn.specs.Trees.{Bare, Identifier, Expression, expression, Form, Name, Number, Character, Strings, Unary, Step, Binary, Assign, Conditional, Call, Index, Member, Arrow, Cast, SizeofExpression, SizeofType, Comma, Expressions, NoExpressions, MoreExpressions, Optional, Absent, Present, TypeName, type_name, Specifiers, NoSpecifiers, MoreSpecifiers, Specifier, Keyword, Typedef, Structure, Enumeration, Members, NoMembers, MoreMembers, MemberDeclaration, member_declaration, Fields, NoFields, MoreFields, Field, field, Enumerators, NoEnumerators, MoreEnumerators, Enumerator, enumerator, Declarator, Named, Unnamed, Pointer, Parenthesised, Array, Function, Parameters, NoParameters, MoreParameters, Parameter, parameter}
+use Rattle.p10_syn.specs.Trees.{Bare, Identifier, Qualifier, Expression, expression, Form, Name, Number, Character, Strings, Unary, Step, Binary, Assign, Conditional, Call, Index, Member, Arrow, Cast, SizeofExpression, SizeofType, Comma, Expressions, NoExpressions, MoreExpressions, Optional, Absent, Present, TypeName, type_name, Specifiers, NoSpecifiers, MoreSpecifiers, Specifier, Keyword, Typedef, Structure, Enumeration, Members, NoMembers, MoreMembers, MemberDeclaration, member_declaration, Fields, NoFields, MoreFields, Field, field, Enumerators, NoEnumerators, MoreEnumerators, Enumerator, enumerator, Declarator, Named, Unnamed, Pointer, Parenthesised, Array, Function, Parameters, NoParameters, MoreParameters, Parameter, parameter}
 use Rattle.p10_syn.specs.Trees.{Initializer, Value, Braced, Initializers, NoInitializers, MoreInitializers, InitDeclarator, Declaration, Statement, Empty, Evaluate, Block, If, IfElse, Switch, While, Do, For, Case, Default, Label, Goto, Break, Continue, Return, Declare, Pragma, Statements, NoStatements, MoreStatements, Definition, External, Outer, Defines}
-use Rattle.p10_syn.specs.Bare.{bare_tag, bare, bare_form, bare_list, bare_optional, bare_type, bare_specifiers, bare_specifier, bare_members, bare_member, bare_fields, bare_field, bare_enumerators, bare_enumerator, bare_declarator, bare_parameters, bare_parameter, bare_initializer, bare_initializers, bare_initial, bare_init_declarator, bare_init_declarators, bare_declaration, bare_statement, bare_statements, bare_definition, bare_external, bare_externals}
-use Rattle.p10_syn.specs.Places.{Source, locate_tag, locate, locate_form, locate_list, locate_optional, locate_type, locate_specifiers, locate_specifier, locate_members, locate_member, locate_fields, locate_field, locate_enumerators, locate_enumerator, locate_declarator, locate_parameters, locate_parameter, locate_initializer, locate_initializers, locate_initial, locate_init_declarator, locate_init_declarators, locate_declaration, locate_statement, locate_statements, locate_definition, locate_external, locate_externals}
+use Rattle.p10_syn.specs.Bare.{bare_tag, bare_qualifiers, bare, bare_form, bare_list, bare_optional, bare_type, bare_specifiers, bare_specifier, bare_members, bare_member, bare_fields, bare_field, bare_enumerators, bare_enumerator, bare_declarator, bare_parameters, bare_parameter, bare_initializer, bare_initializers, bare_initial, bare_init_declarator, bare_init_declarators, bare_declaration, bare_statement, bare_statements, bare_definition, bare_external, bare_externals}
+use Rattle.p10_syn.specs.Places.{Source, locate_tag, locate_qualifiers, locate, locate_form, locate_list, locate_optional, locate_type, locate_specifiers, locate_specifier, locate_members, locate_member, locate_fields, locate_field, locate_enumerators, locate_enumerator, locate_declarator, locate_parameters, locate_parameter, locate_initializer, locate_initializers, locate_initial, locate_init_declarator, locate_init_declarators, locate_declaration, locate_statement, locate_statements, locate_definition, locate_external, locate_externals}
 
 pub same_tag : (s : Source) (n : ℕ) (tag : Option (Identifier Bare)) → bare_tag (locate_tag s n tag) ≡ tag
 same_tag s n None = refl
 same_tag s n (Some x) = refl
+
+pub same_qualifiers : (s : Source) (n : ℕ) (qs : List (Qualifier Bare)) → bare_qualifiers (locate_qualifiers s n qs) ≡ qs
+same_qualifiers s n [] = refl
+same_qualifiers s n (q ∷ qs) = ap (λ rest. q ∷ rest) (same_qualifiers s (n + 1) qs)
 
 mutual
   pub same : (s : Source) (n : ℕ) (t : Expression Bare) → bare (locate s n t) ≡ t
@@ -80,10 +84,10 @@ mutual
   pub same_declarator : (s : Source) (n : ℕ) (d : Declarator Bare) → bare_declarator (locate_declarator s n d) ≡ d
   same_declarator s n (Named x) = refl
   same_declarator s n (Unnamed p) = refl
-  same_declarator s n (Pointer p qs d) = rw (same_declarator s (n + 1 + length qs) d)
+  same_declarator s n (Pointer p qs d) = rw (same_qualifiers s (n + 1) qs, same_declarator s (n + 1 + length qs) d)
   same_declarator s n (Parenthesised p d) = rw (same_declarator s (n + 1) d)
-  same_declarator s n (Array p d size) = rw (same_declarator s n d, same_optional s (n + count_declarator d + 1) size)
-  same_declarator s n (Function p d ps ellipsis) = rw (same_declarator s n d, same_parameters s (n + count_declarator d + 1) ps)
+  same_declarator s n (Array p d b size) = rw (same_declarator s n d, same_optional s (n + count_declarator d + 1) size)
+  same_declarator s n (Function p d b ps ellipsis) = rw (same_declarator s n d, same_parameters s (n + count_declarator d + 1) ps)
 
   pub same_parameters : (s : Source) (n : ℕ) (xs : Parameters Bare) → bare_parameters (locate_parameters s n xs) ≡ xs
   same_parameters s n NoParameters = refl
@@ -150,7 +154,7 @@ pub same_definition : (s : Source) (n : ℕ) (d : Definition Bare) → bare_defi
 same_definition s n d = rw (same_specifiers s n d.specifiers, same_declarator s (n + count_specifiers d.specifiers) d.declarator, same_statements s (n + count_head d + 1) d.body)
 
 pub same_external : (s : Source) (n : ℕ) (e : External Bare) → bare_external (locate_external s n e) ≡ e
-same_external s n (Outer d) = rw (same_declaration s n d)
+same_external s n (Outer p d) = rw (same_declaration s n d)
 same_external s n (Defines d) = rw (same_definition s n d)
 
 pub same_externals : (s : Source) (n : ℕ) (es : List (External Bare)) → bare_externals (locate_externals s n es) ≡ es

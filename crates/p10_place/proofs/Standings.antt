@@ -1,17 +1,17 @@
 -- Each part of a tree of an expression, specifier or declarator stands on the words that it spells.
-use Rattle.std.proofs.Common.{◌≡◌, ℕ, ◌+◌, ◌*◌, ◌-◌, length, List, ◌∷◌, Option, Some, None, ◌∙◌, ap, arith, Bool}
+use Rattle.std.proofs.Common.{◌≡◌, ℕ, ◌+◌, ◌*◌, ◌-◌, length, List, [], ◌∷◌, Option, Some, None, ◌∙◌, ap, arith, Bool}
 use Rattle.p10_syn.specs.declared.sign.Sign.{Sign}
 use Rattle.p10_syn.specs.declared.sign.Sign.TheVariants as sign
 use Rattle.p10_syn.specs.declared.place.Side.TheVariants.{Before, After}
 use Rattle.p10_syn.specs.Symbols.{Symbol, Fixed}
 use Rattle.p10_syn.specs.Symbols as symbol
-use Rattle.p10_syn.specs.Trees.{Bare, Identifier, Expression, expression, Form, Name, Number, Character, Strings, Unary, Step, Binary, Assign, Conditional, Call, Index, Member, Arrow, Cast, SizeofExpression, SizeofType, Comma, Expressions, NoExpressions, MoreExpressions, Optional, Absent, Present, TypeName, type_name, Specifiers, NoSpecifiers, MoreSpecifiers, Specifier, Keyword, Typedef, Structure, Enumeration, Members, NoMembers, MoreMembers, MemberDeclaration, member_declaration, Fields, NoFields, MoreFields, Field, field, Enumerators, NoEnumerators, MoreEnumerators, Enumerator, enumerator, Declarator, Named, Unnamed, Pointer, Parenthesised, Array, Function, Parameters, NoParameters, MoreParameters, Parameter, parameter}
+use Rattle.p10_syn.specs.Trees.{Bare, Identifier, Qualifier, Expression, expression, Form, Name, Number, Character, Strings, Unary, Step, Binary, Assign, Conditional, Call, Index, Member, Arrow, Cast, SizeofExpression, SizeofType, Comma, Expressions, NoExpressions, MoreExpressions, Optional, Absent, Present, TypeName, type_name, Specifiers, NoSpecifiers, MoreSpecifiers, Specifier, Keyword, Typedef, Structure, Enumeration, Members, NoMembers, MoreMembers, MemberDeclaration, member_declaration, Fields, NoFields, MoreFields, Field, field, Enumerators, NoEnumerators, MoreEnumerators, Enumerator, enumerator, Declarator, Named, Unnamed, Pointer, Parenthesised, Array, Function, Parameters, NoParameters, MoreParameters, Parameter, parameter}
 use Rattle.p10_syn.specs.Counts.{count_tag, count_bool, count, count_form, count_optional, count_valued, count_type, count_specifiers, count_specifier, count_members, count_member, count_fields, count_field, count_enumerators, count_enumerator, count_declarator, count_parameters, count_parameter}
-use Rattle.p10_syn.specs.Spelling.{close_all, spell_keywords, spell_tag, spell_last_comma, spell_ellipsis, spell, spell_form, spell_list, spell_more, spell_optional, spell_valued, spell_type, spell_specifiers, spell_specifier, spell_members, spell_more_members, spell_member, spell_fields, spell_more_fields, spell_field, spell_enumerators, spell_more_enumerators, spell_enumerator, spell_declarator, spell_parameters, spell_more_parameters, spell_parameter}
-use Rattle.p10_syn.specs.Places.{Source, place_at, locate_name, locate_tag, locate, locate_form, locate_list, locate_optional, locate_type, locate_specifiers, locate_specifier, locate_members, locate_member, locate_fields, locate_field, locate_enumerators, locate_enumerator, locate_declarator, locate_parameters, locate_parameter}
-use Rattle.p10_place.specs.Standing.{NameStands, TagStands, Stands, FormStands, ListStands, OptionalStands, TypeStands, SpecifiersStand, SpecifierStands, MembersStand, MemberStands, FieldsStand, FieldStands, EnumeratorsStand, EnumeratorStands, DeclaratorStands, ParametersStand, ParameterStands}
-use Rattle.p10_place.proofs.Counting.{length-open_all, length-keywords, length-tag, counts, counts_type, counts_specifiers, counts_specifier, counts_member, counts_field, counts_enumerator, counts_declarator, counts_parameter}
-use Rattle.p10_place.proofs.Same.{same_tag, same, same_form, same_list, same_optional, same_specifiers, same_members, same_fields, same_field, same_enumerators, same_enumerator, same_declarator, same_parameters, same_parameter}
+use Rattle.p10_syn.specs.Spelling.{close_all, spell_qualifiers, spell_tag, spell_last_comma, spell_ellipsis, spell, spell_form, spell_list, spell_more, spell_optional, spell_valued, spell_type, spell_specifiers, spell_specifier, spell_members, spell_more_members, spell_member, spell_fields, spell_more_fields, spell_field, spell_enumerators, spell_more_enumerators, spell_enumerator, spell_declarator, spell_parameters, spell_more_parameters, spell_parameter}
+use Rattle.p10_syn.specs.Places.{Source, place_at, locate_qualifiers, locate_name, locate_tag, locate, locate_form, locate_list, locate_optional, locate_type, locate_specifiers, locate_specifier, locate_members, locate_member, locate_fields, locate_field, locate_enumerators, locate_enumerator, locate_declarator, locate_parameters, locate_parameter}
+use Rattle.p10_place.specs.Standing.{QualifiersStand, NameStands, TagStands, Stands, FormStands, ListStands, OptionalStands, TypeStands, SpecifiersStand, SpecifierStands, MembersStand, MemberStands, FieldsStand, FieldStands, EnumeratorsStand, EnumeratorStands, DeclaratorStands, ParametersStand, ParameterStands}
+use Rattle.p10_place.proofs.Counting.{length-open_all, length-qualifiers, length-tag, length-ellipsis, counts, counts_optional, counts_parameters, counts_type, counts_specifiers, counts_specifier, counts_member, counts_field, counts_enumerator, counts_declarator, counts_parameter}
+use Rattle.p10_place.proofs.Same.{same_tag, same_qualifiers, same, same_form, same_list, same_optional, same_specifiers, same_members, same_fields, same_field, same_enumerators, same_enumerator, same_declarator, same_parameters, same_parameter}
 
 pub between : (s : Source) (n k : ℕ) (from rest : List Symbol) → n + length from ≡ length s.words → length from ≡ k + length rest →
     place_at s n k ≡ place_at s (length s.words - length from) (length from - length rest)
@@ -27,6 +27,14 @@ tag_stands : (s : Source) (n : ℕ) (tag : Option (Identifier Bare)) (rest : Lis
 tag_stands s n None rest h = tt
 tag_stands s n (Some x) rest h = name_stands s n x rest (omega (arith, h))
 
+qualifiers_stand : (s : Source) (n : ℕ) (qs : List (Qualifier Bare)) (rest : List Symbol) → n + length (spell_qualifiers qs rest) ≡ length s.words → QualifiersStand s (locate_qualifiers s n qs) rest
+qualifiers_stand s n [] rest h = tt
+qualifiers_stand s n (q ∷ qs) rest h =
+    rw (same_qualifiers s (n + 1) qs) (
+      between s n 1 (Fixed q.word ∷ spell_qualifiers qs rest) (spell_qualifiers qs rest) h (omega arith),
+      qualifiers_stand s (n + 1) qs rest (omega (arith, h)),
+    )
+
 mutual
   pub stands : (s : Source) (n : ℕ) (t : Expression Bare) (rest : List Symbol) → n + length (spell t rest) ≡ length s.words → Stands s (locate s n t) rest
   stands s n (expression p k f) rest h =
@@ -36,7 +44,7 @@ mutual
       )
 
   form_stands : (s : Source) (n : ℕ) (f : Form Bare) (rest : List Symbol) → n + length (spell_form f rest) ≡ length s.words → FormStands s (locate_form s n f) rest
-  form_stands s n (Name x) rest h = tt
+  form_stands s n (Name x) rest h = name_stands s n x rest (omega (arith, h))
   form_stands s n (Number x) rest h = tt
   form_stands s n (Character x) rest h = tt
   form_stands s n (Strings xs) rest h = tt
@@ -203,24 +211,30 @@ mutual
   declarator_stands s n (Named x) rest h = name_stands s n x rest (omega (arith, h))
   declarator_stands s n (Unnamed p) rest h = between s n 0 rest rest h (omega arith)
   declarator_stands s n (Pointer p qs d) rest h =
-      rw (same_declarator s (n + 1 + length qs) d) (
-        between s n (1 + length qs + count_declarator d) (Fixed sign.Star ∷ spell_keywords qs (spell_declarator d rest)) rest h (counts_declarator (Pointer tt qs d) rest),
-        declarator_stands s (n + 1 + length qs) d rest (omega (arith, h, length-keywords qs (spell_declarator d rest))),
+      rw (same_qualifiers s (n + 1) qs, same_declarator s (n + 1 + length qs) d) (
+        between s n (1 + length qs + count_declarator d) (Fixed sign.Star ∷ spell_qualifiers qs (spell_declarator d rest)) rest h (counts_declarator (Pointer tt qs d) rest),
+        qualifiers_stand s (n + 1) qs (spell_declarator d rest) (omega (arith, h)),
+        declarator_stands s (n + 1 + length qs) d rest (omega (arith, h, length-qualifiers qs (spell_declarator d rest))),
       )
   declarator_stands s n (Parenthesised p d) rest h =
       rw (same_declarator s (n + 1) d) (
         between s n (1 + count_declarator d + 1) (Fixed sign.Open ∷ spell_declarator d (Fixed sign.Close ∷ rest)) rest h (counts_declarator (Parenthesised tt d) rest),
         declarator_stands s (n + 1) d (Fixed sign.Close ∷ rest) (omega (arith, h)),
       )
-  declarator_stands s n (Array p d size) rest h =
+  declarator_stands s n (Array p d b size) rest h =
       rw (same_declarator s n d, same_optional s (n + count_declarator d + 1) size) (
-        between s n (count_declarator d + 1 + count_optional size + 1) (spell_declarator d (Fixed sign.OpenSquare ∷ spell_optional size (Fixed sign.CloseSquare ∷ rest))) rest h (counts_declarator (Array tt d size) rest),
+        between s n (count_declarator d + 1 + count_optional size + 1) (spell_declarator d (Fixed sign.OpenSquare ∷ spell_optional size (Fixed sign.CloseSquare ∷ rest))) rest h (counts_declarator (Array tt d tt size) rest),
+        between s (n + count_declarator d) (1 + count_optional size + 1) (Fixed sign.OpenSquare ∷ spell_optional size (Fixed sign.CloseSquare ∷ rest)) rest
+            (omega (arith, h, counts_declarator d (Fixed sign.OpenSquare ∷ spell_optional size (Fixed sign.CloseSquare ∷ rest)))) (omega (arith, counts_optional size (Fixed sign.CloseSquare ∷ rest))),
         declarator_stands s n d (Fixed sign.OpenSquare ∷ spell_optional size (Fixed sign.CloseSquare ∷ rest)) h,
         optional_stands s (n + count_declarator d + 1) size (Fixed sign.CloseSquare ∷ rest) (omega (arith, h, counts_declarator d (Fixed sign.OpenSquare ∷ spell_optional size (Fixed sign.CloseSquare ∷ rest)))),
       )
-  declarator_stands s n (Function p d ps ellipsis) rest h =
+  declarator_stands s n (Function p d b ps ellipsis) rest h =
       rw (same_declarator s n d, same_parameters s (n + count_declarator d + 1) ps) (
-        between s n (count_declarator d + 1 + count_parameters ps + 2 * count_bool ellipsis + 1) (spell_declarator d (Fixed sign.Open ∷ spell_parameters ps (spell_ellipsis ellipsis (Fixed sign.Close ∷ rest)))) rest h (counts_declarator (Function tt d ps ellipsis) rest),
+        between s n (count_declarator d + 1 + count_parameters ps + 2 * count_bool ellipsis + 1) (spell_declarator d (Fixed sign.Open ∷ spell_parameters ps (spell_ellipsis ellipsis (Fixed sign.Close ∷ rest)))) rest h (counts_declarator (Function tt d tt ps ellipsis) rest),
+        between s (n + count_declarator d) (1 + count_parameters ps + 2 * count_bool ellipsis + 1) (Fixed sign.Open ∷ spell_parameters ps (spell_ellipsis ellipsis (Fixed sign.Close ∷ rest))) rest
+            (omega (arith, h, counts_declarator d (Fixed sign.Open ∷ spell_parameters ps (spell_ellipsis ellipsis (Fixed sign.Close ∷ rest)))))
+            (omega (arith, counts_parameters ps (spell_ellipsis ellipsis (Fixed sign.Close ∷ rest)), length-ellipsis ellipsis (Fixed sign.Close ∷ rest))),
         declarator_stands s n d (Fixed sign.Open ∷ spell_parameters ps (spell_ellipsis ellipsis (Fixed sign.Close ∷ rest))) h,
         parameters_stand s (n + count_declarator d + 1) ps (spell_ellipsis ellipsis (Fixed sign.Close ∷ rest))
             (omega (arith, h, counts_declarator d (Fixed sign.Open ∷ spell_parameters ps (spell_ellipsis ellipsis (Fixed sign.Close ∷ rest))))),

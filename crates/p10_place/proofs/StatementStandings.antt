@@ -185,7 +185,8 @@ definition_stands s n d rest h =
     )
 
 external_stands : (s : Source) (n : ℕ) (e : External Bare) (rest : List Symbol) → n + length (spell_external e rest) ≡ length s.words → ExternalStands s (locate_external s n e) rest
-external_stands s n (Outer d) rest h = declaration_stands s n d rest h
+external_stands s n (Outer p d) rest h =
+    (rw (same_specifiers s n d.specifiers, same_init_declarators s (n + count_specifiers d.specifiers) d.declarators) (between (record { words = s.words; before = 0 }) n (count_declaration d) (spell_declaration d rest) rest h (counts_declaration d rest)), declaration_stands s n d rest h)
 external_stands s n (Defines d) rest h = definition_stands s n d rest h
 
 pub externals_stand : (s : Source) (n : ℕ) (es : List (External Bare)) (rest : List Symbol) → n + length (spell_externals es rest) ≡ length s.words → ExternalsStand s (locate_externals s n es) rest

@@ -26,17 +26,17 @@ a = 97 ∷ []
 abbrev pub b : Text
 b = 98 ∷ []
 
-abbrev pub named : Text → Expression Bare
-named x = expression tt 0 (Name x)
-
-abbrev pub named_at : At → Text → Expression At
-named_at p x = expression p 0 (Name x)
-
 abbrev pub name : Text → Identifier Bare
 name x = record { place = tt; name = x }
 
 abbrev pub name_at : At → Text → Identifier At
 name_at p x = record { place = p; name = x }
+
+abbrev pub named : Text → Expression Bare
+named x = expression tt 0 (Name (name x))
+
+abbrev pub named_at : At → Text → Expression At
+named_at p x = expression p 0 (Name (name_at p x))
 
 -- `((a + b))`, seven words: its own parentheses are its words
 abbrev pub parenthesised : List PlainWord
@@ -77,7 +77,7 @@ defined = record {
   place = tt;
   landmarks = record { whole = tt; first_word = tt; brace = tt; last_word = tt };
   specifiers = MoreSpecifiers (Keyword tt sign.Int) NoSpecifiers;
-  declarator = Function tt (Named (name a)) NoParameters false;
+  declarator = Function tt (Named (name a)) tt NoParameters false;
   body_place = tt;
   body = MoreStatements (Return tt tt (Present (named b))) NoStatements;
 }
@@ -87,7 +87,7 @@ defined_at = record {
   place = place 100 109 0 21;
   landmarks = record { whole = place 0 9 0 21; first_word = place 0 1 0 3; brace = place 4 5 8 9; last_word = place 8 9 20 21 };
   specifiers = MoreSpecifiers (Keyword (place 100 101 0 3) sign.Int) NoSpecifiers;
-  declarator = Function (place 101 104 4 7) (Named (name_at (place 101 102 4 5) a)) NoParameters false;
+  declarator = Function (place 101 104 4 7) (Named (name_at (place 101 102 4 5) a)) (place 102 104 5 7) NoParameters false;
   body_place = place 104 109 8 21;
   body = MoreStatements (Return (place 105 108 10 19) (place 105 106 10 16) (Present (named_at (place 106 107 17 18) b))) NoStatements;
 }
@@ -104,8 +104,8 @@ pub record ExamplesStand : Type 0 where
   pub last_comma_of_enumeration : locate_specifier (root 0 enumeration) 0 (Enumeration tt None (MoreEnumerators (enumerator tt (name a) Absent) NoEnumerators) true) ≡
       Enumeration (place 0 5 0 9) None (MoreEnumerators (enumerator (place 2 3 6 7) (name_at (place 2 3 6 7) a) Absent) NoEnumerators) true
   -- a name that is left out stands before the next word and has no bytes
-  pub no_name : locate_declarator (root 0 declarator) 0 (Pointer tt [] (Function tt (Named (name a)) (MoreParameters (parameter tt (MoreSpecifiers (Keyword tt sign.Int) NoSpecifiers) (Unnamed tt)) NoParameters) false)) ≡
-      Pointer (place 0 5 0 8) [] (Function (place 1 5 2 8) (Named (name_at (place 1 2 2 3) a))
+  pub no_name : locate_declarator (root 0 declarator) 0 (Pointer tt [] (Function tt (Named (name a)) tt (MoreParameters (parameter tt (MoreSpecifiers (Keyword tt sign.Int) NoSpecifiers) (Unnamed tt)) NoParameters) false)) ≡
+      Pointer (place 0 5 0 8) [] (Function (place 1 5 2 8) (Named (name_at (place 1 2 2 3) a)) (place 2 5 3 8)
       (MoreParameters (parameter (place 3 4 4 7) (MoreSpecifiers (Keyword (place 3 4 4 7) sign.Int) NoSpecifiers) (Unnamed (place 4 4 0 0))) NoParameters) false)
   pub keyword_of_loop : locate_statement (root 0 loop) 0 (While tt tt (named a) (Empty tt)) ≡ While (place 0 5 0 11) (place 0 1 0 5) (named_at (place 2 3 7 8) a) (Empty (place 4 5 10 11))
   -- the marks of a function are counted in its root

@@ -1,14 +1,14 @@
 -- Where the parts of an expression, specifier or declarator stand, said by the words that are left where a part begins and
 -- where it ends. It counts no words of trees.
-use Rattle.std.specs.Prelude.{◌≡◌, ◌-◌, length, List, ◌∷◌, Option, Some, None}
+use Rattle.std.specs.Prelude.{◌≡◌, ◌-◌, length, List, [], ◌∷◌, Option, Some, None}
 use Rattle.p10_base.specs.declared.at.At.{At}
 use Rattle.p10_syn.specs.declared.sign.Sign.TheVariants as sign
 use Rattle.p10_syn.specs.declared.place.Side.TheVariants.{Before, After}
 use Rattle.p10_syn.specs.Symbols.{Symbol, Fixed}
 use Rattle.p10_syn.specs.Symbols as symbol
-use Rattle.p10_syn.specs.Trees.{Identifier, Expression, expression, Form, Name, Number, Character, Strings, Unary, Step, Binary, Assign, Conditional, Call, Index, Member, Arrow, Cast, SizeofExpression, SizeofType, Comma, Expressions, NoExpressions, MoreExpressions, Optional, Absent, Present, TypeName, type_name, Specifiers, NoSpecifiers, MoreSpecifiers, Specifier, Keyword, Typedef, Structure, Enumeration, Members, NoMembers, MoreMembers, MemberDeclaration, member_declaration, Fields, NoFields, MoreFields, Field, field, Enumerators, NoEnumerators, MoreEnumerators, Enumerator, enumerator, Declarator, Named, Unnamed, Pointer, Parenthesised, Array, Function, Parameters, NoParameters, MoreParameters, Parameter, parameter}
-use Rattle.p10_syn.specs.Bare.{bare, bare_form, bare_list, bare_optional, bare_type, bare_specifiers, bare_specifier, bare_members, bare_member, bare_fields, bare_field, bare_enumerators, bare_enumerator, bare_declarator, bare_parameters, bare_parameter}
-use Rattle.p10_syn.specs.Spelling.{close_all, spell_last_comma, spell_ellipsis, spell, spell_list, spell_more, spell_optional, spell_valued, spell_type, spell_specifiers, spell_specifier, spell_members, spell_more_members, spell_member, spell_fields, spell_more_fields, spell_field, spell_enumerators, spell_more_enumerators, spell_enumerator, spell_declarator, spell_parameters, spell_more_parameters, spell_parameter}
+use Rattle.p10_syn.specs.Trees.{Identifier, Qualifier, Expression, expression, Form, Name, Number, Character, Strings, Unary, Step, Binary, Assign, Conditional, Call, Index, Member, Arrow, Cast, SizeofExpression, SizeofType, Comma, Expressions, NoExpressions, MoreExpressions, Optional, Absent, Present, TypeName, type_name, Specifiers, NoSpecifiers, MoreSpecifiers, Specifier, Keyword, Typedef, Structure, Enumeration, Members, NoMembers, MoreMembers, MemberDeclaration, member_declaration, Fields, NoFields, MoreFields, Field, field, Enumerators, NoEnumerators, MoreEnumerators, Enumerator, enumerator, Declarator, Named, Unnamed, Pointer, Parenthesised, Array, Function, Parameters, NoParameters, MoreParameters, Parameter, parameter}
+use Rattle.p10_syn.specs.Bare.{bare_qualifiers, bare, bare_form, bare_list, bare_optional, bare_type, bare_specifiers, bare_specifier, bare_members, bare_member, bare_fields, bare_field, bare_enumerators, bare_enumerator, bare_declarator, bare_parameters, bare_parameter}
+use Rattle.p10_syn.specs.Spelling.{close_all, spell_qualifiers, spell_last_comma, spell_ellipsis, spell, spell_list, spell_more, spell_optional, spell_valued, spell_type, spell_specifiers, spell_specifier, spell_members, spell_more_members, spell_member, spell_fields, spell_more_fields, spell_field, spell_enumerators, spell_more_enumerators, spell_enumerator, spell_declarator, spell_parameters, spell_more_parameters, spell_parameter}
 use Rattle.p10_syn.specs.Places.{Source, place_at}
 
 -- the place of the words of a root from where the words `from` are left up to where the words `rest` are
@@ -24,6 +24,12 @@ abbrev pub TagStands : Source → Option (Identifier At) → List Symbol → Typ
 TagStands s None rest = Unit {0}
 TagStands s (Some x) rest = NameStands s x rest
 
+-- qualifiers before these words
+abbrev pub QualifiersStand : Source → List (Qualifier At) → List Symbol → Type 0
+QualifiersStand s [] rest = Unit {0}
+QualifiersStand s (q ∷ qs) rest =
+    IsBetween s q.place (Fixed q.word ∷ spell_qualifiers (bare_qualifiers qs) rest) (spell_qualifiers (bare_qualifiers qs) rest) × QualifiersStand s qs rest
+
 abbrev mutual
   -- an expression and its parts, before these words
   pub Stands : Source → Expression At → List Symbol → Type 0
@@ -31,7 +37,7 @@ abbrev mutual
 
   -- the operands of a form, each before what stands after it
   pub FormStands : Source → Form At → List Symbol → Type 0
-  FormStands s (Name x) rest = Unit {0}
+  FormStands s (Name x) rest = NameStands s x rest
   FormStands s (Number x) rest = Unit {0}
   FormStands s (Character x) rest = Unit {0}
   FormStands s (Strings xs) rest = Unit {0}
@@ -115,14 +121,17 @@ abbrev mutual
   pub DeclaratorStands : Source → Declarator At → List Symbol → Type 0
   DeclaratorStands s (Named x) rest = NameStands s x rest
   DeclaratorStands s (Unnamed p) rest = IsBetween s p rest rest
-  DeclaratorStands s (Pointer p qs d) rest = IsBetween s p (spell_declarator (bare_declarator (Pointer p qs d)) rest) rest × DeclaratorStands s d rest
+  DeclaratorStands s (Pointer p qs d) rest =
+      IsBetween s p (spell_declarator (bare_declarator (Pointer p qs d)) rest) rest × QualifiersStand s qs (spell_declarator (bare_declarator d) rest) × DeclaratorStands s d rest
   DeclaratorStands s (Parenthesised p d) rest =
       IsBetween s p (spell_declarator (bare_declarator (Parenthesised p d)) rest) rest × DeclaratorStands s d (Fixed sign.Close ∷ rest)
-  DeclaratorStands s (Array p d size) rest =
-      IsBetween s p (spell_declarator (bare_declarator (Array p d size)) rest) rest
+  DeclaratorStands s (Array p d b size) rest =
+      IsBetween s p (spell_declarator (bare_declarator (Array p d b size)) rest) rest
+      × IsBetween s b (Fixed sign.OpenSquare ∷ spell_optional (bare_optional size) (Fixed sign.CloseSquare ∷ rest)) rest
       × DeclaratorStands s d (Fixed sign.OpenSquare ∷ spell_optional (bare_optional size) (Fixed sign.CloseSquare ∷ rest)) × OptionalStands s size (Fixed sign.CloseSquare ∷ rest)
-  DeclaratorStands s (Function p d ps ellipsis) rest =
-      IsBetween s p (spell_declarator (bare_declarator (Function p d ps ellipsis)) rest) rest
+  DeclaratorStands s (Function p d b ps ellipsis) rest =
+      IsBetween s p (spell_declarator (bare_declarator (Function p d b ps ellipsis)) rest) rest
+      × IsBetween s b (Fixed sign.Open ∷ spell_parameters (bare_parameters ps) (spell_ellipsis ellipsis (Fixed sign.Close ∷ rest))) rest
       × DeclaratorStands s d (Fixed sign.Open ∷ spell_parameters (bare_parameters ps) (spell_ellipsis ellipsis (Fixed sign.Close ∷ rest)))
       × ParametersStand s ps (spell_ellipsis ellipsis (Fixed sign.Close ∷ rest))
 

@@ -119,7 +119,8 @@ DefinitionStands s d rest =
 
 -- a declaration outside of functions, or a function
 abbrev pub ExternalStands : Source → External At → List Symbol → Type 0
-ExternalStands s (Outer d) rest = DeclarationStands s d rest
+ExternalStands s (Outer p d) rest =
+    IsBetween (record { words = s.words; before = 0 }) p (spell_declaration (bare_declaration d) rest) rest × DeclarationStands s d rest
 ExternalStands s (Defines d) rest = DefinitionStands s d rest
 
 -- one after the other

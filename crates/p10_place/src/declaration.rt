@@ -57,7 +57,7 @@ fn nothing<'s>() -> Expr<'s> {
     Expr {
         at: NOWHERE,
         parens: 0,
-        form: Form::Name(&[]),
+        form: Form::Number(&[]),
     }
 }
 

@@ -1,17 +1,17 @@
 //! The places of declarators.
 
-ghost use Rattle.std.specs.Prelude.{◌≡◌, ◌+◌, ◌*◌, ◌<◌, ◌^◌};
-ghost use Rattle.p10_syn.specs.Bare.{bare_declarator, bare_parameters, bare_parameter};
-ghost use Rattle.p10_syn.specs.Built.{declarator_of, parameter_of};
+ghost use Rattle.std.specs.Prelude.{◌≡◌, ◌+◌, ◌*◌, ◌<◌, ◌^◌, length, map};
+ghost use Rattle.p10_syn.specs.Bare.{bare_qualifier, bare_qualifiers, bare_declarator, bare_parameters, bare_parameter};
+ghost use Rattle.p10_syn.specs.Built.{qualifier_of, declarator_of, parameter_of};
 ghost use Rattle.p10_syn.specs.Counts.{count_bool, count_declarator, count_parameters, count_parameter};
-ghost use Rattle.p10_syn.specs.Places.{locate_declarator, locate_parameters, locate_parameter};
+ghost use Rattle.p10_syn.specs.Places.{locate_qualifier, locate_qualifiers, locate_declarator, locate_parameters, locate_parameter};
 ghost use Rattle.p10_place.specs.Roots.{source_of};
 ghost use Rattle.p10_place.specs.private.Lists.{parameters_in};
 
 use crate::expression::{comma_before, set_name, set_optional};
 use crate::root::{NOWHERE, Root};
 use crate::specifier::set_specifiers;
-use p10_syn::{Declarator, Parameter};
+use p10_syn::{Declarator, Parameter, Qualifier};
 use std::mem::replace;
 
 /// Sets the places in a declarator; a name that is left out stands before word `first`.
@@ -48,8 +48,9 @@ fn set_parts<'s>(
             (Declarator::Named(name), past)
         }
         Declarator::Unnamed(_) => (Declarator::Unnamed(root.place_between(first, first)), first),
-        Declarator::Pointer(_, qualifiers, mut inner) => {
-            let past = set_declarator(root, first + 1 + qualifiers.len(), &mut inner);
+        Declarator::Pointer(_, mut qualifiers, mut inner) => {
+            let past = set_qualifiers(root, first + 1, &mut qualifiers);
+            let past = set_declarator(root, past, &mut inner);
             let at = root.place_between(first, past);
             (Declarator::Pointer(at, qualifiers, inner), past)
         }
@@ -58,22 +59,47 @@ fn set_parts<'s>(
             let at = root.place_between(first, past);
             (Declarator::Parenthesised(at, inner), past)
         }
-        Declarator::Array(_, mut inner, mut length) => {
-            let past = set_declarator(root, first, &mut inner);
-            let past = set_optional(root, past + 1, &mut length) + 1;
+        Declarator::Array(_, mut inner, _, mut length) => {
+            let bracket = set_declarator(root, first, &mut inner);
+            let past = set_optional(root, bracket + 1, &mut length) + 1;
             let at = root.place_between(first, past);
-            (Declarator::Array(at, inner, length), past)
+            let brackets = root.place_between(bracket, past);
+            (Declarator::Array(at, inner, brackets, length), past)
         }
-        Declarator::Function(_, mut inner, mut parameters, has_ellipsis) => {
-            let past = set_declarator(root, first, &mut inner);
-            let past = set_parameters(root, past + 1, &mut parameters) + ellipsis(has_ellipsis) + 1;
+        Declarator::Function(_, mut inner, _, mut parameters, has_ellipsis) => {
+            let open = set_declarator(root, first, &mut inner);
+            let past = set_parameters(root, open + 1, &mut parameters) + ellipsis(has_ellipsis) + 1;
             let at = root.place_between(first, past);
+            let list = root.place_between(open, past);
             (
-                Declarator::Function(at, inner, parameters, has_ellipsis),
+                Declarator::Function(at, inner, list, parameters, has_ellipsis),
                 past,
             )
         }
     }
+}
+
+/// Sets the places of qualifiers one after the other.
+fn set_qualifiers(root: &Root<'_, '_>, first: usize, qualifiers: &mut Vec<Qualifier>) -> usize
+    requires { first + length (bare_qualifiers (map qualifier_of qualifiers.old.items)) < 2 ^ 64 }
+    ensures placed { map qualifier_of qualifiers.new.items ≡ locate_qualifiers (source_of root.now) first (bare_qualifiers (map qualifier_of qualifiers.old.items)) }
+    ensures past { result ≡ first + length (bare_qualifiers (map qualifier_of qualifiers.old.items)) }
+{
+    let mut past = first;
+    for i in 0..qualifiers.len() {
+        past = set_qualifier(root, past, &mut qualifiers[i]);
+    }
+    past
+}
+
+/// Sets the place of a qualifier.
+fn set_qualifier(root: &Root<'_, '_>, first: usize, qualifier: &mut Qualifier) -> usize
+    requires { first + 1 < 2 ^ 64 }
+    ensures placed { qualifier_of qualifier.new ≡ locate_qualifier (source_of root.now) first (bare_qualifier (qualifier_of qualifier.old)) }
+    ensures past { result ≡ first + 1 }
+{
+    qualifier.at = root.place_between(first, first + 1);
+    first + 1
 }
 
 /// How many words `, ...` has, if it is there.

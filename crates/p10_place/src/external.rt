@@ -6,13 +6,14 @@ ghost use Rattle.p10_syn.specs.BuiltStatements.{landmarks_of, definition_of, ext
 ghost use Rattle.p10_syn.specs.Counts.{count_definition, count_external};
 ghost use Rattle.p10_syn.specs.Places.{locate_definition, locate_external, locate_externals};
 ghost use Rattle.p10_place.specs.Roots.{source_of, count_externals};
-ghost use Rattle.p10_place.specs.private.Marks.{landmarks_between};
+ghost use Rattle.p10_place.specs.private.Marks.{landmarks_between, with_own_place};
 
 use crate::declaration::set_declaration;
 use crate::declarator::set_declarator;
 use crate::root::Root;
 use crate::specifier::set_specifiers;
 use crate::statement::set_statements;
+use p10_base::At;
 use p10_syn::{Function, Landmarks, Unit};
 
 /// Sets the places in a declaration outside of functions, or in a function.
@@ -22,8 +23,22 @@ pub(crate) fn set_unit(root: &Root<'_, '_>, first: usize, unit: &mut Unit<'_>) -
     ensures past { result ≡ first + count_external (bare_external (external_of unit.old)) }
 {
     match unit {
-        Unit::Decl(declaration) => set_declaration(root, first, declaration),
+        Unit::Decl(_, declaration) => {
+            let past = set_declaration(root, first, declaration);
+            set_own_place(unit, root.alone().place_between(first, past));
+            past
+        }
         Unit::Function(function) => set_function(root, first, function),
+    }
+}
+
+/// Sets where a declaration stands in its root; of a function its landmarks say it.
+fn set_own_place(unit: &mut Unit<'_>, place: At)
+    ensures { external_of unit.new ≡ with_own_place place (external_of unit.old) }
+{
+    match unit {
+        Unit::Decl(at, _) => *at = place,
+        Unit::Function(_) => {}
     }
 }
 
@@ -48,10 +63,7 @@ fn landmarks(root: &Root<'_, '_>, first: usize, brace: usize, past: usize) -> La
     requires begins { first ≤ brace }
     ensures { landmarks_of result ≡ landmarks_between (source_of root.now) first brace past }
 {
-    let own = Root {
-        words: root.words,
-        before: 0,
-    };
+    let own = root.alone();
     Landmarks {
         whole: own.place_between(first, past),
         first_word: own.place_between(first, first + 1),

@@ -13,6 +13,7 @@ mod declaration;
 mod declarator;
 mod expression;
 mod external;
+mod form;
 pub mod laws;
 mod place;
 mod root;

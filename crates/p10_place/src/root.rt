@@ -28,6 +28,16 @@ impl<'w, 's> Root<'w, 's> {
         }
     }
 
+    /// The same words, counted by themselves: as if no root stood before this one.
+    pub(crate) fn alone(&self) -> Root<'w, 's>
+        ensures { source_of result ≡ record { words = (source_of self.now).words; before = 0 } }
+    {
+        Root {
+            words: self.words,
+            before: 0,
+        }
+    }
+
     /// The number of a word, counted through all roots; it stands still at the end of its type.
     fn number_at(&self, place: usize) -> u32
         ensures { result ≡ number_at (source_of self.now) place }

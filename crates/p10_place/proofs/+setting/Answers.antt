@@ -16,67 +16,67 @@ pub declarator::set_declarator-set_parts-placed-requires : goal.declarator::set_
 declarator::set_declarator-set_parts-placed-requires t c = rw (c.replace-taken.ensures.value) (search rules)
 
 pub declarator::set_parts-set_parameters-requires : goal.declarator::set_parts-set_parameters-requires
-declarator::set_parts-set_parameters-requires t c = ((first_of (search rules, search (rules, the_lemmas), grind (arith, common_steps))), let h = rw (ap declarator_of c.in-Function.is ∙ function_is c.in-Function.field-0 c.in-Function.inner c.in-Function.parameters c.in-Function.has_ellipsis) at c.requires in (first_of (omega (arith, h), search (rules, the_lemmas, h), grind (arith, common_steps, h))))
+declarator::set_parts-set_parameters-requires t c = ((first_of (search rules, search (rules, the_lemmas), grind (arith, common_steps))), let h = rw (ap declarator_of c.in-Function.is ∙ function_is c.in-Function.field-0 c.in-Function.inner c.in-Function.field-2 c.in-Function.parameters c.in-Function.has_ellipsis) at c.requires in (first_of (omega (arith, h), search (rules, the_lemmas, h), grind (arith, common_steps, h))))
 
 pub declarator::set_parts-overflow_add-past-in-Function-2 : goal.declarator::set_parts-overflow_add-past-in-Function-2
-declarator::set_parts-overflow_add-past-in-Function-2 t c = let h = rw (ap declarator_of c.in-Function.is ∙ function_is c.in-Function.field-0 c.in-Function.inner c.in-Function.parameters c.in-Function.has_ellipsis) at c.requires in (first_of (omega (arith, h), search (rules, the_lemmas, h), grind (arith, common_steps, h)))
+declarator::set_parts-overflow_add-past-in-Function-2 t c = let h = rw (ap declarator_of c.in-Function.is ∙ function_is c.in-Function.field-0 c.in-Function.inner c.in-Function.field-2 c.in-Function.parameters c.in-Function.has_ellipsis) at c.requires in (first_of (omega (arith, h), search (rules, the_lemmas, h), grind (arith, common_steps, h)))
 
-pub declarator::set_parts-overflow_add-past-in-Function-3 : goal.declarator::set_parts-overflow_add-past-in-Function-3
-declarator::set_parts-overflow_add-past-in-Function-3 t c = let h = rw (ap declarator_of c.in-Function.is ∙ function_is c.in-Function.field-0 c.in-Function.inner c.in-Function.parameters c.in-Function.has_ellipsis) at c.requires in (first_of (omega (arith, h), search (rules, the_lemmas, h), grind (arith, common_steps, h)))
+pub declarator::set_parts-overflow_add-past-in-Function : goal.declarator::set_parts-overflow_add-past-in-Function
+declarator::set_parts-overflow_add-past-in-Function t c = let h = rw (ap declarator_of c.in-Function.is ∙ function_is c.in-Function.field-0 c.in-Function.inner c.in-Function.field-2 c.in-Function.parameters c.in-Function.has_ellipsis) at c.requires in (first_of (omega (arith, h), search (rules, the_lemmas, h), grind (arith, common_steps, h)))
 
 pub declarator::set_parts-returns-in-Function-clause-placed : goal.declarator::set_parts-returns-in-Function-clause-placed
-declarator::set_parts-returns-in-Function-clause-placed t c = rw (ap declarator_of c.in-Function.is ∙ function_is c.in-Function.field-0 c.in-Function.inner c.in-Function.parameters c.in-Function.has_ellipsis) (search (rules, the_lemmas, parameters_listed))
+declarator::set_parts-returns-in-Function-clause-placed t c = rw (ap declarator_of c.in-Function.is ∙ function_is c.in-Function.field-0 c.in-Function.inner c.in-Function.field-2 c.in-Function.parameters c.in-Function.has_ellipsis) (search (rules, the_lemmas, parameters_listed))
 
 pub declarator::set_parts-returns-in-Function-clause-past : goal.declarator::set_parts-returns-in-Function-clause-past
-declarator::set_parts-returns-in-Function-clause-past t c = rw (ap declarator_of c.in-Function.is ∙ function_is c.in-Function.field-0 c.in-Function.inner c.in-Function.parameters c.in-Function.has_ellipsis) (first_of (omega arith, search (rules, the_lemmas), grind (arith, common_steps)))
+declarator::set_parts-returns-in-Function-clause-past t c = rw (ap declarator_of c.in-Function.is ∙ function_is c.in-Function.field-0 c.in-Function.inner c.in-Function.field-2 c.in-Function.parameters c.in-Function.has_ellipsis) (first_of (omega arith, search (rules, the_lemmas), grind (arith, common_steps)))
 
-pub expression::set_form-set_list-past-requires : goal.expression::set_form-set_list-past-requires
-expression::set_form-set_list-past-requires t c = ((first_of (search rules, search (rules, the_lemmas), grind (arith, common_steps))), let h = rw (ap form_of c.in-Call.is ∙ call_is c.in-Call.callee c.in-Call.arguments) at c.requires in (first_of (omega (arith, h), search (rules, the_lemmas, h), grind (arith, common_steps, h))))
+pub form::set_form-set_list-past-requires : goal.form::set_form-set_list-past-requires
+form::set_form-set_list-past-requires t c = ((first_of (search rules, search (rules, the_lemmas), grind (arith, common_steps))), let h = rw (ap form_of c.in-Call.is ∙ call_is c.in-Call.callee c.in-Call.arguments) at c.requires in (first_of (omega (arith, h), search (rules, the_lemmas, h), grind (arith, common_steps, h))))
 
-pub expression::set_form-overflow_add-result-in-Call : goal.expression::set_form-overflow_add-result-in-Call
-expression::set_form-overflow_add-result-in-Call t c = let h = rw (ap form_of c.in-Call.is ∙ call_is c.in-Call.callee c.in-Call.arguments) at c.requires in (first_of (omega (arith, h), search (rules, the_lemmas, h), grind (arith, common_steps, h)))
+pub form::set_form-overflow_add-result-in-Call : goal.form::set_form-overflow_add-result-in-Call
+form::set_form-overflow_add-result-in-Call t c = let h = rw (ap form_of c.in-Call.is ∙ call_is c.in-Call.callee c.in-Call.arguments) at c.requires in (first_of (omega (arith, h), search (rules, the_lemmas, h), grind (arith, common_steps, h)))
 
-pub expression::set_form-set_type-past-requires : goal.expression::set_form-set_type-past-requires
-expression::set_form-set_type-past-requires t c = ((first_of (search rules, search (rules, the_lemmas), grind (arith, common_steps))), let h = rw (ap form_of c.in-Cast.is ∙ cast_is c.in-Cast.kind c.in-Cast.operand) at c.requires in (first_of (omega (arith, h), search (rules, the_lemmas, h), grind (arith, common_steps, h))))
+pub form::set_form-set_type-past-requires : goal.form::set_form-set_type-past-requires
+form::set_form-set_type-past-requires t c = ((first_of (search rules, search (rules, the_lemmas), grind (arith, common_steps))), let h = rw (ap form_of c.in-Cast.is ∙ cast_is c.in-Cast.kind c.in-Cast.operand) at c.requires in (first_of (omega (arith, h), search (rules, the_lemmas, h), grind (arith, common_steps, h))))
 
-pub expression::set_form-overflow_add-past-in-Cast : goal.expression::set_form-overflow_add-past-in-Cast
-expression::set_form-overflow_add-past-in-Cast t c = let h = rw (ap form_of c.in-Cast.is ∙ cast_is c.in-Cast.kind c.in-Cast.operand) at c.requires in (first_of (omega (arith, h), search (rules, the_lemmas, h), grind (arith, common_steps, h)))
+pub form::set_form-overflow_add-past-in-Cast : goal.form::set_form-overflow_add-past-in-Cast
+form::set_form-overflow_add-past-in-Cast t c = let h = rw (ap form_of c.in-Cast.is ∙ cast_is c.in-Cast.kind c.in-Cast.operand) at c.requires in (first_of (omega (arith, h), search (rules, the_lemmas, h), grind (arith, common_steps, h)))
 
-pub expression::set_form-set_expression-past-requires-in-Cast : goal.expression::set_form-set_expression-past-requires-in-Cast
-expression::set_form-set_expression-past-requires-in-Cast t c = ((first_of (search rules, search (rules, the_lemmas), grind (arith, common_steps))), let h = rw (ap form_of c.in-Cast.is ∙ cast_is c.in-Cast.kind c.in-Cast.operand) at c.requires in (first_of (omega (arith, h), search (rules, the_lemmas, h), grind (arith, common_steps, h))))
+pub form::set_form-set_expression-past-requires-in-Cast : goal.form::set_form-set_expression-past-requires-in-Cast
+form::set_form-set_expression-past-requires-in-Cast t c = ((first_of (search rules, search (rules, the_lemmas), grind (arith, common_steps))), let h = rw (ap form_of c.in-Cast.is ∙ cast_is c.in-Cast.kind c.in-Cast.operand) at c.requires in (first_of (omega (arith, h), search (rules, the_lemmas, h), grind (arith, common_steps, h))))
 
-pub expression::set_form-set_type-past-requires-in-SizeofType : goal.expression::set_form-set_type-past-requires-in-SizeofType
-expression::set_form-set_type-past-requires-in-SizeofType t c = ((first_of (search rules, search (rules, the_lemmas), grind (arith, common_steps))), let h = rw (ap form_of c.in-SizeofType.is ∙ sizeof_is c.in-SizeofType.kind) at c.requires in (first_of (omega (arith, h), search (rules, the_lemmas, h), grind (arith, common_steps, h))))
+pub form::set_form-set_list-past-requires-in-Comma : goal.form::set_form-set_list-past-requires-in-Comma
+form::set_form-set_list-past-requires-in-Comma t c = ((first_of (search rules, search (rules, the_lemmas), grind (arith, common_steps))), let h = rw (ap form_of c.in-Comma.is ∙ comma_is c.in-Comma.operands) at c.requires in (first_of (omega (arith, h), search (rules, the_lemmas, h), grind (arith, common_steps, h))))
 
-pub expression::set_form-overflow_add-result-in-SizeofType : goal.expression::set_form-overflow_add-result-in-SizeofType
-expression::set_form-overflow_add-result-in-SizeofType t c = let h = rw (ap form_of c.in-SizeofType.is ∙ sizeof_is c.in-SizeofType.kind) at c.requires in (first_of (omega (arith, h), search (rules, the_lemmas, h), grind (arith, common_steps, h)))
+pub form::set_form-returns-in-Call-clause-placed : goal.form::set_form-returns-in-Call-clause-placed
+form::set_form-returns-in-Call-clause-placed t c = rw (ap form_of c.in-Call.is ∙ call_is c.in-Call.callee c.in-Call.arguments) (search (rules, the_lemmas, expressions_listed))
 
-pub expression::set_form-set_list-past-requires-in-Comma : goal.expression::set_form-set_list-past-requires-in-Comma
-expression::set_form-set_list-past-requires-in-Comma t c = ((first_of (search rules, search (rules, the_lemmas), grind (arith, common_steps))), let h = rw (ap form_of c.in-Comma.is ∙ comma_is c.in-Comma.operands) at c.requires in (first_of (omega (arith, h), search (rules, the_lemmas, h), grind (arith, common_steps, h))))
+pub form::set_form-returns-in-Call-clause-past : goal.form::set_form-returns-in-Call-clause-past
+form::set_form-returns-in-Call-clause-past t c = rw (ap form_of c.in-Call.is ∙ call_is c.in-Call.callee c.in-Call.arguments) (first_of (omega arith, search (rules, the_lemmas), grind (arith, common_steps)))
 
-pub expression::set_form-returns-in-Call-clause-placed : goal.expression::set_form-returns-in-Call-clause-placed
-expression::set_form-returns-in-Call-clause-placed t c = rw (ap form_of c.in-Call.is ∙ call_is c.in-Call.callee c.in-Call.arguments) (search (rules, the_lemmas, expressions_listed))
+pub form::set_form-returns-in-Cast-clause-placed : goal.form::set_form-returns-in-Cast-clause-placed
+form::set_form-returns-in-Cast-clause-placed t c = rw (ap form_of c.in-Cast.is ∙ cast_is c.in-Cast.kind c.in-Cast.operand) (search (rules, the_lemmas, specifiers_listed))
 
-pub expression::set_form-returns-in-Call-clause-past : goal.expression::set_form-returns-in-Call-clause-past
-expression::set_form-returns-in-Call-clause-past t c = rw (ap form_of c.in-Call.is ∙ call_is c.in-Call.callee c.in-Call.arguments) (first_of (omega arith, search (rules, the_lemmas), grind (arith, common_steps)))
+pub form::set_form-returns-in-Cast-clause-past : goal.form::set_form-returns-in-Cast-clause-past
+form::set_form-returns-in-Cast-clause-past t c = rw (ap form_of c.in-Cast.is ∙ cast_is c.in-Cast.kind c.in-Cast.operand) (first_of (omega arith, search (rules, the_lemmas), grind (arith, common_steps)))
 
-pub expression::set_form-returns-in-Cast-clause-placed : goal.expression::set_form-returns-in-Cast-clause-placed
-expression::set_form-returns-in-Cast-clause-placed t c = rw (ap form_of c.in-Cast.is ∙ cast_is c.in-Cast.kind c.in-Cast.operand) (search (rules, the_lemmas, specifiers_listed))
+pub form::set_form-returns-in-Comma-clause-placed : goal.form::set_form-returns-in-Comma-clause-placed
+form::set_form-returns-in-Comma-clause-placed t c = rw (ap form_of c.in-Comma.is ∙ comma_is c.in-Comma.operands) (search (rules, the_lemmas, expressions_listed))
 
-pub expression::set_form-returns-in-Cast-clause-past : goal.expression::set_form-returns-in-Cast-clause-past
-expression::set_form-returns-in-Cast-clause-past t c = rw (ap form_of c.in-Cast.is ∙ cast_is c.in-Cast.kind c.in-Cast.operand) (first_of (omega arith, search (rules, the_lemmas), grind (arith, common_steps)))
+pub form::set_form-returns-in-Comma-clause-past : goal.form::set_form-returns-in-Comma-clause-past
+form::set_form-returns-in-Comma-clause-past t c = rw (ap form_of c.in-Comma.is ∙ comma_is c.in-Comma.operands) (first_of (omega arith, search (rules, the_lemmas), grind (arith, common_steps)))
 
-pub expression::set_form-returns-in-SizeofType-clause-placed : goal.expression::set_form-returns-in-SizeofType-clause-placed
-expression::set_form-returns-in-SizeofType-clause-placed t c = rw (ap form_of c.in-SizeofType.is ∙ sizeof_is c.in-SizeofType.kind) (search (rules, the_lemmas, specifiers_listed))
+pub form::set_form-set_sizeof_type-requires : goal.form::set_form-set_sizeof_type-requires
+form::set_form-set_sizeof_type-requires t c = ((first_of (search rules, search (rules, the_lemmas), grind (arith, common_steps))), rw (ap form_of c.in-SizeofType.is ∙ sizeof_is c.in-SizeofType.kind) at c.requires)
 
-pub expression::set_form-returns-in-SizeofType-clause-past : goal.expression::set_form-returns-in-SizeofType-clause-past
-expression::set_form-returns-in-SizeofType-clause-past t c = rw (ap form_of c.in-SizeofType.is ∙ sizeof_is c.in-SizeofType.kind) (first_of (omega arith, search (rules, the_lemmas), grind (arith, common_steps)))
+pub form::set_form-returns-in-SizeofType-clause-placed : goal.form::set_form-returns-in-SizeofType-clause-placed
+form::set_form-returns-in-SizeofType-clause-placed t c = rw (ap form_of c.in-SizeofType.is ∙ sizeof_is c.in-SizeofType.kind) c.set_sizeof_type.ensures.placed
 
-pub expression::set_form-returns-in-Comma-clause-placed : goal.expression::set_form-returns-in-Comma-clause-placed
-expression::set_form-returns-in-Comma-clause-placed t c = rw (ap form_of c.in-Comma.is ∙ comma_is c.in-Comma.operands) (search (rules, the_lemmas, expressions_listed))
+pub form::set_form-returns-in-SizeofType-clause-past : goal.form::set_form-returns-in-SizeofType-clause-past
+form::set_form-returns-in-SizeofType-clause-past t c = rw (ap form_of c.in-SizeofType.is ∙ sizeof_is c.in-SizeofType.kind) c.set_sizeof_type.ensures.past
 
-pub expression::set_form-returns-in-Comma-clause-past : goal.expression::set_form-returns-in-Comma-clause-past
-expression::set_form-returns-in-Comma-clause-past t c = rw (ap form_of c.in-Comma.is ∙ comma_is c.in-Comma.operands) (first_of (omega arith, search (rules, the_lemmas), grind (arith, common_steps)))
+pub form::set_sizeof_type-returns-clause-placed : goal.form::set_sizeof_type-returns-clause-placed
+form::set_sizeof_type-returns-clause-placed t c = search (rules, the_lemmas, specifiers_listed)
 
 pub specifier::set_enumeration-overflow_add-first : goal.specifier::set_enumeration-overflow_add-first
 specifier::set_enumeration-overflow_add-first t c = let h = rw (enumeration_is c.args.enumeration.now) at c.requires in (first_of (omega (arith, h), search (rules, the_lemmas, h), grind (arith, common_steps, h)))

@@ -44,9 +44,6 @@ invariant-declarator::set_parameters-loop-i l = record {
 abbrev pub decreases-expression::set_expression : goal.decreases-expression::set_expression
 decreases-expression::set_expression l = 3 * goal.size-expression::set_expression l
 
-abbrev pub decreases-expression::set_form : goal.decreases-expression::set_form
-decreases-expression::set_form l = 3 * goal.size-expression::set_form l
-
 abbrev pub decreases-expression::set_list : goal.decreases-expression::set_list
 decreases-expression::set_list l = 3 * goal.size-expression::set_list l + 2
 
@@ -55,6 +52,21 @@ decreases-expression::set_optional l = 3 * goal.size-expression::set_optional l 
 
 abbrev pub decreases-expression::set_type : goal.decreases-expression::set_type
 decreases-expression::set_type l = 3 * goal.size-expression::set_type l
+
+abbrev pub decreases-form::set_form : goal.decreases-form::set_form
+decreases-form::set_form l = 3 * goal.size-form::set_form l
+
+abbrev pub decreases-form::set_step : goal.decreases-form::set_step
+decreases-form::set_step l = 3 * goal.size-form::set_step l + 1
+
+abbrev pub decreases-form::set_selected : goal.decreases-form::set_selected
+decreases-form::set_selected l = 3 * goal.size-form::set_selected l + 1
+
+abbrev pub decreases-form::set_arrow : goal.decreases-form::set_arrow
+decreases-form::set_arrow l = 3 * goal.size-form::set_arrow l + 1
+
+abbrev pub decreases-form::set_sizeof_type : goal.decreases-form::set_sizeof_type
+decreases-form::set_sizeof_type l = 3 * goal.size-form::set_sizeof_type l + 1
 
 abbrev pub decreases-specifier::set_specifiers : goal.decreases-specifier::set_specifiers
 decreases-specifier::set_specifiers l = 3 * goal.size-specifier::set_specifiers l + 2

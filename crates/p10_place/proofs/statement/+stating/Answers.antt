@@ -11,17 +11,17 @@ use Rattle.p10_place.proofs.statement.+stating.Goals as goal
 pub set_statement-set_parts-placed-requires : goal.set_statement-set_parts-placed-requires
 set_statement-set_parts-placed-requires t c = rw (c.replace-taken.ensures.value) (search rules)
 
-pub set_parts-set_statements-past-requires : goal.set_parts-set_statements-past-requires
-set_parts-set_statements-past-requires t c = ((first_of (search rules, search (rules, the_lemmas), grind (arith, common_steps))), let h = rw (ap statement_of c.in-Block.is ∙ block_is c.in-Block.field-0 c.in-Block.all) at c.requires in (first_of (omega (arith, h), search (rules, the_lemmas, h), grind (arith, common_steps, h))))
-
-pub set_parts-overflow_add-past-in-Block : goal.set_parts-overflow_add-past-in-Block
-set_parts-overflow_add-past-in-Block t c = let h = rw (ap statement_of c.in-Block.is ∙ block_is c.in-Block.field-0 c.in-Block.all) at c.requires in (first_of (omega (arith, h), search (rules, the_lemmas, h), grind (arith, common_steps, h)))
+pub set_parts-set_block-requires : goal.set_parts-set_block-requires
+set_parts-set_block-requires t c = ((first_of (search rules, search (rules, the_lemmas), grind (arith, common_steps))), rw (ap statement_of c.in-Block.is ∙ block_is c.in-Block.field-0 c.in-Block.all) at c.requires)
 
 pub set_parts-returns-in-Block-clause-placed : goal.set_parts-returns-in-Block-clause-placed
-set_parts-returns-in-Block-clause-placed t c = rw (ap statement_of c.in-Block.is ∙ block_is c.in-Block.field-0 c.in-Block.all) (search (rules, the_lemmas, statements_listed))
+set_parts-returns-in-Block-clause-placed t c = rw (ap statement_of c.in-Block.is ∙ block_is c.in-Block.field-0 c.in-Block.all) c.set_block.ensures.placed
 
 pub set_parts-returns-in-Block-clause-past : goal.set_parts-returns-in-Block-clause-past
-set_parts-returns-in-Block-clause-past t c = rw (ap statement_of c.in-Block.is ∙ block_is c.in-Block.field-0 c.in-Block.all) (first_of (omega arith, search (rules, the_lemmas), grind (arith, common_steps)))
+set_parts-returns-in-Block-clause-past t c = rw (ap statement_of c.in-Block.is ∙ block_is c.in-Block.field-0 c.in-Block.all) c.set_block.ensures.past
+
+pub set_block-returns-clause-placed : goal.set_block-returns-clause-placed
+set_block-returns-clause-placed t c = search (rules, the_lemmas, statements_listed)
 
 pub set_statements-loop-i-preserved : goal.set_statements-loop-i-preserved
 set_statements-loop-i-preserved t c = record {
