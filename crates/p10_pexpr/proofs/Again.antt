@@ -110,16 +110,16 @@ mutual
       record { left = λ off. absurd off; full = pointer_full names setting naming p qs d h.0 (declarator_laws d names setting naming h.1).full }
   declarator_laws (Parenthesised p d) names setting naming h =
       declarator_laws_of names setting naming (Parenthesised p d) h (parenthesised_left names setting naming p d (declarator_laws d names setting naming h.0).full h.1 h.2)
-  declarator_laws (Array p d Absent) names setting naming h =
-      declarator_laws_of names setting naming (Array p d Absent) h (array_left names setting naming p d h.0 ((declarator_laws d names setting naming h.0).left h.1))
-  declarator_laws (Array p d (Present t)) names setting naming h =
-      declarator_laws_of names setting naming (Array p d (Present t)) h
+  declarator_laws (Array p d b Absent) names setting naming h =
+      declarator_laws_of names setting naming (Array p d tt Absent) h (array_left names setting naming p d h.0 ((declarator_laws d names setting naming h.0).left h.1))
+  declarator_laws (Array p d b (Present t)) names setting naming h =
+      declarator_laws_of names setting naming (Array p d tt (Present t)) h
       (sized_left names setting naming p d t h.0 ((declarator_laws d names setting naming h.0).left h.1) h.2.0 (laws t names h.2.0).full h.2.1)
-  declarator_laws (Function p d NoParameters true) names setting naming h = absurd (true≢false h.3)
-  declarator_laws (Function p d NoParameters false) names setting naming h =
-      declarator_laws_of names setting naming (Function p d NoParameters false) h (function_none_left names setting naming p d h.0 ((declarator_laws d names setting naming h.0).left h.1))
-  declarator_laws (Function p d (MoreParameters x xs) ellipsis) names setting naming h =
-      declarator_laws_of names setting naming (Function p d (MoreParameters x xs) ellipsis) h
+  declarator_laws (Function p d b NoParameters true) names setting naming h = absurd (true≢false h.3)
+  declarator_laws (Function p d b NoParameters false) names setting naming h =
+      declarator_laws_of names setting naming (Function p d tt NoParameters false) h (function_none_left names setting naming p d h.0 ((declarator_laws d names setting naming h.0).left h.1))
+  declarator_laws (Function p d b (MoreParameters x xs) ellipsis) names setting naming h =
+      declarator_laws_of names setting naming (Function p d tt (MoreParameters x xs) ellipsis) h
       (function_some_left names setting naming p d x xs ellipsis h.0 ((declarator_laws d names setting naming h.0).left h.1) h.2.0 (parameters_again (MoreParameters x xs) names setting h.2))
 
   parameters_again : (xs : Parameters Bare) (names : Scope) (setting : Setting) → AreParameters names setting xs → AllRead names setting xs

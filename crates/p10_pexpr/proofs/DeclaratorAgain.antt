@@ -15,12 +15,12 @@ use Rattle.p10_syn.specs.Symbols as symbol
 use Rattle.p10_syn.specs.Scopes.{Scope}
 use Rattle.p10_syn.specs.Declaring.{after_specifiers, after_parameter}
 use Rattle.p10_syn.specs.Precedence.{level_of}
-use Rattle.p10_syn.specs.Spelling.{spell, spell_keywords, spell_specifiers, spell_declarator, spell_more_parameters, spell_parameter, spell_ellipsis}
+use Rattle.p10_syn.specs.Spelling.{spell, spell_qualifiers, spell_specifiers, spell_declarator, spell_more_parameters, spell_parameter, spell_ellipsis}
 use Rattle.p10_syn.specs.Forms.{said_by, is_qualifier, may_be_named, may_be_nameless, leads, IsApart, IsSomething, IsSuffixed, AreQualifiers, IsExpression, AreSpecifiers, HasSpecifiers, IsDeclarator, IsParameter}
-use Rattle.p10_syn.specs.Trees.{Bare, Identifier, Expression, Absent, Present, type_name, Specifier, Specifiers, NoSpecifiers, MoreSpecifiers, Declarator, Named, Unnamed, Pointer, Parenthesised, Array, Function, Parameters, NoParameters, MoreParameters, Parameter, parameter, parameter_row}
+use Rattle.p10_syn.specs.Trees.{Bare, Identifier, Qualifier, Expression, Absent, Present, type_name, Specifier, Specifiers, NoSpecifiers, MoreSpecifiers, Declarator, Named, Unnamed, Pointer, Parenthesised, Array, Function, Parameters, NoParameters, MoreParameters, Parameter, parameter, parameter_row}
 use Rattle.p10_pexpr.specs.Heads.{Read, heads, closed_by}
 use Rattle.p10_pexpr.specs.Tables.{begins_specifiers, specifying_at, is_other, opens_parameters}
-use Rattle.p10_pexpr.specs.DeclaratorReading.{plain_name, qualifiers_from, some_specifiers, nameless_at, specifiers_at, pointer_to, pointer_at, wrapped_at, atom_at, sized_at, array_at, with_parameters_at, function_at, parameter_at, parameters_more}
+use Rattle.p10_pexpr.specs.DeclaratorReading.{plain_name, plain_qualifier, qualifiers_from, some_specifiers, nameless_at, specifiers_at, pointer_to, pointer_at, wrapped_at, atom_at, sized_at, array_at, with_parameters_at, function_at, parameter_at, parameters_more}
 use Rattle.p10_pexpr.specs.Reading.{readers}
 use Rattle.p10_pexpr.proofs.Rows.{specifier_list, specifier_again, parameter_list, parameter_again}
 use Rattle.p10_pexpr.proofs.Sizes.{specifiers_size, declarator_size, parameters_size, parameter_size, declarator_spine, declarator_spine_less}
@@ -61,8 +61,8 @@ suffixes_end (suc n) names setting d rest some ends =
 
 -- ## Qualifiers
 
-qualifiers_end : (done : List Sign) (rest : List Symbol) → (s : Sign) → is_qualifier s ≡ false → qualifiers_from done (Fixed s ∷ rest) ≡ (done, Fixed s ∷ rest)
-qualifiers_end done rest s h = ap (λ b. cond b (qualifiers_from (done ++ s ∷ []) rest) (done, Fixed s ∷ rest)) h
+qualifiers_end : (done : List (Qualifier Bare)) (rest : List Symbol) → (s : Sign) → is_qualifier s ≡ false → qualifiers_from done (Fixed s ∷ rest) ≡ (done, Fixed s ∷ rest)
+qualifiers_end done rest s h = ap (λ b. cond b (qualifiers_from (done ++ plain_qualifier s ∷ []) rest) (done, Fixed s ∷ rest)) h
 
 -- whether the words begin with a qualifier
 abbrev pub leads_qualifier : List Symbol → Bool
@@ -70,17 +70,17 @@ leads_qualifier [] = false
 leads_qualifier (Fixed s ∷ rest) = is_qualifier s
 leads_qualifier (_ ∷ rest) = false
 
-qualifiers_stop : (done : List Sign) (rest : List Symbol) → leads_qualifier rest ≡ false → qualifiers_from done rest ≡ (done, rest)
+qualifiers_stop : (done : List (Qualifier Bare)) (rest : List Symbol) → leads_qualifier rest ≡ false → qualifiers_from done rest ≡ (done, rest)
 qualifiers_stop done [] h = refl
 qualifiers_stop done (Fixed s ∷ rest) h = qualifiers_end done rest s h
 qualifiers_stop done (_ ∷ rest) h = refl
 
-qualifiers_again : (qs done : List Sign) (rest : List Symbol) → AreQualifiers qs → leads_qualifier rest ≡ false → qualifiers_from done (spell_keywords qs rest) ≡ (done ++ qs, rest)
-qualifiers_again [] done rest h stops = qualifiers_stop done rest stops ∙ ap (λ (xs : List Sign). (xs, rest)) (sym (append-nil done))
-qualifiers_again (s ∷ qs) done rest h stops =
-    ap (λ b. cond b (qualifiers_from (done ++ s ∷ []) (spell_keywords qs rest)) (done, Fixed s ∷ spell_keywords qs rest)) h.0
-    ∙ qualifiers_again qs (done ++ s ∷ []) rest h.1 stops
-    ∙ ap (λ (xs : List Sign). (xs, rest)) (append_assoc done (s ∷ []) qs)
+qualifiers_again : (qs done : List (Qualifier Bare)) (rest : List Symbol) → AreQualifiers qs → leads_qualifier rest ≡ false → qualifiers_from done (spell_qualifiers qs rest) ≡ (done ++ qs, rest)
+qualifiers_again [] done rest h stops = qualifiers_stop done rest stops ∙ ap (λ (xs : List (Qualifier Bare)). (xs, rest)) (sym (append-nil done))
+qualifiers_again (q ∷ qs) done rest h stops =
+    ap (λ b. cond b (qualifiers_from (done ++ q ∷ []) (spell_qualifiers qs rest)) (done, Fixed q.word ∷ spell_qualifiers qs rest)) h.0
+    ∙ qualifiers_again qs (done ++ q ∷ []) rest h.1 stops
+    ∙ ap (λ (xs : List (Qualifier Bare)). (xs, rest)) (append_assoc done (q ∷ []) qs)
 
 end_no_qualifier : (s : Sign) → ends_declarator (Fixed s ∷ []) ≡ true → is_qualifier s ≡ false
 end_no_qualifier sign.Close h = refl
@@ -101,8 +101,8 @@ declarator_no_qualifier (Named x) rest h = refl
 declarator_no_qualifier (Unnamed p) rest h = h
 declarator_no_qualifier (Pointer p qs d) rest h = refl
 declarator_no_qualifier (Parenthesised p d) rest h = refl
-declarator_no_qualifier (Array p d length) rest h = declarator_no_qualifier d _ refl
-declarator_no_qualifier (Function p d ps ellipsis) rest h = declarator_no_qualifier d _ refl
+declarator_no_qualifier (Array p d b length) rest h = declarator_no_qualifier d _ refl
+declarator_no_qualifier (Function p d b ps ellipsis) rest h = declarator_no_qualifier d _ refl
 
 -- ## What the laws say
 
@@ -177,30 +177,30 @@ module _ (names : Scope) (setting : Setting) (naming : Naming) where
         ∙ ap (option_and_then (λ x. closed_by sign.Close (Parenthesised tt x.0) x.1)) (full n (Fixed sign.Close ∷ rest) (omega (arith, enough)) refl),
   ))
 
-  pub pointer_full : (p : Bare) (qs : List Sign) (d : Declarator Bare) → AreQualifiers qs → DeclaratorFull d → DeclaratorFull (Pointer p qs d)
+  pub pointer_full : (p : Bare) (qs : List (Qualifier Bare)) (d : Declarator Bare) → AreQualifiers qs → DeclaratorFull d → DeclaratorFull (Pointer p qs d)
   pointer_full p qs d are full zero rest enough ends = absurd (omega (arith, enough))
   pointer_full p qs d are full (suc n) rest enough ends =
-      declarator_suc n names setting naming (Fixed sign.Star ∷ spell_keywords qs (spell_declarator d rest))
+      declarator_suc n names setting naming (Fixed sign.Star ∷ spell_qualifiers qs (spell_declarator d rest))
       ∙ ap (pointer_to (readers n) names setting naming) (qualifiers_again qs [] (spell_declarator d rest) are (declarator_no_qualifier d rest (ends_no_qualifier rest ends)))
       ∙ ap (option_map (λ x. (Pointer tt qs x.0, x.1))) (full n rest (omega (arith, enough)) ends)
 
-  pub array_left : (p : Bare) (d : Declarator Bare) → IsDeclarator names setting naming d → DeclaratorLeft d → DeclaratorLeft (Array p d Absent)
+  pub array_left : (p : Bare) (d : Declarator Bare) → IsDeclarator names setting naming d → DeclaratorLeft d → DeclaratorLeft (Array p d tt Absent)
   array_left p d is left m n rest count enough after =
       let sp = declarator_spine_less d in
       left m (suc n) (Fixed sign.OpenSquare ∷ (Fixed sign.CloseSquare ∷ rest)) (omega (arith, count)) (omega (arith, enough, sp)) (after_square d _ is)
       ∙ suffixes_suc n names setting d (Fixed sign.OpenSquare ∷ (Fixed sign.CloseSquare ∷ rest))
 
-  pub sized_left : (p : Bare) (d : Declarator Bare) (t : Expression Bare) → IsDeclarator names setting naming d → DeclaratorLeft d → IsExpression names t → Full names t → 3 ≤ level_of t → DeclaratorLeft (Array p d (Present t))
+  pub sized_left : (p : Bare) (d : Declarator Bare) (t : Expression Bare) → IsDeclarator names setting naming d → DeclaratorLeft d → IsExpression names t → Full names t → 3 ≤ level_of t → DeclaratorLeft (Array p d tt (Present t))
   sized_left p d t is left formed full high m n rest count enough after =
       let sp = declarator_spine_less d in
       let inner = spell t (Fixed sign.CloseSquare ∷ rest) in
       let go : Declarator Bare × List Symbol → Read (Declarator Bare) = λ x. (readers n).suffixes names setting x.0 x.1 in
       left m (suc n) (Fixed sign.OpenSquare ∷ inner) (omega (arith, count)) (omega (arith, enough, sp)) (after_square d _ is)
       ∙ suffixes_suc n names setting d (Fixed sign.OpenSquare ∷ inner)
-      ∙ ap (λ b. option_and_then go (cond b (Some (Array tt d Absent, drop 1 inner)) (sized_at (readers n) names d inner))) (begins_no sign.CloseSquare names inner (first_is names t _ formed) refl)
-      ∙ ap (λ o. option_and_then go (option_and_then (λ x. closed_by sign.CloseSquare (Array tt d (Present x.0)) x.1) o)) (full n 3 (Fixed sign.CloseSquare ∷ rest) (omega (arith, enough, sp)) high (omega arith))
+      ∙ ap (λ b. option_and_then go (cond b (Some (Array tt d tt Absent, drop 1 inner)) (sized_at (readers n) names d inner))) (begins_no sign.CloseSquare names inner (first_is names t _ formed) refl)
+      ∙ ap (λ o. option_and_then go (option_and_then (λ x. closed_by sign.CloseSquare (Array tt d tt (Present x.0)) x.1) o)) (full n 3 (Fixed sign.CloseSquare ∷ rest) (omega (arith, enough, sp)) high (omega arith))
 
-  pub function_none_left : (p : Bare) (d : Declarator Bare) → IsDeclarator names setting naming d → DeclaratorLeft d → DeclaratorLeft (Function p d NoParameters false)
+  pub function_none_left : (p : Bare) (d : Declarator Bare) → IsDeclarator names setting naming d → DeclaratorLeft d → DeclaratorLeft (Function p d tt NoParameters false)
   function_none_left p d is left m n rest count enough after =
       let sp = declarator_spine_less d in
       left m (suc n) (Fixed sign.Open ∷ (Fixed sign.Close ∷ rest)) (omega (arith, count)) (omega (arith, enough, sp)) (after_open d (Fixed sign.Close ∷ rest) is (λ lacks. ap (λ b. b && true) lacks))
@@ -225,16 +225,16 @@ parameter_begins : (names : Scope) (setting : Setting) (x : Parameter Bare) (res
 parameter_begins names setting (parameter p ss d) rest h = specifiers_begin names setting Nothing ss _ h.0 h.1
 
 pub function_some_left : (names : Scope) (setting : Setting) (naming : Naming) (p : Bare) (d : Declarator Bare) (x : Parameter Bare) (xs : Parameters Bare) (ellipsis : Bool) → IsDeclarator names setting naming d →
-    DeclaratorLeft names setting naming d → IsParameter names setting x → ParametersRead names setting x xs → DeclaratorLeft names setting naming (Function p d (MoreParameters x xs) ellipsis)
+    DeclaratorLeft names setting naming d → IsParameter names setting x → ParametersRead names setting x xs → DeclaratorLeft names setting naming (Function p d tt (MoreParameters x xs) ellipsis)
 function_some_left names setting naming p d x xs ellipsis is left isx read m n rest count enough after =
     let sp = declarator_spine_less d in
     let inner = spell_parameter x (spell_more_parameters xs (spell_ellipsis ellipsis (Fixed sign.Close ∷ rest))) in
     let go : Declarator Bare × List Symbol → Read (Declarator Bare) = λ y. (readers n).suffixes names setting y.0 y.1 in
     left m (suc n) (Fixed sign.Open ∷ inner) (omega (arith, count)) (omega (arith, enough, sp)) (after_open names setting naming d inner is (λ lacks. parameters_open names setting naming x _ isx lacks))
     ∙ suffixes_suc n names setting d (Fixed sign.Open ∷ inner)
-    ∙ ap (λ b. option_and_then go (cond b (Some (Function tt d NoParameters false, drop 1 inner)) (with_parameters_at (readers n) names setting d inner))) (specifiers_apart names inner (parameter_begins names setting x _ isx)).0
-    ∙ ap (λ o. option_and_then go (option_map (λ y. (Function tt d (parameter_row y.0.0) y.0.1, y.1)) o)) (read n [] ellipsis rest (omega (arith, enough, sp)))
-    ∙ ap (λ (ys : Parameters Bare). (readers n).suffixes names setting (Function tt d ys ellipsis) rest) (parameter_again (MoreParameters x xs))
+    ∙ ap (λ b. option_and_then go (cond b (Some (Function tt d tt NoParameters false, drop 1 inner)) (with_parameters_at (readers n) names setting d inner))) (specifiers_apart names inner (parameter_begins names setting x _ isx)).0
+    ∙ ap (λ o. option_and_then go (option_map (λ y. (Function tt d tt (parameter_row y.0.0) y.0.1, y.1)) o)) (read n [] ellipsis rest (omega (arith, enough, sp)))
+    ∙ ap (λ (ys : Parameters Bare). (readers n).suffixes names setting (Function tt d tt ys ellipsis) rest) (parameter_again (MoreParameters x xs))
 
 pub parameter_read : (names : Scope) (setting : Setting) (p : Bare) (ss : Specifiers Bare) (d : Declarator Bare) → HasSpecifiers ss → IsApart (after_specifiers names ss) (said_by Nothing ss) d →
     SpecifiersRead names setting Nothing ss → DeclaratorFull (after_specifiers names ss) setting Allowed d → ParameterRead names setting (parameter p ss d)
@@ -294,8 +294,8 @@ forbidden_leads any names (Named x) h = absurd (false≢true h)
 forbidden_leads any names (Unnamed p) h = refl
 forbidden_leads any names (Pointer p qs d) h = refl
 forbidden_leads any names (Parenthesised p d) h = refl
-forbidden_leads any names (Array p d length) h = forbidden_leads any names d h.0
-forbidden_leads any names (Function p d ps ellipsis) h = forbidden_leads any names d h.0
+forbidden_leads any names (Array p d b length) h = forbidden_leads any names d h.0
+forbidden_leads any names (Function p d b ps ellipsis) h = forbidden_leads any names d h.0
 
 pub type_read : (names : Scope) (p : Bare) (ss : Specifiers Bare) (d : Declarator Bare) → HasSpecifiers ss → AreSpecifiers names setting.Type Nothing ss → IsDeclarator names setting.Inside Forbidden d →
     SpecifiersRead names setting.Type Nothing ss → DeclaratorFull names setting.Inside Forbidden d → TypeRead names (type_name p ss d)

@@ -16,14 +16,14 @@ use Rattle.p10_syn.specs.Symbols.{Symbol, Fixed}
 use Rattle.p10_syn.specs.Symbols as symbol
 use Rattle.p10_syn.specs.Scopes.{Scope, is_type}
 use Rattle.p10_syn.specs.Declaring.{after_specifier, after_specifiers, after_parameter}
-use Rattle.p10_syn.specs.Spelling.{spell, spell_keywords, spell_specifiers, spell_declarator, spell_parameter, spell_ellipsis}
+use Rattle.p10_syn.specs.Spelling.{spell, spell_qualifiers, spell_specifiers, spell_declarator, spell_parameter, spell_ellipsis}
 use Rattle.p10_syn.specs.Forms.{said_by, after_saying, is_qualifier, may_be_named, may_be_nameless, leads, IsApart, IsSomething, IsSuffixed, AreQualifiers, AreSpecifiers, IsSpecifier, IsDeclarator, IsParameter}
-use Rattle.p10_syn.specs.Trees.{Bare, Present, TypeName, type_name, Specifiers, NoSpecifiers, MoreSpecifiers, Specifier, Keyword, Typedef, Structure, Enumeration, NoMembers, MoreMembers, NoEnumerators, MoreEnumerators, Declarator, Named, Unnamed, Pointer, Parenthesised, Array, Function, Parameters, NoParameters, MoreParameters, Parameter, parameter, specifier_row, parameter_row}
+use Rattle.p10_syn.specs.Trees.{Bare, Qualifier, Present, TypeName, type_name, Specifiers, NoSpecifiers, MoreSpecifiers, Specifier, Keyword, Typedef, Structure, Enumeration, NoMembers, MoreMembers, NoEnumerators, MoreEnumerators, Declarator, Named, Unnamed, Pointer, Parenthesised, Array, Function, Parameters, NoParameters, MoreParameters, Parameter, parameter, specifier_row, parameter_row}
 use Rattle.p10_pexpr.specs.Heads.{heads, closed_by}
 use Rattle.p10_pexpr.specs.Tables.{begins_specifiers, specifying_at, is_other, opens_parameters}
 use Rattle.p10_pexpr.specs.declared.next.Specifying.TheVariants.{Renamed, Other}
 use Rattle.p10_pexpr.specs.Readers.{Readers}
-use Rattle.p10_pexpr.specs.DeclaratorReading.{qualifiers_from, some_specifiers, nameless_at, specifiers_at, type_name_at, pointer_at, wrapped_at, open_at, named_at, atom_at, declarator_once, array_at, function_at, suffixes_once, parameter_at, parameters_more, parameters_once}
+use Rattle.p10_pexpr.specs.DeclaratorReading.{plain_qualifier, qualifiers_from, some_specifiers, nameless_at, specifiers_at, type_name_at, pointer_at, wrapped_at, open_at, named_at, atom_at, declarator_once, array_at, function_at, suffixes_once, parameter_at, parameters_more, parameters_once}
 use Rattle.p10_pexpr.proofs.Tools.{then_some, then_map, either, or_false, and_second, heads_is, ended}
 use Rattle.p10_pexpr.proofs.Rows.{specifier_again, parameter_list, parameter_again}
 use Rattle.p10_pexpr.proofs.Taken.{TookTypeName, TookSpecifiers, TookAll, TookDeclarator, TookAtom, TookParameters, TookParameter, Takes}
@@ -40,8 +40,8 @@ no_lead names setting (Named x) rest h = other_by (is_type names x.name) h
 no_lead names setting (Unnamed p) rest h = refl
 no_lead names setting (Pointer p qs d) rest h = refl
 no_lead names setting (Parenthesised p d) rest h = refl
-no_lead names setting (Array p d length) rest h = no_lead names setting d _ h
-no_lead names setting (Function p d ps ellipsis) rest h = no_lead names setting d _ h
+no_lead names setting (Array p d b length) rest h = no_lead names setting d _ h
+no_lead names setting (Function p d b ps ellipsis) rest h = no_lead names setting d _ h
 
 pub apart_is : (names : Scope) (setting : Setting) (said : Said) (d : Declarator Bare) (symbols rest : List Symbol) → is_other (specifying_at names setting said symbols) ≡ true →
     symbols ≡ spell_declarator d rest → IsApart names said d
@@ -55,8 +55,8 @@ no_lead_begins names (Named x) rest h = h
 no_lead_begins names (Unnamed p) rest h = refl
 no_lead_begins names (Pointer p qs d) rest h = refl
 no_lead_begins names (Parenthesised p d) rest h = refl
-no_lead_begins names (Array p d length) rest h = no_lead_begins names d _ h
-no_lead_begins names (Function p d ps ellipsis) rest h = no_lead_begins names d _ h
+no_lead_begins names (Array p d b length) rest h = no_lead_begins names d _ h
+no_lead_begins names (Function p d b ps ellipsis) rest h = no_lead_begins names d _ h
 
 -- specifiers of a type declare nothing
 mutual
@@ -75,23 +75,23 @@ mutual
 
 -- ## Qualifiers
 
-record TookQualifiers (done : List Sign) (symbols : List Symbol) (p : List Sign × List Symbol) : Type 0 where
-  others : List Sign
+record TookQualifiers (done : List (Qualifier Bare)) (symbols : List Symbol) (p : List (Qualifier Bare) × List Symbol) : Type 0 where
+  others : List (Qualifier Bare)
   formed : AreQualifiers others
   items : p.0 ≡ done ++ others
-  spelled : symbols ≡ spell_keywords others p.1
+  spelled : symbols ≡ spell_qualifiers others p.1
 
-qualifiers_end : (done : List Sign) (symbols : List Symbol) → TookQualifiers done symbols (done, symbols)
+qualifiers_end : (done : List (Qualifier Bare)) (symbols : List Symbol) → TookQualifiers done symbols (done, symbols)
 qualifiers_end done symbols = record { others = []; formed = tt; items = sym (append-nil done); spelled = refl }
 
-qualifiers_if : (done : List Sign) (s : Sign) (rest : List Symbol) (b : Bool) → is_qualifier s ≡ b → TookQualifiers (done ++ s ∷ []) rest (qualifiers_from (done ++ s ∷ []) rest) →
-    TookQualifiers done (Fixed s ∷ rest) (cond b (qualifiers_from (done ++ s ∷ []) rest) (done, Fixed s ∷ rest))
-qualifiers_if done s rest true is t = record { others = s ∷ t.others; formed = (is, t.formed); items = t.items ∙ append_assoc done (s ∷ []) t.others; spelled = ap (λ r. Fixed s ∷ r) t.spelled }
+qualifiers_if : (done : List (Qualifier Bare)) (s : Sign) (rest : List Symbol) (b : Bool) → is_qualifier s ≡ b → TookQualifiers (done ++ plain_qualifier s ∷ []) rest (qualifiers_from (done ++ plain_qualifier s ∷ []) rest) →
+    TookQualifiers done (Fixed s ∷ rest) (cond b (qualifiers_from (done ++ plain_qualifier s ∷ []) rest) (done, Fixed s ∷ rest))
+qualifiers_if done s rest true is t = record { others = plain_qualifier s ∷ t.others; formed = (is, t.formed); items = t.items ∙ append_assoc done (plain_qualifier s ∷ []) t.others; spelled = ap (λ r. Fixed s ∷ r) t.spelled }
 qualifiers_if done s rest false is t = qualifiers_end done (Fixed s ∷ rest)
 
-qualifiers_take : (done : List Sign) (symbols : List Symbol) → TookQualifiers done symbols (qualifiers_from done symbols)
+qualifiers_take : (done : List (Qualifier Bare)) (symbols : List Symbol) → TookQualifiers done symbols (qualifiers_from done symbols)
 qualifiers_take done [] = qualifiers_end done []
-qualifiers_take done (Fixed s ∷ rest) = qualifiers_if done s rest (is_qualifier s) refl (qualifiers_take (done ++ s ∷ []) rest)
+qualifiers_take done (Fixed s ∷ rest) = qualifiers_if done s rest (is_qualifier s) refl (qualifiers_take (done ++ plain_qualifier s ∷ []) rest)
 qualifiers_take done (x ∷ rest) = qualifiers_end done (x ∷ rest)
 
 -- ## Names and parentheses
@@ -117,8 +117,8 @@ something names setting naming (Named x) rest is off = tt
 something names setting naming (Unnamed p) rest is off = true≢false (sym (ap (λ b. b && true) is) ∙ off)
 something names setting naming (Pointer p qs d) rest is off = tt
 something names setting naming (Parenthesised p d) rest is off = tt
-something names setting naming (Array p d length) rest is off = tt
-something names setting naming (Function p d ps ellipsis) rest is off = tt
+something names setting naming (Array p d b length) rest is off = tt
+something names setting naming (Function p d b ps ellipsis) rest is off = tt
 
 module _ (r : Readers) (takes : Takes r) where
   -- ## Specifiers
@@ -189,8 +189,8 @@ module _ (r : Readers) (takes : Takes r) where
       then_map (λ d. (Pointer tt q.0 d.0, d.1)) (r.declarator names setting naming q.1) p e (λ d found same.
       let k = takes.declarator names setting naming q.1 d found in
       let qs : q.0 ≡ t.others = t.items in
-      subst (λ x. TookDeclarator names setting naming (Fixed sign.Star ∷ rest) x) (ap (λ (x : List Sign). (Pointer tt x d.0, d.1)) (sym qs) ∙ same)
-      (record { formed = (t.formed, k.formed); spelled = ap (λ x. Fixed sign.Star ∷ x) (t.spelled ∙ ap (spell_keywords t.others) k.spelled) }))
+      subst (λ x. TookDeclarator names setting naming (Fixed sign.Star ∷ rest) x) (ap (λ (x : List (Qualifier Bare)). (Pointer tt x d.0, d.1)) (sym qs) ∙ same)
+      (record { formed = (t.formed, k.formed); spelled = ap (λ x. Fixed sign.Star ∷ x) (t.spelled ∙ ap (spell_qualifiers t.others) k.spelled) }))
 
   pub declarator_takes : (names : Scope) (setting : Setting) (naming : Naming) (symbols : List Symbol) (p : Declarator Bare × List Symbol) → declarator_once r names setting naming symbols ≡ Some p → TookDeclarator names setting naming symbols p
   declarator_takes names setting naming symbols p e = either (heads sign.Star symbols) _ _ _ e
@@ -208,9 +208,9 @@ module _ (r : Readers) (takes : Takes r) where
         suffixed = tt;
         spelled = ap (λ x. spell_declarator d (Fixed sign.OpenSquare ∷ x)) (heads_is sign.CloseSquare rest closes);
       }))
-      (λ off e1. then_some (λ t. closed_by sign.CloseSquare (Array tt d (Present t.0)) t.1) (r.expression names 3 rest) p e1 (λ t found e2.
+      (λ off e1. then_some (λ t. closed_by sign.CloseSquare (Array tt d tt (Present t.0)) t.1) (r.expression names 3 rest) p e1 (λ t found e2.
       let k = takes.expression names 3 rest t found in
-      ended sign.CloseSquare (Array tt d (Present t.0)) t.1 p e2 (λ last closes same.
+      ended sign.CloseSquare (Array tt d tt (Present t.0)) t.1 p e2 (λ last closes same.
       atom_is names setting naming _ _ p same (record {
         formed = (is, suffixed, (k.formed, k.high));
         suffixed = tt;
@@ -225,11 +225,11 @@ module _ (r : Readers) (takes : Takes r) where
         suffixed = tt;
         spelled = ap (λ x. spell_declarator d (Fixed sign.Open ∷ x)) (heads_is sign.Close rest closes);
       }))
-      (λ off e1. then_map (λ ps. (Function tt d (parameter_row ps.0.0) ps.0.1, ps.1)) (r.parameters names setting [] rest) p e1 (λ ps found same.
+      (λ off e1. then_map (λ ps. (Function tt d tt (parameter_row ps.0.0) ps.0.1, ps.1)) (r.parameters names setting [] rest) p e1 (λ ps found same.
       let k = takes.parameters names setting [] rest ps found in
       let all = MoreParameters k.first k.others in
       let row : parameter_row ps.0.0 ≡ all = ap parameter_row k.items ∙ parameter_again all in
-      atom_is names setting naming _ (Function tt d all ps.0.1, ps.1) p (ap (λ (x : Parameters Bare). (Function tt d x ps.0.1, ps.1)) (sym row) ∙ same) (record {
+      atom_is names setting naming _ (Function tt d tt all ps.0.1, ps.1) p (ap (λ (x : Parameters Bare). (Function tt d tt x ps.0.1, ps.1)) (sym row) ∙ same) (record {
         formed = (is, suffixed, k.formed, tt);
         suffixed = tt;
         spelled = ap (λ x. spell_declarator d (Fixed sign.Open ∷ x)) k.spelled;

@@ -113,7 +113,7 @@ module _ (names : Scope) where
 
   -- ## Operands
 
-  pub name_left : (x : Text) → is_type names x ≡ false → Left (plain (Name x))
+  pub name_left : (x : Identifier Bare) → is_type names x.name ≡ false → Left (plain (Name x))
   name_left x h = starts_with (plain (Name x)) refl (λ n rest enough stops. ap (λ b. cond {A = Read (Expression Bare)} b None (Some (plain (Name x), rest))) h)
 
   pub number_left : (x : Text) → Left (plain (Number x))

@@ -1,11 +1,11 @@
 -- Specifiers and parameters put names after those that were in scope.
-use Rattle.std.proofs.Common.{◌≡◌, ℕ, ◌+◌, ◌≤◌, List, [], ◌∷◌, ◌++◌, length, take, Bool, false, refl, sym, ◌∙◌, ap, arith, Option, Some, None}
-use Rattle.std.proofs.lemmas.List.{length-append, take-append-le, append_assoc, append-nil}
+use Rattle.std.proofs.Common.{◌≡◌, ℕ, ◌≤◌, [], ◌∷◌, length, take, Bool, false, refl, ◌∙◌, ap, arith, Option, Some, None}
+use Rattle.std.proofs.lemmas.List.{length-append, take-append-le}
 use Rattle.std.proofs.Math.Seq.{take-length}
 use Rattle.p10_base.specs.Words.{Text}
 use Rattle.p10_syn.specs.Scopes.{Scope, with_name, with_optional}
-use Rattle.p10_syn.specs.Trees.{Bare, Specifiers, NoSpecifiers, MoreSpecifiers, Specifier, Keyword, Typedef, Structure, Enumeration, Members, NoMembers, MoreMembers, MemberDeclaration, member_declaration, Enumerators, NoEnumerators, MoreEnumerators, Enumerator, enumerator, Declarator, Parameter, parameter}
-use Rattle.p10_syn.specs.Declaring.{name_in, makes_types, after_enumerator, after_enumerators, after_specifiers, after_specifier, after_members, after_member, after_declarator, after_parameter}
+use Rattle.p10_syn.specs.Trees.{Bare, Specifiers, NoSpecifiers, MoreSpecifiers, Specifier, Keyword, Typedef, Structure, Enumeration, Members, NoMembers, MoreMembers, MemberDeclaration, member_declaration, Enumerators, NoEnumerators, MoreEnumerators, Enumerator, enumerator, Parameter, parameter}
+use Rattle.p10_syn.specs.Declaring.{name_in, makes_types, after_enumerator, after_enumerators, after_specifiers, after_specifier, after_members, after_member, after_parameter}
 
 -- the first names stay
 pub record Keeps (names more : Scope) : Type 0 where

@@ -123,8 +123,8 @@ declarator_other names setting said (Named x) rest h stops = apart_name names sa
 declarator_other names setting said (Unnamed p) rest h stops = stops
 declarator_other names setting said (Pointer p qs d) rest h stops = refl
 declarator_other names setting said (Parenthesised p d) rest h stops = refl
-declarator_other names setting said (Array p d length) rest h stops = declarator_other names setting said d _ h refl
-declarator_other names setting said (Function p d ps ellipsis) rest h stops = declarator_other names setting said d _ h refl
+declarator_other names setting said (Array p d b length) rest h stops = declarator_other names setting said d _ h refl
+declarator_other names setting said (Function p d b ps ellipsis) rest h stops = declarator_other names setting said d _ h refl
 
 -- and begins with no `{`
 pub declarator_no_brace : (d : Declarator Bare) (rest : List Symbol) → heads sign.OpenBrace rest ≡ false → heads sign.OpenBrace (spell_declarator d rest) ≡ false
@@ -132,8 +132,8 @@ declarator_no_brace (Named x) rest h = refl
 declarator_no_brace (Unnamed p) rest h = h
 declarator_no_brace (Pointer p qs d) rest h = refl
 declarator_no_brace (Parenthesised p d) rest h = refl
-declarator_no_brace (Array p d length) rest h = declarator_no_brace d _ refl
-declarator_no_brace (Function p d ps ellipsis) rest h = declarator_no_brace d _ refl
+declarator_no_brace (Array p d b length) rest h = declarator_no_brace d _ refl
+declarator_no_brace (Function p d b ps ellipsis) rest h = declarator_no_brace d _ refl
 
 -- one that isn't empty opens no parameters
 opens_none : (names : Scope) (d : Declarator Bare) (rest : List Symbol) → leads names d ≡ false → opens_parameters names rest ≡ false → opens_parameters names (spell_declarator d rest) ≡ false
@@ -141,16 +141,16 @@ opens_none names (Named x) rest h stops = h
 opens_none names (Unnamed p) rest h stops = stops
 opens_none names (Pointer p qs d) rest h stops = refl
 opens_none names (Parenthesised p d) rest h stops = refl
-opens_none names (Array p d length) rest h stops = opens_none names d _ h refl
-opens_none names (Function p d ps ellipsis) rest h stops = opens_none names d _ h refl
+opens_none names (Array p d b length) rest h stops = opens_none names d _ h refl
+opens_none names (Function p d b ps ellipsis) rest h stops = opens_none names d _ h refl
 
 something_opens_none : (names : Scope) (d : Declarator Bare) (rest : List Symbol) → IsSomething d → leads names d ≡ false → opens_parameters names (spell_declarator d rest) ≡ false
 something_opens_none names (Named x) rest some h = h
 something_opens_none names (Unnamed p) rest some h = absurd some
 something_opens_none names (Pointer p qs d) rest some h = refl
 something_opens_none names (Parenthesised p d) rest some h = refl
-something_opens_none names (Array p d length) rest some h = opens_none names d _ h refl
-something_opens_none names (Function p d ps ellipsis) rest some h = opens_none names d _ h refl
+something_opens_none names (Array p d b length) rest some h = opens_none names d _ h refl
+something_opens_none names (Function p d b ps ellipsis) rest some h = opens_none names d _ h refl
 
 pub wrapped_opens_none : (names : Scope) (naming : Naming) (d : Declarator Bare) (rest : List Symbol) → IsSomething d → (may_be_nameless naming ≡ true → leads names d ≡ false) →
     may_be_nameless naming && opens_parameters names (spell_declarator d rest) ≡ false

@@ -14,9 +14,9 @@ use Rattle.p10_syn.specs.Symbols.{Symbol, Fixed}
 use Rattle.p10_syn.specs.Symbols as symbol
 use Rattle.p10_syn.specs.Scopes.{Scope}
 use Rattle.p10_syn.specs.Declaring.{after_specifier, after_specifiers, after_member, after_enumerator, after_parameter}
-use Rattle.p10_syn.specs.Spelling.{open_all, close_all, spell_strings, spell_keywords, spell_tag, spell_last_comma, spell_ellipsis, spell, spell_form, spell_more, spell_valued, spell_type, spell_specifiers, spell_specifier, spell_more_members, spell_member, spell_more_fields, spell_field, spell_more_enumerators, spell_enumerator, spell_declarator, spell_more_parameters, spell_parameter}
+use Rattle.p10_syn.specs.Spelling.{open_all, close_all, spell_strings, spell_qualifiers, spell_tag, spell_last_comma, spell_ellipsis, spell, spell_form, spell_more, spell_valued, spell_type, spell_specifiers, spell_specifier, spell_more_members, spell_member, spell_more_fields, spell_field, spell_more_enumerators, spell_enumerator, spell_declarator, spell_more_parameters, spell_parameter}
 use Rattle.p10_syn.specs.Forms.{after_saying, IsExpression, IsForm, AreExpressions, IsOptional, IsTypeName, HasSpecifiers, AreSpecifiers, IsSpecifier, AreMembers, IsMember, AreFields, IsField, AreEnumerators, IsEnumerator, IsDeclarator, AreParameters, IsParameter}
-use Rattle.p10_syn.specs.Trees.{Bare, Identifier, Expression, expression, Form, Name, Number, Character, Strings, Unary, Step, Binary, Assign, Conditional, Call, Index, Member, Arrow, Cast, SizeofExpression, SizeofType, Comma, Expressions, NoExpressions, MoreExpressions, Optional, Absent, Present, TypeName, type_name, Specifiers, NoSpecifiers, MoreSpecifiers, Specifier, Keyword, Typedef, Structure, Enumeration, Members, NoMembers, MoreMembers, MemberDeclaration, member_declaration, Fields, NoFields, MoreFields, Field, field, Enumerators, NoEnumerators, MoreEnumerators, Enumerator, enumerator, Declarator, Named, Unnamed, Pointer, Parenthesised, Array, Function, Parameters, NoParameters, MoreParameters, Parameter, parameter}
+use Rattle.p10_syn.specs.Trees.{Bare, Identifier, Qualifier, Expression, expression, Form, Name, Number, Character, Strings, Unary, Step, Binary, Assign, Conditional, Call, Index, Member, Arrow, Cast, SizeofExpression, SizeofType, Comma, Expressions, NoExpressions, MoreExpressions, Optional, Absent, Present, TypeName, type_name, Specifiers, NoSpecifiers, MoreSpecifiers, Specifier, Keyword, Typedef, Structure, Enumeration, Members, NoMembers, MoreMembers, MemberDeclaration, member_declaration, Fields, NoFields, MoreFields, Field, field, Enumerators, NoEnumerators, MoreEnumerators, Enumerator, enumerator, Declarator, Named, Unnamed, Pointer, Parenthesised, Array, Function, Parameters, NoParameters, MoreParameters, Parameter, parameter}
 use Rattle.p10_pexpr.proofs.Sizes.{size, form_size, expressions_size, optional_size, type_size, specifiers_size, specifier_size, members_size, member_size, fields_size, field_size, enumerators_size, enumerator_size, declarator_size, parameters_size, parameter_size}
 
 length-open_all : (n : ℕ) (rest : List Symbol) → length (open_all n rest) ≡ n + length rest
@@ -31,9 +31,9 @@ strings_words : (xs : List Text) (rest : List Symbol) → length rest ≤ length
 strings_words [] rest = omega arith
 strings_words (x ∷ xs) rest = omega (arith, strings_words xs rest)
 
-keywords_words : (qs : List Sign) (rest : List Symbol) → length rest ≤ length (spell_keywords qs rest)
-keywords_words [] rest = omega arith
-keywords_words (s ∷ qs) rest = omega (arith, keywords_words qs rest)
+qualifiers_words : (qs : List (Qualifier Bare)) (rest : List Symbol) → length rest ≤ length (spell_qualifiers qs rest)
+qualifiers_words [] rest = omega arith
+qualifiers_words (q ∷ qs) rest = omega (arith, qualifiers_words qs rest)
 
 tag_words : (tag : Option (Identifier Bare)) (rest : List Symbol) → length rest ≤ length (spell_tag tag rest)
 tag_words None rest = omega arith
@@ -157,15 +157,15 @@ mutual
       declarator_size d + 4 * length rest ≤ 4 * length (spell_declarator d rest) + 1
   declarator_words (Named x) names setting naming rest h = omega arith
   declarator_words (Unnamed p) names setting naming rest h = omega arith
-  declarator_words (Pointer p qs d) names setting naming rest h = omega (arith, keywords_words qs (spell_declarator d rest), declarator_words d names setting naming rest h.1)
+  declarator_words (Pointer p qs d) names setting naming rest h = omega (arith, qualifiers_words qs (spell_declarator d rest), declarator_words d names setting naming rest h.1)
   declarator_words (Parenthesised p d) names setting naming rest h = omega (arith, declarator_words d names setting naming (Fixed sign.Close ∷ rest) h.0)
-  declarator_words (Array p d Absent) names setting naming rest h = omega (arith, declarator_words d names setting naming (Fixed sign.OpenSquare ∷ (Fixed sign.CloseSquare ∷ rest)) h.0)
-  declarator_words (Array p d (Present t)) names setting naming rest h =
+  declarator_words (Array p d b Absent) names setting naming rest h = omega (arith, declarator_words d names setting naming (Fixed sign.OpenSquare ∷ (Fixed sign.CloseSquare ∷ rest)) h.0)
+  declarator_words (Array p d b (Present t)) names setting naming rest h =
       omega (arith, declarator_words d names setting naming (Fixed sign.OpenSquare ∷ spell t (Fixed sign.CloseSquare ∷ rest)) h.0, words t names (Fixed sign.CloseSquare ∷ rest) h.2.0)
-  declarator_words (Function p d NoParameters ellipsis) names setting naming rest h =
+  declarator_words (Function p d b NoParameters ellipsis) names setting naming rest h =
       let last = spell_ellipsis ellipsis (Fixed sign.Close ∷ rest) in
       omega (arith, declarator_words d names setting naming (Fixed sign.Open ∷ last) h.0, ellipsis_words ellipsis (Fixed sign.Close ∷ rest))
-  declarator_words (Function p d (MoreParameters x xs) ellipsis) names setting naming rest h =
+  declarator_words (Function p d b (MoreParameters x xs) ellipsis) names setting naming rest h =
       let last = spell_ellipsis ellipsis (Fixed sign.Close ∷ rest) in
       omega (
         arith,

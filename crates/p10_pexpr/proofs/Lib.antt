@@ -24,6 +24,5 @@ pub mod LeftWords
 pub mod Runs
 pub mod ReadingSteps
 pub mod ListSteps
-pub mod Linking
-pub mod Keeping
+pub mod Scoped
 pub mod AllWords

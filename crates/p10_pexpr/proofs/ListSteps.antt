@@ -1,9 +1,6 @@
 -- Steps of the readers of lists, as the loops take them.
-use Rattle.std.proofs.Common.{◌≡◌, ℕ, ◌+◌, ◌-◌, ◌<◌, ◌≤◌, zero, suc, List, [], ◌∷◌, ◌++◌, drop, map, Bool, true, false, ◌||◌, ◌&&◌, not, cond, refl, sym, ◌∙◌, ap, arith, Option, Some, None, option_map, option_and_then}
+use Rattle.std.proofs.Common.{◌≡◌, ℕ, ◌-◌, ◌<◌, ◌≤◌, zero, suc, List, [], ◌∷◌, ◌++◌, drop, map, Bool, true, false, ◌||◌, ◌&&◌, not, cond, refl, sym, ◌∙◌, ap, arith, Option, Some, None, option_map, option_and_then}
 use Rattle.std.proofs.lemmas.List.{map-append}
-use Rattle.std.proofs.lemmas.Option.{none-some, same_Some}
-use Rattle.std.proofs.lemmas.Bool.{false≢true, true≢false}
-use Rattle.p10_base.specs.Words.{Text}
 use Rattle.p10_syn.specs.declared.sign.Sign.{Sign}
 use Rattle.p10_syn.specs.declared.sign.Sign.TheVariants as sign
 use Rattle.p10_syn.specs.declared.setting.Setting.{Setting}
@@ -20,7 +17,7 @@ use Rattle.p10_syn.specs.Declaring.{after_specifiers, after_specifier, after_mem
 use Rattle.p10_syn.specs.Forms.{after_saying, may_have_body}
 use Rattle.p10_syn.specs.Trees.{Bare, Identifier, Specifier, Specifiers, MemberDeclaration, Structure, Enumeration, NoMembers, NoEnumerators, specifier_row, member_row, enumerator_row}
 use Rattle.p10_syn.specs.Trees as tree
-use Rattle.p10_syn.specs.Built.{bare_specifier_of, bare_member_of, bare_field_of, bare_enumerator_of, bare_parameter_of, named_tag}
+use Rattle.p10_syn.specs.Built.{bare_specifier_of, bare_member_of, bare_field_of, bare_enumerator_of, bare_parameter_of}
 use Rattle.p10_pexpr.specs.Heads.{Read, heads, expected, closed_by}
 use Rattle.p10_pexpr.specs.declared.next.Specifying.{Specifying}
 use Rattle.p10_pexpr.specs.Tables.{specifying_at, is_other}

@@ -1,5 +1,5 @@
 -- Steps of the readers, as the code takes them.
-use Rattle.std.proofs.Common.{◌≡◌, ℕ, ◌+◌, ◌-◌, ◌<◌, ◌≤◌, zero, suc, List, [], ◌∷◌, ◌++◌, drop, map, Bool, true, false, ◌&&◌, ◌||◌, not, cond, nat_le, refl, sym, ◌∙◌, ap, arith, Option, Some, None, option_map, option_and_then}
+use Rattle.std.proofs.Common.{◌≡◌, ℕ, ◌-◌, ◌<◌, ◌≤◌, zero, suc, List, [], ◌∷◌, ◌++◌, drop, map, Bool, true, false, ◌&&◌, ◌||◌, cond, refl, sym, ◌∙◌, ap, arith, Some, None, option_and_then}
 use Rattle.std.proofs.lemmas.Bool.{le-leb, lt-leb, false≢true, true≢false}
 use Rattle.std.proofs.lemmas.Option.{none-some, same_Some}
 use Rattle.std.proofs.lemmas.List.{map-append}
@@ -8,7 +8,6 @@ use Rattle.p10_syn.specs.declared.sign.Sign.{Sign}
 use Rattle.p10_syn.specs.declared.sign.Sign.TheVariants as sign
 use Rattle.p10_syn.specs.declared.setting.Naming.{Naming}
 use Rattle.p10_syn.specs.declared.setting.Setting.{Setting}
-use Rattle.p10_syn.specs.declared.setting.Said.{Said}
 use Rattle.p10_syn.specs.declared.tree.Expr.{Expr}
 use Rattle.p10_syn.specs.Signs.{same_sign}
 use Rattle.p10_syn.specs.Symbols.{Symbol, Fixed}
@@ -16,15 +15,15 @@ use Rattle.p10_syn.specs.Symbols as symbol
 use Rattle.p10_syn.specs.Scopes.{Scope}
 use Rattle.p10_syn.specs.Precedence.{level_of}
 use Rattle.p10_syn.specs.Forms.{may_be_named, may_be_nameless}
-use Rattle.p10_syn.specs.Trees.{Bare, Expression, Declarator, Named, Unnamed, Specifier}
+use Rattle.p10_syn.specs.Trees.{Bare, Expression, Declarator, Named, Unnamed}
 use Rattle.p10_syn.specs.Built.{bare_of}
-use Rattle.p10_pexpr.specs.Heads.{Read, heads, expected}
+use Rattle.p10_pexpr.specs.Heads.{Read, heads}
 use Rattle.p10_pexpr.specs.Fronts.{name_first}
 use Rattle.p10_pexpr.specs.Tables.{next_at, goes_on, opens_parameters}
 use Rattle.p10_pexpr.specs.Readers.{Readers}
 use Rattle.p10_pexpr.specs.Reading.{readers}
 use Rattle.p10_pexpr.specs.Cut.{suffix_at}
-use Rattle.p10_pexpr.specs.DeclaratorReading.{plain_name, nameless_at, named_at, pointer_at, wrapped_at, open_at, atom_at, array_at, function_at, declarator_once, suffixes_once}
+use Rattle.p10_pexpr.specs.DeclaratorReading.{plain_name, nameless_at, pointer_at, wrapped_at, atom_at, array_at, function_at, declarator_once, suffixes_once}
 use Rattle.p10_pexpr.specs.ExpressionReading.{operand_at, part_by, chain_of, chain_on, chain_once, expression_once, list_more, list_once}
 
 -- ## Expressions

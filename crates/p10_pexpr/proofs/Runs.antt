@@ -1,13 +1,14 @@
 -- Runs of strings and of qualifiers.
-use Rattle.std.proofs.Common.{◌≡◌, ℕ, ◌<◌, List, [], ◌∷◌, ◌++◌, drop, length, map, Bool, true, false, cond, refl, sym, ◌∙◌, ap, arith, Option, Some, None}
+use Rattle.std.proofs.Common.{◌≡◌, ◌<◌, List, [], ◌∷◌, ◌++◌, drop, length, true, false, cond, refl, sym, ap, arith, Some, None}
 use Rattle.std.proofs.lemmas.Option.{none-some, same_Some}
 use Rattle.p10_base.specs.Words.{Text}
 use Rattle.p10_syn.specs.declared.sign.Sign.{Sign}
 use Rattle.p10_syn.specs.Symbols.{Symbol, Fixed}
 use Rattle.p10_syn.specs.Symbols as symbol
 use Rattle.p10_syn.specs.Forms.{is_qualifier}
+use Rattle.p10_syn.specs.Trees.{Bare, Qualifier}
 use Rattle.p10_pexpr.specs.Fronts.{string_first, qualifier_first}
-use Rattle.p10_pexpr.specs.DeclaratorReading.{qualifiers_from}
+use Rattle.p10_pexpr.specs.DeclaratorReading.{plain_qualifier, qualifiers_from}
 use Rattle.p10_pexpr.specs.ExpressionReading.{strings_from}
 
 pub strings_more : (done : List Text) (symbols : List Symbol) (x : Text) → string_first symbols ≡ Some x → strings_from done symbols ≡ strings_from (done ++ x ∷ []) (drop 1 symbols)
@@ -24,17 +25,17 @@ pub strings_shorter : (symbols : List Symbol) (x : Text) → string_first symbol
 strings_shorter [] x e = absurd (none-some x e)
 strings_shorter (y ∷ rest) x e = omega arith
 
-pub qualifiers_more : (done : List Sign) (symbols : List Symbol) (s : Sign) → qualifier_first symbols ≡ Some s → qualifiers_from done symbols ≡ qualifiers_from (done ++ s ∷ []) (drop 1 symbols)
+pub qualifiers_more : (done : List (Qualifier Bare)) (symbols : List Symbol) (s : Sign) → qualifier_first symbols ≡ Some s → qualifiers_from done symbols ≡ qualifiers_from (done ++ plain_qualifier s ∷ []) (drop 1 symbols)
 qualifiers_more done [] s e = absurd (none-some s e)
 qualifiers_more done (Fixed x ∷ rest) s e =
-    elim (is_qualifier x) as (λ b. cond b (Some x) None ≡ Some s → cond b (qualifiers_from (done ++ x ∷ []) rest) (done, Fixed x ∷ rest) ≡ qualifiers_from (done ++ s ∷ []) rest)
-    [ true ↦ λ h. ap (λ y. qualifiers_from (done ++ y ∷ []) rest) (same_Some _ _ h) | false ↦ λ h. absurd (none-some s h) ] e
+    elim (is_qualifier x) as (λ b. cond b (Some x) None ≡ Some s → cond b (qualifiers_from (done ++ plain_qualifier x ∷ []) rest) (done, Fixed x ∷ rest) ≡ qualifiers_from (done ++ plain_qualifier s ∷ []) rest)
+    [ true ↦ λ h. ap (λ y. qualifiers_from (done ++ plain_qualifier y ∷ []) rest) (same_Some _ _ h) | false ↦ λ h. absurd (none-some s h) ] e
 qualifiers_more done (_ ∷ rest) s e = absurd (none-some s e)
 
-pub qualifiers_end : (done : List Sign) (symbols : List Symbol) → qualifier_first symbols ≡ None → qualifiers_from done symbols ≡ (done, symbols)
+pub qualifiers_end : (done : List (Qualifier Bare)) (symbols : List Symbol) → qualifier_first symbols ≡ None → qualifiers_from done symbols ≡ (done, symbols)
 qualifiers_end done [] e = refl
 qualifiers_end done (Fixed x ∷ rest) e =
-    elim (is_qualifier x) as (λ b. cond b (Some x) None ≡ None → cond b (qualifiers_from (done ++ x ∷ []) rest) (done, Fixed x ∷ rest) ≡ (done, Fixed x ∷ rest))
+    elim (is_qualifier x) as (λ b. cond b (Some x) None ≡ None → cond b (qualifiers_from (done ++ plain_qualifier x ∷ []) rest) (done, Fixed x ∷ rest) ≡ (done, Fixed x ∷ rest))
     [ true ↦ λ h. absurd (none-some x (sym h)) | false ↦ λ h. refl ] e
 qualifiers_end done (_ ∷ rest) e = refl
 

@@ -74,8 +74,8 @@ abbrev mutual
   declarator_size (Unnamed p) = 1
   declarator_size (Pointer p qs d) = 1 + declarator_size d
   declarator_size (Parenthesised p d) = 1 + declarator_size d
-  declarator_size (Array p d length) = 1 + (declarator_size d + optional_size length)
-  declarator_size (Function p d ps ellipsis) = 1 + (declarator_size d + parameters_size ps)
+  declarator_size (Array p d b length) = 1 + (declarator_size d + optional_size length)
+  declarator_size (Function p d b ps ellipsis) = 1 + (declarator_size d + parameters_size ps)
 
   pub parameters_size : Parameters Bare → ℕ
   parameters_size NoParameters = 0
@@ -182,8 +182,8 @@ holds (expression p (suc n) f) = (omega arith, λ h. omega arith)
 
 -- how many arrays and functions were put after the name
 abbrev pub declarator_spine : Declarator Bare → ℕ
-declarator_spine (Array p d length) = 1 + declarator_spine d
-declarator_spine (Function p d ps ellipsis) = 1 + declarator_spine d
+declarator_spine (Array p d b length) = 1 + declarator_spine d
+declarator_spine (Function p d b ps ellipsis) = 1 + declarator_spine d
 declarator_spine _ = 0
 
 pub declarator_spine_less : (d : Declarator Bare) → declarator_spine d < declarator_size d
@@ -191,8 +191,8 @@ declarator_spine_less (Named x) = omega arith
 declarator_spine_less (Unnamed p) = omega arith
 declarator_spine_less (Pointer p qs d) = omega arith
 declarator_spine_less (Parenthesised p d) = omega arith
-declarator_spine_less (Array p d length) = omega (arith, declarator_spine_less d)
-declarator_spine_less (Function p d ps ellipsis) = omega (arith, declarator_spine_less d)
+declarator_spine_less (Array p d b length) = omega (arith, declarator_spine_less d)
+declarator_spine_less (Function p d b ps ellipsis) = omega (arith, declarator_spine_less d)
 
 eta : (p : Bare) (f : Form Bare) → let q : Bare = tt in expression p 0 f ≡ expression q 0 f
 eta p f = λ i. expression p 0 f

@@ -1,5 +1,5 @@
 -- Reading functions cut where the code is cut.
-use Rattle.std.specs.Prelude.{List, [], ◌∷◌, drop, Bool, true, false, not, ◌||◌, option_map, cond}
+use Rattle.std.specs.Prelude.{List, drop, Bool, true, false, not, ◌||◌, cond}
 use Rattle.p10_syn.specs.declared.sign.Sign.TheVariants as sign
 use Rattle.p10_syn.specs.declared.setting.Setting.{Setting}
 use Rattle.p10_syn.specs.Symbols.{Symbol}

@@ -13,7 +13,7 @@ use Rattle.p10_syn.specs.Scopes.{Scope}
 use Rattle.p10_syn.specs.Declaring.{after_specifiers, after_parameter}
 use Rattle.p10_syn.specs.declared.setting.Said.TheVariants.{Nothing}
 use Rattle.p10_syn.specs.Forms.{is_qualifier, may_be_named, may_be_nameless}
-use Rattle.p10_syn.specs.Trees.{Bare, Identifier, Absent, Present, TypeName, type_name, Specifiers, Specifier, Declarator, Named, Unnamed, Pointer, Parenthesised, Array, Function, NoParameters, Parameter, parameter, specifier_row, parameter_row}
+use Rattle.p10_syn.specs.Trees.{Bare, Identifier, Qualifier, Absent, Present, TypeName, type_name, Specifiers, Specifier, Declarator, Named, Unnamed, Pointer, Parenthesised, Array, Function, NoParameters, Parameter, parameter, specifier_row, parameter_row}
 use Rattle.p10_pexpr.specs.Heads.{Read, heads, closed_by}
 use Rattle.p10_pexpr.specs.Tables.{opens_parameters}
 use Rattle.p10_pexpr.specs.Readers.{Readers}
@@ -22,10 +22,14 @@ use Rattle.p10_pexpr.specs.Readers.{Readers}
 abbrev pub plain_name : Text → Identifier Bare
 plain_name x = record { place = tt; name = x }
 
+-- a qualifier that stands nowhere
+abbrev pub plain_qualifier : Sign → Qualifier Bare
+plain_qualifier s = record { place = tt; word = s }
+
 -- qualifiers after those that were read before
-abbrev pub qualifiers_from : List Sign → List Symbol → List Sign × List Symbol
+abbrev pub qualifiers_from : List (Qualifier Bare) → List Symbol → List (Qualifier Bare) × List Symbol
 qualifiers_from done [] = (done, [])
-qualifiers_from done (Fixed s ∷ rest) = cond (is_qualifier s) (qualifiers_from (done ++ s ∷ []) rest) (done, Fixed s ∷ rest)
+qualifiers_from done (Fixed s ∷ rest) = cond (is_qualifier s) (qualifiers_from (done ++ plain_qualifier s ∷ []) rest) (done, Fixed s ∷ rest)
 qualifiers_from done (x ∷ rest) = (done, x ∷ rest)
 
 -- at least one specifier
@@ -54,7 +58,7 @@ module _ (r : Readers) where
   -- ## Declarators
 
   -- after a `*`
-  abbrev pub pointer_to : Scope → Setting → Naming → List Sign × List Symbol → Read (Declarator Bare)
+  abbrev pub pointer_to : Scope → Setting → Naming → List (Qualifier Bare) × List Symbol → Read (Declarator Bare)
   pointer_to names setting naming qs = option_map (λ d. (Pointer tt qs.0 d.0, d.1)) (r.declarator names setting naming qs.1)
 
   -- after a `*`: its qualifiers, and then the declarator of what points (C99 6.7.5.1)
@@ -84,19 +88,19 @@ module _ (r : Readers) where
 
   -- after a `[`
   abbrev pub sized_at : Scope → Declarator Bare → List Symbol → Read (Declarator Bare)
-  sized_at names d rest = option_and_then (λ t. closed_by sign.CloseSquare (Array tt d (Present t.0)) t.1) (r.expression names 3 rest)
+  sized_at names d rest = option_and_then (λ t. closed_by sign.CloseSquare (Array tt d tt (Present t.0)) t.1) (r.expression names 3 rest)
 
   -- after a `[`: a length, unless it is left out, and the `]` (C99 6.7.5.2)
   abbrev pub array_at : Scope → Declarator Bare → List Symbol → Read (Declarator Bare)
-  array_at names d rest = cond (heads sign.CloseSquare rest) (Some (Array tt d Absent, drop 1 rest)) (sized_at names d rest)
+  array_at names d rest = cond (heads sign.CloseSquare rest) (Some (Array tt d tt Absent, drop 1 rest)) (sized_at names d rest)
 
   -- after a `(`
   abbrev pub with_parameters_at : Scope → Setting → Declarator Bare → List Symbol → Read (Declarator Bare)
-  with_parameters_at names setting d rest = option_map (λ ps. (Function tt d (parameter_row ps.0.0) ps.0.1, ps.1)) (r.parameters names setting [] rest)
+  with_parameters_at names setting d rest = option_map (λ ps. (Function tt d tt (parameter_row ps.0.0) ps.0.1, ps.1)) (r.parameters names setting [] rest)
 
   -- after a `(`: parameters, if there are any, and the `)` (C99 6.7.5.3)
   abbrev pub function_at : Scope → Setting → Declarator Bare → List Symbol → Read (Declarator Bare)
-  function_at names setting d rest = cond (heads sign.Close rest) (Some (Function tt d NoParameters false, drop 1 rest)) (with_parameters_at names setting d rest)
+  function_at names setting d rest = cond (heads sign.Close rest) (Some (Function tt d tt NoParameters false, drop 1 rest)) (with_parameters_at names setting d rest)
 
   -- brackets and parameters, one after the other, directly after a declarator
   abbrev pub suffixes_once : Scope → Setting → Declarator Bare → List Symbol → Read (Declarator Bare)

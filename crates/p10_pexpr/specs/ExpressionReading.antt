@@ -38,7 +38,7 @@ strings_at x rest = (plain (Strings (strings_from (x ∷ []) rest).0), (strings_
 
 -- a name that is no typedef name
 abbrev pub variable_at : Scope → Text → List Symbol → Read (Expression Bare)
-variable_at names x rest = cond (is_type names x) None (Some (plain (Name x), rest))
+variable_at names x rest = cond (is_type names x) None (Some (plain (Name (plain_name x)), rest))
 
 module _ (r : Readers) where
   -- ## Operands

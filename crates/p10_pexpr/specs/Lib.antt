@@ -9,5 +9,4 @@ pub mod ExpressionReading
 pub mod Cut
 pub mod Reading
 pub mod Laws
-pub mod private
 pub mod Parses

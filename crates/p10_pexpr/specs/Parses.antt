@@ -1,6 +1,5 @@
 -- What is said of the words of an expression.
 use Rattle.std.specs.Prelude.{◌≡◌, ◌≤◌, ◌<◌, List, [], ◌∷◌}
-use Rattle.p10_base.specs.declared.report.Limit.{Limit}
 use Rattle.p10_base.specs.declared.report.TheConstants.Limit.{NESTING, MOST_NESTING}
 use Rattle.p10_base.specs.declared.span.Span.{Span}
 use Rattle.p10_base.specs.declared.at.At.{At}

@@ -4,7 +4,7 @@ ghost use Rattle.std.specs.Prelude.{◌≡◌, ◌+◌, ◌≤◌, ◌<◌, ◌^
 ghost use Rattle.std.specs.Result.{IsErrOf};
 ghost use Rattle.p10_syn.specs.Declaring.{after_parameter};
 ghost use Rattle.p10_syn.specs.Forms.{may_be_named as can_be_named, may_be_nameless as can_be_nameless};
-ghost use Rattle.p10_syn.specs.Built.{bare_of, bare_kind_of, bare_declarator_of, bare_parameter_of};
+ghost use Rattle.p10_syn.specs.Built.{bare_of, bare_kind_of, bare_declarator_of, bare_parameter_of, bare_qualifier_of};
 ghost use Rattle.p10_pexpr.specs.declared.trouble.Trouble.TheVariants.{Refused};
 ghost use Rattle.p10_syn.specs.declared.sign.Sign.TheVariants.{Open, OpenSquare};
 ghost use Rattle.p10_pexpr.specs.Heads.{heads};
@@ -18,7 +18,7 @@ use crate::next::{is_qualifier, opens_parameters};
 use crate::scope::Scope;
 use crate::specifier::specifiers;
 use crate::trouble::Trouble;
-use p10_syn::{Declarator, Naming, Parameter, Setting, Sign, Token, TypeName, make};
+use p10_syn::{Declarator, Naming, Parameter, Qualifier, Setting, Sign, Token, TypeName};
 use std::alloc::Global;
 
 /// Reads the name of a type.
@@ -45,7 +45,7 @@ pub fn type_name<'s>(
         cursor,
     )?;
     scope.forget(count);
-    Ok(make::type_name(specs, declarator))
+    Ok(p10_make::type_name(specs, declarator))
 }
 
 /// Reads a declarator.
@@ -91,18 +91,18 @@ fn pointer<'s>(
 {
     let qualifiers = qualifiers(alloc, cursor)?;
     let inner = declarator(alloc, budget, scope, setting, naming, cursor)?;
-    Ok(make::pointer(alloc, qualifiers, inner)?)
+    Ok(p10_make::pointer(alloc, qualifiers, inner)?)
 }
 
 /// Reads qualifiers.
 #[tactic(auto, using(crate::proofs::Runs::qualifiers_more, crate::proofs::Runs::qualifiers_end, crate::proofs::Runs::qualifiers_shorter))]
-fn qualifiers(alloc: Global, cursor: &mut Cursor<'_, '_>) -> Result<Vec<Sign>, Trouble>
-    ensures ok { IfOk result (λ v. qualifiers_from [] cursor.old ≡ (v.items, cursor.new)) }
+fn qualifiers(alloc: Global, cursor: &mut Cursor<'_, '_>) -> Result<Vec<Qualifier>, Trouble>
+    ensures ok { IfOk result (λ v. qualifiers_from [] cursor.old ≡ (map bare_qualifier_of v.items, cursor.new)) }
     ensures refused { IsErrOf result Refused → ⊥ }
 {
     let mut all = Vec::new(alloc);
     while let Some(sign) = cursor.next_qualifier() {
-        all.push(sign)?;
+        all.push(p10_make::qualifier(sign))?;
         cursor.advance();
     }
     Ok(all)
@@ -126,7 +126,7 @@ fn atom<'s>(
     if let Some(name) = cursor.next_name() {
         if may_be_named(naming) {
             cursor.advance();
-            return Ok(make::declared(name));
+            return Ok(p10_make::declared(name));
         }
         return nameless(naming, cursor);
     }
@@ -134,7 +134,7 @@ fn atom<'s>(
         return nameless(naming, cursor);
     }
     if may_be_nameless(naming) && opens_parameters(scope, cursor) {
-        return Ok(make::nameless());
+        return Ok(p10_make::nameless());
     }
     cursor.advance();
     wrapped(alloc, budget, scope, setting, naming, cursor)
@@ -146,7 +146,7 @@ fn nameless<'s>(naming: Naming, cursor: &Cursor<'_, '_>) -> Result<Declarator<'s
     ensures refused { IsErrOf result Refused → nameless_at naming cursor.now ≡ None }
 {
     if may_be_nameless(naming) {
-        Ok(make::nameless())
+        Ok(p10_make::nameless())
     } else {
         Err(Trouble::Refused)
     }
@@ -180,7 +180,7 @@ fn wrapped<'s>(
 {
     let inner = declarator(alloc, budget, scope, setting, naming, cursor)?;
     cursor.expect(Sign::Close)?;
-    Ok(make::parenthesised(alloc, inner)?)
+    Ok(p10_make::parenthesised(alloc, inner)?)
 }
 
 /// Reads the brackets and parameters after a declarator.
@@ -255,7 +255,7 @@ fn array<'s>(
 {
     if cursor.heads(Sign::CloseSquare) {
         cursor.advance();
-        Ok(make::array(alloc, inner, None)?)
+        Ok(p10_make::array(alloc, inner, None)?)
     } else {
         sized(alloc, budget, scope, inner, cursor)
     }
@@ -276,7 +276,7 @@ fn sized<'s>(
 {
     let length = expression(alloc, budget, scope, 3, cursor)?;
     cursor.expect(Sign::CloseSquare)?;
-    Ok(make::array(alloc, inner, Some(length))?)
+    Ok(p10_make::array(alloc, inner, Some(length))?)
 }
 
 /// Reads what stands after the `(` of a function.
@@ -295,7 +295,7 @@ fn function<'s>(
 {
     if cursor.heads(Sign::Close) {
         cursor.advance();
-        Ok(make::function(alloc, inner, Vec::new(alloc), false)?)
+        Ok(p10_make::function(alloc, inner, Vec::new(alloc), false)?)
     } else {
         with_parameters(alloc, budget, scope, setting, inner, cursor)
     }
@@ -316,7 +316,7 @@ fn with_parameters<'s>(
     ensures scope { OnOk result (scope.new ≡ scope.old) }
 {
     let (all, has_ellipsis) = parameters(alloc, budget, scope, setting, cursor)?;
-    Ok(make::function(alloc, inner, all, has_ellipsis)?)
+    Ok(p10_make::function(alloc, inner, all, has_ellipsis)?)
 }
 
 /// Reads parameters, whether `...` stands after the last, and the `)`. Their names are in scope up to it.
@@ -389,5 +389,5 @@ fn parameter<'s>(
     let specs = specifiers(alloc, budget, scope, setting, cursor)?;
     let declarator = declarator(alloc, budget, scope, setting, Naming::Allowed, cursor)?;
     scope.declare(specs.as_slice(), &declarator)?;
-    Ok(make::parameter(specs, declarator))
+    Ok(p10_make::parameter(specs, declarator))
 }

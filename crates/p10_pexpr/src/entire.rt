@@ -20,14 +20,14 @@ use crate::scope::Scope;
 use crate::tokens::tokens_of;
 use crate::trouble::Trouble;
 use p10_base::{Limit, Refusal, Span, Word};
-use p10_nesting::is_too_nested;
+use p10_nesting::{is_too_high, is_too_nested};
 use p10_place::{Root, place_expr};
 use p10_syn::{Expr, Token};
 use std::alloc::{AllocError, Global};
 
 /// The one tree that spells all the words, where `types` are the typedef names in scope (C99 6.5).
 ///
-/// Words whose nesting is over the limit M5 are `Over`. Other words that no tree spells are `Refused` with G1, at the first word;
+/// Words whose nesting is over the limit M5 are `Over`; words whose tree may be higher than the native stack bears are `Memory`. Other words that no tree spells are `Refused` with G1, at the first word;
 /// where there is no word, at bytes 0 to 0 of file 0. It takes time linear in the words.
 pub fn expr<'s>(
     alloc: Global,
@@ -40,6 +40,9 @@ pub fn expr<'s>(
     let is_over = is_too_nested(alloc, words)?;
     if is_over {
         return Err(ParseFault::Over(Limit::NESTING));
+    }
+    if is_too_high(alloc, words)? {
+        return Err(ParseFault::Memory);
     }
     match entire(alloc, words, types) {
         Ok(tree) => Ok(placed(words, tree)),

@@ -7,16 +7,15 @@
 //! of the words that are left and the [`Scope`] of declared names.
 #![tactic(auto)]
 
-mod bindings;
 mod cursor;
 pub mod declarator;
 mod entire;
-mod entry;
 pub mod expression;
 mod fault;
 pub mod laws;
 mod names;
 mod next;
+mod operand;
 mod scope;
 pub mod specifier;
 mod tokens;

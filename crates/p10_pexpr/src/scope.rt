@@ -1,6 +1,6 @@
 //! Names in scope (C99 6.2.1).
 
-use crate::bindings::Bindings;
+use p10_bindings::Bindings;
 use p10_syn::{Declarator, Spec, makes_types, name_of};
 use std::alloc::{AllocError, Global};
 use std::marker::Model;
@@ -9,16 +9,16 @@ use std::marker::Model;
 /// Looking a name up costs as much as it is long, however many names there are.
 #[derive(Drop)]
 pub struct Scope<'s> {
-    names: Bindings<'s>,
+    names: Bindings<'s, bool>,
 }
 
 impl<'s> Model for Scope<'s> {
     ghost use Rattle.std.specs.Prelude.{List, ℕ, Bool};
-    ghost use Rattle.p10_pexpr.specs.private.Bound.{names_of};
+    ghost use Rattle.p10_bindings.specs.Bound.{bound_in};
 
     ghost Value = { List (List ℕ × Bool) };
 
-    ghost view = { λ s. names_of s.names.entries.items };
+    ghost view = { λ s. bound_in s.names };
 }
 
 impl<'s> Scope<'s> {
@@ -60,10 +60,11 @@ impl<'s> Scope<'s> {
     }
 
     /// Whether the name is a typedef name: the last of the names with this spelling counts.
+    #[tactic(auto, using(crate::proofs::Scoped::types_last))]
     pub fn is_type(&self, name: &[u8]) -> bool
         ensures { result ≡ is_type self.now name.now }
     {
-        self.names.is_type(name)
+        self.names.find(name).copied().unwrap_or(false)
     }
 
     /// Puts the name of a declarator after these specifiers into the scope. Out of memory, none is put.

@@ -19,7 +19,7 @@ use crate::next::{Specifying, may_have_body};
 use crate::scope::Scope;
 use crate::trouble::Trouble;
 use p10_syn::{
-    Enumerator, Expr, Field, Member, Naming, Said, Setting, Sign, Spec, make, said_after,
+    Enumerator, Expr, Field, Member, Naming, Said, Setting, Sign, Spec, said_after,
 };
 use std::alloc::Global;
 
@@ -92,7 +92,7 @@ fn specifier<'s>(
     match next {
         Specifying::Word(sign) => {
             cursor.advance();
-            Ok(make::keyword(sign))
+            Ok(p10_make::keyword(sign))
         }
         Specifying::Structured(sign) => {
             cursor.advance();
@@ -104,7 +104,7 @@ fn specifier<'s>(
         }
         Specifying::Renamed => {
             let name = cursor.name()?;
-            Ok(make::typedef(name))
+            Ok(p10_make::typedef(name))
         }
         Specifying::Other => Err(Trouble::Refused),
     }
@@ -138,9 +138,9 @@ fn structure<'s>(
     if may_have_body(setting) && cursor.heads(Sign::OpenBrace) {
         cursor.advance();
         let all = members(alloc, budget, scope, cursor)?;
-        Ok(make::structure(sign, tag, all))
+        Ok(p10_make::structure(sign, tag, all))
     } else if tag.is_some() {
-        Ok(make::structure(sign, tag, Vec::new(alloc)))
+        Ok(p10_make::structure(sign, tag, Vec::new(alloc)))
     } else {
         Err(Trouble::Refused)
     }
@@ -187,7 +187,7 @@ fn member<'s>(
 {
     let specs = specifiers(alloc, budget, scope, Setting::Outside, cursor)?;
     let fields = fields(alloc, budget, scope, cursor)?;
-    Ok(make::member_declaration(specs, fields))
+    Ok(p10_make::member_declaration(specs, fields))
 }
 
 /// Reads declarators of members with commas between them, and the `;`.
@@ -239,7 +239,7 @@ fn field<'s>(
         cursor,
     )?;
     let width = valued(alloc, budget, scope, Sign::Colon, cursor)?;
-    Ok(make::field(alloc, declarator, width)?)
+    Ok(p10_make::field(alloc, declarator, width)?)
 }
 
 /// Reads a sign and the value after it, if the sign stands next.
@@ -282,9 +282,9 @@ fn enumeration<'s>(
     if may_have_body(setting) && cursor.heads(Sign::OpenBrace) {
         cursor.advance();
         let (all, ends_with_comma) = enumerators(alloc, budget, scope, cursor)?;
-        Ok(make::enumeration(tag, all, ends_with_comma))
+        Ok(p10_make::enumeration(tag, all, ends_with_comma))
     } else if tag.is_some() {
-        Ok(make::enumeration(tag, Vec::new(alloc), false))
+        Ok(p10_make::enumeration(tag, Vec::new(alloc), false))
     } else {
         Err(Trouble::Refused)
     }
@@ -355,5 +355,5 @@ fn enumerator<'s>(
     let name = cursor.name()?;
     let value = valued(alloc, budget, scope, Sign::Assign, cursor)?;
     scope.add(name, false)?;
-    Ok(make::enumerator(alloc, name, value)?)
+    Ok(p10_make::enumerator(alloc, name, value)?)
 }

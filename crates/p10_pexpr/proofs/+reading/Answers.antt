@@ -1,4 +1,4 @@
-use Rattle.std.proofs.Common.{◌≡◌, ◌∙◌, map, sym, rules, arith}
+use Rattle.std.proofs.Common.{◌∙◌, map, sym, rules, arith}
 use Rattle.p10_syn.specs.Trees.{specifier_row}
 use Rattle.p10_syn.specs.Built.{bare_specifier_of, bare_parameter_of}
 use Rattle.p10_pexpr.proofs.Extending.{forgotten, kept_names}

@@ -1,4 +1,4 @@
-use Rattle.std.proofs.Common.{◌≡◌, ℕ, ◌+◌, ◌*◌, ◌≤◌, map, [], take, length}
+use Rattle.std.proofs.Common.{◌≡◌, ◌+◌, ◌*◌, ◌≤◌, map, [], take, length}
 use Rattle.p10_syn.specs.declared.setting.Said.TheVariants.{Nothing}
 use Rattle.p10_syn.specs.Declaring.{after_specifiers, after_members, after_enumerators}
 use Rattle.p10_syn.specs.Trees.{specifier_row, member_row, enumerator_row}
@@ -41,35 +41,35 @@ decreases-expression::arguments l = 8 * l.budget + 1
 abbrev pub decreases-expression::list : goal.decreases-expression::list
 decreases-expression::list l = 8 * l.budget
 
-abbrev pub decreases-expression::operand : goal.decreases-expression::operand
-decreases-expression::operand l = 8 * l.budget + 6
+abbrev pub decreases-operand::operand : goal.decreases-operand::operand
+decreases-operand::operand l = 8 * l.budget + 6
 
-abbrev pub decreases-expression::operand_by : goal.decreases-expression::operand_by
-decreases-expression::operand_by l = 8 * l.budget + 5
+abbrev pub decreases-operand::operand_by : goal.decreases-operand::operand_by
+decreases-operand::operand_by l = 8 * l.budget + 5
 
-abbrev pub decreases-expression::group : goal.decreases-expression::group
-decreases-expression::group l = 8 * l.budget + 4
+abbrev pub decreases-operand::group : goal.decreases-operand::group
+decreases-operand::group l = 8 * l.budget + 4
 
-abbrev pub decreases-expression::cast : goal.decreases-expression::cast
-decreases-expression::cast l = 8 * l.budget + 3
+abbrev pub decreases-operand::cast : goal.decreases-operand::cast
+decreases-operand::cast l = 8 * l.budget + 3
 
-abbrev pub decreases-expression::parenthesised : goal.decreases-expression::parenthesised
-decreases-expression::parenthesised l = 8 * l.budget + 1
+abbrev pub decreases-operand::parenthesised : goal.decreases-operand::parenthesised
+decreases-operand::parenthesised l = 8 * l.budget + 1
 
-abbrev pub decreases-expression::unary : goal.decreases-expression::unary
-decreases-expression::unary l = 8 * l.budget + 1
+abbrev pub decreases-operand::unary : goal.decreases-operand::unary
+decreases-operand::unary l = 8 * l.budget + 1
 
-abbrev pub decreases-expression::step : goal.decreases-expression::step
-decreases-expression::step l = 8 * l.budget + 1
+abbrev pub decreases-operand::step : goal.decreases-operand::step
+decreases-operand::step l = 8 * l.budget + 1
 
-abbrev pub decreases-expression::sizeof : goal.decreases-expression::sizeof
-decreases-expression::sizeof l = 8 * l.budget + 4
+abbrev pub decreases-operand::sizeof : goal.decreases-operand::sizeof
+decreases-operand::sizeof l = 8 * l.budget + 4
 
-abbrev pub decreases-expression::sizeof_type : goal.decreases-expression::sizeof_type
-decreases-expression::sizeof_type l = 8 * l.budget + 3
+abbrev pub decreases-operand::sizeof_type : goal.decreases-operand::sizeof_type
+decreases-operand::sizeof_type l = 8 * l.budget + 3
 
-abbrev pub decreases-expression::sizeof_expression : goal.decreases-expression::sizeof_expression
-decreases-expression::sizeof_expression l = 8 * l.budget + 1
+abbrev pub decreases-operand::sizeof_expression : goal.decreases-operand::sizeof_expression
+decreases-operand::sizeof_expression l = 8 * l.budget + 1
 
 abbrev pub decreases-declarator::type_name : goal.decreases-declarator::type_name
 decreases-declarator::type_name l = 8 * l.budget + 2

@@ -1,4 +1,4 @@
-use Rattle.std.proofs.Common.{◌≡◌, drop, ap, ◌∙◌, sym}
+use Rattle.std.proofs.Common.{drop, ap, ◌∙◌}
 use Rattle.p10_pexpr.proofs.LeftWords.{next_symbols}
 use Rattle.p10_pexpr.proofs.cursor.Cursor.advance.Goals as goal
 

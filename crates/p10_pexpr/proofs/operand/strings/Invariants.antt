@@ -1,6 +1,6 @@
 use Rattle.std.proofs.Common.{◌≡◌, [], ◌∷◌, map, length}
 use Rattle.p10_pexpr.specs.ExpressionReading.{strings_from}
-use Rattle.p10_pexpr.proofs.expression.strings.Given as goal
+use Rattle.p10_pexpr.proofs.operand.strings.Given as goal
 
 abbrev pub invariant-loop-text : goal.invariant-loop-text
 invariant-loop-text l = strings_from (map (λ text. text.now) l.texts.items) l.cursor ≡ strings_from (l.fn.first ∷ []) l.fn.cursor
