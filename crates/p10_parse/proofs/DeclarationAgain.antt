@@ -167,8 +167,8 @@ no_semicolon (Named x) names rest h = refl
 no_semicolon (Unnamed p) names rest h = absurd (false≢true h)
 no_semicolon (Pointer p qs d) names rest h = refl
 no_semicolon (Parenthesised p d) names rest h = refl
-no_semicolon (Array p d length) names rest h = no_semicolon d names _ h.0
-no_semicolon (Function p d ps ellipsis) names rest h = no_semicolon d names _ h.0
+no_semicolon (Array p d b length) names rest h = no_semicolon d names _ h.0
+no_semicolon (Function p d b ps ellipsis) names rest h = no_semicolon d names _ h.0
 
 -- nor with `{`
 pub declarator_no_brace_named : (d : Declarator Bare) (names : Scope) (rest : List Symbol) → IsDeclarator names Outside Required d → heads sign.OpenBrace (spell_declarator d rest) ≡ false
@@ -176,8 +176,8 @@ declarator_no_brace_named (Named x) names rest h = refl
 declarator_no_brace_named (Unnamed p) names rest h = absurd (false≢true h)
 declarator_no_brace_named (Pointer p qs d) names rest h = refl
 declarator_no_brace_named (Parenthesised p d) names rest h = refl
-declarator_no_brace_named (Array p d length) names rest h = declarator_no_brace_named d names _ h.0
-declarator_no_brace_named (Function p d ps ellipsis) names rest h = declarator_no_brace_named d names _ h.0
+declarator_no_brace_named (Array p d b length) names rest h = declarator_no_brace_named d names _ h.0
+declarator_no_brace_named (Function p d b ps ellipsis) names rest h = declarator_no_brace_named d names _ h.0
 
 declarators_at_again : (ds : List (InitDeclarator Bare)) (n : ℕ) (names : Scope) (ss : Specifiers Bare) (rest : List Symbol) → AreInitDeclarators names ss ds → 2 * declarators_size ds ≤ n →
     declarators_at (readers n) (builders n) names ss (spell_declarators ds rest) ≡ Some (ds, rest)

@@ -105,8 +105,8 @@ declarator_no_colon (Named x) rest h = refl
 declarator_no_colon (Unnamed p) rest h = h
 declarator_no_colon (Pointer p qs d) rest h = refl
 declarator_no_colon (Parenthesised p d) rest h = refl
-declarator_no_colon (Array p d length) rest h = declarator_no_colon d _ refl
-declarator_no_colon (Function p d ps ellipsis) rest h = declarator_no_colon d _ refl
+declarator_no_colon (Array p d b length) rest h = declarator_no_colon d _ refl
+declarator_no_colon (Function p d b ps ellipsis) rest h = declarator_no_colon d _ refl
 
 initial_no_colon : (i : Option (Initializer Bare)) (ds : List (InitDeclarator Bare)) (rest : List Symbol) → heads sign.Colon (spell_initial i (spell_more_declarators ds rest)) ≡ false
 initial_no_colon None [] rest = refl

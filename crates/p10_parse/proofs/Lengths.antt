@@ -100,7 +100,7 @@ mutual
   statements_words (MoreStatements s ss) names rest h = omega (arith, statement_words s names Item (spell_statements ss rest) h.0, statements_words ss (after_statement names s) rest h.1)
 
 pub external_words : (e : External Bare) (names : Scope) (rest : List Symbol) → IsExternal names e → external_size e + 4 * length rest ≤ 4 * length (spell_external e rest)
-external_words (Outer d) names rest h = omega (arith, declaration_words d names rest h)
+external_words (Outer p d) names rest h = omega (arith, declaration_words d names rest h)
 external_words (Defines f) names rest h =
     let within = after_specifiers names f.specifiers in
     let body = spell_statements f.body (Fixed sign.CloseBrace ∷ rest) in
@@ -113,5 +113,5 @@ external_words (Defines f) names rest h =
     )
 
 pub external_some : (e : External Bare) → 0 < external_size e
-external_some (Outer d) = omega arith
+external_some (Outer p d) = omega arith
 external_some (Defines f) = omega arith

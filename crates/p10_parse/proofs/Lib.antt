@@ -15,3 +15,11 @@ pub mod RootTakes
 pub mod Roots
 pub mod Examples
 pub mod UnitLaws
+pub mod Extending
+pub mod ListSteps
+pub mod ReadingSteps
+pub mod ExternalSteps
+pub mod TreeRows
+pub mod ParameterSteps
+pub mod Reading
+pub mod UnitSteps

@@ -52,5 +52,5 @@ abbrev mutual
   statements_size (MoreStatements s ss) = 1 + (statement_size s + statements_size ss)
 
 abbrev pub external_size : External Bare → ℕ
-external_size (Outer d) = declaration_size d
+external_size (Outer p d) = declaration_size d
 external_size (Defines d) = 1 + (specifiers_size d.specifiers + (declarator_size d.declarator + statements_size d.body))

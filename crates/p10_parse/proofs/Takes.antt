@@ -49,7 +49,7 @@ pub record TookExternal (names : Scope) (symbols : List Symbol) (p : External Ba
   pub formed : IsExternal names p.0
   pub spelled : symbols ≡ spell_external p.0 p.1
 
-outer_took : (names : Scope) (symbols : List Symbol) (d : Declaration Bare) (rest : List Symbol) (p : External Bare × List Symbol) → (Outer d, rest) ≡ p → TookDeclaration names symbols (d, rest) → TookExternal names symbols p
+outer_took : (names : Scope) (symbols : List Symbol) (d : Declaration Bare) (rest : List Symbol) (p : External Bare × List Symbol) → (Outer tt d, rest) ≡ p → TookDeclaration names symbols (d, rest) → TookExternal names symbols p
 outer_took names symbols d rest p same k = subst (λ x. TookExternal names symbols x) same (record { formed = k.formed; spelled = k.spelled })
 
 with_takes : (n : ℕ) (names : Scope) (ss : Specifiers Bare) (d : Declarator Bare) (symbols after rest : List Symbol) (p : External Bare × List Symbol) → TookAll names Outside Nothing symbols (ss, after) →
@@ -65,9 +65,9 @@ with_takes n names ss d symbols after rest p k is spelled o =
       formed = (k.formed, k.some, apart_is within Outside (said_by Nothing ss) d after rest k.stops spelled, is, m.formed);
       spelled = k.spelled ∙ ap (spell_specifiers ss) (spelled ∙ ap (spell_declarator d) (heads_is sign.OpenBrace rest brace ∙ ap (λ x. Fixed sign.OpenBrace ∷ x) m.spelled));
     })))
-    (λ off e1. then_some (λ v. option_map (λ ds. (Outer (declaring ss ds.0), ds.1)) (declarators_after (readers n) (builders n) within ss [] v.0 v.1)) (initial_at (readers n) (builders n) then d rest) p e1 (λ v found e2.
+    (λ off e1. then_some (λ v. option_map (λ ds. (Outer tt (declaring ss ds.0), ds.1)) (declarators_after (readers n) (builders n) within ss [] v.0 v.1)) (initial_at (readers n) (builders n) then d rest) p e1 (λ v found e2.
     let kv = initial_takes (readers n) (takes n) (builders n) (takes_all n) within ss d rest v is found in
-    then_map (λ ds. (Outer (declaring ss ds.0), ds.1)) (declarators_after (readers n) (builders n) within ss [] v.0 v.1) p e2 (λ ds read same.
+    then_map (λ ds. (Outer tt (declaring ss ds.0), ds.1)) (declarators_after (readers n) (builders n) within ss [] v.0 v.1) p e2 (λ ds read same.
     let m = (takes_all n).declarators (after_declarator within ss v.0.declarator) ss (v.0 ∷ []) v.1 ds read in
     outer_took names symbols (declaring ss ds.0) ds.1 p same (declaration_took names ss ds.0 symbols after ds.1 k (joined within ss after v.1 v.0 ds kv.formed (spelled ∙ kv.spelled) m)))))
 

@@ -72,11 +72,11 @@ one_parameter ss d = MoreParameters (parameter tt ss d) NoParameters
 
 -- `int x(..)` with one parameter
 abbrev pub takes_one : Specifiers Bare → Declarator Bare → External Bare
-takes_one ss d = Outer (declares (keyword sign.Int) (Function tt (called x) (one_parameter ss d) false))
+takes_one ss d = Outer tt (declares (keyword sign.Int) (Function tt (called x) tt (one_parameter ss d) false))
 
 -- `void x(..) {..}`
 abbrev pub function_of : Parameters Bare → List (Statement Bare) → External Bare
-function_of ps body = defining (keyword sign.Void) (Function tt (called x) ps false) (statement_row body)
+function_of ps body = defining (keyword sign.Void) (Function tt (called x) tt ps false) (statement_row body)
 
 -- `void x(void)` with this body
 abbrev pub plain_function : List (Statement Bare) → External Bare
@@ -84,7 +84,7 @@ plain_function body = function_of (one_parameter (keyword sign.Void) (Unnamed tt
 
 -- an expression statement that is a name
 abbrev pub value_of_name : Text → Statement Bare
-value_of_name n = Evaluate tt (plain (Name n))
+value_of_name n = Evaluate tt (plain (Name (plain_name n)))
 
 -- these words are this declaration or function
 abbrev pub IsRead : Scope → List Symbol → External Bare → Type 0
@@ -94,30 +94,30 @@ IsRead names symbols e = next_external names symbols ≡ Some (e, [])
 pub record ExamplesAreRead : Type 0 where
   -- `int x(int (T));` where T is a typedef name: the parentheses hold parameters
   pub parameters_of_a_type : IsRead with_type (Fixed sign.Int ∷ symbol.Name x ∷ Fixed sign.Open ∷ Fixed sign.Int ∷ in_parentheses (symbol.Name T) ++ Fixed sign.Close ∷ Fixed sign.Semicolon ∷ [])
-      (takes_one (keyword sign.Int) (Function tt (Unnamed tt) (one_parameter (renamed T) (Unnamed tt)) false))
+      (takes_one (keyword sign.Int) (Function tt (Unnamed tt) tt (one_parameter (renamed T) (Unnamed tt)) false))
   -- `int x(int (T));` where T is none: the parentheses hold its name
   pub name_in_parentheses : IsRead [] (Fixed sign.Int ∷ symbol.Name x ∷ Fixed sign.Open ∷ Fixed sign.Int ∷ in_parentheses (symbol.Name T) ++ Fixed sign.Close ∷ Fixed sign.Semicolon ∷ [])
       (takes_one (keyword sign.Int) (Parenthesised tt (called T)))
   -- `int x(int ());`: a function with no parameters
   pub empty_parentheses : IsRead [] (Fixed sign.Int ∷ symbol.Name x ∷ Fixed sign.Open ∷ Fixed sign.Int ∷ Fixed sign.Open ∷ Fixed sign.Close ∷ Fixed sign.Close ∷ Fixed sign.Semicolon ∷ [])
-      (takes_one (keyword sign.Int) (Function tt (Unnamed tt) NoParameters false))
+      (takes_one (keyword sign.Int) (Function tt (Unnamed tt) tt NoParameters false))
   -- `static T;`: T is the type
   pub no_declarator : IsRead with_type (Fixed sign.Static ∷ symbol.Name T ∷ Fixed sign.Semicolon ∷ [])
-      (Outer (declaring (MoreSpecifiers (Keyword tt sign.Static) (renamed T)) []))
+      (Outer tt (declaring (MoreSpecifiers (Keyword tt sign.Static) (renamed T)) []))
   -- `T T;`: the second T is declared
-  pub type_and_name : IsRead with_type (symbol.Name T ∷ symbol.Name T ∷ Fixed sign.Semicolon ∷ []) (Outer (declares (renamed T) (called T)))
+  pub type_and_name : IsRead with_type (symbol.Name T ∷ symbol.Name T ∷ Fixed sign.Semicolon ∷ []) (Outer tt (declares (renamed T) (called T)))
   -- `int T = sizeof T;`: the name is in scope from the end of its declarator on
   pub own_initializer : IsRead with_type (Fixed sign.Int ∷ symbol.Name T ∷ Fixed sign.Assign ∷ Fixed sign.Sizeof ∷ symbol.Name T ∷ Fixed sign.Semicolon ∷ [])
-      (Outer (declaring (keyword sign.Int) (with_initial (called T) (Some (Value (plain (SizeofExpression (plain (Name T)))))) ∷ [])))
+      (Outer tt (declaring (keyword sign.Int) (with_initial (called T) (Some (Value (plain (SizeofExpression (plain (Name (plain_name T))))))) ∷ [])))
   -- `int T[sizeof(T *)];`: and not before
   pub own_length : IsRead with_type (Fixed sign.Int ∷ symbol.Name T ∷ Fixed sign.OpenSquare ∷ Fixed sign.Sizeof ∷ Fixed sign.Open ∷ symbol.Name T ∷ Fixed sign.Star ∷ Fixed sign.Close ∷ Fixed sign.CloseSquare ∷ Fixed sign.Semicolon ∷ [])
-      (Outer (declares (keyword sign.Int) (Array tt (called T) (Present (plain (SizeofType (type_name tt (renamed T) (Pointer tt [] (Unnamed tt)))))))))
+      (Outer tt (declares (keyword sign.Int) (Array tt (called T) tt (Present (plain (SizeofType (type_name tt (renamed T) (Pointer tt [] (Unnamed tt)))))))))
   -- `int x = T - y - 1;`: what stands left is joined first
   pub left_first : IsRead [] (Fixed sign.Int ∷ symbol.Name x ∷ Fixed sign.Assign ∷ symbol.Name T ∷ Fixed sign.Minus ∷ symbol.Name y ∷ Fixed sign.Minus ∷ symbol.Number (49 ∷ []) ∷ Fixed sign.Semicolon ∷ [])
-      (Outer (declaring (keyword sign.Int) (with_initial (called x) (Some (Value (plain (Binary sign.Minus (plain (Binary sign.Minus (plain (Name T)) (plain (Name y)))) (plain (Number (49 ∷ []))))))) ∷ [])))
+      (Outer tt (declaring (keyword sign.Int) (with_initial (called x) (Some (Value (plain (Binary sign.Minus (plain (Binary sign.Minus (plain (Name (plain_name T))) (plain (Name (plain_name y))))) (plain (Number (49 ∷ []))))))) ∷ [])))
   -- `if (y) if (y) ; else ;`: the `else` is that of the inner `if`
   pub inner_else : IsRead [] (function_words (Fixed sign.If ∷ in_parentheses (symbol.Name y) ++ Fixed sign.If ∷ in_parentheses (symbol.Name y) ++ Fixed sign.Semicolon ∷ Fixed sign.Else ∷ Fixed sign.Semicolon ∷ []))
-      (plain_function (If tt (plain (Name y)) (IfElse tt (plain (Name y)) (Empty tt) (Empty tt)) ∷ []))
+      (plain_function (If tt (plain (Name (plain_name y))) (IfElse tt (plain (Name (plain_name y))) (Empty tt) (Empty tt)) ∷ []))
   -- `{ T; }` where T is a typedef name: a declaration
   pub type_alone : IsRead with_type (function_words (symbol.Name T ∷ Fixed sign.Semicolon ∷ [])) (plain_function (Declare (declaring (renamed T) []) ∷ []))
   -- `{ T; }` where T is none: an expression
@@ -135,6 +135,6 @@ pub record ExamplesAreRead : Type 0 where
       (function_of (one_parameter (only (Enumeration tt None (MoreEnumerators (enumerator tt (plain_name T) Absent) NoEnumerators) false)) (called y)) (value_of_name T ∷ []))
   -- `typedef int T; int T; T x;`: the later T counts, so that nothing begins with the last three words
   pub later_name : externals_from 9 [] [] (Fixed sign.Typedef ∷ Fixed sign.Int ∷ symbol.Name T ∷ Fixed sign.Semicolon ∷ Fixed sign.Int ∷ symbol.Name T ∷ Fixed sign.Semicolon ∷ symbol.Name T ∷ symbol.Name x ∷ Fixed sign.Semicolon ∷ [])
-      ≡ (Outer (declares (MoreSpecifiers (Keyword tt sign.Typedef) (keyword sign.Int)) (called T)) ∷ Outer (declares (keyword sign.Int) (called T)) ∷ [], symbol.Name T ∷ symbol.Name x ∷ Fixed sign.Semicolon ∷ [])
+      ≡ (Outer tt (declares (MoreSpecifiers (Keyword tt sign.Typedef) (keyword sign.Int)) (called T)) ∷ Outer tt (declares (keyword sign.Int) (called T)) ∷ [], symbol.Name T ∷ symbol.Name x ∷ Fixed sign.Semicolon ∷ [])
   -- `void x(void) { return 0 }`: no `;`, so that nothing begins with the first word
   pub no_semicolon : next_external [] (function_words (Fixed sign.Return ∷ symbol.Number (48 ∷ []) ∷ [])) ≡ None

@@ -58,7 +58,7 @@ module _ (e : Readers) (r : Builders) where
   -- after the first declarator of a declaration
   abbrev pub outer_at : Scope → Specifiers Bare → Declarator Bare → List Symbol → Read (External Bare)
   outer_at names ss d rest =
-      option_and_then (λ v. option_map (λ ds. (Outer (declaring ss ds.0), ds.1)) (declarators_after e r names ss [] v.0 v.1)) (initial_at e r (after_declarator names ss d) d rest)
+      option_and_then (λ v. option_map (λ ds. (Outer tt (declaring ss ds.0), ds.1)) (declarators_after e r names ss [] v.0 v.1)) (initial_at e r (after_declarator names ss d) d rest)
 
   -- after a first declarator
   abbrev pub external_with : Scope → Specifiers Bare → Declarator Bare → List Symbol → Read (External Bare)
@@ -67,7 +67,7 @@ module _ (e : Readers) (r : Builders) where
   -- after specifiers
   abbrev pub external_after : Scope → Specifiers Bare → List Symbol → Read (External Bare)
   external_after names ss symbols =
-      cond (heads sign.Semicolon symbols) (Some (Outer (declaring ss []), drop 1 symbols)) (option_and_then (λ d. external_with names ss d.0 d.1) (e.declarator names Outside Required symbols))
+      cond (heads sign.Semicolon symbols) (Some (Outer tt (declaring ss []), drop 1 symbols)) (option_and_then (λ d. external_with names ss d.0 d.1) (e.declarator names Outside Required symbols))
 
   -- a declaration or a function
   abbrev pub external_at : Scope → List Symbol → Read (External Bare)

@@ -7,3 +7,4 @@ pub mod Roots
 pub mod Examples
 pub mod Laws
 pub mod Units
+pub mod private

@@ -1,0 +1,3 @@
+-- The definitions that only clauses of private functions cite.
+pub mod Cut
+pub mod Root
