@@ -1,12 +1,12 @@
 -- A structure that is completed: all that had a size lies as before, and the structures stay whole.
-use Rattle.std.proofs.Common.{◌≡◌, ℕ, zero, suc, ◌+◌, ◌*◌, ◌<◌, ◌≤◌, Bool, true, false, cond, ◌||◌, ◌⊎◌, inl, inr, List, [], ◌∷◌, ◌++◌, map, length, All, Option, Some, None, is_some, slice_get, slice_index_or, refl, sym, ◌∙◌, ap, subst, arith}
+use Rattle.std.proofs.Common.{◌≡◌, ℕ, zero, suc, ◌+◌, ◌*◌, ◌<◌, ◌≤◌, true, false, cond, ◌||◌, ◌⊎◌, inl, inr, List, [], ◌∷◌, ◌++◌, map, length, All, Option, Some, None, is_some, slice_get, slice_index_or, refl, sym, ◌∙◌, ap, subst, arith}
 use Rattle.std.proofs.lemmas.Bool.{cases_lt}
 use Rattle.std.proofs.lemmas.List.Elements.{All-head, All-tail}
-use Rattle.p10_core.specs.Types.{PlainType, void, integer, pointer, array, structure, bare, PlainMember, PlainBody, PlainStructure, body_in, body_of, members_in, members_of, representative_in, representative_of}
-use Rattle.p10_core.specs.Sizes.{Layout, repeated, layout_of_members, with_mark, layout_by, structure_layout, layout_of, size_of}
+use Rattle.p10_core.specs.Types.{PlainType, void, integer, pointer, array, structure, PlainMember, PlainBody, PlainStructure, body_of, members_in, members_of, representative_in, representative_of}
+use Rattle.p10_core.specs.Sizes.{Layout, repeated, layout_of_members, with_mark, layout_by, structure_layout, layout_of}
 use Rattle.p10_core.specs.Rows.{is_complete}
 use Rattle.p10_core.specs.WholePrograms.{order_in, ContainsBefore, IsWholeType, IsObjectType, IsWholeMember, IsWholeBody, AreWholeStructures, bare_member, most_bytes}
-use Rattle.p10_core.specs.Completing.{with_structure, incomplete_structure, complete_count, member_layout, body_with, with_body, completed, AreCounted, AreBuilt, MayComplete, NoneAreBuilt, OneMoreIsBuilt, CompletedAreBuilt}
+use Rattle.p10_core.specs.Completing.{incomplete_structure, complete_count, member_layout, body_with, with_body, completed, AreCounted, AreBuilt, MayComplete, NoneAreBuilt, OneMoreIsBuilt, CompletedAreBuilt}
 use Rattle.p10_core.proofs.Layouts.{Agree, members_same, body_there, type_same, stable}
 use Rattle.p10_core.proofs.Growing.{bare_same, bare_members_same, IsNew, SaysTheSame, says_the_same, structures_grown}
 
@@ -50,7 +50,7 @@ count_none s ss h =
     let e : 0 + complete_count ss ≡ complete_count ss = omega arith in
     ap (λ o. cond (is_some o) 1 0 + complete_count ss) h ∙ e
 
-one_more : (ss : List PlainStructure) (n : ℕ) (b : PlainBody) → n < length ss → body_of ss n ≡ None → complete_count (with_body ss n b) ≡ suc (complete_count ss)
+pub one_more : (ss : List PlainStructure) (n : ℕ) (b : PlainBody) → n < length ss → body_of ss n ≡ None → complete_count (with_body ss n b) ≡ suc (complete_count ss)
 one_more [] n b h e = absurd (omega (arith, h))
 one_more (s ∷ ss) zero b h e = count_one (record s { body = Some b }) ss refl ∙ ap suc (sym (count_none s ss e))
 one_more (s ∷ ss) (suc n) b h e = elim (none_or_some s.body) as (λ _. complete_count (s ∷ with_body ss n b) ≡ suc (complete_count (s ∷ ss))) [
@@ -65,7 +65,7 @@ at_most_all (s ∷ ss) = elim (none_or_some s.body) as (λ _. complete_count (s 
   | inr is ↦ omega (arith, count_one s ss is, at_most_all ss)
 ]
 
-fewer_than_all : (ss : List PlainStructure) (n : ℕ) → n < length ss → body_of ss n ≡ None → complete_count ss < length ss
+pub fewer_than_all : (ss : List PlainStructure) (n : ℕ) → n < length ss → body_of ss n ≡ None → complete_count ss < length ss
 fewer_than_all [] n h e = absurd (omega (arith, h))
 fewer_than_all (s ∷ ss) zero h e = omega (arith, count_none s ss e, at_most_all ss)
 fewer_than_all (s ∷ ss) (suc n) h e = elim (none_or_some s.body) as (λ _. complete_count (s ∷ ss) < length (s ∷ ss)) [
@@ -73,7 +73,7 @@ fewer_than_all (s ∷ ss) (suc n) h e = elim (none_or_some s.body) as (λ _. com
   | inr is ↦ omega (arith, count_one s ss is, fewer_than_all ss n (omega (arith, h)) e)
 ]
 
-count_pushed : (ss : List PlainStructure) (s : PlainStructure) → s.body ≡ None → complete_count (ss ++ s ∷ []) ≡ complete_count ss
+pub count_pushed : (ss : List PlainStructure) (s : PlainStructure) → s.body ≡ None → complete_count (ss ++ s ∷ []) ≡ complete_count ss
 count_pushed [] s e = count_none s [] e
 count_pushed (x ∷ ss) s e = elim (none_or_some x.body) as (λ _. complete_count (x ∷ (ss ++ s ∷ [])) ≡ complete_count (x ∷ ss)) [
   | inl is ↦ count_none x (ss ++ s ∷ []) is ∙ count_pushed ss s e ∙ sym (count_none x ss is)

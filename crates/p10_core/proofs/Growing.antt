@@ -1,13 +1,12 @@
 -- Structures that grow by one that isn't complete: all others lie as before, and stay whole.
-use Rattle.std.proofs.Common.{◌≡◌, ℕ, zero, suc, ◌+◌, ◌*◌, ◌<◌, ◌≤◌, Bool, true, false, ◌||◌, List, [], ◌∷◌, ◌++◌, map, length, All, Option, Some, None, is_some, slice_get, slice_index_or, refl, sym, ◌∙◌, ap, subst, arith, length-append, inl, inr, ◌⊎◌}
+use Rattle.std.proofs.Common.{◌≡◌, ℕ, zero, suc, ◌*◌, ◌<◌, ◌≤◌, true, false, ◌||◌, List, [], ◌∷◌, ◌++◌, map, length, Some, None, is_some, slice_get, slice_index_or, refl, sym, ◌∙◌, ap, subst, arith, length-append, inl, inr}
 use Rattle.std.proofs.lemmas.Bool.{cases_lt}
 use Rattle.std.proofs.lemmas.Option.{slice_get_past}
-use Rattle.p10_base.specs.Words.{Text}
 use Rattle.p10_core.specs.Types.{PlainType, void, integer, pointer, array, structure, bare, PlainMember, PlainBody, PlainStructure, body_in, body_of, members_in, members_of, representative_in, representative_of}
-use Rattle.p10_core.specs.Sizes.{Layout, repeated, layout_of_members, with_mark, layout_by, structure_layout, layout_of, size_of}
+use Rattle.p10_core.specs.Sizes.{Layout, repeated, layout_of_members, with_mark, layout_by, structure_layout, layout_of}
 use Rattle.p10_core.specs.Rows.{is_complete}
-use Rattle.p10_core.specs.WholePrograms.{order_in, ContainsBefore, IsWholeType, IsObjectType, IsWholeMember, IsWholeBody, AreWholeStructures, bare_member, most_bytes}
-use Rattle.p10_core.proofs.Layouts.{Agree, members_same, body_there, AgreeBelow, type_same, stable}
+use Rattle.p10_core.specs.WholePrograms.{order_in, ContainsBefore, IsWholeType, IsObjectType, IsWholeBody, AreWholeStructures, bare_member, most_bytes}
+use Rattle.p10_core.proofs.Layouts.{Agree, members_same, type_same, stable}
 use Rattle.p10_core.proofs.Bareness.{below_all}
 
 -- two lists of structures of which each number says the same

@@ -4,7 +4,9 @@ pub mod Folding
 pub mod Growing
 pub mod Layouts
 pub mod Lists
+pub mod MemberLayouts
 pub mod ScalarCounts
 pub mod SizesOfTypes
 pub mod StatementRows
+pub mod Tables
 pub mod TypeViews

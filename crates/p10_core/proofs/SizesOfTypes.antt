@@ -1,7 +1,7 @@
 -- Sizes of types, as they are kept with structures and computed.
 use Rattle.std.proofs.Common.{◌≡◌, ℕ, zero, suc, ◌*◌, ◌≤◌, Bool, false, List, Some, None, length, Fits, w64, refl, sym, ◌∙◌, ap, subst, arith}
 use Rattle.p10_core.specs.Types.{PlainType, array, structure, PlainBody, PlainStructure, body_of, members_in}
-use Rattle.p10_core.specs.Sizes.{layout_by, layout_of_members, structure_layout, layout_of, size_of, alignment_of, has_constant}
+use Rattle.p10_core.specs.Sizes.{layout_by, layout_of_members, structure_layout, layout_of, size_of, alignment_of, scalars_of, has_constant}
 use Rattle.p10_core.specs.WholePrograms.{AreWholeStructures, IsWholeType, most_bytes}
 
 pub kept_bytes : (ss : List PlainStructure) → AreWholeStructures ss → (n : ℕ) (b : PlainBody) → Some b ≡ body_of ss n → b.bytes ≡ size_of ss (structure false n)
@@ -52,3 +52,14 @@ inconstant_at ss n (suc d) e = ap (λ o. (layout_of_members (layout_by ss (struc
 pub incomplete_constant : (ss : List PlainStructure) (n : ℕ) → None ≡ body_of ss n → false ≡ has_constant ss (structure false n)
 unfolding layout_of
 incomplete_constant ss n e = inconstant_at ss n (length ss) e
+
+pub kept_scalars : (ss : List PlainStructure) → AreWholeStructures ss → (n : ℕ) (b : PlainBody) → Some b ≡ body_of ss n → b.scalars ≡ length (scalars_of ss (structure false n))
+kept_scalars ss w n b e = (w.bodies n b (sym e)).scalars_are
+
+no_scalars_at : (ss : List PlainStructure) (n d : ℕ) → None ≡ body_of ss n → 0 ≡ length (structure_layout d ss n).scalars
+no_scalars_at ss n zero e = refl
+no_scalars_at ss n (suc d) e = ap (λ o. length (layout_of_members (layout_by ss (structure_layout d ss)) (members_in o)).scalars) e
+
+pub incomplete_scalars : (ss : List PlainStructure) (n : ℕ) → None ≡ body_of ss n → 0 ≡ length (scalars_of ss (structure false n))
+unfolding layout_of
+incomplete_scalars ss n e = no_scalars_at ss n (length ss) e

@@ -1,10 +1,7 @@
 -- Rows of statements as lists.
-use Rattle.std.proofs.Common.{◌≡◌, ℕ, List, Option, option_map, refl, ap, rules}
-use Rattle.p10_core.specs.declared.typed.Value.{Value}
-use Rattle.p10_core.specs.declared.statements.LoopHead.{LoopHead}
+use Rattle.std.proofs.Common.{◌≡◌, List, refl, ap, rules}
 use Rattle.p10_core.specs.declared.statements.Stmt.{Stmt}
-use Rattle.p10_core.specs.declared.statements.StmtForm.{StmtForm}
-use Rattle.p10_core.specs.declared.statements.StmtForm.TheVariants.{Block, Loop}
+use Rattle.p10_core.specs.declared.statements.StmtForm.TheVariants.{Block}
 use Rattle.p10_core.specs.declared.statements.StmtForm.TheViews.{the_lemmas}
 use Rattle.p10_core.specs.declared.statements.StmtForm.TheBlock.{Row_of-Stmt, end_of-Stmt, more_of-Stmt, items-the_row-Stmt}
 use Rattle.p10_core.specs.Typed.{statement, block, more_statements}

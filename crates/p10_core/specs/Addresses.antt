@@ -13,7 +13,8 @@ pub data Target : Type 0 where
   nowhere : Target
   in_array : ℕ → ℕ → Target
 
-abbrev in_range : ℕ → ℤ → Option Target
+-- a position of an array, if it is one or the place past its end
+abbrev pub in_range : ℕ → ℤ → Option Target
 in_range length (pos n) = if nat_le n length then Some (in_array length n) else None
 in_range length (negsuc n) = None
 
@@ -37,7 +38,8 @@ abbrev pub reached : Option Target → Option Target
 reached (Some (in_array length n)) = Some (in_array length n)
 reached target = None
 
-abbrev negated : Result ℤ At → Result ℤ At
+-- a constant with the other sign
+abbrev pub negated : Result ℤ At → Result ℤ At
 negated (Ok z) = Ok (neg_ℤ z)
 negated (Err at) = Err at
 

@@ -1,8 +1,9 @@
 -- Structures that are declared, and completed by their members (C99 6.7.2.1, 6.7.2.3).
-use Rattle.std.specs.Prelude.{◌≡◌, ℕ, zero, suc, ◌+◌, cond, ◌<◌, ◌≤◌, List, [], ◌∷◌, ◌++◌, length, All, Option, Some, None, is_some}
+use Rattle.std.specs.Prelude.{◌≡◌, ℕ, zero, suc, ◌+◌, cond, ◌<◌, ◌≤◌, nat_eq, nat_lt, nat_le, Bool, true, false, not, ◌&&◌, List, [], ◌∷◌, ◌++◌, length, All, Option, Some, None, is_some, slice_get}
 use Rattle.p10_base.specs.Words.{Text}
-use Rattle.p10_core.specs.Types.{PlainMember, PlainBody, PlainStructure, body_of, representative_of}
-use Rattle.p10_core.specs.Sizes.{Layout, layout_of_members, layout_of}
+use Rattle.p10_core.specs.Types.{PlainType, void, integer, pointer, array, structure, PlainMember, PlainBody, PlainStructure, body_of, representative_of}
+use Rattle.p10_core.specs.Sizes.{Layout, layout_of_members, layout_of, size_of}
+use Rattle.p10_core.specs.Rows.{is_void, is_complete}
 use Rattle.p10_core.specs.WholePrograms.{most_bytes, IsObjectType, AreWholeStructures}
 
 -- a structure that isn't complete, with its own number: it stands for itself
@@ -60,6 +61,37 @@ pub record MayComplete (structures : List PlainStructure) (n : ℕ) (members : L
   pub own : representative_of structures n ≡ n
   pub some : 1 ≤ length members
   pub objects : All (λ m. IsObjectType structures m.type) members
+
+-- ## As tests
+
+-- whether a type is one of C, over the structures that are there
+abbrev pub is_whole_type : List PlainStructure → PlainType → Bool
+is_whole_type structures (void c) = true
+is_whole_type structures (integer c i) = true
+is_whole_type structures (pointer c t) = not (is_void t) && is_whole_type structures t
+is_whole_type structures (array c t n) =
+    (is_complete structures t && is_whole_type structures t) && (nat_le 1 n && nat_le (size_of structures (array c t n)) most_bytes)
+is_whole_type structures (structure c n) = nat_lt n (length structures)
+
+-- whether a type is one of objects
+abbrev pub is_object_type : List PlainStructure → PlainType → Bool
+is_object_type structures t = is_complete structures t && is_whole_type structures t
+
+-- whether each member has a type with a size
+abbrev pub are_objects : List PlainStructure → List PlainMember → Bool
+are_objects structures [] = true
+are_objects structures (m ∷ rest) = is_object_type structures m.type && are_objects structures rest
+
+-- whether a structure with a number isn't complete, and stands for itself
+abbrev pub is_open_in : ℕ → Option PlainStructure → Bool
+is_open_in n None = false
+is_open_in n (Some s) = not (is_some s.body) && nat_eq s.representative n
+
+-- whether the members may complete the structure with a number
+abbrev pub takes_members : List PlainStructure → ℕ → List PlainMember → Bool
+takes_members structures n members = (is_open_in n (slice_get structures n) && nat_lt 0 (length members)) && are_objects structures members
+
+-- ## What holds of them
 
 -- none are built
 abbrev pub NoneAreBuilt : Type 0

@@ -11,3 +11,4 @@ pub mod Whole
 pub mod WholePrograms
 pub mod Completing
 pub mod Laws
+pub mod private

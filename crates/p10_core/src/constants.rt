@@ -46,7 +46,7 @@ pub fn inconstant_part(v: &Value) -> Option<At>
 }
 
 /// The first of two places that may be lacking.
-fn first_of_parts(a: Option<At>, b: Option<At>) -> Option<At>
+pub fn first_of_parts(a: Option<At>, b: Option<At>) -> Option<At>
     ensures { result ≡ first_of_parts a b }
 {
     match a {

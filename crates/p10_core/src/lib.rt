@@ -13,8 +13,12 @@
 mod c_type;
 mod constants;
 pub mod laws;
+mod lay;
+mod laying;
 mod make;
+mod make_initializers;
 mod make_statements;
+mod members;
 mod program;
 mod sizes;
 mod statements;
@@ -23,7 +27,8 @@ mod table;
 mod typed;
 
 pub use c_type::{CType, TypeForm};
-pub use constants::{fold, inconstant_part, is_null};
+pub use constants::{first_of_parts, fold, inconstant_part, is_null};
+pub use make_initializers::Heading;
 pub use make_statements::Clauses;
 pub use program::{Extent, Func, Global, Literal, Program, Variable};
 pub use sizes::size;

@@ -1,42 +1,67 @@
 //! The structures of a program, and what is known of types by them.
 
-ghost use Rattle.std.specs.Prelude.{◌≡◌, ℕ, ◌<◌, ◌^◌, ◌++◌, [], ◌∷◌, None, Some, length, IfOk, OnOk, OnErr, slice_get, option_map, option_copied, false, map};
-ghost use Rattle.p10_core.specs.Types.{plain_type, plain_structure, plain_body, plain_member, body_of, members_of, member_named, structure};
-ghost use Rattle.p10_core.specs.Views.{plain_types};
-ghost use Rattle.p10_core.specs.Sizes.{integer_bytes, size_of, alignment_of, has_constant};
-ghost use Rattle.p10_core.specs.Rows.{is_complete, is_modifiable};
-ghost use Rattle.p10_core.specs.WholePrograms.{AreWholeStructures, IsWholeType};
-ghost use Rattle.p10_core.specs.Completing.{with_structure};
+ghost use Rattle.std.specs.Prelude.{◌≡◌, ◌≤◌, length, map};
+ghost use Rattle.p10_core.specs.Types.{plain_structure};
+ghost use Rattle.p10_core.specs.Completing.{complete_count, AreBuilt};
+ghost use Rattle.p10_core.specs.private.Proofs.{built_once};
 
 use crate::c_type::{CType, TypeForm};
+use crate::lay::Lay;
+use crate::laying::lay_members;
+use crate::members::{has_members, integer_bytes, place_of_member};
 use crate::structures::{Body, Member, Structure};
-use p10_int::IntType;
+use p10_base::ListBuf;
 use std::alloc::{AllocError, Global};
+
+/// The greatest size of a type in bytes.
+pub const MOST_BYTES: u64 = 1_099_511_627_776;
+
+/// The greatest number of structures.
+const MOST_STRUCTURES: usize = 4_294_967_296;
 
 /// The structures of a program, by their numbers.
 #[derive(Drop)]
 pub struct Types<'s> {
     structures: Vec<Structure<'s>>,
+    /// How many of them are complete.
+    bodies: usize,
+    ghost few: { length structures.items ≤ 4294967296 },
+    ghost counted: { bodies ≡ complete_count (map plain_structure structures.items) },
+    ghost built: { AreBuilt (map plain_structure structures.items) } by { built_once (map plain_structure structures.items) },
 }
 
 impl<'s> Types<'s> {
+    ghost use Rattle.std.specs.Prelude.{◌≡◌, ℕ, ◌<◌, ◌≤◌, ◌++◌, ◌*◌, ◌&&◌, nat_le, [], ◌∷◌, None, Some, length, IfOk, OnOk, OnErr, slice_get, option_map, option_copied, true, false, map, if◌then◌else◌};
+    ghost use Rattle.p10_core.specs.Types.{plain_type, plain_structure, plain_body, plain_member, body_of, members_of, member_named, structure, array};
+    ghost use Rattle.p10_core.specs.Views.{plain_types};
+    ghost use Rattle.p10_core.specs.Sizes.{size_of, alignment_of, scalars_of, has_constant};
+    ghost use Rattle.p10_core.specs.Rows.{is_complete, is_modifiable};
+    ghost use Rattle.p10_core.specs.WholePrograms.{AreWholeStructures, IsWholeType, IsObjectType, most_bytes};
+    ghost use Rattle.p10_core.specs.Completing.{with_structure, member_layout, completed, is_whole_type, is_object_type, are_objects, is_open_in, takes_members};
+    ghost use Rattle.p10_core.specs.private.Partials.{IsLay};
+
     /// No structures.
     pub fn new(alloc: Global) -> Types<'s>
         ensures { plain_types result ≡ [] }
     {
         Types {
             structures: Vec::new(alloc),
+            bodies: 0,
         }
     }
 
-    /// Declares a structure, which isn't complete, and gives its number (C99 6.7.2.3). Out of memory, nothing is declared.
+    /// Declares a structure, which isn't complete, and gives its number (C99 6.7.2.3). Out of memory, or of numbers, nothing is
+    /// declared.
     pub fn add(&mut self, tag: Option<&'s [u8]>) -> Result<u32, AllocError>
-        requires room { length (plain_types self.old) < 2 ^ 32 }
         ensures number { IfOk result (λ n. n ≡ length (plain_types self.old)) }
         ensures ok { OnOk result (plain_types self.new ≡ with_structure (plain_types self.old) (option_map (λ t. t.now) tag.entry)) }
         ensures err { OnErr result (plain_types self.new ≡ plain_types self.old) }
     {
-        let number = self.structures.len() as u32;
+        let count = self.structures.len();
+        if count >= MOST_STRUCTURES {
+            return Err(AllocError);
+        }
+        let number = count as u32;
         self.structures.push(Structure {
             tag,
             body: None,
@@ -113,6 +138,20 @@ impl<'s> Types<'s> {
         }
     }
 
+    /// How many scalars a type of objects has, those of its parts included.
+    #[tactic(auto, unfolding(crate::specs::Sizes::layout_of))]
+    pub fn scalars(&self, t: &CType) -> u64
+        requires object { IsObjectType (plain_types self.now) (plain_type t.now) }
+        ensures { result ≡ length (scalars_of (plain_types self.now) (plain_type t.now)) }
+    {
+        match &t.form {
+            TypeForm::Void => 0,
+            TypeForm::Int(_) | TypeForm::Pointer(_) => 1,
+            TypeForm::Array(element, length) => *length * self.scalars(element),
+            TypeForm::Struct(number) => self.structure_scalars(*number),
+        }
+    }
+
     /// Whether a type or a part of it is `const`.
     #[tactic(auto, unfolding(crate::specs::Sizes::layout_of))]
     pub fn has_const(&self, t: &CType) -> bool
@@ -167,28 +206,127 @@ impl<'s> Types<'s> {
             None => false,
         }
     }
-}
 
-/// The place of the member with a name.
-fn place_of_member(members: &[Member<'_>], name: &[u8]) -> Option<usize>
-    ensures { result ≡ member_named name.now (map plain_member members.now) }
-{
-    for (place, member) in members.iter().enumerate() {
-        if member.name == name {
-            return Some(place);
+    /// How many scalars a structure has; none where it isn't complete.
+    fn structure_scalars(&self, number: u32) -> u64
+        ensures { result ≡ length (scalars_of (plain_types self.now) (structure false number)) }
+    {
+        match self.body(number) {
+            Some(body) => body.scalars,
+            None => 0,
         }
     }
-    None
-}
 
-/// The bytes of an integer type.
-pub fn integer_bytes(kind: IntType) -> u64
-    ensures { result ≡ integer_bytes kind }
-{
-    match kind {
-        IntType::Bool | IntType::Char | IntType::SChar | IntType::UChar => 1,
-        IntType::Short | IntType::UShort => 2,
-        IntType::Int | IntType::UInt => 4,
-        IntType::Long | IntType::ULong | IntType::LLong | IntType::ULLong => 8,
+    /// The structures are whole at each moment: what a body says of itself is so, and none contains itself.
+    pub fn are_whole(&self)
+        ensures { AreWholeStructures (plain_types self.now) }
+    {}
+
+    /// Whether a type is one of C over the structures that are there: an array has elements that have a size, at least one of
+    /// them; no pointer points to `void`; and nothing is larger than a type may be.
+    pub fn is_whole(&self, t: &CType) -> bool
+        ensures { result ≡ is_whole_type (plain_types self.now) (plain_type t.now) }
+    {
+        match &t.form {
+            TypeForm::Void | TypeForm::Int(_) => true,
+            TypeForm::Pointer(target) => !target.is_void() && self.is_whole(target),
+            TypeForm::Array(element, length) => {
+                let whole = self.is_whole(element);
+                self.array_is_whole(element, whole, *length)
+            }
+            TypeForm::Struct(number) => (*number as usize) < self.structures.len(),
+        }
+    }
+
+    /// Whether an array of elements is one of C's types, where it is known whether that of the elements is.
+    fn array_is_whole(&self, element: &CType, whole: bool, length: u64) -> bool
+        requires whole { whole ≡ is_whole_type (plain_types self.now) (plain_type element.now) }
+        ensures { result ≡ is_whole_type (plain_types self.now) (array false (plain_type element.now) length) }
+    {
+        let holds = self.is_complete(element) & whole;
+        if holds {
+            self.has_room(element, length)
+        } else {
+            false
+        }
+    }
+
+    /// Whether an array of a type of objects has an element, and is no larger than a type may be.
+    fn has_room(&self, element: &CType, length: u64) -> bool
+        requires object { IsObjectType (plain_types self.now) (plain_type element.now) }
+        ensures { result ≡ (nat_le 1 length && nat_le (length * size_of (plain_types self.now) (plain_type element.now)) most_bytes) }
+    {
+        1 <= length && self.size(element) <= MOST_BYTES / length
+    }
+
+    /// Whether a type is one of objects: it has a size, and is one of C.
+    pub fn is_object(&self, t: &CType) -> bool
+        ensures { result ≡ is_object_type (plain_types self.now) (plain_type t.now) }
+    {
+        self.is_complete(t) && self.is_whole(t)
+    }
+
+    /// Whether members may complete a structure: it isn't complete, there is a member, and each has a type with a size
+    /// (C99 6.7.2.1p2, p7).
+    pub fn takes_members(&self, number: u32, members: &[Member<'_>]) -> bool
+        ensures { result ≡ takes_members (plain_types self.now) number (map plain_member members.now) }
+    {
+        (self.is_open(number) & has_members(members)) && self.are_objects(members)
+    }
+
+    /// Whether a structure isn't complete, and stands for itself.
+    fn is_open(&self, number: u32) -> bool
+        ensures { result ≡ is_open_in number (slice_get (plain_types self.now) number) }
+    {
+        match self.structure(number) {
+            Some(structure) => structure.body.is_none() && structure.representative == number,
+            None => false,
+        }
+    }
+
+    /// Whether each member has a type with a size.
+    fn are_objects(&self, members: &[Member<'_>]) -> bool
+        ensures { result ≡ are_objects (plain_types self.now) (map plain_member members.now) }
+    {
+        for member in members {
+            if !self.is_object(&member.ty) {
+                return false;
+            }
+        }
+        true
+    }
+
+    /// Completes a structure by its members (C99 6.7.2.1), unless they make it larger than a type may be: then nothing is
+    /// changed.
+    pub fn complete(&mut self, number: u32, members: Vec<Member<'s>>) -> bool
+        requires takes { takes_members (plain_types self.old) number (map plain_member members.items) ≡ true }
+        ensures small { result ≡ nat_le (member_layout (plain_types self.old) (map plain_member members.entry.items)).bytes most_bytes }
+        ensures types { plain_types self.new ≡ (if result then completed (plain_types self.old) number (map plain_member members.entry.items) else plain_types self.old) }
+    {
+        match lay_members(self, members.as_slice()) {
+            Some(lay) => {
+                self.put_body(number, lay, members);
+                true
+            }
+            None => false,
+        }
+    }
+
+    /// Gives a structure its body.
+    fn put_body(&mut self, number: u32, lay: Lay, members: Vec<Member<'s>>)
+        requires takes { takes_members (plain_types self.old) number (map plain_member members.items) ≡ true }
+        requires lies { IsLay lay (member_layout (plain_types self.old) (map plain_member members.items)) }
+        ensures { plain_types self.new ≡ completed (plain_types self.old) number (map plain_member members.entry.items) }
+    {
+        let body = Body {
+            members: ListBuf::of(members),
+            order: self.bodies as u32,
+            bytes: lay.bytes,
+            alignment: lay.alignment,
+            scalars: lay.scalars,
+            has_const: lay.has_const,
+        };
+        self.structures[number as usize].body = Some(body);
+        self.bodies += 1;
     }
 }
