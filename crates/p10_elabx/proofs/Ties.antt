@@ -7,7 +7,7 @@ use Rattle.p10_base.specs.declared.codes.SubsetCode.{SubsetCode}
 use Rattle.p10_base.specs.declared.codes.SubsetCode.TheVariants as subset
 use Rattle.p10_int.specs.declared.operators.BinOp.{BinOp}
 use Rattle.p10_syn.specs.declared.sign.Sign.{Sign}
-use Rattle.p10_syn.specs.Trees.{Identifier, Expression, expression, Name, Number, Character, Strings, Unary, Step, Binary, Assign, Conditional, Call, Index, Member, Arrow, Cast, SizeofExpression, SizeofType, Comma, Expressions, NoExpressions, MoreExpressions, Absent, Present, TypeName, type_name, Specifiers, NoSpecifiers, MoreSpecifiers, Declarator, Named, Unnamed, Pointer, Parenthesised, Array, Function, Parameters, NoParameters, MoreParameters, parameter}
+use Rattle.p10_syn.specs.Trees.{Identifier, Qualifier, Expression, expression, Name, Number, Character, Strings, Unary, Step, Binary, Assign, Conditional, Call, Index, Member, Arrow, Cast, SizeofExpression, SizeofType, Comma, Expressions, NoExpressions, MoreExpressions, Absent, Present, TypeName, type_name, Specifiers, NoSpecifiers, MoreSpecifiers, Declarator, Named, Unnamed, Pointer, Parenthesised, Array, Function, Parameters, NoParameters, MoreParameters, parameter}
 use Rattle.p10_core.specs.declared.typed.Library.{Library}
 use Rattle.p10_core.specs.declared.typed.Library.TheVariants.{Malloc, Calloc}
 use Rattle.p10_core.specs.declared.typed.LogicOp.{LogicOp}
@@ -27,9 +27,9 @@ use Rattle.p10_elabx.specs.Scopes.{PlainScope, named}
 use Rattle.p10_elabx.specs.Operands.{PlainOperand, operand_value, not_void, reads_object, reads_sensor, any_value, as_value}
 use Rattle.p10_elabx.specs.Operators.{binary_value, logic_value, conditional_value, operand_size, indexed, member_found, arrow_found, address_found, target_found, assigned, updated}
 use Rattle.p10_elabx.specs.Calls.{Callee, of_library, callee_of, library_wants, Wanted, wanted_value, wants_of, wanted_of, Listed, no_arguments, with_value, argument_judged, with_argument, call_problem, call_value, is_assert, is_allocator, is_counted, with_problem, call_judged, operand_call, other_call, element_count}
-use Rattle.p10_elabx.specs.TypeNames.{Shape, a_type, an_open_array, a_function_type, word_of, words_after, declarator_place, name_place, other_word, also_word, is_of_function, is_of_aggregate, pointed, pointer_judged, element, array_of, array_judged, open_array_judged, given_type, no_parameters, is_alone, parameter_type, with_type, lacks_prototype, made_by, parameter_judged, function_judged, said_of, nothing_specified, is_bad_mixture, specifier_rule, later, specifiers_found, specified_type, specifiers_at, specifiers_judged}
+use Rattle.p10_elabx.specs.TypeNames.{Shape, a_type, an_open_array, a_function_type, declarator_place, name_place, other_word, also_word, is_of_function, is_of_aggregate, pointed, pointer_judged, element, array_of, array_judged, open_array_judged, given_type, no_parameters, is_alone, parameter_type, with_type, lacks_prototype, made_by, parameter_judged, function_judged, said_of, nothing_specified, is_bad_mixture, specifier_rule, later, specifiers_found, specified_type, specifiers_at, specifiers_judged}
 use Rattle.p10_elabx.specs.Literals.{number_found, character_found, strings_found}
-use Rattle.p10_elabx.specs.Judging.{within, name_found, valued, operation_of, assignment_of, step_of, is_and, is_star, unary_found, unary_judged, unary_by_sign, may_be_place, place_of, address_judged, values_judged, truth_judged, binary_judged, conditional_judged, index_judged, member_judged, arrow_judged, size_judged, shape_size, type_size_judged, cast_found, is_void_shape, cast_judged, target_judged, assignment_judged, counts_as_read, counts_as_act, with_read, update_judged, one_at, step_judged, by_sign, nested, comma_judged, sized_shape, shape_allocation, one_element, counted_elements, size_shape, either_shape, two_sizes, other_allocation, product_judged, cleared_judged, count_of, called_name, for_name, memory_called, for_memory, judge, judge_arguments, judge_cast, judge_allocation, judge_bytes, judge_size, judge_type, judge_declarator, judge_parameters}
+use Rattle.p10_elabx.specs.Judging.{name_found, valued, operation_of, assignment_of, step_of, is_and, is_star, unary_found, unary_judged, unary_by_sign, may_be_place, place_of, address_judged, values_judged, truth_judged, binary_judged, conditional_judged, index_judged, member_judged, arrow_judged, size_judged, shape_size, type_size_judged, cast_found, is_void_shape, cast_judged, target_judged, assignment_judged, counts_as_read, counts_as_act, with_read, update_judged, one_at, step_judged, by_sign, nested, comma_judged, sized_shape, shape_allocation, one_element, counted_elements, size_shape, either_shape, two_sizes, other_allocation, product_judged, cleared_judged, count_of, called_name, for_name, memory_called, for_memory, judge, judge_arguments, judge_cast, judge_allocation, judge_bytes, judge_size, judge_type, judge_declarator, judge_parameters}
 use Rattle.p10_elabx.proofs.Firsts.{kept_lift, kept_on, kept_pair, kept_where, or_same, tied_plainly, tied_on_part, tied_on_parts, tied_also, unordered_same}
 
 -- a test of what is found
@@ -221,16 +221,16 @@ tied_specifiers s at all = record {
   reads = refl;
 }
 
-tied_word : {A : Type 0} (o : Option ℕ) (code : SubsetCode) (at : At) (j k : Judged A) → Tied A j k → Tied A (also_word every o code at j) (also_word only_first o code at k)
-tied_word None code at j k t = t
-tied_word (Some i) code at j k t = tied_also true true code (word_of at i) j k refl t
+tied_word : {A : Type 0} (o : Option At) (code : SubsetCode) (j k : Judged A) → Tied A j k → Tied A (also_word every o code j) (also_word only_first o code k)
+tied_word None code j k t = t
+tied_word (Some at) code j k t = tied_also true true code at j k refl t
 
-tied_pointer : (at name_at : At) (qualifiers : List Sign) (made : Made) (j k : Judged Shape) → Tied Shape j k →
+tied_pointer : (at name_at : At) (qualifiers : List (Qualifier At)) (made : Made) (j k : Judged Shape) → Tied Shape j k →
     Tied Shape (pointer_judged every at name_at qualifiers made j) (pointer_judged only_first at name_at qualifiers made k)
 unfolding pointer_judged
 tied_pointer at name_at qualifiers made j k t =
     tied_also (is_of_function made) (is_of_function made) subset.BadPointer at _ _ refl
-    (tied_word (other_word 1 qualifiers) subset.BadSpecifier at _ _ (tied_on_part j k (pointed at name_at qualifiers) t))
+    (tied_word (other_word qualifiers) subset.BadSpecifier _ _ (tied_on_part j k (pointed at name_at qualifiers) t))
 
 tied_array : (ss : List PlainStructure) (name_at : At) (made : Made) (i i' : Judged PlainValue) (j j' : Judged Shape) → Tied PlainValue i i' → Tied Shape j j' →
     Tied Shape (array_judged every ss name_at made i j) (array_judged only_first ss name_at made i' j')
@@ -250,11 +250,11 @@ tied_open_array ss name_at made j k t =
     tied_also (is_of_function made) (is_of_function made) subset.IncompleteType name_at _ _ refl
     (tied_on_part (on_part j (element ss name_at)) (on_part k (element ss name_at)) (λ t. Ok (an_open_array t)) (tied_on_part j k (element ss name_at) t))
 
-tied_function : (at name_at inner_at : At) (lacking : Bool) (made : Made) (f g : Found (List PlainType)) (j k : Judged Shape) → IsKept f g → Tied Shape j k →
-    Tied Shape (function_judged every at name_at inner_at lacking made f j) (function_judged only_first at name_at inner_at lacking made g k)
+tied_function : (at name_at parentheses : At) (lacking : Bool) (made : Made) (f g : Found (List PlainType)) (j k : Judged Shape) → IsKept f g → Tied Shape j k →
+    Tied Shape (function_judged every at name_at parentheses lacking made f j) (function_judged only_first at name_at parentheses lacking made g k)
 unfolding function_judged
-tied_function at name_at inner_at lacking made f g j k e t =
-    tied_also lacking lacking subset.NoPrototype (words_after inner_at at) _ _ refl
+tied_function at name_at parentheses lacking made f g j k e t =
+    tied_also lacking lacking subset.NoPrototype parentheses _ _ refl
     (tied_also (is_of_aggregate made) (is_of_aggregate made) subset.IncompleteType name_at _ _ refl
     (record {
       found = kept_on _ _ (λ (ts, t). Ok (a_function_type ts t)) (kept_pair f g _ _ e (kept_on j.found k.found (given_type at name_at) t.found));
@@ -357,7 +357,7 @@ nothing_tied = record { found = refl; acts = refl; reads = refl; unordered_is = 
 
 mutual
   pub tied : (s : PlainScope) (e : Expression At) → Tied PlainOperand (judge every s e) (judge only_first s e)
-  tied s (expression at n (Name text)) = tied_plainly (name_found at (within at n) text (named s text))
+  tied s (expression at n (Name x)) = tied_plainly (name_found at x.place x.name (named s x.name))
   tied s (expression at n (Number text)) = tied_plainly (number_found at text)
   tied s (expression at n (Character text)) = tied_plainly (character_found at text)
   tied s (expression at n (Strings texts)) = tied_plainly (strings_found at texts)
@@ -425,12 +425,12 @@ mutual
   tied_declarator s name_at made j k (Unnamed at) t = t
   tied_declarator s name_at made j k (Pointer at qualifiers d) t = tied_declarator s name_at around.Pointer _ _ d (tied_pointer at name_at qualifiers made j k t)
   tied_declarator s name_at made j k (Parenthesised at d) t = tied_declarator s name_at made j k d t
-  tied_declarator s name_at made j k (Array at d Absent) t = tied_declarator s name_at around.Array _ _ d (tied_open_array s.structures name_at made j k t)
-  tied_declarator s name_at made j k (Array at d (Present e)) t =
+  tied_declarator s name_at made j k (Array at d brackets Absent) t = tied_declarator s name_at around.Array _ _ d (tied_open_array s.structures name_at made j k t)
+  tied_declarator s name_at made j k (Array at d brackets (Present e)) t =
       tied_declarator s name_at around.Array _ _ d (tied_array s.structures name_at made _ _ j k (tied_value s.structures _ _ (tied s e)) t)
-  tied_declarator s name_at made j k (Function at d all dots) t =
+  tied_declarator s name_at made j k (Function at d parentheses all dots) t =
       tied_declarator s name_at around.Function _ _ d
-      (tied_function at name_at (declarator_place d) (lacks_prototype all dots) made _ _ j k (kept_parameters s (is_alone all) no_parameters no_parameters all refl) t)
+      (tied_function at name_at parentheses (lacks_prototype all dots) made _ _ j k (kept_parameters s (is_alone all) no_parameters no_parameters all refl) t)
 
   kept_parameters : (s : PlainScope) (alone : Bool) (f g : Found (List PlainType)) (all : Parameters At) → IsKept f g → IsKept (judge_parameters every s alone f all) (judge_parameters only_first s alone g all)
   kept_parameters s alone f g NoParameters e = e

@@ -1,5 +1,6 @@
 -- What the code finds, as the definitions speak of it.
 use Rattle.std.specs.Prelude.{false, Result, Ok, Err, Option, List, [], map, option_map, Vec}
+use Rattle.std.specs.Borrow.{Bor}
 use Rattle.std.specs.declared.alloc.Global.{Global}
 use Rattle.p10_core.specs.declared.typed.Value.{Value}
 use Rattle.p10_core.specs.declared.typed.Place.{Place}
@@ -81,6 +82,11 @@ ruled_shape (Err r) = Err r
 abbrev pub ruled_type : Result CType (Option Problem) → Ruled PlainType
 ruled_type (Ok t) = Ok (plain_type t)
 ruled_type (Err r) = Err r
+
+-- the same of a type that is lent
+abbrev pub ruled_lent : Result (Bor CType) (Option Problem) → Ruled PlainType
+ruled_lent (Ok t) = Ok (plain_type t.now)
+ruled_lent (Err r) = Err r
 
 -- a type of the code with its size
 abbrev pub plain_size : CType × Value → PlainType × PlainValue

@@ -1,5 +1,5 @@
 -- What is found in an expression: an operand with its types and conversions, or the rows that hold in it.
-use Rattle.std.specs.Prelude.{ℕ, ◌+◌, ◌-◌, min, pos, Bool, true, false, not, ◌||◌, Option, Some, None, option_map, Ok, Err, if◌then◌else◌, List, [], slice_get}
+use Rattle.std.specs.Prelude.{ℕ, ◌+◌, pos, Bool, true, false, not, ◌||◌, Option, Some, None, option_map, Ok, Err, if◌then◌else◌, List, [], slice_get}
 use Rattle.p10_base.specs.Words.{Text}
 use Rattle.p10_base.specs.declared.at.At.{At}
 use Rattle.p10_base.specs.declared.codes.SubsetCode.TheVariants as subset
@@ -42,11 +42,6 @@ variable_kind frame = if frame then place_kind.Frame else place_kind.Object
 -- the kind of an object of static lifetime
 abbrev pub object_kind : Bool → PlaceKind
 object_kind sensor = if sensor then place_kind.Sensor else place_kind.Object
-
--- the place of what stands in so many pairs of parentheses, which are part of a tree: trees keep no bytes of it, so those of the
--- tree stand for them
-abbrev pub within : At → ℕ → At
-within at n = record { first = min (at.first + n) at.past; past = at.past - n; span = at.span }
 
 -- a name that nothing declares: a library function, or unknown
 abbrev pub undeclared_name : At → Option Library → Ruled PlainOperand
@@ -135,7 +130,7 @@ is_star s = false
 
 -- whether a tree of this form can be a place, whatever its names stand for
 abbrev pub may_be_place : Expression At → Bool
-may_be_place (expression at n (Name text)) = true
+may_be_place (expression at n (Name name)) = true
 may_be_place (expression at n (Strings texts)) = true
 may_be_place (expression at n (Unary word e)) = is_star word
 may_be_place (expression at n (Index a i)) = true
@@ -368,7 +363,7 @@ count_of (MoreExpressions e rest) = count_of rest + 1
 
 -- the name that a tree is, whatever parentheses stand round it
 abbrev pub called_name : Expression At → Option (Identifier At)
-called_name (expression at n (Name text)) = Some (record { place = within at n; name = text })
+called_name (expression at n (Name name)) = Some name
 called_name e = None
 
 -- what is done with a call of a name, or with another one
@@ -395,7 +390,7 @@ for_memory (Some (f, name_at)) go other = go f name_at
 abbrev mutual
   -- what is found in an expression
   pub judge : Keep → PlainScope → Expression At → Judged PlainOperand
-  judge h s (expression at n (Name text)) = plainly (name_found at (within at n) text (named s text))
+  judge h s (expression at n (Name x)) = plainly (name_found at x.place x.name (named s x.name))
   judge h s (expression at n (Number text)) = plainly (number_found at text)
   judge h s (expression at n (Character text)) = plainly (character_found at text)
   judge h s (expression at n (Strings texts)) = plainly (strings_found at texts)
@@ -469,12 +464,12 @@ abbrev mutual
   judge_declarator h s name_at made j (Unnamed at) = j
   judge_declarator h s name_at made j (Pointer at qualifiers d) = judge_declarator h s name_at around.Pointer (pointer_judged h at name_at qualifiers made j) d
   judge_declarator h s name_at made j (Parenthesised at d) = judge_declarator h s name_at made j d
-  judge_declarator h s name_at made j (Array at d Absent) = judge_declarator h s name_at around.Array (open_array_judged h s.structures name_at made j) d
-  judge_declarator h s name_at made j (Array at d (Present e)) =
+  judge_declarator h s name_at made j (Array at d brackets Absent) = judge_declarator h s name_at around.Array (open_array_judged h s.structures name_at made j) d
+  judge_declarator h s name_at made j (Array at d brackets (Present e)) =
       judge_declarator h s name_at around.Array (array_judged h s.structures name_at made (as_value s.structures (judge h s e)) j) d
-  judge_declarator h s name_at made j (Function at d all dots) =
+  judge_declarator h s name_at made j (Function at d parentheses all dots) =
       judge_declarator h s name_at around.Function
-      (function_judged h at name_at (declarator_place d) (lacks_prototype all dots) made (judge_parameters h s (is_alone all) no_parameters all) j) d
+      (function_judged h at name_at parentheses (lacks_prototype all dots) made (judge_parameters h s (is_alone all) no_parameters all) j) d
 
   -- the types of parameters from the left, after those before
   pub judge_parameters : Keep → PlainScope → Bool → Found (List PlainType) → Parameters At → Found (List PlainType)

@@ -8,6 +8,7 @@ pub mod TypeNames
 pub mod Literals
 pub mod Judging
 pub mod Laws
+pub mod Wholeness
 pub mod Views
 pub mod PlainScopes
 pub mod Built

@@ -1,4 +1,5 @@
 -- Scopes of the code as the definitions speak of them.
+use Rattle.p10_bindings.specs.Bound.{bound_in}
 use Rattle.p10_core.specs.Views.{plain_types}
 use Rattle.p10_elabx.specs.declared.scope.Scope.{Scope}
 use Rattle.p10_elabx.specs.Scopes.{PlainScope}
@@ -6,4 +7,4 @@ use Rattle.p10_elabx.specs.Views.{bindings_of}
 
 -- what a scope of the code is
 abbrev pub plain_scope : Scope → PlainScope
-plain_scope s = record { structures = plain_types s.types; names = bindings_of s.names.entries.items; tags = bindings_of s.tags.entries.items; floors = s.floors.items }
+plain_scope s = record { structures = plain_types s.types; names = bindings_of (bound_in s.names); tags = bindings_of (bound_in s.tags); floors = s.floors.items }

@@ -1,5 +1,5 @@
 -- The types that specifiers and declarators name, as far as they declare nothing (C99 6.7.2, 6.7.3, 6.7.5, 6.7.6).
-use Rattle.std.specs.Prelude.{ℕ, ◌+◌, min, ℤ, pos, negsuc, Bool, true, false, not, ◌&&◌, ◌||◌, nat_eq, nat_le, Option, Some, None, is_some, Result, Ok, Err, if◌then◌else◌, List, [], ◌∷◌, ◌++◌}
+use Rattle.std.specs.Prelude.{ℕ, ◌+◌, ℤ, pos, negsuc, Bool, true, false, not, ◌&&◌, ◌||◌, nat_eq, nat_le, Option, Some, None, is_some, Result, Ok, Err, if◌then◌else◌, List, [], ◌∷◌, ◌++◌}
 use Rattle.p10_base.specs.Words.{span_to}
 use Rattle.p10_base.specs.declared.at.At.{At}
 use Rattle.p10_base.specs.declared.codes.SubsetCode.{SubsetCode}
@@ -17,10 +17,10 @@ use Rattle.p10_elabx.specs.declared.words.Words.{Words}
 use Rattle.p10_elabx.specs.declared.words.Said.{Said}
 use Rattle.p10_elabx.specs.declared.shape.Made.{Made}
 use Rattle.p10_elabx.specs.declared.shape.Made.TheVariants as around
-use Rattle.p10_elabx.specs.First.{Keep, Found, Ruled, refused, nothing_said, lift, Judged, pair, on, on_part, also, refused_where}
+use Rattle.p10_elabx.specs.First.{Keep, Found, Ruled, ruled, refused, nothing_said, lift, Judged, pair, on, on_part, also, refused_where}
 use Rattle.p10_elabx.specs.Operators.{has_size}
 use Rattle.p10_elabx.specs.Scopes.{Meaning, named_type, tagged_type, unknown_name, unknown_tag, PlainScope, named, tagged}
-use Rattle.p10_syn.specs.Trees.{Identifier, Specifiers, NoSpecifiers, MoreSpecifiers, Specifier, Keyword, Typedef, Structure, Enumeration, Declarator, Named, Unnamed, Pointer, Parenthesised, Array, Function, Parameters, NoParameters, MoreParameters, parameter}
+use Rattle.p10_syn.specs.Trees.{Identifier, Qualifier, Specifiers, NoSpecifiers, MoreSpecifiers, Specifier, Keyword, Typedef, Structure, Enumeration, Declarator, Named, Unnamed, Pointer, Parenthesised, Array, Function, Parameters, NoParameters, MoreParameters, parameter}
 
 -- what a declarator makes of a type: a type; an array of a type, whose length is lacking; or a function with the types of its
 -- parameters and its result
@@ -143,25 +143,35 @@ typedef_rule at (Some (named_type t)) = Ok (Some t)
 typedef_rule at (Some unknown_name) = nothing_said
 typedef_rule at what = refused subset.UnknownName at
 
--- the tag of a structure, after `struct` (C99 6.7.2.3)
-abbrev pub structure_rule : At → At → Option Meaning → Ruled (Option PlainType)
-structure_rule at name_at (Some (tagged_type (structure c n))) = Ok (Some (structure c n))
-structure_rule at name_at (Some (tagged_type t)) = refused subset.DefinedTwice name_at
-structure_rule at name_at (Some unknown_tag) = nothing_said
-structure_rule at name_at what = refused subset.UnknownName at
+-- the type that a tag names (C99 6.7.2.3); an unknown one is refused at a place that is given
+abbrev pub tag_found : At → Option Meaning → Ruled PlainType
+tag_found at (Some (tagged_type t)) = Ok t
+tag_found at (Some unknown_tag) = nothing_said
+tag_found at what = refused subset.UnknownName at
 
--- the tag of an enumeration, after `enum`; its type is `int`
+-- the type of a tag after `struct`
+abbrev pub structure_type : At → PlainType → Ruled (Option PlainType)
+structure_type name_at (structure c n) = Ok (Some (structure c n))
+structure_type name_at t = refused subset.DefinedTwice name_at
+
+-- the type of a tag after `enum`, which is `int`
+abbrev pub enumeration_type : At → PlainType → Ruled (Option PlainType)
+enumeration_type name_at (integer c i) = Ok (Some (integer c i))
+enumeration_type name_at t = refused subset.DefinedTwice name_at
+
+-- the tag of a structure, after `struct`
+abbrev pub structure_rule : At → Option Meaning → Ruled (Option PlainType)
+structure_rule name_at what = ruled (tag_found name_at what) (structure_type name_at)
+
+-- the tag of an enumeration, after `enum`: an unknown one is refused at the specifier
 abbrev pub enumeration_rule : At → At → Option Meaning → Ruled (Option PlainType)
-enumeration_rule at name_at (Some (tagged_type (integer c i))) = Ok (Some (integer c i))
-enumeration_rule at name_at (Some (tagged_type t)) = refused subset.DefinedTwice name_at
-enumeration_rule at name_at (Some unknown_tag) = nothing_said
-enumeration_rule at name_at what = refused subset.UnknownName at
+enumeration_rule at name_at what = ruled (tag_found at what) (enumeration_type name_at)
 
 -- `struct` with a tag, or `union`, which isn't in the subset
 abbrev pub tag_rule : At → Sign → PlainScope → Option (Identifier At) → Ruled (Option PlainType)
 tag_rule at sign.Union s tag = refused subset.UnionOrBitField at
 tag_rule at word s None = refused subset.BadSpecifier at
-tag_rule at word s (Some tag) = structure_rule at tag.place (tagged s tag.name)
+tag_rule at word s (Some tag) = structure_rule tag.place (tagged s tag.name)
 
 -- `enum` with a tag
 abbrev pub enum_rule : At → PlainScope → Option (Identifier At) → Ruled (Option PlainType)
@@ -232,22 +242,14 @@ specifiers_judged h s at specifiers =
 
 -- ## Places in declarators
 
--- word number i of a tree, counted from 0: trees keep no bytes of it, so those of the tree stand for them
-abbrev pub word_of : At → ℕ → At
-word_of at i = record { first = min (at.first + i) at.past; past = min (at.first + (i + 1)) at.past; span = at.span }
-
--- the words of a tree after those of a part with which it begins: the bytes are those of the tree
-abbrev pub words_after : At → At → At
-words_after part whole = record { first = part.past; past = whole.past; span = whole.span }
-
 -- the place of a declarator
 abbrev pub declarator_place : Declarator At → At
 declarator_place (Named name) = name.place
 declarator_place (Unnamed at) = at
 declarator_place (Pointer at qualifiers d) = at
 declarator_place (Parenthesised at d) = at
-declarator_place (Array at d length) = at
-declarator_place (Function at d _ _) = at
+declarator_place (Array at d brackets length) = at
+declarator_place (Function at d parentheses _ _) = at
 
 -- where an incomplete type is told: at the declared name; where nothing is named, at a tree that is given
 abbrev pub name_place : At → Declarator At → At
@@ -255,8 +257,8 @@ name_place otherwise (Named name) = name.place
 name_place otherwise (Unnamed at) = otherwise
 name_place otherwise (Pointer at qualifiers d) = name_place otherwise d
 name_place otherwise (Parenthesised at d) = name_place otherwise d
-name_place otherwise (Array at d length) = name_place otherwise d
-name_place otherwise (Function at d _ _) = name_place otherwise d
+name_place otherwise (Array at d brackets length) = name_place otherwise d
+name_place otherwise (Function at d parentheses _ _) = name_place otherwise d
 
 -- ## Declarators
 
@@ -266,19 +268,19 @@ is_const_word sign.Const = true
 is_const_word s = false
 
 -- whether `const` stands among the qualifiers of a pointer
-abbrev pub has_const_word : List Sign → Bool
+abbrev pub has_const_word : List (Qualifier At) → Bool
 has_const_word [] = false
-has_const_word (s ∷ rest) = is_const_word s || has_const_word rest
+has_const_word (q ∷ rest) = is_const_word q.word || has_const_word rest
 
--- the number of the first qualifier that isn't `const`, counted from the number of the first one
-abbrev pub other_word : ℕ → List Sign → Option ℕ
-other_word i [] = None
-other_word i (s ∷ rest) = if is_const_word s then other_word (i + 1) rest else Some i
+-- where the first qualifier stands that isn't `const`
+abbrev pub other_word : List (Qualifier At) → Option At
+other_word [] = None
+other_word (q ∷ rest) = if is_const_word q.word then other_word rest else Some q.place
 
 -- a row on a word that may be there
-abbrev pub also_word : {A : Type 0} → Keep → Option ℕ → SubsetCode → At → Judged A → Judged A
-also_word h None code at j = j
-also_word h (Some i) code at j = also h true code (word_of at i) j
+abbrev pub also_word : {A : Type 0} → Keep → Option At → SubsetCode → Judged A → Judged A
+also_word h None code j = j
+also_word h (Some at) code j = also h true code at j
 
 -- whether a function stands round
 abbrev pub is_of_function : Made → Bool
@@ -292,16 +294,16 @@ is_of_aggregate around.Array = true
 is_of_aggregate made = false
 
 -- a pointer to a type: not to `void`, nor to a function; one to an array without a length has no type here (C99 6.7.5.1)
-abbrev pub pointed : At → At → List Sign → Shape → Ruled Shape
+abbrev pub pointed : At → At → List (Qualifier At) → Shape → Ruled Shape
 pointed at name_at qualifiers (a_type t) = if is_void t then refused subset.BadPointer at else Ok (a_type (pointer (has_const_word qualifiers) t))
 pointed at name_at qualifiers (an_open_array t) = refused subset.IncompleteType name_at
 pointed at name_at qualifiers (a_function_type parameters t) = refused subset.BadPointer at
 
 -- a pointer: not to a function, which is a row on the form, and `const` is its only qualifier
-unfoldable pub pointer_judged : Keep → At → At → List Sign → Made → Judged Shape → Judged Shape
+unfoldable pub pointer_judged : Keep → At → At → List (Qualifier At) → Made → Judged Shape → Judged Shape
 pointer_judged h at name_at qualifiers made j =
     also h (is_of_function made) subset.BadPointer at
-    (also_word h (other_word 1 qualifiers) subset.BadSpecifier at (on_part j (pointed at name_at qualifiers)))
+    (also_word h (other_word qualifiers) subset.BadSpecifier (on_part j (pointed at name_at qualifiers)))
 
 -- an element of an array has a size (C99 6.7.5.2p1)
 abbrev pub element : List PlainStructure → At → Shape → Ruled PlainType
@@ -309,13 +311,22 @@ element structures name_at (a_type t) = if is_complete structures t then Ok t el
 element structures name_at (an_open_array t) = refused subset.IncompleteType name_at
 element structures name_at (a_function_type parameters t) = refused subset.IncompleteType name_at
 
--- a length from 1 on, of an array that isn't larger than a type may be
-abbrev pub sized_array : List PlainStructure → At → PlainType → ℤ → Ruled Shape
-sized_array structures at t (pos n) =
-    if (nat_le 1 n && nat_le n most_bytes) && has_size structures (array false t n) then Ok (a_type (array false t n)) else refused subset.BadLength at
-sized_array structures at t (negsuc n) = refused subset.BadLength at
+-- the length of an array, from 1 on: each element has a byte at least
+abbrev pub array_length : ℤ → Option ℕ
+array_length (pos n) = if nat_le 1 n && nat_le n most_bytes then Some n else None
+array_length (negsuc n) = None
 
--- a length that is a constant expression (C99 6.7.5.2p1): the first part that isn't constant refuses it as no length
+-- so many elements, of an array that isn't larger than a type may be
+abbrev pub counted_array : List PlainStructure → At → PlainType → Option ℕ → Ruled Shape
+counted_array structures at t None = refused subset.BadLength at
+counted_array structures at t (Some n) =
+    if has_size structures (array false t n) then Ok (a_type (array false t n)) else refused subset.BadLength at
+
+-- an array of this length
+abbrev pub sized_array : List PlainStructure → At → PlainType → ℤ → Ruled Shape
+sized_array structures at t z = counted_array structures at t (array_length z)
+
+-- a length that is a constant expression (C99 6.7.5.2p1): a part that stops refuses it at that part
 abbrev pub folded_length : List PlainStructure → At → PlainType → Result ℤ At → Ruled Shape
 folded_length structures at t (Ok z) = sized_array structures at t z
 folded_length structures at t (Err part) = refused subset.ConstantStops part
@@ -394,8 +405,8 @@ made_by made (Named name) = made
 made_by made (Unnamed at) = made
 made_by made (Pointer at qualifiers d) = made_by around.Pointer d
 made_by made (Parenthesised at d) = made_by made d
-made_by made (Array at d length) = made_by around.Array d
-made_by made (Function at d _ _) = made_by around.Function d
+made_by made (Array at d brackets length) = made_by around.Array d
+made_by made (Function at d parentheses _ _) = made_by around.Function d
 
 -- a parameter: that it is a function is a row on the form
 unfoldable pub parameter_judged : Keep → Bool → At → Declarator At → Judged Shape → Found (Option PlainType)
@@ -419,8 +430,8 @@ lacks_prototype (MoreParameters p rest) dots = dots
 
 -- a function with its parameters: that it has a prototype, and gives neither a function nor an array, are rows on the form
 unfoldable pub function_judged : Keep → At → At → At → Bool → Made → Found (List PlainType) → Judged Shape → Judged Shape
-function_judged h at name_at inner_at lacking made parameters j =
-    also h lacking subset.NoPrototype (words_after inner_at at) (also h (is_of_aggregate made) subset.IncompleteType name_at (record {
+function_judged h at name_at parentheses lacking made parameters j =
+    also h lacking subset.NoPrototype parentheses (also h (is_of_aggregate made) subset.IncompleteType name_at (record {
       found = on (pair h parameters (on j.found (given_type at name_at))) (λ (ts, t). Ok (a_function_type ts t));
       acts = false;
       reads = false;

@@ -1,3 +1,3 @@
 -- The definitions that only the contracts of private functions cite.
-pub mod Bound
 pub mod Counted
+pub mod Updating

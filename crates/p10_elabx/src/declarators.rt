@@ -1,44 +1,20 @@
 //! What declarators make of types (C99 6.7.5).
 
-ghost use Rattle.std.specs.Prelude.{◌≡◌, IfOk};
+ghost use Rattle.std.specs.Prelude.{◌≡◌, IfOk, map};
 ghost use Rattle.p10_core.specs.Types.{plain_type};
-ghost use Rattle.p10_core.specs.Views.{plain_types};
-ghost use Rattle.p10_syn.specs.Built.{declarator_of};
-ghost use Rattle.p10_elabx.specs.TypeNames.{word_of, words_after, declarator_place, name_place, made_by, is_const_word, has_const_word, other_word, is_of_function, is_of_aggregate, pointed, element};
-ghost use Rattle.p10_elabx.specs.Built.{ruled_shape, ruled_type, plain_shape};
+ghost use Rattle.p10_base.specs.declared.codes.SubsetCode.TheVariants as subset;
+ghost use Rattle.p10_syn.specs.Built.{declarator_of, qualifier_of};
+ghost use Rattle.p10_elabx.specs.TypeNames.{declarator_place, name_place, made_by, is_const_word, has_const_word, other_word, is_of_function, is_of_aggregate, pointed, pointer_judged, also_word};
+ghost use Rattle.p10_elabx.specs.First.{only_first, on, lift};
+ghost use Rattle.p10_elabx.specs.Built.{ruled_shape, judged_shape, plain_shape};
 
+use crate::judged::shape_refused;
 use crate::problem::Problem;
 use crate::shape::{Made, Shape};
 use p10_base::{At, SubsetCode};
-use p10_core::{CType, TypeForm, Types};
-use p10_syn::{Declarator, Sign};
+use p10_core::{CType, TypeForm};
+use p10_syn::{Declarator, Qualifier, Sign};
 use std::alloc::{AllocError, Global};
-
-/// A word of a tree, counted from 0.
-fn word_of(at: At, i: usize) -> At
-    ensures { result ≡ word_of at i }
-{
-    let past = at.past as usize;
-    let start = (at.first as usize).saturating_add(i);
-    let first = start.min(past);
-    let after = start.saturating_add(1).min(past);
-    At {
-        first: first as u32,
-        past: after as u32,
-        span: at.span,
-    }
-}
-
-/// The words of a tree after those of a part with which it begins.
-pub fn words_after(part: At, whole: At) -> At
-    ensures { result ≡ words_after part whole }
-{
-    At {
-        first: part.past,
-        past: whole.past,
-        span: whole.span,
-    }
-}
 
 /// The place of a declarator.
 pub fn declarator_place(d: &Declarator<'_>) -> At
@@ -49,8 +25,8 @@ pub fn declarator_place(d: &Declarator<'_>) -> At
         Declarator::Unnamed(at) => *at,
         Declarator::Pointer(at, _, _) => *at,
         Declarator::Parenthesised(at, _) => *at,
-        Declarator::Array(at, _, _) => *at,
-        Declarator::Function(at, _, _, _) => *at,
+        Declarator::Array(at, _, _, _) => *at,
+        Declarator::Function(at, _, _, _, _) => *at,
     }
 }
 
@@ -63,8 +39,8 @@ pub fn name_place(otherwise: At, d: &Declarator<'_>) -> At
         Declarator::Unnamed(_) => otherwise,
         Declarator::Pointer(_, _, inner) => name_place(otherwise, inner),
         Declarator::Parenthesised(_, inner) => name_place(otherwise, inner),
-        Declarator::Array(_, inner, _) => name_place(otherwise, inner),
-        Declarator::Function(_, inner, _, _) => name_place(otherwise, inner),
+        Declarator::Array(_, inner, _, _) => name_place(otherwise, inner),
+        Declarator::Function(_, inner, _, _, _) => name_place(otherwise, inner),
     }
 }
 
@@ -76,8 +52,8 @@ pub fn made_by(made: Made, d: &Declarator<'_>) -> Made
         Declarator::Named(_) | Declarator::Unnamed(_) => made,
         Declarator::Pointer(_, _, inner) => made_by(Made::Pointer, inner),
         Declarator::Parenthesised(_, inner) => made_by(made, inner),
-        Declarator::Array(_, inner, _) => made_by(Made::Array, inner),
-        Declarator::Function(_, inner, _, _) => made_by(Made::Function, inner),
+        Declarator::Array(_, inner, _, _) => made_by(Made::Array, inner),
+        Declarator::Function(_, inner, _, _, _) => made_by(Made::Function, inner),
     }
 }
 
@@ -89,24 +65,24 @@ fn is_const_word(sign: Sign) -> bool
 }
 
 /// Whether `const` stands among the qualifiers of a pointer.
-fn has_const_word(qualifiers: &[Sign]) -> bool
-    ensures { result ≡ has_const_word qualifiers.now }
+pub fn has_const_word(qualifiers: &[Qualifier]) -> bool
+    ensures { result ≡ has_const_word (map qualifier_of qualifiers.now) }
 {
     for qualifier in qualifiers {
-        if is_const_word(*qualifier) {
+        if is_const_word(qualifier.sign) {
             return true;
         }
     }
     false
 }
 
-/// The number of the first qualifier of a pointer that isn't `const`; that of the first one is 1.
-fn other_word(qualifiers: &[Sign]) -> Option<usize>
-    ensures { result ≡ other_word 1 qualifiers.now }
+/// Where the first qualifier of a pointer stands that isn't `const`.
+pub fn other_word(qualifiers: &[Qualifier]) -> Option<At>
+    ensures { result ≡ other_word (map qualifier_of qualifiers.now) }
 {
-    for (i, qualifier) in qualifiers.iter().enumerate() {
-        if !is_const_word(*qualifier) {
-            return Some(i + 1);
+    for qualifier in qualifiers {
+        if !is_const_word(qualifier.sign) {
+            return Some(qualifier.at);
         }
     }
     None
@@ -131,10 +107,10 @@ fn pointed(
     alloc: Global,
     at: At,
     name_at: At,
-    qualifiers: &[Sign],
+    qualifiers: &[Qualifier],
     shape: Shape,
 ) -> Result<Result<Shape, Option<Problem>>, AllocError>
-    ensures { IfOk result (λ r. ruled_shape r ≡ pointed at name_at qualifiers.now (plain_shape shape)) }
+    ensures { IfOk result (λ r. ruled_shape r ≡ pointed at name_at (map qualifier_of qualifiers.now) (plain_shape shape)) }
 {
     match shape {
         Shape::Plain(ty) => {
@@ -162,22 +138,61 @@ fn pointed(
     }
 }
 
-/// The element of an array.
-fn element(types: &Types<'_>, name_at: At, shape: Shape) -> Result<CType, Option<Problem>>
-    ensures { ruled_type result ≡ element (plain_types types.now) name_at (plain_shape shape) }
+/// A pointer, if its type is found.
+fn pointer_found(
+    alloc: Global,
+    at: At,
+    name_at: At,
+    qualifiers: &[Qualifier],
+    found: Result<Shape, Option<Problem>>,
+) -> Result<Result<Shape, Option<Problem>>, AllocError>
+    ensures { IfOk result (λ r. lift (ruled_shape r) ≡ on (lift (ruled_shape found)) (pointed at name_at (map qualifier_of qualifiers.now))) }
 {
-    let own = Problem {
-        code: SubsetCode::IncompleteType,
-        at: name_at,
-    };
-    match shape {
-        Shape::Plain(ty) => {
-            if types.is_complete(&ty) {
-                Ok(ty)
-            } else {
-                Err(Some(own))
-            }
+    match found {
+        Ok(shape) => {
+            let found = pointed(alloc, at, name_at, qualifiers, shape)?;
+            Ok(found)
         }
-        Shape::OpenArray(_) | Shape::Function(_, _) => Err(Some(own)),
+        Err(r) => Ok(Err(r)),
+    }
+}
+
+/// What is found in a pointer.
+#[tactic(auto, unfolding(crate::specs::TypeNames::pointer_judged))]
+pub fn pointer_judged(
+    alloc: Global,
+    at: At,
+    name_at: At,
+    qualifiers: &[Qualifier],
+    made: Made,
+    found: Result<Shape, Option<Problem>>,
+) -> Result<Result<Shape, Option<Problem>>, AllocError>
+    ensures { IfOk result (λ r. judged_shape r ≡ pointer_judged only_first at name_at (map qualifier_of qualifiers.now) made (judged_shape found)) }
+{
+    let found = pointer_found(alloc, at, name_at, qualifiers, found)?;
+    let found = word_refused(other_word(qualifiers), found);
+    let own = Problem {
+        code: SubsetCode::BadPointer,
+        at,
+    };
+    Ok(shape_refused(is_of_function(made), own, found))
+}
+
+/// A type, where a word of its declarator may be refused.
+fn word_refused(
+    word: Option<At>,
+    found: Result<Shape, Option<Problem>>,
+) -> Result<Shape, Option<Problem>>
+    ensures { judged_shape result ≡ also_word only_first word subset.BadSpecifier (judged_shape found) }
+{
+    match word {
+        None => found,
+        Some(at) => {
+            let own = Problem {
+                code: SubsetCode::BadSpecifier,
+                at,
+            };
+            shape_refused(true, own, found)
+        }
     }
 }

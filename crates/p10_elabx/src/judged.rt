@@ -1,10 +1,14 @@
 //! What is found in trees, with what counts for the order of evaluation (C99 6.5p3).
 
 ghost use Rattle.std.specs.Prelude.{◌≡◌, ◌&&◌, ◌||◌, [], ◌∷◌, if◌then◌else◌};
-ghost use Rattle.p10_elabx.specs.First.{only_first, problems, joined};
+ghost use Rattle.p10_elabx.specs.First.{only_first, problems, joined, also, refused_where, lift};
+ghost use Rattle.p10_elabx.specs.Built.{judged_operand, judged_target, judged_form, ruled_operand, ruled_target, ruled_form, ruled_shape};
 
+use crate::operand::{Operand, PlaceKind};
 use crate::problem::{Problem, least};
-use p10_core::Value;
+use crate::shape::Shape;
+use p10_base::{At, SubsetCode};
+use p10_core::{Place, StmtForm, Value};
 
 /// What is found in a tree: something, or the first row of the subset that holds in it, or neither where a part names what was
 /// refused before. The flags also count where the tree is refused.
@@ -50,4 +54,101 @@ pub fn unordered<A, B>(a: &Judged<A>, b: &Judged<B>) -> bool
     ensures { result ≡ ((a.now.acts && (b.now.acts || b.now.reads)) || ((a.now.acts || a.now.reads) && b.now.acts)) }
 {
     (a.acts && (b.acts || b.reads)) || ((a.acts || a.reads) && b.acts)
+}
+
+/// A row on the form of an operand.
+pub fn also_operand(holds: bool, code: SubsetCode, at: At, j: Judged<Operand>) -> Judged<Operand>
+    ensures { judged_operand result ≡ also only_first holds code at (judged_operand j) }
+{
+    let Judged { found, acts, reads } = j;
+    Judged {
+        found: operand_refused(holds, Problem { code, at }, found),
+        acts,
+        reads,
+    }
+}
+
+/// An operand, where a row on its form may hold.
+fn operand_refused(
+    holds: bool,
+    own: Problem,
+    found: Result<Operand, Option<Problem>>,
+) -> Result<Operand, Option<Problem>>
+    ensures { lift (ruled_operand result) ≡ refused_where only_first holds own.code own.at (lift (ruled_operand found)) }
+{
+    match found {
+        Ok(operand) => { if holds { Err(Some(own)) } else { Ok(operand) } }
+        Err(r) => Err(refusal(holds, own, r)),
+    }
+}
+
+/// A row on the form of a target.
+pub fn also_target(
+    holds: bool,
+    code: SubsetCode,
+    at: At,
+    j: Judged<(PlaceKind, Place)>,
+) -> Judged<(PlaceKind, Place)>
+    ensures { judged_target result ≡ also only_first holds code at (judged_target j) }
+{
+    let Judged { found, acts, reads } = j;
+    Judged {
+        found: target_refused(holds, Problem { code, at }, found),
+        acts,
+        reads,
+    }
+}
+
+/// A target, where a row on its form may hold.
+fn target_refused(
+    holds: bool,
+    own: Problem,
+    found: Result<(PlaceKind, Place), Option<Problem>>,
+) -> Result<(PlaceKind, Place), Option<Problem>>
+    ensures { lift (ruled_target result) ≡ refused_where only_first holds own.code own.at (lift (ruled_target found)) }
+{
+    match found {
+        Ok(target) => { if holds { Err(Some(own)) } else { Ok(target) } }
+        Err(r) => Err(refusal(holds, own, r)),
+    }
+}
+
+/// A row on the form of an assignment.
+pub fn also_form(holds: bool, code: SubsetCode, at: At, j: Judged<StmtForm>) -> Judged<StmtForm>
+    ensures { judged_form result ≡ also only_first holds code at (judged_form j) }
+{
+    let Judged { found, acts, reads } = j;
+    Judged {
+        found: form_refused(holds, Problem { code, at }, found),
+        acts,
+        reads,
+    }
+}
+
+/// An assignment, where a row on its form may hold.
+fn form_refused(
+    holds: bool,
+    own: Problem,
+    found: Result<StmtForm, Option<Problem>>,
+) -> Result<StmtForm, Option<Problem>>
+    ensures { lift (ruled_form result) ≡ refused_where only_first holds own.code own.at (lift (ruled_form found)) }
+{
+    match found {
+        Ok(form) => { if holds { Err(Some(own)) } else { Ok(form) } }
+        Err(r) => Err(refusal(holds, own, r)),
+    }
+}
+
+/// A type, where a row on its form may hold.
+pub fn shape_refused(
+    holds: bool,
+    own: Problem,
+    found: Result<Shape, Option<Problem>>,
+) -> Result<Shape, Option<Problem>>
+    ensures { lift (ruled_shape result) ≡ refused_where only_first holds own.code own.at (lift (ruled_shape found)) }
+{
+    match found {
+        Ok(shape) => { if holds { Err(Some(own)) } else { Ok(shape) } }
+        Err(r) => Err(refusal(holds, own, r)),
+    }
 }

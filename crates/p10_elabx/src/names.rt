@@ -4,7 +4,7 @@ ghost use Rattle.std.specs.Prelude.{◌≡◌, IfOk, option_map, option_copied};
 ghost use Rattle.p10_core.specs.Types.{plain_type};
 ghost use Rattle.p10_elabx.specs.Scopes.{library_named};
 ghost use Rattle.p10_elabx.specs.Views.{meaning_of};
-ghost use Rattle.p10_elabx.specs.Judging.{within, variable_kind, object_kind, undeclared_name, name_found, called_name};
+ghost use Rattle.p10_elabx.specs.Judging.{variable_kind, object_kind, undeclared_name, name_found, called_name};
 ghost use Rattle.p10_syn.specs.Built.{identifier_of, expression_of};
 ghost use Rattle.p10_elabx.specs.Built.{ruled_operand};
 
@@ -16,21 +16,6 @@ use p10_core::{CType, Library, Place, Value};
 use p10_int::IntType;
 use p10_syn::{Expr, Form, Identifier};
 use std::alloc::{AllocError, Global};
-
-/// The place of what stands in so many pairs of parentheses, which are part of a tree.
-pub fn within(at: At, pairs: usize) -> At
-    ensures { result ≡ within at pairs }
-{
-    let first = (at.first as usize)
-        .saturating_add(pairs)
-        .min(at.past as usize);
-    let past = (at.past as usize).saturating_sub(pairs);
-    At {
-        first: first as u32,
-        past: past as u32,
-        span: at.span,
-    }
-}
 
 /// The library function with a name.
 pub fn library_named(name: &[u8]) -> Option<Library>
@@ -135,10 +120,7 @@ pub fn called_name<'s>(e: &Expr<'s>) -> Option<Identifier<'s>>
     ensures { option_map identifier_of result ≡ called_name (expression_of e.now) }
 {
     match &e.form {
-        Form::Name(text) => Some(Identifier {
-            at: within(e.at, e.parens),
-            text,
-        }),
+        Form::Name(name) => Some(*name),
         _ => None,
     }
 }

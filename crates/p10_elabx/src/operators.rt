@@ -5,11 +5,14 @@ ghost use Rattle.p10_core.specs.Types.{plain_type};
 ghost use Rattle.p10_core.specs.Views.{plain_types, plain_value};
 ghost use Rattle.p10_core.specs.Rows.{is_pointer};
 ghost use Rattle.p10_core.specs.Constants.{is_null};
-ghost use Rattle.p10_elabx.specs.Operators.{unary_by, unary_value, binary_by, binary_value, logic_value, conditional_by, conditional_value, fitted, cast_value};
-ghost use Rattle.p10_elabx.specs.Built.{plain_row, plain_unary_row, ruled_value};
+ghost use Rattle.p10_core.specs.WholePrograms.{AreWholeStructures};
+ghost use Rattle.p10_elabx.specs.Operators.{unary_by, unary_value, binary_by, binary_value, logic_value, conditional_by, conditional_value, fitted, cast_value, size_value};
+ghost use Rattle.p10_elabx.specs.Built.{plain_row, plain_unary_row, ruled_value, ruled_operand};
 
+use crate::operand::Operand;
 use crate::problem::Problem;
 use crate::rows::{Row, UnaryRow, binary_row, conditional_row, fits, may_cast, unary_row};
+use crate::sizes::known_size;
 use crate::values::converted;
 use p10_base::{At, SubsetCode};
 use p10_core::{CType, LogicOp, Types, Value, is_null};
@@ -206,5 +209,23 @@ pub fn cast_value(
             code: SubsetCode::BadCast,
             at,
         })))
+    }
+}
+
+/// The size of a type as a constant.
+pub fn size_value(types: &Types<'_>, at: At, ty: &CType) -> Result<Operand, Option<Problem>>
+    requires { AreWholeStructures (plain_types types.now) }
+    ensures { ruled_operand result ≡ size_value (plain_types types.now) at (plain_type ty.now) }
+{
+    match known_size(types, ty) {
+        Some(size) => Ok(Operand::Value(Value::constant(
+            at,
+            CType::integer(IntType::ULong),
+            i128::from(size),
+        ))),
+        None => Err(Some(Problem {
+            code: SubsetCode::NoSize,
+            at,
+        })),
     }
 }

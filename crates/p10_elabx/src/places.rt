@@ -6,10 +6,11 @@ ghost use Rattle.p10_core.specs.Views.{plain_types, plain_value, plain_place};
 ghost use Rattle.p10_core.specs.Rows.{mark_of};
 ghost use Rattle.p10_core.specs.WholePrograms.{AreWholeStructures};
 ghost use Rattle.p10_int.specs.Types.{promoted};
-ghost use Rattle.p10_elabx.specs.Operators.{dereferenced, indexed, element_of, promoted_value, member_there, member_by, member_in, member_found, arrow_found, address_found, target_found};
+ghost use Rattle.p10_elabx.specs.Operators.{dereferenced, indexed, element_of, promoted_value, member_there, member_by, member_in, member_found, arrow_found, operand_size, address_found, target_found};
 ghost use Rattle.p10_elabx.specs.Built.{plain_operand, ruled_operand, ruled_target};
 
 use crate::operand::{Operand, PlaceKind};
+use crate::operators::size_value;
 use crate::problem::Problem;
 use crate::rows::pointer_to;
 use crate::values::converted;
@@ -325,5 +326,20 @@ pub fn qualified(alloc: Global, mark: bool, ty: &CType) -> Result<CType, AllocEr
                 form,
             })
         }
+    }
+}
+
+/// `sizeof` of an operand.
+pub fn operand_size(types: &Types<'_>, at: At, operand: Operand) -> Result<Operand, Option<Problem>>
+    requires { AreWholeStructures (plain_types types.now) }
+    ensures { ruled_operand result ≡ operand_size (plain_types types.now) at (plain_operand operand) }
+{
+    match operand {
+        Operand::Value(v) => size_value(types, at, &v.ty),
+        Operand::Place(_, p) => size_value(types, at, &p.ty),
+        Operand::Function(_) => Err(Some(Problem {
+            code: SubsetCode::NoSize,
+            at,
+        })),
     }
 }

@@ -1,7 +1,7 @@
 //! Scopes: what names stand for in the blocks that are open (C99 6.2.1).
 
-use crate::bindings::Bindings;
 use crate::named::Named;
+use p10_bindings::Bindings;
 use p10_core::Types;
 use std::alloc::{AllocError, Global};
 
@@ -11,12 +11,13 @@ use std::alloc::{AllocError, Global};
 pub struct Scope<'s> {
     /// The structures that are declared.
     pub types: Types<'s>,
-    names: Bindings<'s>,
-    tags: Bindings<'s>,
+    names: Bindings<'s, Named>,
+    tags: Bindings<'s, Named>,
     /// How many names and tags stood where each block inside the outermost one was opened.
     floors: Vec<(usize, usize)>,
 }
 
+#[tactic(auto, using(crate::proofs::Bound::found_is, crate::proofs::Bound::as_many, crate::proofs::Bound::kept_are, crate::proofs::Bound::one_more))]
 impl<'s> Scope<'s> {
     ghost use Rattle.std.specs.Prelude.{◌≡◌, ◌<◌, length, option_map, option_copied, OnOk, OnErr};
     ghost use Rattle.p10_elabx.specs.Scopes.{empty_scope, entered, left, declared, named, tagged};

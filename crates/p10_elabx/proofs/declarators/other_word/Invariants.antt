@@ -1,6 +1,8 @@
-use Rattle.std.proofs.Common.{◌≡◌, ◌+◌, drop}
+use Rattle.std.specs.Prelude.{map}
+use Rattle.std.proofs.Common.{◌≡◌, drop}
+use Rattle.p10_syn.specs.Built.{qualifier_of}
 use Rattle.p10_elabx.specs.TypeNames.{other_word}
 use Rattle.p10_elabx.proofs.declarators.other_word.Given as goal
 
-abbrev pub invariant-loop-i : goal.invariant-loop-i
-invariant-loop-i l = other_word (l.i + 1) (drop l.i l.qualifiers) ≡ other_word 1 l.qualifiers
+abbrev pub invariant-loop-qualifier : goal.invariant-loop-qualifier
+invariant-loop-qualifier l = other_word (map qualifier_of (drop l.qualifier-index l.qualifiers)) ≡ other_word (map qualifier_of l.qualifiers)
