@@ -6,7 +6,7 @@ use Rattle.p10_base.specs.declared.codes.SubsetCode.TheVariants as subset
 use Rattle.p10_syn.specs.Trees.{Identifier}
 use Rattle.p10_elabx.specs.First.{Keep}
 use Rattle.p10_elabx.specs.Scopes.{Meaning, PlainScope, last_named, last_floor, declared, library_named}
-use Rattle.p10_elabd.specs.Standing.{Standing, refusing}
+use Rattle.p10_elabd.specs.Standing.{PlainStanding, refusing}
 
 -- what a name stands for that is declared in the innermost block
 abbrev pub named_here : PlainScope → Text → Option Meaning
@@ -30,9 +30,9 @@ abbrev pub is_taken : PlainScope → Text → Bool
 is_taken s name = if is_some (named_here s name) then true else (if is_outermost s then is_some (library_named name) else false)
 
 -- what stands where a name stands for something more
-abbrev pub with_name : Standing → Text → Meaning → Standing
+abbrev pub with_name : PlainStanding → Text → Meaning → PlainStanding
 with_name s name what = record s { scope = declared s.scope name what }
 
 -- a name is declared that may be declared once
-abbrev pub declaring : Keep → Identifier At → Meaning → Standing → Standing
+abbrev pub declaring : Keep → Identifier At → Meaning → PlainStanding → PlainStanding
 declaring h name what s = with_name (refusing h (is_taken s.scope name.name) subset.DefinedTwice name.place s) name.name what

@@ -9,19 +9,19 @@ use Rattle.p10_core.specs.Constants.{inconstant_part, fold}
 use Rattle.p10_elabx.specs.First.{Keep, Found, Ruled, refused, on}
 use Rattle.p10_elabx.specs.Operands.{as_value}
 use Rattle.p10_elabx.specs.Judging.{judge}
-use Rattle.p10_elabd.specs.Standing.{Standing, Passed, noted}
+use Rattle.p10_elabd.specs.Standing.{PlainStanding, Passed, noted}
 use Rattle.p10_elabd.specs.Tags.{scope_of_expression}
 
 -- what stands after the tags of an expression are declared
-abbrev pub for_expression : Standing → Expression At → Standing
+abbrev pub for_expression : PlainStanding → Expression At → PlainStanding
 for_expression s e = record s { scope = scope_of_expression s.scope e }
 
 -- what is found in an expression where a value is needed
-abbrev pub value_found : Keep → Standing → Expression At → Found PlainValue
-value_found h s e = let t : Standing = for_expression s e in (as_value t.scope.structures (judge h t.scope e)).found
+abbrev pub value_found : Keep → PlainStanding → Expression At → Found PlainValue
+value_found h s e = let t : PlainStanding = for_expression s e in (as_value t.scope.structures (judge h t.scope e)).found
 
 -- a value, of which a row asks more
-abbrev pub value_by : {A : Type 0} → Keep → Standing → Expression At → (PlainValue → Ruled A) → Passed A
+abbrev pub value_by : {A : Type 0} → Keep → PlainStanding → Expression At → (PlainValue → Ruled A) → Passed A
 value_by h s e go = noted h (on (value_found h s e) go) (for_expression s e)
 
 -- what an integer constant expression gives, or the part that stops

@@ -13,21 +13,18 @@ use Rattle.p10_elabx.specs.First.{Keep, Ruled, ruled, refused}
 use Rattle.p10_elabx.specs.Operands.{converted}
 use Rattle.p10_elabx.specs.Operators.{fitted}
 use Rattle.p10_elabx.specs.Literals.{strings_value}
-use Rattle.p10_elabd.specs.Standing.{Standing, Passed, passed, nothing_made, refusing}
+use Rattle.p10_elabd.specs.declared.lifetime.Lifetime.{Lifetime}
+use Rattle.p10_elabd.specs.declared.lifetime.Lifetime.TheVariants as life_is
+use Rattle.p10_elabd.specs.Standing.{PlainStanding, Passed, passed, nothing_made, refusing}
 use Rattle.p10_elabd.specs.Expressions.{value_by}
 use Rattle.p10_elabd.specs.StaticValues.{static_value}
-
--- the lifetime of what is initialised: that of an object of static lifetime asks for constants
-pub data Lifetime : Type 0 where
-  automatic : Lifetime
-  static : Lifetime
 
 -- ## Values
 
 -- a value for an object of a lifetime
 abbrev pub living : Lifetime → PlainValue → Ruled PlainValue
-living automatic v = Ok v
-living static v = static_value v
+living life_is.Automatic v = Ok v
+living life_is.Static v = static_value v
 
 -- a value for a scalar of a type
 abbrev pub scalar_value : Lifetime → PlainType → PlainValue → Ruled PlainValue
@@ -35,8 +32,8 @@ scalar_value life t v = ruled (fitted (at_of v) v t) (living life)
 
 -- the copy of a structure, which is no constant
 abbrev pub copied_value : Lifetime → PlainType → PlainValue → Ruled PlainInitializer
-copied_value automatic t (value at u (read q)) = if same (unqualified t) u then Ok (copied q) else refused subset.TypesDiffer at
-copied_value static t (value at u (read q)) = if same (unqualified t) u then refused subset.NotConstant at else refused subset.TypesDiffer at
+copied_value life_is.Automatic t (value at u (read q)) = if same (unqualified t) u then Ok (copied q) else refused subset.TypesDiffer at
+copied_value life_is.Static t (value at u (read q)) = if same (unqualified t) u then refused subset.NotConstant at else refused subset.TypesDiffer at
 copied_value life t v = refused subset.TypesDiffer (at_of v)
 
 -- ## Strings
@@ -103,18 +100,18 @@ zero_item at scalar None = None
 zero_item at scalar (Some t) = Some (record { scalar = scalar; written = one_scalar (converted (value at int_type (constant (pos 0))) t) })
 
 -- an expression as an item: for a scalar; an aggregate needs braces
-abbrev pub expression_item : Keep → Lifetime → PlainType → ℕ → Standing → Expression At → Passed PlainItem
+abbrev pub expression_item : Keep → Lifetime → PlainType → ℕ → PlainStanding → Expression At → Passed PlainItem
 expression_item h life t scalar s e =
     value_by h s e (λ v. if is_scalar t then scalar_item life t scalar v else refused subset.TypesDiffer (at_of v))
 
 -- a string as an item: it is no longer than the array, but for the 0 at its end
-abbrev pub text_item : Keep → ℕ → ℕ → Standing → At × Text → Passed PlainItem
+abbrev pub text_item : Keep → ℕ → ℕ → PlainStanding → At × Text → Passed PlainItem
 text_item h n scalar s (at, bytes) =
     if nat_le (length bytes) n then passed (record { scalar = scalar; written = scalars_of_text bytes }) s
     else nothing_made (refusing h true subset.TypesDiffer at s)
 
 -- an item for which there is nothing left to initialise
-abbrev pub surplus_item : Keep → Standing → Initializer At → Passed PlainItem
+abbrev pub surplus_item : Keep → PlainStanding → Initializer At → Passed PlainItem
 surplus_item h s (Value e) = value_by h s e (λ v. refused subset.TypesDiffer (at_of v))
 surplus_item h s (Braced at items comma) = nothing_made (refusing h true subset.TypesDiffer at s)
 
@@ -174,7 +171,7 @@ length_of (array c t n) = n
 length_of t = 0
 
 -- an expression as an item, which may be a string for an array of characters
-abbrev pub by_string : Keep → Lifetime → PlainType → ℕ → Standing → Expression At → Option (At × Text) → Passed PlainItem
+abbrev pub by_string : Keep → Lifetime → PlainType → ℕ → PlainStanding → Expression At → Option (At × Text) → Passed PlainItem
 by_string h life t scalar s e None = expression_item h life t scalar s e
 by_string h life t scalar s e (Some text) = text_item h (length_of t) scalar s text
 
@@ -223,7 +220,7 @@ as_listed at p = record { made = list_of p.made; after = p.after }
     list_of (Some items) = Some (listed at items)
 
 -- an expression for an object of a type: of a structure it is copied
-abbrev pub expression_passed : Keep → Lifetime → PlainType → Standing → Expression At → Passed PlainInitializer
+abbrev pub expression_passed : Keep → Lifetime → PlainType → PlainStanding → Expression At → Passed PlainInitializer
 expression_passed h life t s e = value_by h s e (for_type life t)
   where
     as_value_of : Ruled PlainValue → Ruled PlainInitializer
@@ -235,12 +232,12 @@ expression_passed h life t s e = value_by h s e (for_type life t)
     for_type life t v = as_value_of (scalar_value life t v)
 
 -- an initialiser that isn't in braces, which may be a string
-abbrev pub unbraced : Keep → Lifetime → PlainType → Standing → Expression At → Option (At × Text) → Passed PlainInitializer
+abbrev pub unbraced : Keep → Lifetime → PlainType → PlainStanding → Expression At → Option (At × Text) → Passed PlainInitializer
 unbraced h life t s e None = expression_passed h life t s e
 unbraced h life t s e (Some (at, bytes)) = as_listed at (with_item (passed [] s) (text_item h (length_of t) 0 s (at, bytes)))
 
 -- the initialiser of an object of a type
-abbrev pub initialized : Keep → Lifetime → PlainType → Standing → Initializer At → Passed PlainInitializer
+abbrev pub initialized : Keep → Lifetime → PlainType → PlainStanding → Initializer At → Passed PlainInitializer
 initialized h life t s (Value e) = unbraced h life t s e (string_for (element_of t) (Value e))
 initialized h life t s (Braced at items comma) =
     let p : Passed (List PlainItem) = item_passed h life t 0 (passed [] s) (Braced at items comma) in

@@ -7,7 +7,9 @@ pub mod Blocks
 pub mod Tagged
 pub mod Shapes
 pub mod Members
-pub mod Declared
+pub mod Declaring
 pub mod StaticValues
 pub mod Initializers
 pub mod Laws
+pub mod Views
+pub mod Targets

@@ -9,7 +9,7 @@ use Rattle.p10_core.specs.Types.{PlainType, PlainMember, member_named}
 use Rattle.p10_core.specs.Rows.{is_complete}
 use Rattle.p10_elabx.specs.First.{Keep}
 use Rattle.p10_elabx.specs.Scopes.{Meaning, number, unknown_name}
-use Rattle.p10_elabd.specs.Standing.{Standing, Passed, passed, nothing_made, refusing}
+use Rattle.p10_elabd.specs.Standing.{PlainStanding, Passed, passed, nothing_made, refusing}
 use Rattle.p10_elabd.specs.Expressions.{value_by, constant_number}
 use Rattle.p10_elabd.specs.Blocks.{declaring}
 use Rattle.p10_elabd.specs.Shapes.{DeclaredType, of_type}
@@ -17,18 +17,18 @@ use Rattle.p10_elabd.specs.Shapes.{DeclaredType, of_type}
 -- ## Members
 
 -- the type of a member: it has a size, and is no function (C99 6.7.2.1p2)
-abbrev pub member_type : Keep → At → DeclaredType → Standing → Passed PlainType
+abbrev pub member_type : Keep → At → DeclaredType → PlainStanding → Passed PlainType
 member_type h name_at (of_type t) s =
     if is_complete s.scope.structures t then passed t s else nothing_made (refusing h true subset.IncompleteType name_at s)
 member_type h name_at d s = nothing_made (refusing h true subset.IncompleteType name_at s)
 
 -- the type of a member that may be refused
-abbrev pub member_declared : Keep → At → Option DeclaredType → Standing → Passed PlainType
+abbrev pub member_declared : Keep → At → Option DeclaredType → PlainStanding → Passed PlainType
 member_declared h name_at None s = nothing_made s
 member_declared h name_at (Some d) s = member_type h name_at d s
 
 -- a bit-field isn't in the subset; its width is judged all the same
-abbrev pub with_width : Keep → At → Optional At → Standing → Standing
+abbrev pub with_width : Keep → At → Optional At → PlainStanding → PlainStanding
 with_width h at Absent s = s
 with_width h at (Present e) s = (value_by h (refusing h true subset.UnionOrBitField at s) e constant_number).after
 
@@ -50,12 +50,12 @@ with_member h name_at members name t =
 -- ## Constants of enumerations
 
 -- the value of a constant: that which is written, or one more than the constant before it
-abbrev pub enumerator_value : Keep → Option ℤ → Optional At → Standing → Passed ℤ
+abbrev pub enumerator_value : Keep → Option ℤ → Optional At → PlainStanding → Passed ℤ
 enumerator_value h next Absent s = record { made = next; after = s }
 enumerator_value h next (Present e) s = value_by h s e constant_number
 
 -- a constant is a value of `int` (C99 6.7.2.2p2)
-abbrev pub int_value : Keep → At → Option ℤ → Standing → Passed ℤ
+abbrev pub int_value : Keep → At → Option ℤ → PlainStanding → Passed ℤ
 int_value h at None s = nothing_made s
 int_value h at (Some z) s = if holds Int z then passed z s else nothing_made (refusing h true subset.ConstantStops at s)
 
@@ -70,7 +70,7 @@ value_after None = None
 value_after (Some z) = Some (z +ℤ pos 1)
 
 -- a constant, and the value of the next one
-abbrev pub enumerator_passed : Keep → Option ℤ → Identifier At → Optional At → Standing → Passed ℤ
+abbrev pub enumerator_passed : Keep → Option ℤ → Identifier At → Optional At → PlainStanding → Passed ℤ
 enumerator_passed h next name value s =
     let written : Passed ℤ = enumerator_value h next value s in
     let found : Passed ℤ = int_value h name.place written.made written.after in

@@ -1,16 +1,15 @@
 -- What declarators make of types (C99 6.7.5), and what may be declared with them.
-use Rattle.std.specs.Prelude.{ℕ, Bool, true, false, if◌then◌else◌, List, Option, Some, None, Ok, drop, length}
+use Rattle.std.specs.Prelude.{Bool, true, false, if◌then◌else◌, List, Option, Some, None, Ok, drop, length}
 use Rattle.p10_base.specs.declared.at.At.{At}
 use Rattle.p10_base.specs.declared.codes.SubsetCode.TheVariants as subset
-use Rattle.p10_syn.specs.declared.sign.Sign.{Sign}
-use Rattle.p10_syn.specs.Trees.{Identifier, Expression, Declarator, Named, Unnamed, Pointer, Parenthesised, Array, Function}
+use Rattle.p10_syn.specs.Trees.{Identifier, Qualifier, Expression, Declarator, Named, Unnamed, Pointer, Parenthesised, Array, Function}
 use Rattle.p10_core.specs.Types.{PlainType, void, pointer, array, structure, PlainStructure}
 use Rattle.p10_core.specs.Rows.{is_void, is_complete}
 use Rattle.p10_core.specs.Typed.{PlainValue}
 use Rattle.p10_elabx.specs.First.{Keep, Ruled, ruled, nothing_said, on}
 use Rattle.p10_elabx.specs.Scopes.{Binding, entered, left}
-use Rattle.p10_elabx.specs.TypeNames.{Shape, a_type, an_open_array, a_function_type, has_const_word, other_word, word_of, array_of}
-use Rattle.p10_elabd.specs.Standing.{Standing, Passed, passed, nothing_made, refusing, noted}
+use Rattle.p10_elabx.specs.TypeNames.{Shape, a_type, an_open_array, a_function_type, has_const_word, other_word, array_of}
+use Rattle.p10_elabd.specs.Standing.{PlainStanding, Passed, passed, nothing_made, refusing, noted}
 use Rattle.p10_elabd.specs.Expressions.{value_found, for_expression}
 
 -- ## Declared types
@@ -42,40 +41,26 @@ name_in (Named name) = Some name
 name_in (Unnamed at) = None
 name_in (Pointer at qualifiers d) = name_in d
 name_in (Parenthesised at d) = name_in d
-name_in (Array at d length) = name_in d
-name_in (Function at d _ _) = name_in d
-
--- where a declarator stands
-abbrev pub declarator_at : Declarator At → At
-declarator_at (Named name) = name.place
-declarator_at (Unnamed at) = at
-declarator_at (Pointer at qualifiers d) = at
-declarator_at (Parenthesised at d) = at
-declarator_at (Array at d length) = at
-declarator_at (Function at d _ _) = at
+name_in (Array at d brackets length) = name_in d
+name_in (Function at d parentheses _ _) = name_in d
 
 -- where a name stands, or where it doesn't a given tree
 abbrev pub place_or : At → Option (Identifier At) → At
 place_or at None = at
 place_or at (Some name) = name.place
 
--- what follows the declarator inside an array's or a function's: its brackets
-abbrev pub after_inner : At → Declarator At → At
-after_inner at d =
-    let inner : At = declarator_at d in
-    record { first = inner.past; past = at.past; span = record { file = at.span.file; start = inner.span.end; end = at.span.end } }
+-- whether a declarator declares a function, where it is known whether parameters stand directly round it
+abbrev pub function_from : Bool → Declarator At → Bool
+function_from found (Named name) = found
+function_from found (Unnamed at) = found
+function_from found (Pointer at qualifiers d) = function_from false d
+function_from found (Parenthesised at d) = function_from found d
+function_from found (Array at d brackets length) = function_from false d
+function_from found (Function at d parentheses _ _) = function_from true d
 
 -- whether a declarator declares a function: what stands directly after its name are parameters
 abbrev pub declares_function : Declarator At → Bool
 declares_function d = function_from false d
-  where
-    function_from : Bool → Declarator At → Bool
-    function_from found (Named name) = found
-    function_from found (Unnamed at) = found
-    function_from found (Pointer at qualifiers d) = function_from false d
-    function_from found (Parenthesised at d) = function_from found d
-    function_from found (Array at d length) = function_from false d
-    function_from found (Function at d _ _) = function_from true d
 
 -- whether a declarator is a name alone, perhaps in parentheses
 abbrev pub is_plain_name : Declarator At → Bool
@@ -86,34 +71,34 @@ is_plain_name d = false
 -- ## Pointers
 
 -- a pointer to a type: not to `void` nor to a function; an array without a length has no type
-abbrev pub pointed_to : Keep → At → At → Bool → DeclaredType → Standing → Passed DeclaredType
+abbrev pub pointed_to : Keep → At → At → Bool → DeclaredType → PlainStanding → Passed DeclaredType
 pointed_to h at name_at constant (of_type t) s =
     if is_void t then nothing_made (refusing h true subset.BadPointer at s) else passed (of_type (pointer constant t)) s
 pointed_to h at name_at constant (of_open_array t) s = nothing_made (refusing h true subset.IncompleteType name_at s)
 pointed_to h at name_at constant (of_function f) s = nothing_made (refusing h true subset.BadPointer at s)
 
 -- a pointer where its target may be refused; of the qualifiers `const` alone is in the subset
-abbrev pub pointer_declared : Keep → At → At → List Sign → Option DeclaredType → Standing → Passed DeclaredType
-pointer_declared h at name_at qualifiers target s = by_target target (refusing_word (other_word 1 qualifiers) s)
+abbrev pub pointer_declared : Keep → At → At → List (Qualifier At) → Option DeclaredType → PlainStanding → Passed DeclaredType
+pointer_declared h at name_at qualifiers target s = by_target target (refusing_word (other_word qualifiers) s)
   where
-    refusing_word : Option ℕ → Standing → Standing
+    refusing_word : Option At → PlainStanding → PlainStanding
     refusing_word None s = s
-    refusing_word (Some i) s = refusing h true subset.BadSpecifier (word_of at i) s
+    refusing_word (Some at) s = refusing h true subset.BadSpecifier at s
 
-    by_target : Option DeclaredType → Standing → Passed DeclaredType
+    by_target : Option DeclaredType → PlainStanding → Passed DeclaredType
     by_target None s = nothing_made s
     by_target (Some t) s = pointed_to h at name_at (has_const_word qualifiers) t s
 
 -- ## Arrays
 
 -- an element: it has a size, and is no function (C99 6.7.5.2p1)
-abbrev pub element_type : Keep → At → DeclaredType → Standing → Passed PlainType
+abbrev pub element_type : Keep → At → DeclaredType → PlainStanding → Passed PlainType
 element_type h name_at (of_type t) s =
     if is_complete s.scope.structures t then passed t s else nothing_made (refusing h true subset.IncompleteType name_at s)
 element_type h name_at d s = nothing_made (refusing h true subset.IncompleteType name_at s)
 
 -- an element whose type may be refused
-abbrev pub element_declared : Keep → At → Option DeclaredType → Standing → Passed PlainType
+abbrev pub element_declared : Keep → At → Option DeclaredType → PlainStanding → Passed PlainType
 element_declared h name_at None s = nothing_made s
 element_declared h name_at (Some d) s = element_type h name_at d s
 
@@ -131,7 +116,7 @@ array_with structures (Some t) v = ruled (array_of structures t v) as_declared
 -- an array with a length
 abbrev pub array_declared : Keep → Expression At → Passed PlainType → Passed DeclaredType
 array_declared h e element =
-    let s : Standing = for_expression element.after e in
+    let s : PlainStanding = for_expression element.after e in
     noted h (on (value_found h element.after e) (array_with s.scope.structures element.made)) s
 
 -- an array without a length
@@ -145,38 +130,42 @@ open_declared element = record { made = open_of element.made; after = element.af
 -- ## Functions
 
 -- the result of a function: no structure, array or function (C99 6.7.5.3p1)
-abbrev pub result_type : Keep → At → At → DeclaredType → Standing → Passed PlainType
+abbrev pub result_type : Keep → At → At → DeclaredType → PlainStanding → Passed PlainType
 result_type h at name_at (of_type (structure c n)) s = nothing_made (refusing h true subset.StructurePassed at s)
 result_type h at name_at (of_type (array c t n)) s = nothing_made (refusing h true subset.IncompleteType name_at s)
 result_type h at name_at (of_type t) s = passed t s
 result_type h at name_at d s = nothing_made (refusing h true subset.IncompleteType name_at s)
 
 -- a result whose type may be refused
-abbrev pub result_declared : Keep → At → At → Option DeclaredType → Standing → Passed PlainType
+abbrev pub result_declared : Keep → At → At → Option DeclaredType → PlainStanding → Passed PlainType
 result_declared h at name_at None s = nothing_made s
 result_declared h at name_at (Some d) s = result_type h at name_at d s
 
--- the type of a parameter: that of an array is a pointer to its elements (C99 6.7.5.3p7), and that of a function would be one to
--- it; a structure isn't passed, and `void` is no type of a parameter
-abbrev pub parameter_type : Keep → At → At → At → DeclaredType → Standing → Passed PlainType
-parameter_type h at name_at declarator (of_type (structure c n)) s = nothing_made (refusing h true subset.StructurePassed at s)
-parameter_type h at name_at declarator (of_type (array c t n)) s = passed (pointer false t) s
-parameter_type h at name_at declarator (of_type (void c)) s = nothing_made (refusing h true subset.IncompleteType name_at s)
-parameter_type h at name_at declarator (of_type t) s = passed t s
+-- the type of a parameter that has one: that of an array is a pointer to its elements (C99 6.7.5.3p7); a structure isn't passed, and
+-- `void` is no type of a parameter
+abbrev pub plain_parameter_type : Keep → At → At → PlainType → PlainStanding → Passed PlainType
+plain_parameter_type h at name_at (structure c n) s = nothing_made (refusing h true subset.StructurePassed at s)
+plain_parameter_type h at name_at (array c t n) s = passed (pointer false t) s
+plain_parameter_type h at name_at (void c) s = nothing_made (refusing h true subset.IncompleteType name_at s)
+plain_parameter_type h at name_at t s = passed t s
+
+-- the type of a parameter: that of a function would be a pointer to it
+abbrev pub parameter_type : Keep → At → At → At → DeclaredType → PlainStanding → Passed PlainType
+parameter_type h at name_at declarator (of_type t) s = plain_parameter_type h at name_at t s
 parameter_type h at name_at declarator (of_open_array t) s = passed (pointer false t) s
 parameter_type h at name_at declarator (of_function f) s = nothing_made (refusing h true subset.BadPointer declarator s)
 
 -- the type of a parameter that may be refused
-abbrev pub parameter_declared : Keep → At → At → At → Option DeclaredType → Standing → Passed PlainType
+abbrev pub parameter_declared : Keep → At → At → At → Option DeclaredType → PlainStanding → Passed PlainType
 parameter_declared h at name_at declarator None s = nothing_made s
 parameter_declared h at name_at declarator (Some d) s = parameter_type h at name_at declarator d s
 
 -- what stands where parameters are declared: names among them hide others up to the end of the declarator (C99 6.2.1p4)
-abbrev pub among_parameters : Standing → Standing
+abbrev pub among_parameters : PlainStanding → PlainStanding
 among_parameters s = record s { scope = entered s.scope }
 
 -- a function with these parameters, whose names end with its declarator
-abbrev pub function_declared : Standing → Option PlainType → Option (List PlainParameter) → Standing → Passed DeclaredType
+abbrev pub function_declared : PlainStanding → Option PlainType → Option (List PlainParameter) → PlainStanding → Passed DeclaredType
 function_declared before (Some result) (Some parameters) s = passed (of_function (record {
   parameters = parameters;
   result = result;

@@ -22,7 +22,7 @@ tags_of (MoreSpecifiers one rest) = tag_of one ++ tags_of rest
 abbrev mutual
   -- the tags of structures in the type names of an expression
   pub tags_in : Expression At → List Text
-  tags_in (expression at n (Name text)) = []
+  tags_in (expression at n (Name name)) = []
   tags_in (expression at n (Number text)) = []
   tags_in (expression at n (Character text)) = []
   tags_in (expression at n (Strings texts)) = []
@@ -55,9 +55,9 @@ abbrev mutual
   tags_in_declarator (Unnamed at) = []
   tags_in_declarator (Pointer at qualifiers d) = tags_in_declarator d
   tags_in_declarator (Parenthesised at d) = tags_in_declarator d
-  tags_in_declarator (Array at d Absent) = tags_in_declarator d
-  tags_in_declarator (Array at d (Present e)) = tags_in_declarator d ++ tags_in e
-  tags_in_declarator (Function at d _ _) = tags_in_declarator d
+  tags_in_declarator (Array at d brackets Absent) = tags_in_declarator d
+  tags_in_declarator (Array at d brackets (Present e)) = tags_in_declarator d ++ tags_in e
+  tags_in_declarator (Function at d parentheses _ _) = tags_in_declarator d
 
 -- a structure that isn't complete, with its tag, in the innermost block
 abbrev pub with_tag : PlainScope → Text → PlainScope

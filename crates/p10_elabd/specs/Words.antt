@@ -5,32 +5,14 @@ use Rattle.p10_base.specs.declared.codes.SubsetCode.{SubsetCode}
 use Rattle.p10_base.specs.declared.codes.SubsetCode.TheVariants as subset
 use Rattle.p10_syn.specs.declared.sign.Sign.{Sign}
 use Rattle.p10_syn.specs.declared.sign.Sign.TheVariants as sign
-use Rattle.p10_syn.specs.Trees.{Specifiers, NoSpecifiers, MoreSpecifiers, Keyword}
+use Rattle.p10_syn.specs.Trees.{Specifiers, NoSpecifiers, MoreSpecifiers, Specifier, Keyword}
 use Rattle.p10_elabx.specs.First.{Keep}
-use Rattle.p10_elabd.specs.Standing.{Standing, refusing}
-
--- where specifiers stand: outside of functions; at a function with its body; in a block; in the first clause of a `for`; at members; at
--- parameters
-pub data Site : Type 0 where
-  outside : Site
-  of_definition : Site
-  in_block : Site
-  in_for : Site
-  of_members : Site
-  of_parameter : Site
-
--- the storage that specifiers name (C99 6.7.1)
-pub data Storage : Type 0 where
-  no_storage : Storage
-  for_typedef : Storage
-  for_extern : Storage
-  for_static : Storage
-
--- what the declarators of a declaration allow among its specifiers: `inline`, where each declares a function and `static` stands
--- there; `volatile`, where each declares a sensor
-pub record Allowed : Type 0 where
-  pub inline : Bool
-  pub volatile : Bool
+use Rattle.p10_elabd.specs.declared.site.Site.{Site}
+use Rattle.p10_elabd.specs.declared.site.Site.TheVariants as site_is
+use Rattle.p10_elabd.specs.declared.site.Storage.{Storage}
+use Rattle.p10_elabd.specs.declared.site.Storage.TheVariants as storage_is
+use Rattle.p10_elabd.specs.declared.site.Allowed.{Allowed}
+use Rattle.p10_elabd.specs.Standing.{PlainStanding, refusing}
 
 -- nothing is allowed
 abbrev pub none_allowed : Allowed
@@ -48,14 +30,14 @@ is_storage word = false
 -- the storage words that may stand at a site: `extern` stands in no block, and members, parameters and the first clause of a
 -- `for` have none
 abbrev pub may_store : Site → Sign → Bool
-may_store outside sign.Typedef = true
-may_store outside sign.Extern = true
-may_store outside sign.Static = true
-may_store of_definition sign.Extern = true
-may_store of_definition sign.Static = true
-may_store in_block sign.Typedef = true
-may_store in_block sign.Static = true
-may_store site word = false
+may_store site_is.Outside sign.Typedef = true
+may_store site_is.Outside sign.Extern = true
+may_store site_is.Outside sign.Static = true
+may_store site_is.OfDefinition sign.Extern = true
+may_store site_is.OfDefinition sign.Static = true
+may_store site_is.InBlock sign.Typedef = true
+may_store site_is.InBlock sign.Static = true
+may_store at word = false
 
 -- the row that a word breaks, where a storage word stands before it or none does; at most one may stand (C99 6.7.1p2)
 abbrev pub word_row : Site → Allowed → Bool → Sign → Option SubsetCode
@@ -69,26 +51,30 @@ word_row site allowed stored sign.Inline = if allowed.inline then None else Some
 word_row site allowed stored word = if is_storage word && (stored || not (may_store site word)) then Some subset.BadSpecifier else None
 
 -- a row at a tree, where there is one
-abbrev pub by_row : Keep → Option SubsetCode → At → Standing → Standing
+abbrev pub by_row : Keep → Option SubsetCode → At → PlainStanding → PlainStanding
 by_row h None at s = s
 by_row h (Some code) at s = refusing h true code at s
 
 -- the storage that a word names
 abbrev pub storage_by : Storage → Sign → Storage
-storage_by no_storage sign.Typedef = for_typedef
-storage_by no_storage sign.Extern = for_extern
-storage_by no_storage sign.Static = for_static
+storage_by storage_is.Unnamed sign.Typedef = storage_is.Typedef
+storage_by storage_is.Unnamed sign.Extern = storage_is.Extern
+storage_by storage_is.Unnamed sign.Static = storage_is.Static
 storage_by found word = found
+
+-- the storage that specifiers name with one more
+abbrev pub storage_with : Storage → Specifier At → Storage
+storage_with found (Keyword at word) = storage_by found word
+storage_with found one = found
 
 -- the storage that specifiers name: the first word counts
 abbrev pub storage_from : Storage → Specifiers At → Storage
 storage_from found NoSpecifiers = found
-storage_from found (MoreSpecifiers (Keyword at word) rest) = storage_from (storage_by found word) rest
-storage_from found (MoreSpecifiers one rest) = storage_from found rest
+storage_from found (MoreSpecifiers one rest) = storage_from (storage_with found one) rest
 
 -- the storage that specifiers name
 abbrev pub storage_of : Specifiers At → Storage
-storage_of specifiers = storage_from no_storage specifiers
+storage_of specifiers = storage_from storage_is.Unnamed specifiers
 
 -- whether a word stands among specifiers
 abbrev pub has_word : (Sign → Bool) → Specifiers At → Bool

@@ -11,13 +11,16 @@ use Rattle.p10_core.specs.Rows.{int_type}
 use Rattle.p10_elabx.specs.First.{Keep, Ruled, lift}
 use Rattle.p10_elabx.specs.Scopes.{local, unknown_name, named}
 use Rattle.p10_elabx.specs.declared.words.Said.{Said}
-use Rattle.p10_elabx.specs.TypeNames.{said_of, nothing_specified, is_bad_mixture, typedef_rule, specified_type, specifiers_at, later}
-use Rattle.p10_elabd.specs.Standing.{Standing, Passed, passed, nothing_made, refusing, noted}
-use Rattle.p10_elabd.specs.Words.{Site, of_members, of_parameter, Allowed, none_allowed, is_storage, word_row, by_row}
+use Rattle.p10_elabx.specs.TypeNames.{said_of, nothing_specified, is_bad_mixture, typedef_rule, specified_type, specifiers_at, later, declarator_place}
+use Rattle.p10_elabd.specs.Standing.{PlainStanding, Passed, passed, nothing_made, refusing, noted}
+use Rattle.p10_elabd.specs.Words.{none_allowed, is_storage, word_row, by_row}
+use Rattle.p10_elabd.specs.declared.site.Site.{Site}
+use Rattle.p10_elabd.specs.declared.site.Site.TheVariants as site_is
+use Rattle.p10_elabd.specs.declared.site.Allowed.{Allowed}
 use Rattle.p10_elabd.specs.Blocks.{declaring}
 use Rattle.p10_elabd.specs.Tagged.{structure_named, enumeration_named, Begun, begun, begun_anew, ended, structure_made, enumeration_begun, with_enumeration}
 use Rattle.p10_elabd.specs.Members.{member_declared, with_width, with_member, enumerator_passed}
-use Rattle.p10_elabd.specs.Shapes.{PlainParameter, DeclaredType, of_type, name_in, declarator_at, place_or, after_inner, pointer_declared, element_declared, array_declared, open_declared, result_declared, parameter_declared, among_parameters, function_declared}
+use Rattle.p10_elabd.specs.Shapes.{PlainParameter, DeclaredType, of_type, name_in, place_or, pointer_declared, element_declared, array_declared, open_declared, result_declared, parameter_declared, among_parameters, function_declared}
 
 -- ## Pieces
 
@@ -36,9 +39,9 @@ as_named p = record { made = named_by p.made; after = p.after }
     named_by (Some t) = Some (Some t)
 
 -- a word as a specifier
-abbrev pub word_passed : Keep → Site → Allowed → Bool → At → Sign → Standing → Passed (Option PlainType)
+abbrev pub word_passed : Keep → Site → Allowed → Bool → At → Sign → PlainStanding → Passed (Option PlainType)
 word_passed h site allowed stored at word s =
-    let after : Standing = by_row h (word_row site allowed stored word) at s in
+    let after : PlainStanding = by_row h (word_row site allowed stored word) at s in
     record { made = if is_some (word_row site allowed stored word) then None else Some None; after = after }
 
 -- whether a storage word stands among specifiers, one more included
@@ -50,7 +53,7 @@ stored_by stored one = stored
 abbrev pub type_specified : Keep → Specifiers At → Passed (Option PlainType) → Passed PlainType
 type_specified h specifiers p =
     let said : Said = said_of specifiers nothing_specified in
-    let s : Standing = refusing h (is_bad_mixture said) subset.BadSpecifier (specifiers_at nowhere specifiers) p.after in
+    let s : PlainStanding = refusing h (is_bad_mixture said) subset.BadSpecifier (specifiers_at nowhere specifiers) p.after in
     record { made = if is_bad_mixture said then None else type_from said p.made; after = s }
   where
     ok_of : Ruled PlainType → Option PlainType
@@ -67,23 +70,23 @@ unless_union h at sign.Union p = nothing_made (refusing h true subset.UnionOrBit
 unless_union h at word p = p
 
 -- a union's name or a structure's, where it has no body
-abbrev pub tag_passed : Keep → Bool → At → Sign → Option (Identifier At) → Standing → Passed PlainType
+abbrev pub tag_passed : Keep → Bool → At → Sign → Option (Identifier At) → PlainStanding → Passed PlainType
 tag_passed h alone at sign.Union tag s = nothing_made (refusing h true subset.UnionOrBitField at s)
 tag_passed h alone at word None s = nothing_made s
 tag_passed h alone at word (Some tag) s = structure_named h alone tag s
 
 -- an enumeration's name, where it has no constants
-abbrev pub enumeration_passed : Keep → At → Option (Identifier At) → Standing → Passed PlainType
+abbrev pub enumeration_passed : Keep → At → Option (Identifier At) → PlainStanding → Passed PlainType
 enumeration_passed h at None s = nothing_made s
 enumeration_passed h at (Some tag) s = enumeration_named h at tag s
 
 -- where the members of a union or a structure stand
-abbrev pub begun_with : Keep → Sign → Option (Identifier At) → Standing → Begun
+abbrev pub begun_with : Keep → Sign → Option (Identifier At) → PlainStanding → Begun
 begun_with h sign.Union tag s = begun_anew None s
 begun_with h word tag s = begun h tag s
 
 -- a name that a parameter declares: it hides others up to the end of the declarator
-abbrev pub with_parameter : Keep → ℕ → Option (Identifier At) → Option PlainType → Standing → Standing
+abbrev pub with_parameter : Keep → ℕ → Option (Identifier At) → Option PlainType → PlainStanding → PlainStanding
 with_parameter h i None t s = s
 with_parameter h i (Some name) None s = declaring h name unknown_name s
 with_parameter h i (Some name) (Some t) s = declaring h name (local i t false) s
@@ -99,14 +102,14 @@ is_no_parameter (Unnamed at) (Some (void false)) = true
 is_no_parameter d t = false
 
 -- the type of specifiers, before a declarator
-abbrev pub based : Option PlainType → Standing → Passed DeclaredType
+abbrev pub based : Option PlainType → PlainStanding → Passed DeclaredType
 based None s = nothing_made s
 based (Some t) s = passed (of_type t) s
 
 -- a parameter after others, by what its declarator made of the type of its specifiers
 abbrev pub with_declared_parameter : Keep → ℕ → Option (List PlainParameter) → At → Declarator At → Passed DeclaredType → Passed (List PlainParameter)
 with_declared_parameter h i before at d j =
-    let u : Passed PlainType = parameter_declared h at (place_or at (name_in d)) (declarator_at d) j.made j.after in
+    let u : Passed PlainType = parameter_declared h at (place_or at (name_in d)) (declarator_place d) j.made j.after in
     record { made = parameter_added before at (name_in d) u.made; after = with_parameter h i (name_in d) u.made u.after }
 
 -- the only parameter, which may say that there are none
@@ -124,14 +127,14 @@ abbrev mutual
       specifiers_passed h site allowed alone (stored_by stored one) (record { made = both_named p.made q.made; after = q.after }) rest
 
   -- one specifier
-  pub specifier_passed : Keep → Site → Allowed → Bool → Bool → Standing → Specifier At → Passed (Option PlainType)
+  pub specifier_passed : Keep → Site → Allowed → Bool → Bool → PlainStanding → Specifier At → Passed (Option PlainType)
   specifier_passed h site allowed alone stored s (Keyword at word) = word_passed h site allowed stored at word s
   specifier_passed h site allowed alone stored s (Typedef name) = noted h (lift (typedef_rule name.place (named s.scope name.name))) s
   specifier_passed h site allowed alone stored s (Structure at word tag NoMembers) = as_named (tag_passed h alone at word tag s)
   specifier_passed h site allowed alone stored s (Structure at word tag (MoreMembers m rest)) =
       let b : Begun = begun_with h word tag s in
       let p : Passed (List PlainMember) = members_passed h (member_passed h (passed [] b.standing) m) rest in
-      as_named (unless_union h at word (structure_made h at tag b.number p.made (ended s p.after)))
+      as_named (unless_union h at word (structure_made h at tag b.number p.made (ended p.after)))
   specifier_passed h site allowed alone stored s (Enumeration at tag NoEnumerators comma) = as_named (enumeration_passed h at tag s)
   specifier_passed h site allowed alone stored s (Enumeration at tag (MoreEnumerators e rest) comma) =
       let p : Passed ℤ = enumerators_passed h (one_enumerator_passed h (record { made = Some (pos 0); after = enumeration_begun h tag s }) e) rest in
@@ -145,7 +148,7 @@ abbrev mutual
   -- one declaration of members
   pub member_passed : Keep → Passed (List PlainMember) → MemberDeclaration At → Passed (List PlainMember)
   member_passed h p (member_declaration at specifiers fields) =
-      let t : Passed PlainType = type_specified h specifiers (specifiers_passed h of_members none_allowed false false (passed None p.after) specifiers) in
+      let t : Passed PlainType = type_specified h specifiers (specifiers_passed h site_is.OfMembers none_allowed false false (passed None p.after) specifiers) in
       fields_passed h t.made (record { made = p.made; after = t.after }) fields
 
   -- what a declaration of members declares, with the type of its specifiers
@@ -156,8 +159,8 @@ abbrev mutual
   -- one member
   pub field_passed : Keep → Option PlainType → Passed (List PlainMember) → Field At → Passed (List PlainMember)
   field_passed h t p (field at d width) =
-      let name_at : At = place_or (declarator_at d) (name_in d) in
-      let j : Passed DeclaredType = declarator_passed h name_at (based t (with_width h (declarator_at d) width p.after)) d in
+      let name_at : At = place_or (declarator_place d) (name_in d) in
+      let j : Passed DeclaredType = declarator_passed h name_at (based t (with_width h (declarator_place d) width p.after)) d in
       with_member h name_at p.made (name_in d) (member_declared h name_at j.made j.after)
 
   -- constants of an enumeration, each with the value of the next one
@@ -175,23 +178,23 @@ abbrev mutual
   declarator_passed h name_at p (Unnamed at) = p
   declarator_passed h name_at p (Pointer at qualifiers d) = declarator_passed h name_at (pointer_declared h at name_at qualifiers p.made p.after) d
   declarator_passed h name_at p (Parenthesised at d) = declarator_passed h name_at p d
-  declarator_passed h name_at p (Array at d Absent) = declarator_passed h name_at (open_declared (element_declared h name_at p.made p.after)) d
-  declarator_passed h name_at p (Array at d (Present e)) = declarator_passed h name_at (array_declared h e (element_declared h name_at p.made p.after)) d
-  declarator_passed h name_at p (Function at d all more) =
+  declarator_passed h name_at p (Array at d brackets Absent) = declarator_passed h name_at (open_declared (element_declared h name_at p.made p.after)) d
+  declarator_passed h name_at p (Array at d brackets (Present e)) = declarator_passed h name_at (array_declared h e (element_declared h name_at p.made p.after)) d
+  declarator_passed h name_at p (Function at d parentheses all more) =
       let r : Passed PlainType = result_declared h at name_at p.made p.after in
-      let q : Passed (List PlainParameter) = all_parameters_passed h (among_parameters (refusing h more subset.NoPrototype (after_inner at d) r.after)) (after_inner at d) all in
+      let q : Passed (List PlainParameter) = all_parameters_passed h (among_parameters (refusing h more subset.NoPrototype parentheses r.after)) parentheses all in
       declarator_passed h name_at (function_declared r.after r.made q.made q.after) d
 
   -- the parameters of a function: there are some, or the word `void` (C99 6.7.5.3p10, p14)
-  pub all_parameters_passed : Keep → Standing → At → Parameters At → Passed (List PlainParameter)
+  pub all_parameters_passed : Keep → PlainStanding → At → Parameters At → Passed (List PlainParameter)
   all_parameters_passed h s at NoParameters = nothing_made (refusing h true subset.NoPrototype at s)
   all_parameters_passed h s at (MoreParameters one NoParameters) = only_parameter_passed h s one
   all_parameters_passed h s at (MoreParameters one rest) = parameters_passed h 1 (one_parameter_passed h 0 (passed [] s) one) rest
 
   -- a parameter that stands alone
-  pub only_parameter_passed : Keep → Standing → Parameter At → Passed (List PlainParameter)
+  pub only_parameter_passed : Keep → PlainStanding → Parameter At → Passed (List PlainParameter)
   only_parameter_passed h s (parameter at specifiers d) =
-      let t : Passed PlainType = type_specified h specifiers (specifiers_passed h of_parameter none_allowed false false (passed None s) specifiers) in
+      let t : Passed PlainType = type_specified h specifiers (specifiers_passed h site_is.OfParameter none_allowed false false (passed None s) specifiers) in
       with_only_parameter h at d t (declarator_passed h (place_or at (name_in d)) (based t.made t.after) d)
 
   -- parameters after those before, the next one with its number
@@ -202,10 +205,10 @@ abbrev mutual
   -- one parameter
   pub one_parameter_passed : Keep → ℕ → Passed (List PlainParameter) → Parameter At → Passed (List PlainParameter)
   one_parameter_passed h i p (parameter at specifiers d) =
-      let t : Passed PlainType = type_specified h specifiers (specifiers_passed h of_parameter none_allowed false false (passed None p.after) specifiers) in
+      let t : Passed PlainType = type_specified h specifiers (specifiers_passed h site_is.OfParameter none_allowed false false (passed None p.after) specifiers) in
       with_declared_parameter h i p.made at d (declarator_passed h (place_or at (name_in d)) (based t.made t.after) d)
 
 -- the type that specifiers name where something is declared; `alone` says that they are a whole declaration
-abbrev pub specified : Keep → Site → Allowed → Bool → Standing → Specifiers At → Passed PlainType
+abbrev pub specified : Keep → Site → Allowed → Bool → PlainStanding → Specifiers At → Passed PlainType
 specified h site allowed alone s specifiers =
     type_specified h specifiers (specifiers_passed h site allowed alone false (passed None s) specifiers)

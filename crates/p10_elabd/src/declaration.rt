@@ -1,0 +1,40 @@
+//! What declarators declare (C99 6.7.5).
+
+use p10_base::At;
+use p10_core::CType;
+use p10_elabx::Named;
+use p10_syn::Identifier;
+
+/// A name that is declared among parameters, and what it stands for.
+#[derive(Drop)]
+pub struct Bound<'s> {
+    pub name: &'s [u8],
+    pub what: Named,
+}
+
+/// A parameter.
+#[derive(Drop)]
+pub struct DeclaredParameter<'s> {
+    pub at: At,
+    pub name: Option<Identifier<'s>>,
+    pub ty: CType,
+}
+
+/// A function: its parameters and its result, and the names and tags that are declared among its parameters.
+#[derive(Drop)]
+pub struct DeclaredFunction<'s> {
+    pub parameters: Vec<DeclaredParameter<'s>>,
+    pub result: CType,
+    pub names: Vec<Bound<'s>>,
+    pub tags: Vec<Bound<'s>>,
+}
+
+/// What is declared.
+#[derive(Drop)]
+pub enum Declared<'s> {
+    /// Something of a type.
+    Plain(CType),
+    /// An array whose length is lacking, with the type of its elements.
+    OpenArray(CType),
+    Function(DeclaredFunction<'s>),
+}
