@@ -7,7 +7,7 @@ use Rattle.std.proofs.lemmas.List.{append-nil}
 use Rattle.p10_elabx.specs.declared.problem.Problem.{Problem}
 use Rattle.p10_elabx.specs.First.{IsFirst, least, every}
 use Rattle.p10_elabx.proofs.Firsts.{kept_lift, kept_pair}
-use Rattle.p10_elab.specs.Programs.{Elaborated, program, too_large, first_of, unless_problem, elaborated, standing_of, whole_of, is_too_large}
+use Rattle.p10_elab.specs.Programs.{Elaborated, program, too_large, first_of, unless_problem, roots_of, roots_elaborated, standing_of, whole_of, is_too_large}
 use Rattle.p10_elab.specs.Laws.{TheFirstIsAnswered, undefined_in, main_problems, IsAccepted, IsTooLarge, AnswersHaveCauses}
 
 alone : (r : Problem) → IsFirst r (r ∷ [])
@@ -46,7 +46,7 @@ unsized : (b : Bool) (p : PlainProgram) → (if b then too_large else program p)
 unsized true p e = refl
 unsized false p e = absurd cc
 
-accepted : (roots : List (List (External At))) (p : PlainProgram) → elaborated roots ≡ program p → IsAccepted roots p
+accepted : (roots : List (List (External At))) (p : PlainProgram) → roots_elaborated roots ≡ program p → IsAccepted roots p
 accepted roots p e =
     let a = program_only (standing_of every roots).problems _ p e in
     let b = program_only (undefined_in roots) _ p a.1 in
@@ -58,7 +58,7 @@ accepted roots p e =
       is = d.1;
     }
 
-limited : (roots : List (List (External At))) → elaborated roots ≡ too_large → IsTooLarge roots
+limited : (roots : List (List (External At))) → roots_elaborated roots ≡ too_large → IsTooLarge roots
 limited roots e =
     let a = limit_only (standing_of every roots).problems _ e in
     let b = limit_only (undefined_in roots) _ a.1 in
@@ -69,4 +69,4 @@ limited roots e =
     }
 
 pub answers_have_causes : AnswersHaveCauses
-answers_have_causes = record { accepted = accepted; limited = limited }
+answers_have_causes = record { accepted = λ all p e. accepted (roots_of all) p e; limited = λ all e. limited (roots_of all) e }

@@ -5,7 +5,9 @@ use Rattle.p10_base.specs.declared.at.At.{At}
 use Rattle.p10_syn.specs.declared.sign.Sign.TheVariants as sign
 use Rattle.p10_syn.specs.Trees.{Identifier, Expression, expression, Name, Number, Character, Strings, Unary, Step, Binary, Assign, Conditional, Call, Index, Member, Arrow, Cast, SizeofExpression, SizeofType, Comma, Expressions, NoExpressions, MoreExpressions, Optional, Absent, Present, Specifiers, NoSpecifiers, MoreSpecifiers, Specifier, Keyword, Typedef, Structure, Enumeration, Members, NoMembers, MoreMembers, MemberDeclaration, member_declaration, Enumerators, NoEnumerators, MoreEnumerators, Enumerator, enumerator}
 use Rattle.p10_syn.specs.Trees.{Initializer, Value, Braced, Initializers, NoInitializers, MoreInitializers, InitDeclarator, Declaration, Statement, Empty, Evaluate, Block, If, IfElse, Switch, While, Do, For, Case, Default, Label, Goto, Break, Continue, Return, Declare, Pragma, Statements, NoStatements, MoreStatements}
-use Rattle.p10_elabd.specs.Words.{Storage, no_storage, storage_of}
+use Rattle.p10_elabd.specs.Words.{storage_of}
+use Rattle.p10_elabd.specs.declared.site.Storage.{Storage}
+use Rattle.p10_elabd.specs.declared.site.Storage.TheVariants as storage_is
 use Rattle.p10_elabd.specs.Shapes.{PlainParameter, name_in, declares_function}
 
 -- ## Names
@@ -59,7 +61,7 @@ with_others names (x ∷ rest) = with_others ((x.name, None) ∷ names) rest
 
 -- the variable of which `&` takes the address
 abbrev pub taken_at : LocalNames → Expression At → List ℕ
-taken_at names (expression at n (Name text)) = in_list (variable_named names text)
+taken_at names (expression at n (Name x)) = in_list (variable_named names x.name)
   where
     in_list : Option ℕ → List ℕ
     in_list None = []
@@ -69,7 +71,7 @@ taken_at names e = []
 abbrev mutual
   -- the variables whose addresses are taken in an expression; operands of `sizeof` aren't evaluated
   pub taken_in : LocalNames → Expression At → List ℕ
-  taken_in names (expression at n (Name text)) = []
+  taken_in names (expression at n (Name x)) = []
   taken_in names (expression at n (Number text)) = []
   taken_in names (expression at n (Character text)) = []
   taken_in names (expression at n (Strings texts)) = []
@@ -128,7 +130,7 @@ taking w ns = record w { taken = w.taken ++ ns }
 
 -- a declarator in a block: without a storage word it declares the next variable
 abbrev pub walked_name : Walk → Storage → Bool → Text → Walk
-walked_name w no_storage false name = record w { names = (name, Some w.variables) ∷ w.names; variables = w.variables + 1 }
+walked_name w storage_is.Unnamed false name = record w { names = (name, Some w.variables) ∷ w.names; variables = w.variables + 1 }
 walked_name w s function name = record w { names = (name, None) ∷ w.names }
 
 -- a declarator by the name that it declares
@@ -187,7 +189,7 @@ with_parameters w (p ∷ rest) = with_parameters (named_by w p.name) rest
   where
     named_by : Walk → Option (Identifier At) → Walk
     named_by w None = record w { variables = w.variables + 1 }
-    named_by w (Some name) = walked_name w no_storage false name.name
+    named_by w (Some name) = walked_name w storage_is.Unnamed false name.name
 
 -- the variables whose addresses are taken in the body of a function
 abbrev pub addresses_taken : List PlainParameter → Statements At → List ℕ

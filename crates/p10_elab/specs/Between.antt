@@ -7,7 +7,7 @@ use Rattle.p10_base.specs.declared.codes.SubsetCode.TheVariants as subset
 use Rattle.p10_core.specs.Types.{PlainType, void, integer, pointer, array, structure, PlainMember, PlainBody, PlainStructure, body_of, representative_of}
 use Rattle.p10_core.specs.Rows.{same_integer}
 use Rattle.p10_elabx.specs.First.{Keep}
-use Rattle.p10_elabd.specs.Standing.{Standing, refusing}
+use Rattle.p10_elabd.specs.Standing.{PlainStanding, refusing}
 use Rattle.p10_elab.specs.Heads.{Head, Heads}
 use Rattle.p10_elab.specs.Linkage.{LinkedType, a_function, an_object, is_unknown, is_function, Linked}
 
@@ -108,15 +108,15 @@ agreed [] now structures = Some structures
 agreed (before ∷ rest) now structures = and_then (agreed_with before now structures) (agreed rest now)
 
 -- the structures after a declaration, and its problem where it doesn't agree with those of roots before
-abbrev pub agreeing : Keep → List Linked → Linked → Standing → Standing
+abbrev pub agreeing : Keep → List Linked → Linked → PlainStanding → PlainStanding
 agreeing h before now s = by_structures (agreed before now s.scope.structures)
   where
-    by_structures : Option (List PlainStructure) → Standing
+    by_structures : Option (List PlainStructure) → PlainStanding
     by_structures None = refusing h true subset.DefinedTwice now.at s
     by_structures (Some structures) = record s { scope = record s.scope { structures = structures } }
 
 -- declarations after those before them
-abbrev pub all_agreeing : Keep → List Linked → List Linked → Standing → Standing
+abbrev pub all_agreeing : Keep → List Linked → List Linked → PlainStanding → PlainStanding
 all_agreeing h before [] s = s
 all_agreeing h before (l ∷ rest) s = all_agreeing h (before ++ l ∷ []) rest (agreeing h before l s)
 
@@ -127,12 +127,12 @@ is_defined_before (g ∷ rest) f =
     (bytes_eq g.name f.name && (not (g.internal || f.internal) && (not (g.in_block || f.in_block) && not (nat_eq g.root f.root)))) || is_defined_before rest f
 
 -- definitions after those before them: no name with external linkage is defined in two roots (C99 6.9p5)
-abbrev pub definitions_noted : Keep → List Head → List Head → Standing → Standing
+abbrev pub definitions_noted : Keep → List Head → List Head → PlainStanding → PlainStanding
 definitions_noted h before [] s = s
 definitions_noted h before (f ∷ rest) s =
     definitions_noted h (before ++ f ∷ []) rest (refusing h (is_defined_before before f) subset.DefinedTwice f.at s)
 
 -- what stands after the roots are taken together
-unfoldable pub taken_together : Keep → Heads → List Linked → Standing → Standing
+unfoldable pub taken_together : Keep → Heads → List Linked → PlainStanding → PlainStanding
 taken_together h heads linked s =
     definitions_noted h [] heads.objects (definitions_noted h [] heads.functions (all_agreeing h [] linked s))

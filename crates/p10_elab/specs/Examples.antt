@@ -1,5 +1,5 @@
 -- Small programs, worked out by hand: which row of the subset refuses each, and at which of its words.
-use Rattle.std.specs.Prelude.{◌≡◌, ℕ, ◌+◌, List, [], ◌∷◌, false, Option, None, Some, codes, map, flat_map}
+use Rattle.std.specs.Prelude.{◌≡◌, ℕ, ◌+◌, List, [], ◌∷◌, ◌++◌, false, Option, None, Some, codes, map, flat_map}
 use Rattle.p10_base.specs.Words.{Text}
 use Rattle.p10_base.specs.Codes.{subset_number}
 use Rattle.p10_base.specs.declared.at.At.{At}
@@ -25,7 +25,7 @@ id text = record { place = tt; name = text }
 
 -- a name as an expression
 abbrev pub name : Text → Expression Bare
-name text = expression tt 0 (Name text)
+name text = expression tt 0 (Name (id text))
 
 -- a number
 abbrev pub num : Text → Expression Bare
@@ -45,7 +45,7 @@ called text = Named (id text)
 
 -- a function without parameters
 abbrev pub of_void : Text → Declarator Bare
-of_void text = Function tt (called text) (parameter_row (parameter tt (specifier_row (word sign.Void ∷ [])) (Unnamed tt) ∷ [])) false
+of_void text = Function tt (called text) tt (parameter_row (parameter tt (specifier_row (word sign.Void ∷ [])) (Unnamed tt) ∷ [])) false
 
 -- a declarator with its initialiser
 abbrev pub one : Declarator Bare → Option (Initializer Bare) → InitDeclarator Bare
@@ -57,7 +57,7 @@ local_of s ds = Declare (record { place = tt; specifiers = s; declarators = ds }
 
 -- a declaration outside of functions
 abbrev pub outer_of : Specifiers Bare → List (InitDeclarator Bare) → External Bare
-outer_of s ds = Outer (record { place = tt; specifiers = s; declarators = ds })
+outer_of s ds = Outer tt (record { place = tt; specifiers = s; declarators = ds })
 
 -- a function with its body
 abbrev pub function_of : Specifiers Bare → Declarator Bare → List (Statement Bare) → External Bare
@@ -79,9 +79,9 @@ words_of [] = 0
 words_of (e ∷ rest) = count_external e + words_of rest
 
 -- the trees of roots in their places, the first of which begins at a word
-abbrev pub located : ℕ → List (List (External Bare)) → List (List (External At))
+abbrev pub located : ℕ → List (List (External Bare)) → List (External At)
 located n [] = []
-located n (root ∷ rest) = locate_externals (record { words = []; before = n }) 0 root ∷ located (n + words_of root) rest
+located n (root ∷ rest) = locate_externals (record { words = []; before = n }) 0 root ++ located (n + words_of root) rest
 
 -- what is said of roots: that they are a program; that one is too large; or a row, by its number and that of the first word of its tree
 pub data Said : Type 0 where
@@ -156,13 +156,13 @@ s4_2 = ((function_of (specifier_row ((word sign.Void) ∷ [])) (of_void (codes "
 
 -- int main(void) { char s[2] = "abc"; return 0; }
 abbrev pub s4_3 : List (List (External Bare))
-s4_3 = ((main_of ((local_of (specifier_row ((word sign.Char) ∷ [])) ((one (Array tt (called (codes "s")) (Present (num (codes "2")))) (Some (Value (expression tt 0 (Strings ((codes "\"abc\"") ∷ [])))))) ∷ [])) ∷ ends ∷ [])) ∷ []) ∷ []
+s4_3 = ((main_of ((local_of (specifier_row ((word sign.Char) ∷ [])) ((one (Array tt (called (codes "s")) tt (Present (num (codes "2")))) (Some (Value (expression tt 0 (Strings ((codes "\"abc\"") ∷ [])))))) ∷ [])) ∷ ends ∷ [])) ∷ []) ∷ []
 
 -- ## S5: wrong number of arguments
 
 -- int f(int a) { return a; } int main(void) { return f(); }
 abbrev pub s5_1 : List (List (External Bare))
-s5_1 = ((function_of int (Function tt (called (codes "f")) (parameter_row ((parameter tt int (called (codes "a"))) ∷ [])) false) ((Return tt tt (Present (name (codes "a")))) ∷ [])) ∷ (main_of ((Return tt tt (Present (expression tt 0 (Call (name (codes "f")) (expression_row []))))) ∷ [])) ∷ []) ∷ []
+s5_1 = ((function_of int (Function tt (called (codes "f")) tt (parameter_row ((parameter tt int (called (codes "a"))) ∷ [])) false) ((Return tt tt (Present (name (codes "a")))) ∷ [])) ∷ (main_of ((Return tt tt (Present (expression tt 0 (Call (name (codes "f")) (expression_row []))))) ∷ [])) ∷ []) ∷ []
 
 -- ## S6: call of something other than a function's name
 
@@ -226,7 +226,7 @@ s14_1 = ((function_of (specifier_row ((word sign.Void) ∷ [])) (of_void (codes 
 
 -- struct s { int a; }; int f(struct s p) { return 0; } int main(void) { return 0; }
 abbrev pub s15_1 : List (List (External Bare))
-s15_1 = ((outer_of (specifier_row ((Structure tt sign.Struct (Some (id (codes "s"))) (member_row ((member_declaration tt int (field_row ((field tt (called (codes "a")) Absent) ∷ []))) ∷ []))) ∷ [])) []) ∷ (function_of int (Function tt (called (codes "f")) (parameter_row ((parameter tt (specifier_row ((Structure tt sign.Struct (Some (id (codes "s"))) NoMembers) ∷ [])) (called (codes "p"))) ∷ [])) false) (ends ∷ [])) ∷ (main_of (ends ∷ [])) ∷ []) ∷ []
+s15_1 = ((outer_of (specifier_row ((Structure tt sign.Struct (Some (id (codes "s"))) (member_row ((member_declaration tt int (field_row ((field tt (called (codes "a")) Absent) ∷ []))) ∷ []))) ∷ [])) []) ∷ (function_of int (Function tt (called (codes "f")) tt (parameter_row ((parameter tt (specifier_row ((Structure tt sign.Struct (Some (id (codes "s"))) NoMembers) ∷ [])) (called (codes "p"))) ∷ [])) false) (ends ∷ [])) ∷ (main_of (ends ∷ [])) ∷ []) ∷ []
 
 -- ## S16: size of a type without one
 
@@ -262,7 +262,7 @@ s20_1 = ((outer_of (specifier_row ((Structure tt sign.Union (Some (id (codes "u"
 
 -- int a[0]; int main(void) { return 0; }
 abbrev pub s21_1 : List (List (External Bare))
-s21_1 = ((outer_of int ((one (Array tt (called (codes "a")) (Present (num (codes "0")))) None) ∷ [])) ∷ (main_of (ends ∷ [])) ∷ []) ∷ []
+s21_1 = ((outer_of int ((one (Array tt (called (codes "a")) tt (Present (num (codes "0")))) None) ∷ [])) ∷ (main_of (ends ∷ [])) ∷ []) ∷ []
 
 -- ## S22: specifier not in the subset
 
@@ -278,7 +278,7 @@ s22_2 = ((outer_of (specifier_row ((word sign.Auto) ∷ (word sign.Int) ∷ []))
 
 -- int f(); int main(void) { return 0; }
 abbrev pub s23_1 : List (List (External Bare))
-s23_1 = ((outer_of int ((one (Function tt (called (codes "f")) (parameter_row []) false) None) ∷ [])) ∷ (main_of (ends ∷ [])) ∷ []) ∷ []
+s23_1 = ((outer_of int ((one (Function tt (called (codes "f")) tt (parameter_row []) false) None) ∷ [])) ∷ (main_of (ends ∷ [])) ∷ []) ∷ []
 
 -- ## S24: pointer type not in the subset
 
@@ -310,7 +310,7 @@ s26_2 = ((outer_of int ((one (called (codes "x")) (Some (Value (num (codes "1"))
 
 -- int f(int a); int main(void) { return f(1); }
 abbrev pub s27_1 : List (List (External Bare))
-s27_1 = ((outer_of int ((one (Function tt (called (codes "f")) (parameter_row ((parameter tt int (called (codes "a"))) ∷ [])) false) None) ∷ [])) ∷ (main_of ((Return tt tt (Present (expression tt 0 (Call (name (codes "f")) (expression_row ((num (codes "1")) ∷ [])))))) ∷ [])) ∷ []) ∷ []
+s27_1 = ((outer_of int ((one (Function tt (called (codes "f")) tt (parameter_row ((parameter tt int (called (codes "a"))) ∷ [])) false) None) ∷ [])) ∷ (main_of ((Return tt tt (Present (expression tt 0 (Call (name (codes "f")) (expression_row ((num (codes "1")) ∷ [])))))) ∷ [])) ∷ []) ∷ []
 
 -- ## S28: main missing, of another form, or used
 
@@ -354,15 +354,15 @@ fine_3 = ((main_of ((local_of int ((one (Pointer tt [] (called (codes "p"))) (So
 
 -- int main(void) { char s[3] = "abc"; return 0; }
 abbrev pub fine_4 : List (List (External Bare))
-fine_4 = ((main_of ((local_of (specifier_row ((word sign.Char) ∷ [])) ((one (Array tt (called (codes "s")) (Present (num (codes "3")))) (Some (Value (expression tt 0 (Strings ((codes "\"abc\"") ∷ [])))))) ∷ [])) ∷ ends ∷ [])) ∷ []) ∷ []
+fine_4 = ((main_of ((local_of (specifier_row ((word sign.Char) ∷ [])) ((one (Array tt (called (codes "s")) tt (Present (num (codes "3")))) (Some (Value (expression tt 0 (Strings ((codes "\"abc\"") ∷ [])))))) ∷ [])) ∷ ends ∷ [])) ∷ []) ∷ []
 
 -- int main(void) { int a[2][2] = {{1}, {0}}; return 0; }
 abbrev pub fine_5 : List (List (External Bare))
-fine_5 = ((main_of ((local_of int ((one (Array tt (Array tt (called (codes "a")) (Present (num (codes "2")))) (Present (num (codes "2")))) (Some (Braced tt (initializer_row ((Braced tt (initializer_row ((Value (num (codes "1"))) ∷ [])) false) ∷ (Braced tt (initializer_row ((Value (num (codes "0"))) ∷ [])) false) ∷ [])) false))) ∷ [])) ∷ ends ∷ [])) ∷ []) ∷ []
+fine_5 = ((main_of ((local_of int ((one (Array tt (Array tt (called (codes "a")) tt (Present (num (codes "2")))) tt (Present (num (codes "2")))) (Some (Braced tt (initializer_row ((Braced tt (initializer_row ((Value (num (codes "1"))) ∷ [])) false) ∷ (Braced tt (initializer_row ((Value (num (codes "0"))) ∷ [])) false) ∷ [])) false))) ∷ [])) ∷ ends ∷ [])) ∷ []) ∷ []
 
 -- int main(void) { int a[2][2] = {0}; return 0; }
 abbrev pub fine_6 : List (List (External Bare))
-fine_6 = ((main_of ((local_of int ((one (Array tt (Array tt (called (codes "a")) (Present (num (codes "2")))) (Present (num (codes "2")))) (Some (Braced tt (initializer_row ((Value (num (codes "0"))) ∷ [])) false))) ∷ [])) ∷ ends ∷ [])) ∷ []) ∷ []
+fine_6 = ((main_of ((local_of int ((one (Array tt (Array tt (called (codes "a")) tt (Present (num (codes "2")))) tt (Present (num (codes "2")))) (Some (Braced tt (initializer_row ((Value (num (codes "0"))) ∷ [])) false))) ∷ [])) ∷ ends ∷ [])) ∷ []) ∷ []
 
 -- ## Typed programs
 
@@ -380,7 +380,7 @@ tentative = ((outer_of int ((one (called (codes "x")) None) ∷ [])) ∷ (outer_
 
 -- int f(int a); int g(void) { return f(1); } int main(void) { return nope; }
 abbrev pub order : List (List (External Bare))
-order = ((outer_of int ((one (Function tt (called (codes "f")) (parameter_row ((parameter tt int (called (codes "a"))) ∷ [])) false) None) ∷ [])) ∷ (function_of int (of_void (codes "g")) ((Return tt tt (Present (expression tt 0 (Call (name (codes "f")) (expression_row ((num (codes "1")) ∷ [])))))) ∷ [])) ∷ (main_of ((Return tt tt (Present (name (codes "nope")))) ∷ [])) ∷ []) ∷ []
+order = ((outer_of int ((one (Function tt (called (codes "f")) tt (parameter_row ((parameter tt int (called (codes "a"))) ∷ [])) false) None) ∷ [])) ∷ (function_of int (of_void (codes "g")) ((Return tt tt (Present (expression tt 0 (Call (name (codes "f")) (expression_row ((num (codes "1")) ∷ [])))))) ∷ [])) ∷ (main_of ((Return tt tt (Present (name (codes "nope")))) ∷ [])) ∷ []) ∷ []
 
 -- ## What is said of each
 

@@ -14,7 +14,7 @@ use Rattle.p10_elabx.specs.Scopes.{PlainScope, named}
 use Rattle.p10_elabx.specs.Operands.{PlainOperand, a_value, any_value, as_value, converted}
 use Rattle.p10_elabx.specs.Calls.{Callee, callee_of, wants_of, wanted_of, no_arguments, call_judged, is_assert, operand_call}
 use Rattle.p10_elabx.specs.Judging.{judge, judge_arguments, count_of, by_sign, step_judged, target_judged, assignment_of, step_of, place_of, may_be_place}
-use Rattle.p10_elabd.specs.Standing.{Standing, noted}
+use Rattle.p10_elabd.specs.Standing.{PlainStanding, noted}
 use Rattle.p10_elabd.specs.Expressions.{for_expression, value_found}
 use Rattle.p10_elab.specs.Locals.{Local, Done, done_in}
 
@@ -39,9 +39,9 @@ form_found h s (expression at n (Assign word a b)) =
     (by_sign h s.structures at (assignment_of word) (target_judged h s.structures (place_of a) (may_be_place a) (judge h s a)) (as_value s.structures (judge h s b))).found
 form_found h s (expression at n (Step side word e)) =
     (step_judged s.structures at (step_of word) (target_judged h s.structures (place_of e) (may_be_place e) (judge h s e))).found
-form_found h s (expression at n (Call (expression name_at m (Name text)) all)) =
-    let callee : Callee = callee_of (named s text) text in
-    called h s at callee (call_judged h at name_at callee (count_of all) (judge_arguments h s (wanted_of (wants_of callee) (count_of all)) 0 no_arguments all))
+form_found h s (expression at n (Call (expression place m (Name x)) all)) =
+    let callee : Callee = callee_of (named s x.name) x.name in
+    called h s at callee (call_judged h at x.place callee (count_of all) (judge_arguments h s (wanted_of (wants_of callee) (count_of all)) 0 no_arguments all))
 form_found h s e = evaluated h s (judge h s e)
 
 -- a form as a statement at a tree
@@ -52,7 +52,7 @@ statement_with at (Some f) = Some (statement at f)
 -- an expression as a statement at a tree
 abbrev pub expression_statement : Keep → Local → At → Expression At → Done PlainStatement
 expression_statement h l at e =
-    let s : Standing = for_expression l.standing e in
+    let s : PlainStanding = for_expression l.standing e in
     let d : Done PlainStatementForm = done_in l (noted h (form_found h s.scope e) s) in
     record { made = statement_with at d.made; after = d.after }
 

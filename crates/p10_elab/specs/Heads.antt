@@ -5,7 +5,9 @@ use Rattle.std.specs.List.{position_from}
 use Rattle.p10_base.specs.Words.{Text}
 use Rattle.p10_base.specs.declared.at.At.{At}
 use Rattle.p10_syn.specs.Trees.{Identifier, Initializer, InitDeclarator, Statement, Empty, Evaluate, Block, If, IfElse, Switch, While, Do, For, Case, Default, Label, Goto, Break, Continue, Return, Declare, Pragma, Statements, NoStatements, MoreStatements, Definition, External, Outer, Defines}
-use Rattle.p10_elabd.specs.Words.{Storage, for_typedef, for_extern, for_static, storage_of}
+use Rattle.p10_elabd.specs.Words.{storage_of}
+use Rattle.p10_elabd.specs.declared.site.Storage.{Storage}
+use Rattle.p10_elabd.specs.declared.site.Storage.TheVariants as storage_is
 use Rattle.p10_elabd.specs.Shapes.{name_in, declares_function}
 
 -- ## Declarators of objects and functions
@@ -27,12 +29,12 @@ pub record Outline : Type 0 where
 
 -- whether storage is `static`
 abbrev pub is_static : Storage → Bool
-is_static for_static = true
+is_static storage_is.Static = true
 is_static s = false
 
 -- how a declarator without an initialiser defines an object
 abbrev pub defining_by : Storage → Defining
-defining_by for_extern = elsewhere
+defining_by storage_is.Extern = elsewhere
 defining_by s = tentatively
 
 -- how a declarator defines an object
@@ -58,7 +60,7 @@ outlines_of s (d ∷ rest) = outline_of s d (name_in d.declarator) ++ outlines_o
 
 -- the outlines of a declaration: those of a typedef declare neither
 abbrev pub outlines_by : Storage → List (InitDeclarator At) → List Outline
-outlines_by for_typedef ds = []
+outlines_by storage_is.Typedef ds = []
 outlines_by s ds = outlines_of s ds
 
 -- the outline of a function with its body
@@ -69,7 +71,7 @@ definition_outline d (Some name) =
 
 -- the outlines of a declaration or function
 abbrev pub outlines_in : External At → List Outline
-outlines_in (Outer d) = outlines_by (storage_of d.specifiers) d.declarators
+outlines_in (Outer p d) = outlines_by (storage_of d.specifiers) d.declarators
 outlines_in (Defines d) = definition_outline d (name_in d.declarator)
 
 -- the outlines of a root
@@ -149,7 +151,7 @@ block_heads root (d ∷ rest) = block_head root d (name_in d.declarator) ++ bloc
 
 -- the heads of a declaration in a block: `static` ones alone
 abbrev pub static_heads : ℕ → Storage → List (InitDeclarator At) → List Head
-static_heads root for_static ds = block_heads root ds
+static_heads root storage_is.Static ds = block_heads root ds
 static_heads root s ds = []
 
 abbrev mutual
@@ -181,7 +183,7 @@ abbrev mutual
 
 -- the heads of objects of one declaration or function
 abbrev pub object_heads_in : ℕ → List Outline → External At → List Head
-object_heads_in root all (Outer d) = heads_from false root all (outlines_in (Outer d))
+object_heads_in root all (Outer p d) = heads_from false root all (outlines_in (Outer p d))
 object_heads_in root all (Defines d) = heads_in_all root d.body
 
 -- the heads of objects of a root

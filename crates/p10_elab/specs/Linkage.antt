@@ -9,8 +9,9 @@ use Rattle.p10_core.specs.Types.{PlainType}
 use Rattle.p10_core.specs.Rows.{same, int_type}
 use Rattle.p10_elabx.specs.declared.problem.Problem.{Problem}
 use Rattle.p10_elabx.specs.First.{Keep}
-use Rattle.p10_elabd.specs.Standing.{Standing, refusing}
-use Rattle.p10_elabd.specs.Words.{Storage, no_storage, for_extern, for_static}
+use Rattle.p10_elabd.specs.Standing.{PlainStanding, refusing}
+use Rattle.p10_elabd.specs.declared.site.Storage.{Storage}
+use Rattle.p10_elabd.specs.declared.site.Storage.TheVariants as storage_is
 use Rattle.p10_elabd.specs.Blocks.{is_taken}
 
 -- what is declared: a function with the types of its parameters, without marks, and its result; an object; one of these of which no
@@ -70,13 +71,13 @@ is_defined root name (l ∷ rest) = (l.defines && (nat_eq l.root root && bytes_e
 
 -- whether `static` stands at a declaration
 abbrev pub is_static : Storage → Bool
-is_static for_static = true
+is_static storage_is.Static = true
 is_static s = false
 
 -- whether a declaration is as `extern` ones are: a function without a storage word is too (C99 6.2.2p5)
 abbrev pub is_like_extern : Storage → LinkedType → Bool
-is_like_extern for_extern t = true
-is_like_extern no_storage t = is_function t
+is_like_extern storage_is.Extern t = true
+is_like_extern storage_is.Unnamed t = is_function t
 is_like_extern s t = false
 
 -- whether what is declared is internal to its root: `static` makes it so, and `extern` leaves it as it was (C99 6.2.2p3 to p5)
@@ -90,12 +91,12 @@ differs before now =
     not (same_linked before.type now.type) || (not (beq before.internal now.internal) || not (beq before.sensor now.sensor))
 
 -- whether a declaration may not stand after those before it: it doesn't agree, or both define; or its name is taken by something else
-abbrev pub is_refused : Standing → List Linked → Option Linked → Linked → Bool
+abbrev pub is_refused : PlainStanding → List Linked → Option Linked → Linked → Bool
 is_refused s linked None now = is_taken s.scope now.name
 is_refused s linked (Some before) now = differs before now || (now.defines && is_defined now.root now.name linked)
 
 -- a declaration after those before it
-abbrev pub linked_noted : Keep → List Linked → Linked → Standing → Standing
+abbrev pub linked_noted : Keep → List Linked → Linked → PlainStanding → PlainStanding
 linked_noted h linked now s =
     refusing h (is_refused s linked (last_linked None now.root now.name linked) now) subset.DefinedTwice now.at s
 

@@ -10,12 +10,16 @@ use Rattle.p10_core.specs.Typed.{PlainStatement, statement, declare, declare_sta
 use Rattle.p10_core.specs.WholePrograms.{is_among}
 use Rattle.p10_elabx.specs.First.{Keep}
 use Rattle.p10_elabx.specs.Scopes.{local, object}
-use Rattle.p10_elabd.specs.Standing.{Standing, Passed, refusing}
-use Rattle.p10_elabd.specs.Words.{Site, Storage, no_storage, for_typedef, for_extern, for_static, storage_of}
+use Rattle.p10_elabx.specs.TypeNames.{declarator_place}
+use Rattle.p10_elabd.specs.Standing.{PlainStanding, Passed, refusing}
+use Rattle.p10_elabd.specs.Words.{storage_of}
+use Rattle.p10_elabd.specs.declared.site.Site.{Site}
+use Rattle.p10_elabd.specs.declared.site.Storage.{Storage}
+use Rattle.p10_elabd.specs.declared.site.Storage.TheVariants as storage_is
 use Rattle.p10_elabd.specs.Blocks.{declaring}
-use Rattle.p10_elabd.specs.Shapes.{DeclaredType, name_in, declarator_at, declares_function}
-use Rattle.p10_elabd.specs.Declared.{declarator_passed, based}
-use Rattle.p10_elabd.specs.Initializers.{automatic, static}
+use Rattle.p10_elabd.specs.Shapes.{DeclaredType, name_in, declares_function}
+use Rattle.p10_elabd.specs.Declaring.{declarator_passed, based}
+use Rattle.p10_elabd.specs.declared.lifetime.Lifetime.TheVariants as life_is
 use Rattle.p10_elab.specs.Heads.{number_at}
 use Rattle.p10_elab.specs.Locals.{Frame, Local, with_standing, specified_in, makes_sensors, no_initializer, unknown_in, typedef_passed, object_type, brackets_of, initialized_by}
 
@@ -57,7 +61,7 @@ variable_item at n (Some i) = Some (statement at (declare n i))
 abbrev pub variable_of_type : Keep → Frame → At → Identifier At → PlainType → Option (Initializer At) → Local → Declaring
 variable_of_type h f at name t i l =
     let m : Local = with_variable h f name t l in
-    let p : Passed PlainInitializer = initialized_by h automatic t i m.standing in
+    let p : Passed PlainInitializer = initialized_by h life_is.Automatic t i m.standing in
     record { items = variable_item at l.count p.made ∷ []; after = with_standing m p.after }
 
 -- a variable whose type is refused has a number all the same
@@ -103,7 +107,7 @@ abbrev pub object_of_type : Keep → Frame → At → Identifier At → PlainTyp
 object_of_type h f at name t sensor i l =
     let n : ℕ = number_at f.heads.objects name.place in
     let m : Local = with_standing l (declaring h name (object n t sensor) l.standing) in
-    let p : Passed PlainInitializer = initialized_by h static t i m.standing in
+    let p : Passed PlainInitializer = initialized_by h life_is.Static t i m.standing in
     record { items = object_item at n p.made ∷ []; after = with_object f n name t sensor p.made (with_standing m p.after) }
 
 -- an object whose type may be refused
@@ -121,28 +125,28 @@ abbrev pub no_items : Local → Declaring
 no_items l = record { items = []; after = l }
 
 -- the type of an object that may be refused
-abbrev pub declared_object : Keep → At → At → Option DeclaredType → Option (Initializer At) → Standing → Passed PlainType
+abbrev pub declared_object : Keep → At → At → Option DeclaredType → Option (Initializer At) → PlainStanding → Passed PlainType
 declared_object h name_at brackets None i s = record { made = None; after = s }
 declared_object h name_at brackets (Some d) i s = object_type h name_at brackets d i s
 
 -- a prototype stands in no block
 abbrev pub prototype_passed : Keep → Identifier At → InitDeclarator At → Local → Declaring
 prototype_passed h name d l =
-    no_items (with_standing l (no_initializer h d.initial (unknown_in h name (refusing h true subset.BadSpecifier (declarator_at d.declarator) l.standing))))
+    no_items (with_standing l (no_initializer h d.initial (unknown_in h name (refusing h true subset.BadSpecifier (declarator_place d.declarator) l.standing))))
 
 -- a declarator in a block by its storage: a typedef, a static object, a variable; what `extern` declares is refused with that word
 abbrev pub by_storage : Keep → Frame → At → Storage → Bool → Identifier At → InitDeclarator At → Local → Option DeclaredType → Declaring
-by_storage h f at for_typedef sensor name d l j =
+by_storage h f at storage_is.Typedef sensor name d l j =
     no_items (with_standing l (no_initializer h d.initial (typedef_passed h name d.declarator j l.standing)))
-by_storage h f at for_static sensor name d l j =
+by_storage h f at storage_is.Static sensor name d l j =
     object_passed h f at name sensor d.initial l (declared_object h name.place (brackets_of d.declarator) j d.initial l.standing)
-by_storage h f at no_storage sensor name d l j =
+by_storage h f at storage_is.Unnamed sensor name d l j =
     variable_passed h f at name d.initial l (declared_object h name.place (brackets_of d.declarator) j d.initial l.standing)
-by_storage h f at for_extern sensor name d l j = no_items (with_standing l (unknown_in h name l.standing))
+by_storage h f at storage_is.Extern sensor name d l j = no_items (with_standing l (unknown_in h name l.standing))
 
 -- whether storage is that of a typedef
 abbrev pub is_typedef : Storage → Bool
-is_typedef for_typedef = true
+is_typedef storage_is.Typedef = true
 is_typedef s = false
 
 -- a declarator in a block with its name

@@ -11,12 +11,18 @@ use Rattle.p10_core.specs.Typed.{PlainInitializer, not_initialized, PlainVariabl
 use Rattle.p10_core.specs.WholePrograms.{most_bytes}
 use Rattle.p10_elabx.specs.First.{Keep}
 use Rattle.p10_elabx.specs.Scopes.{named_type, unknown_name, entered, left}
-use Rattle.p10_elabd.specs.Standing.{Standing, Passed, passed, nothing_made, refusing}
-use Rattle.p10_elabd.specs.Words.{Site, Storage, no_storage, for_typedef, for_extern, for_static, storage_of, Allowed, has_word, is_volatile, is_other_word}
+use Rattle.p10_elabx.specs.TypeNames.{declarator_place}
+use Rattle.p10_elabd.specs.Standing.{PlainStanding, Passed, passed, nothing_made, refusing}
+use Rattle.p10_elabd.specs.Words.{storage_of, has_word, is_volatile, is_other_word}
+use Rattle.p10_elabd.specs.declared.site.Site.{Site}
+use Rattle.p10_elabd.specs.declared.site.Storage.{Storage}
+use Rattle.p10_elabd.specs.declared.site.Storage.TheVariants as storage_is
+use Rattle.p10_elabd.specs.declared.site.Allowed.{Allowed}
 use Rattle.p10_elabd.specs.Blocks.{declaring}
-use Rattle.p10_elabd.specs.Shapes.{DeclaredType, of_type, of_open_array, of_function, declarator_at, after_inner, declares_function, is_plain_name}
-use Rattle.p10_elabd.specs.Declared.{specified}
-use Rattle.p10_elabd.specs.Initializers.{Lifetime, initialized, elements_given, surplus_item}
+use Rattle.p10_elabd.specs.Shapes.{DeclaredType, of_type, of_open_array, of_function, declares_function, is_plain_name}
+use Rattle.p10_elabd.specs.Declaring.{specified}
+use Rattle.p10_elabd.specs.Initializers.{initialized, elements_given, surplus_item}
+use Rattle.p10_elabd.specs.declared.lifetime.Lifetime.{Lifetime}
 use Rattle.p10_elab.specs.Heads.{Heads}
 
 -- ## What is known
@@ -32,7 +38,7 @@ pub record Frame : Type 0 where
 -- what a body has so far: what stands where the next statement does; how many variables there were; the variables and the static
 -- objects with their numbers, of which none was refused; how many loops there were
 pub record Local : Type 0 where
-  pub standing : Standing
+  pub standing : PlainStanding
   pub count : ℕ
   pub variables : List PlainVariable
   pub objects : List (ℕ × PlainObject)
@@ -44,7 +50,7 @@ pub record Done (A : Type 0) : Type 0 where
   pub after : Local
 
 -- what is declared in a part of a body is done for the body
-abbrev pub with_standing : Local → Standing → Local
+abbrev pub with_standing : Local → PlainStanding → Local
 with_standing l s = record l { standing = s }
 
 -- a part that stands in the body
@@ -73,10 +79,10 @@ are_all test (d ∷ rest) = test d && are_all test rest
 
 -- whether storage gives a static lifetime to objects
 abbrev pub is_lasting : Bool → Storage → Bool
-is_lasting outside for_static = true
-is_lasting outside for_extern = outside
-is_lasting outside no_storage = outside
-is_lasting outside for_typedef = false
+is_lasting outside storage_is.Static = true
+is_lasting outside storage_is.Extern = outside
+is_lasting outside storage_is.Unnamed = outside
+is_lasting outside storage_is.Typedef = false
 
 -- whether a specifier names a type that is no integer type, whatever its parts are
 abbrev pub names_other : Specifiers At → Bool
@@ -96,7 +102,7 @@ declares_sensors outside t d =
     is_lasting outside (storage_of d.specifiers) && (names_integer t d.specifiers && are_all (λ i. is_plain_name i.declarator) d.declarators)
 
 -- `volatile` on anything but sensors (C99 6.7.3), at the word
-abbrev pub volatile_noted : Keep → Bool → Specifiers At → Standing → Standing
+abbrev pub volatile_noted : Keep → Bool → Specifiers At → PlainStanding → PlainStanding
 volatile_noted h may NoSpecifiers s = s
 volatile_noted h may (MoreSpecifiers (Keyword at word) rest) s =
     volatile_noted h may rest (refusing h (is_volatile word && not may) subset.BadSpecifier at s)
@@ -108,7 +114,7 @@ abbrev pub allowed_by : Declaration At → Allowed
 allowed_by d = record { inline = is_static (storage_of d.specifiers) && are_all (λ i. declares_function i.declarator) d.declarators; volatile = true }
   where
     is_static : Storage → Bool
-    is_static for_static = true
+    is_static storage_is.Static = true
     is_static s = false
 
 -- whether specifiers are the only one of a declaration that declares nothing else
@@ -124,7 +130,7 @@ is_alone d = one_of d.specifiers && none_of d.declarators
     none_of ds = false
 
 -- the type that the specifiers of a declaration name
-abbrev pub specified_in : Keep → Bool → Site → Standing → Declaration At → Passed PlainType
+abbrev pub specified_in : Keep → Bool → Site → PlainStanding → Declaration At → Passed PlainType
 specified_in h outside site s d = sensors_noted (specified h site (allowed_by d) (is_alone d) s d.specifiers)
   where
     sensors_noted : Passed PlainType → Passed PlainType
@@ -137,23 +143,23 @@ abbrev pub makes_sensors : Declaration At → Bool
 makes_sensors d = has_word is_volatile d.specifiers
 
 -- an initialiser where none may stand
-abbrev pub no_initializer : Keep → Option (Initializer At) → Standing → Standing
+abbrev pub no_initializer : Keep → Option (Initializer At) → PlainStanding → PlainStanding
 no_initializer h None s = s
 no_initializer h (Some i) s = (surplus_item h s i).after
 
 -- a name that stands for something unknown, since its declaration is refused
-abbrev pub unknown_in : Keep → Identifier At → Standing → Standing
+abbrev pub unknown_in : Keep → Identifier At → PlainStanding → PlainStanding
 unknown_in h name s = declaring h name unknown_name s
 
 -- a typedef: of a function it isn't in the subset
-abbrev pub typedef_passed : Keep → Identifier At → Declarator At → Option DeclaredType → Standing → Standing
+abbrev pub typedef_passed : Keep → Identifier At → Declarator At → Option DeclaredType → PlainStanding → PlainStanding
 typedef_passed h name d None s = unknown_in h name s
 typedef_passed h name d (Some (of_type t)) s = declaring h name (named_type t) s
 typedef_passed h name d (Some (of_open_array t)) s = unknown_in h name (refusing h true subset.IncompleteType name.place s)
-typedef_passed h name d (Some (of_function f)) s = unknown_in h name (refusing h true subset.BadSpecifier (declarator_at d) s)
+typedef_passed h name d (Some (of_function f)) s = unknown_in h name (refusing h true subset.BadSpecifier (declarator_place d) s)
 
 -- an array of as many elements as an initialiser gives; that it is too large is refused at its brackets
-abbrev pub filled_array : Keep → At → PlainType → Initializer At → Option ℕ → Standing → Passed PlainType
+abbrev pub filled_array : Keep → At → PlainType → Initializer At → Option ℕ → PlainStanding → Passed PlainType
 filled_array h brackets t i None s = nothing_made (surplus_item h s i).after
 filled_array h brackets t i (Some n) s =
     if fits_type (n * size_of s.scope.structures t) then passed (array false t n) s else nothing_made (refusing h true subset.BadLength brackets s)
@@ -162,7 +168,7 @@ filled_array h brackets t i (Some n) s =
     fits_type bytes = nat_le bytes most_bytes
 
 -- the type of an object: it has a size; the length of an array may come from its initialiser (C99 6.7p7, 6.7.8p22)
-abbrev pub object_type : Keep → At → At → DeclaredType → Option (Initializer At) → Standing → Passed PlainType
+abbrev pub object_type : Keep → At → At → DeclaredType → Option (Initializer At) → PlainStanding → Passed PlainType
 object_type h name_at brackets (of_type t) i s =
     if is_complete s.scope.structures t then passed t s else nothing_made (refusing h true subset.IncompleteType name_at s)
 object_type h name_at brackets (of_open_array t) None s = nothing_made (refusing h true subset.IncompleteType name_at s)
@@ -171,16 +177,16 @@ object_type h name_at brackets (of_function f) i s = nothing_made s
 
 -- the brackets of an array whose length is lacking: those next to its name
 abbrev pub brackets_of : Declarator At → At
-brackets_of d = from_declarator (declarator_at d) d
+brackets_of d = from_declarator (declarator_place d) d
   where
     from_declarator : At → Declarator At → At
-    from_declarator at (Array place d length) = from_declarator (after_inner place d) d
+    from_declarator at (Array place d brackets length) = from_declarator brackets d
     from_declarator at (Parenthesised place d) = from_declarator at d
-    from_declarator at (Function place d _ _) = from_declarator at d
+    from_declarator at (Function place d parentheses _ _) = from_declarator at d
     from_declarator at (Pointer place qualifiers d) = from_declarator at d
     from_declarator at d = at
 
 -- an initialiser, if one is written, for an object of a type
-abbrev pub initialized_by : Keep → Lifetime → PlainType → Option (Initializer At) → Standing → Passed PlainInitializer
+abbrev pub initialized_by : Keep → Lifetime → PlainType → Option (Initializer At) → PlainStanding → Passed PlainInitializer
 initialized_by h life t None s = passed not_initialized s
 initialized_by h life t (Some i) s = initialized h life t s i

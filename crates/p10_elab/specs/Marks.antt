@@ -9,7 +9,7 @@ use Rattle.p10_core.specs.declared.statements.MarkKind.TheVariants.{InitDone, Ta
 use Rattle.p10_core.specs.Typed.{PlainValue}
 use Rattle.p10_core.specs.WholePrograms.{is_true_test}
 use Rattle.p10_elabx.specs.First.{Keep, Found}
-use Rattle.p10_elabd.specs.Standing.{Standing, refusing}
+use Rattle.p10_elabd.specs.Standing.{PlainStanding, refusing}
 use Rattle.p10_elabd.specs.Expressions.{value_found}
 
 -- what an item of a body is, as far as the pragmas ask: a pragma; a loop that may be the task loop; one of which that isn't known, since
@@ -31,7 +31,7 @@ while_kind (Ok v) = if is_true_test v then task_item else other_item
 while_kind (Err rs) = unknown_loop
 
 -- what a statement that isn't a declaration is among the items of a body
-abbrev pub kind_of : Keep → Standing → Statement At → Kind
+abbrev pub kind_of : Keep → PlainStanding → Statement At → Kind
 kind_of h s (Pragma at text) = mark_item (mark_of text) at
 kind_of h s (Return at k e) = return_item
 kind_of h s (While at k e body) = while_kind (value_found h s e)
@@ -58,7 +58,7 @@ may_precede ks = false
 
 -- the pragmas of the items from one on, where it is known whether it is the first, and which pragmas stood before: each stands once at
 -- most, `init_done` between two items and before the task loop
-abbrev pub marks_noted : Keep → Bool → Bool → Bool → List Kind → Standing → Standing
+abbrev pub marks_noted : Keep → Bool → Bool → Bool → List Kind → PlainStanding → PlainStanding
 marks_noted h first init task [] s = s
 marks_noted h first init task (mark_item InitDone at ∷ rest) s =
     marks_noted h false true task rest (refusing h (first || (no_more rest || (init || task))) subset.MisplacedPragma at s)

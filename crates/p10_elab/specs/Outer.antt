@@ -11,12 +11,16 @@ use Rattle.p10_core.specs.Typed.{PlainInitializer, PlainVariable, PlainFunction,
 use Rattle.p10_elabx.specs.declared.problem.Problem.{Problem}
 use Rattle.p10_elabx.specs.First.{Keep}
 use Rattle.p10_elabx.specs.Scopes.{Meaning, local, object, callable, unknown_name, PlainScope, entered, left, Binding}
-use Rattle.p10_elabd.specs.Standing.{Standing, Passed, refusing}
-use Rattle.p10_elabd.specs.Words.{outside, of_definition, Storage, storage_of, Allowed}
+use Rattle.p10_elabx.specs.TypeNames.{declarator_place}
+use Rattle.p10_elabd.specs.Standing.{PlainStanding, Passed, refusing}
+use Rattle.p10_elabd.specs.Words.{storage_of}
+use Rattle.p10_elabd.specs.declared.site.Site.TheVariants as site_is
+use Rattle.p10_elabd.specs.declared.site.Storage.{Storage}
+use Rattle.p10_elabd.specs.declared.site.Allowed.{Allowed}
 use Rattle.p10_elabd.specs.Blocks.{with_name}
-use Rattle.p10_elabd.specs.Shapes.{PlainParameter, FunctionType, DeclaredType, of_type, of_open_array, of_function, name_in, declarator_at, declares_function}
-use Rattle.p10_elabd.specs.Declared.{specified, declarator_passed, based}
-use Rattle.p10_elabd.specs.Initializers.{static}
+use Rattle.p10_elabd.specs.Shapes.{PlainParameter, FunctionType, DeclaredType, of_type, of_open_array, of_function, name_in, declares_function}
+use Rattle.p10_elabd.specs.Declaring.{specified, declarator_passed, based}
+use Rattle.p10_elabd.specs.declared.lifetime.Lifetime.TheVariants as life_is
 use Rattle.p10_elab.specs.Heads.{Heads, Head, number_in}
 use Rattle.p10_elab.specs.Addresses.{addresses_taken, constants_of}
 use Rattle.p10_elab.specs.Locals.{Frame, Local, specified_in, makes_sensors, no_initializer, unknown_in, typedef_passed, filled_array, brackets_of, initialized_by}
@@ -46,7 +50,7 @@ pub record Sighting : Type 0 where
 -- declarations with linkage; the functions; the objects of blocks with their numbers, and those that are defined outside of functions;
 -- the objects that are declared in the root; at which functions of the roots before each object is in scope; and the problems of `main`
 pub record Known : Type 0 where
-  pub standing : Standing
+  pub standing : PlainStanding
   pub root : ℕ
   pub linked : List Linked
   pub functions : List PlainFunction
@@ -57,7 +61,7 @@ pub record Known : Type 0 where
   pub mains : List Problem
 
 -- a declaration more
-abbrev pub with_standing : Known → Standing → Known
+abbrev pub with_standing : Known → PlainStanding → Known
 with_standing k s = record k { standing = s }
 
 -- ## Names with linkage
@@ -110,7 +114,7 @@ linked_of k name t s defines sensor = record {
 }
 
 -- a name outside of functions that has no linkage, and isn't `main` then
-abbrev pub without_linkage : Identifier At → Standing → Known → Known
+abbrev pub without_linkage : Identifier At → PlainStanding → Known → Known
 without_linkage name s k = record k { standing = s; mains = k.mains ++ main_problem false name.name name.place }
 
 -- ## Objects
@@ -142,12 +146,12 @@ abbrev pub object_declared : Keep → Heads → Identifier At → PlainType → 
 object_declared h heads name t s sensor i k =
     let l : Linked = linked_of k name (an_object t) s (is_written i) sensor in
     let m : Known = with_linked h heads l k in
-    let p : Passed PlainInitializer = initialized_by h static t i m.standing in
+    let p : Passed PlainInitializer = initialized_by h life_is.Static t i m.standing in
     with_defined heads l name t p.made (with_standing m p.after)
 
 -- the type of an object at its declaration: with an initialiser, or where `static` stands, it has a size (C99 6.9.2p3); else it may get
 -- one before the root ends
-abbrev pub outer_type : Keep → Identifier At → At → Storage → Option (Initializer At) → DeclaredType → Standing → Passed PlainType
+abbrev pub outer_type : Keep → Identifier At → At → Storage → Option (Initializer At) → DeclaredType → PlainStanding → Passed PlainType
 outer_type h name brackets s i (of_type t) standing =
     if is_complete standing.scope.structures t || not (is_written i || (is_static s || is_void_type t)) then record { made = Some t; after = standing }
     else record { made = None; after = refusing h true subset.IncompleteType name.place standing }
@@ -209,14 +213,14 @@ main_constants (x ∷ rest) = main_problem false x.name x.place ++ main_constant
 -- a declaration outside of functions
 unfoldable pub declared_outside : Keep → Heads → Known → Declaration At → Known
 declared_outside h heads k d =
-    let t : Passed PlainType = specified_in h true outside k.standing d in
+    let t : Passed PlainType = specified_in h true site_is.Outside k.standing d in
     outer_declarators h heads (storage_of d.specifiers) (makes_sensors d) t.made
     (record k { standing = t.after; mains = k.mains ++ main_constants (constants_of d.specifiers) }) d.declarators
 
 -- ## Functions with their bodies
 
 -- the parameters of a function with a body have names (C99 6.9.1p5)
-abbrev pub names_noted : Keep → List PlainParameter → Standing → Standing
+abbrev pub names_noted : Keep → List PlainParameter → PlainStanding → PlainStanding
 names_noted h [] s = s
 names_noted h (p ∷ rest) s = names_noted h rest (refusing h (is_nameless p.name) subset.NoPrototype p.at s)
   where
@@ -225,7 +229,7 @@ names_noted h (p ∷ rest) s = names_noted h rest (refusing h (is_nameless p.nam
     is_nameless (Some name) = false
 
 -- a parameter as a variable of its function
-abbrev pub parameter_variable : Frame → Standing → ℕ → PlainParameter → Identifier At → PlainVariable
+abbrev pub parameter_variable : Frame → PlainStanding → ℕ → PlainParameter → Identifier At → PlainVariable
 parameter_variable f s n p name = record {
   name = name.name;
   type = p.type;
@@ -235,7 +239,7 @@ parameter_variable f s n p name = record {
 }
 
 -- the parameters as the first variables
-abbrev pub parameter_variables : Frame → Standing → ℕ → List PlainParameter → List PlainVariable
+abbrev pub parameter_variables : Frame → PlainStanding → ℕ → List PlainParameter → List PlainVariable
 parameter_variables f s n [] = []
 parameter_variables f s n (p ∷ rest) = with_name_of p.name (parameter_variables f s (n + 1) rest)
   where
@@ -258,7 +262,7 @@ body_scope f t s =
     }
 
 -- where a body begins
-abbrev pub body_begun : Frame → FunctionType → Standing → Local
+abbrev pub body_begun : Frame → FunctionType → PlainStanding → Local
 body_begun f t s = record {
   standing = record s { scope = body_scope f t s.scope };
   count = length t.parameters;
@@ -285,7 +289,7 @@ abbrev pub body_done : Keep → Heads → Linked → FunctionType → Statements
 body_done h heads l t body k =
     let f : Frame = record { heads = heads; taken = addresses_taken t.parameters body; number = number_in heads.functions l.root l.internal l.name; result = t.result } in
     let b : Block' = items_done h f (is_main_name l.name) in_nothing (no_items_yet (body_begun f t (names_noted h t.parameters k.standing))) body in
-    let s : Standing = if is_main_name l.name then marks_noted h true false false b.kinds b.after.standing else b.after.standing in
+    let s : PlainStanding = if is_main_name l.name then marks_noted h true false false b.kinds b.after.standing else b.after.standing in
     record k {
       standing = record s { scope = left s.scope };
       functions = k.functions ++ function_made l t b.after b.made l.at;
@@ -299,7 +303,7 @@ function_by_type h heads s d name k (Some (of_function f)) =
     let l : Linked = linked_of k name (function_type f) s true false in
     body_done h heads l f d.body (with_linked h heads l k)
 function_by_type h heads s d name k (Some t) =
-    without_linkage name (unknown_in h name (refusing h true subset.NoPrototype (declarator_at d.declarator) k.standing)) k
+    without_linkage name (unknown_in h name (refusing h true subset.NoPrototype (declarator_place d.declarator) k.standing)) k
 
 -- what a function's declarator allows among its specifiers
 abbrev pub allowed_at_definition : Definition At → Allowed
@@ -315,14 +319,14 @@ function_named h heads d k t (Some name) =
 -- a function with its body (C99 6.9.1)
 unfoldable pub defined_outside : Keep → Heads → Known → Definition At → Known
 defined_outside h heads k d =
-    let t : Passed PlainType = specified h of_definition (allowed_at_definition d) false k.standing d.specifiers in
+    let t : Passed PlainType = specified h site_is.OfDefinition (allowed_at_definition d) false k.standing d.specifiers in
     function_named h heads d (record k { standing = t.after; mains = k.mains ++ main_constants (constants_of d.specifiers) }) t.made (name_in d.declarator)
 
 -- ## Roots
 
 -- a declaration or function after those before it
 abbrev pub known_after : Keep → Heads → Known → External At → Known
-known_after h heads k (Outer d) = declared_outside h heads k d
+known_after h heads k (Outer p d) = declared_outside h heads k d
 known_after h heads k (Defines d) = defined_outside h heads k d
 
 -- the declarations and functions of a root, one after the other
@@ -338,7 +342,7 @@ root_begun k = record k {
 }
 
 -- the objects that a root defines have sizes at its end (C99 6.9.2p5)
-abbrev pub sizes_noted : Keep → List Defined → Standing → Standing
+abbrev pub sizes_noted : Keep → List Defined → PlainStanding → PlainStanding
 sizes_noted h [] s = s
 sizes_noted h (d ∷ rest) s =
     sizes_noted h rest (refusing h (not (is_complete s.scope.structures d.type)) subset.IncompleteType d.name.place s)

@@ -1,5 +1,5 @@
 -- The typed program of trees, or the first row of the subset that holds in them, or limit M8.
-use Rattle.std.specs.Prelude.{ℕ, zero, suc, ◌+◌, nat_eq, nat_le, nat_lt, Bool, false, not, ◌||◌, if◌then◌else◌, List, [], ◌∷◌, ◌++◌, map, length, sum, Option, Some, None}
+use Rattle.std.specs.Prelude.{ℕ, zero, suc, ◌+◌, nat_eq, nat_le, nat_lt, Bool, true, false, not, ◌||◌, if◌then◌else◌, List, [], ◌∷◌, ◌++◌, map, length, sum, Option, Some, None}
 use Rattle.std.specs.List.{position_from}
 use Rattle.p10_base.specs.declared.at.At.{At}
 use Rattle.p10_base.specs.declared.span.Span.{Span}
@@ -9,7 +9,7 @@ use Rattle.p10_core.specs.declared.program.Extent.{Extent}
 use Rattle.p10_core.specs.declared.statements.MarkKind.{MarkKind}
 use Rattle.p10_core.specs.declared.statements.MarkKind.TheVariants.{InitDone, TaskLoop}
 use Rattle.p10_syn.specs.Places.{nowhere}
-use Rattle.p10_syn.specs.Trees.{External}
+use Rattle.p10_syn.specs.Trees.{External, Outer, Defines}
 use Rattle.p10_core.specs.Sizes.{size_of}
 use Rattle.p10_core.specs.Types.{PlainStructure}
 use Rattle.p10_core.specs.Typed.{value, call, sense, place, global, literal, PlainStatement, statement, mark, statements_list, PlainFunction, PlainObject, PlainLiteral, PlainProgram}
@@ -17,7 +17,7 @@ use Rattle.p10_core.specs.Nodes.{PlainNode, a_value, a_place, nodes_of_statement
 use Rattle.p10_core.specs.WholePrograms.{frame_bytes, is_mark}
 use Rattle.p10_elabx.specs.declared.problem.Problem.{Problem}
 use Rattle.p10_elabx.specs.First.{Keep, every, least}
-use Rattle.p10_elabd.specs.Standing.{Standing}
+use Rattle.p10_elabd.specs.Standing.{PlainStanding}
 use Rattle.p10_elab.specs.Heads.{Heads, heads_of_roots}
 use Rattle.p10_elab.specs.Linkage.{is_main_name}
 use Rattle.p10_elab.specs.Outer.{Defined, Known, nothing_known, roots_passed}
@@ -106,7 +106,7 @@ number_or None = 0
 number_or (Some n) = n
 
 -- the program of what is known
-abbrev pub program_of : Heads → Standing → Known → PlainProgram
+abbrev pub program_of : Heads → PlainStanding → Known → PlainProgram
 program_of heads s k =
     let objects : List PlainObject = objects_from 0 (length heads.objects) (k.block_objects ++ numbered_objects s.scope.structures k.visible k.objects) in
     let main : Option ℕ = main_among k.functions in
@@ -163,6 +163,28 @@ is_too_large p =
     any [] = false
     any (n ∷ rest) = not (nat_le n MOST_OBJECT_BYTES) || any rest
 
+-- ## Roots
+
+-- whether a declaration or function begins its root: its first word is the root's first
+abbrev pub begins_root : External At → Bool
+begins_root (Outer at d) = nat_eq at.first 0
+begins_root (Defines d) = nat_eq d.landmarks.whole.first 0
+
+-- whether what comes next, if anything, begins a root
+abbrev pub root_follows : List (External At) → Bool
+root_follows [] = true
+root_follows (e ∷ rest) = begins_root e
+
+-- roots, of which the first one has one declaration or function more at its beginning
+abbrev pub with_first : External At → List (List (External At)) → List (List (External At))
+with_first e [] = (e ∷ []) ∷ []
+with_first e (root ∷ rest) = (e ∷ root) ∷ rest
+
+-- the roots of declarations and functions that follow one another: each root has one of them at least (C99 6.9p1)
+abbrev pub roots_of : List (External At) → List (List (External At))
+roots_of [] = []
+roots_of (e ∷ rest) = if root_follows rest then (e ∷ []) ∷ roots_of rest else with_first e (roots_of rest)
+
 -- ## The answer
 
 -- what trees come to: a typed program; the first row that holds, at its tree; or limit M8
@@ -194,20 +216,24 @@ unfoldable pub known_of : Keep → List (List (External At)) → Known
 known_of h roots = roots_passed h (heads_of_roots 0 roots) nothing_known roots
 
 -- what stands where the roots are taken together
-abbrev pub standing_of : Keep → List (List (External At)) → Standing
+abbrev pub standing_of : Keep → List (List (External At)) → PlainStanding
 standing_of h roots = let k : Known = known_of h roots in taken_together h (heads_of_roots 0 roots) k.linked k.standing
 
 -- the program that the roots have where no row holds
 abbrev pub whole_of : List (List (External At)) → PlainProgram
 whole_of roots = program_of (heads_of_roots 0 roots) (standing_of every roots) (known_of every roots)
 
--- what the trees of the roots come to: the first of the rows S1 to S26, S29 and S30 that hold; then the first use of what isn't
+-- what the trees of roots come to: the first of the rows S1 to S26, S29 and S30 that hold; then the first use of what isn't
 -- defined; then the first problem of `main`; then limit M8; else the program
-abbrev pub elaborated : List (List (External At)) → Elaborated
-elaborated roots =
+abbrev pub roots_elaborated : List (List (External At)) → Elaborated
+roots_elaborated roots =
     let k : Known = known_of every roots in
     let p : PlainProgram = whole_of roots in
     unless_problem (standing_of every roots).problems
     (unless_problem (undefined_among (length k.functions) (length (heads_of_roots 0 roots).objects) (nodes_of_program p))
     (unless_problem (missing_main (main_among k.functions) (k.mains ++ calls_of_main (main_among k.functions) (nodes_of_program p)))
     (within_sizes p)))
+
+-- what the declarations and functions of all roots come to
+abbrev pub elaborated : List (External At) → Elaborated
+elaborated all = roots_elaborated (roots_of all)

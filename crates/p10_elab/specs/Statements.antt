@@ -17,7 +17,7 @@ use Rattle.p10_elabx.specs.First.{Keep, Ruled, ruled, refused, on}
 use Rattle.p10_elabx.specs.Operators.{fitted}
 use Rattle.p10_elabd.specs.Standing.{noted}
 use Rattle.p10_elabd.specs.Expressions.{for_expression, value_found, constant_number}
-use Rattle.p10_elabd.specs.Words.{in_block, in_for}
+use Rattle.p10_elabd.specs.declared.site.Site.TheVariants as site_is
 use Rattle.p10_elab.specs.Locals.{Frame, Local, Done, done_in, refusing_in, opened, closed}
 use Rattle.p10_elab.specs.LocalDeclarations.{Declaring, declared_locally}
 use Rattle.p10_elab.specs.Expressions.{expression_statement, clause_done, optional_clause, test_done, optional_test, switch_done, statement_added}
@@ -224,7 +224,7 @@ with_labels h on' w s = labels_noted h (length w.items.kinds) on' (record w.labe
 -- declarations, or expressions
 abbrev pub start_done : Keep → Frame → Local → Statement At → Done (List PlainStatement)
 start_done h f l (Declare d) =
-    let p : Declaring = declared_locally h f in_for l d in
+    let p : Declaring = declared_locally h f site_is.InFor l d in
     record { made = items_added (Some []) p.items; after = p.after }
 start_done h f l (Evaluate at e) = clause_done h l e
 start_done h f l s = record { made = Some []; after = l }
@@ -232,7 +232,7 @@ start_done h f l s = record { made = Some []; after = l }
 -- a declaration where labels may stand: nothing is declared there
 abbrev pub declared_at_labels : Keep → Frame → Local → Declaration At → Done PlainStatement
 declared_at_labels h f l d =
-    let p : Declaring = declared_locally h f in_block l d in
+    let p : Declaring = declared_locally h f site_is.InBlock l d in
     record { made = None; after = refusing_in h true subset.BadJump d.place p.after }
 
 -- a label: at the top level of the block of a `switch` it stands before its statement
@@ -306,7 +306,7 @@ abbrev mutual
   pub items_done : Keep → Frame → Bool → Round → Block' → Statements At → Block'
   items_done h f in_main r b NoStatements = b
   items_done h f in_main r b (MoreStatements (Declare d) rest) =
-      items_done h f in_main r (with_declared b (declared_locally h f in_block b.after d)) rest
+      items_done h f in_main r (with_declared b (declared_locally h f site_is.InBlock b.after d)) rest
   items_done h f in_main r b (MoreStatements (Pragma at text) rest) =
       items_done h f in_main r (with_statement b (mark_item (mark_of text) at) (pragma_done h in_main at (mark (mark_of text)) b.after)) rest
   items_done h f in_main r b (MoreStatements s rest) =

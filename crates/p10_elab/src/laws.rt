@@ -1,6 +1,6 @@
 //! What holds of what trees come to: each law is the contract of a function without a body.
 
-ghost use Rattle.p10_elab.specs.Laws.{TheFirstIsAnswered, AnswersHaveCauses};
+ghost use Rattle.p10_elab.specs.Laws.{TheFirstIsAnswered, AnswersHaveCauses, RootsAreFound};
 ghost use Rattle.p10_elab.specs.Examples.{ProgramsAreSettled};
 
 /// Of all rows that hold, the one is answered whose tree begins first, of these the one with the least number, and of these the one of the
@@ -18,4 +18,9 @@ pub fn programs_are_settled()
 /// A program is answered only where no row of the subset holds and nothing passes limit M8, and that limit only where no row holds.
 pub fn answers_have_causes()
     ensures { AnswersHaveCauses }
+{}
+
+/// Roots that follow one another in one list are told apart: each begins with its own first word.
+pub fn roots_are_found()
+    ensures { RootsAreFound }
 {}
