@@ -8,3 +8,4 @@ pub mod VecSizes
 pub mod OpenedSlots
 pub mod Releasing
 pub mod ScalarsOfTypes
+pub mod EndedObjects

@@ -4,7 +4,7 @@ use Rattle.std.proofs.lemmas.Bool.Decides.{nat_tests}
 use Rattle.std.proofs.lemmas.Option.{same_Some, none-some, slice_get_within, slice_get-get_or, get_or_from_slice_get}
 use Rattle.p10_store.specs.declared.slots.Slot.{Slot}
 use Rattle.p10_store.specs.Ranges.{AreGrowing}
-use Rattle.p10_store.specs.Places.{has, slot_at, HasSlot, IsSearched}
+use Rattle.p10_store.specs.Places.{has, slot_at, HasSlot, HasLiveSlot, IsSearched}
 
 pub at_least : (n i : ℕ) (ss : List Slot) (s : Slot) → AreGrowing n ss → slice_get ss i ≡ Some s → n ≤ s.number
 at_least n i [] s g e = absurd (none-some _ e)
@@ -131,3 +131,12 @@ found_live ss n i d g h e = sym (slot_found ss n i d g h ∙ ap (λ b. cond b (S
 
 pub found_dead : (ss : List Slot) (n i : ℕ) (d : Slot) → AreGrowing 0 ss → HasSlot ss n i → (get_or ss i d).live ≡ false → None ≡ slot_at n ss
 found_dead ss n i d g h e = sym (slot_found ss n i d g h ∙ ap (λ b. cond b (Some (get_or ss i d)) None) e)
+
+-- the slot of a live object
+pub live_at : (ss : List Slot) (n i : ℕ) (d : Slot) → HasSlot ss n i → (get_or ss i d).live ≡ true → HasLiveSlot ss n i
+live_at ss n i d h e = record { slot = h.slot; there = h.there; number = h.number; live = subst (λ s. s.live ≡ true) (get_or_from_slice_get ss i h.slot d h.there) e }
+
+pub found_at : (ss : List Slot) (n i : ℕ) (d : Slot) → AreGrowing 0 ss → HasLiveSlot ss n i → Some (get_or ss i d) ≡ slot_at n ss
+found_at ss n i d g h =
+    let s : HasSlot ss n i = record { slot = h.slot; there = h.there; number = h.number } in
+    found_live ss n i d g s (subst (λ s. s.live ≡ true) (sym (get_or_from_slice_get ss i h.slot d h.there)) h.live)

@@ -11,7 +11,7 @@ use Rattle.p10_store.specs.Ranges.{objects_of, handle_of}
 use Rattle.p10_store.specs.Places.{FreesAt}
 use Rattle.p10_store.proofs.ClosedSlots.{some_here}
 
-handle_at : (ss : List Slot) (i : ℕ) (s : Slot) → slice_get ss i ≡ Some s → s.live ≡ true → slice_get (map handle_of ss) i ≡ Some (Some (record { number = s.number; stride = s.stride; count = s.count }))
+pub handle_at : (ss : List Slot) (i : ℕ) (s : Slot) → slice_get ss i ≡ Some s → s.live ≡ true → slice_get (map handle_of ss) i ≡ Some (Some (record { number = s.number; stride = s.stride; count = s.count }))
 handle_at ss i s e live = slice_get-map handle_of ss i ∙ (ap (option_map handle_of) e ∙ ap (λ h. Some h) (some_here s live))
 
 pub is_live_in : (cells : List Cell) (ss : List Slot) (pointer : Ptr) (i : ℕ) → FreesAt cells ss pointer (Ok (Some i)) → IsLiveIn (map handle_of ss) i

@@ -83,6 +83,18 @@ abbrev pub HasPlace : List Slot → ℕ → Option ℕ → Type 0
 HasPlace slots n (Some i) = HasSlot slots n i
 HasPlace slots n None = (i : ℕ) (s : Slot) → slice_get slots i ≡ Some s → s.number ≢ n
 
+-- a slot of the live object of a number
+pub record HasLiveSlot (slots : List Slot) (n i : ℕ) : Type 0 where
+  pub slot : Slot
+  pub there : slice_get slots i ≡ Some slot
+  pub number : slot.number ≡ n
+  pub live : slot.live ≡ true
+
+-- the place of the slot of the live object of a number, or that there is none
+abbrev pub HasLivePlace : List Slot → ℕ → Option ℕ → Type 0
+HasLivePlace slots n (Some i) = HasLiveSlot slots n i
+HasLivePlace slots n None = slot_at n slots ≡ None
+
 -- what `free` of a pointer does is to empty this slot, or nothing where there is none
 abbrev pub FreesAt : List Cell → List Slot → Ptr → Result (Option ℕ) Stop → Type 0
 FreesAt cells slots Null (Ok None) = Unit {0}

@@ -83,6 +83,11 @@ pub record Closes (n : ℕ) (old new : Held) : Type 0 where
   pub spare_objects : old.spare_objects ≤ new.spare_objects
   pub spare_cells : old.spare_cells ≤ new.spare_cells
 
+-- the object of a number is dead; where it was dead before, nothing changes
+abbrev pub Ends : ℕ → Option Object → Held → Held → Type 0
+Ends n None old new = new ≡ old
+Ends n (Some object) old new = Closes n old new
+
 -- no slot after this one has a live object
 abbrev pub IsYoungest : List (Option Handle) → ℕ → Type 0
 IsYoungest slots slot = (i : ℕ) (h : Handle) → slice_get slots i ≡ Some (Some h) → i ≤ slot

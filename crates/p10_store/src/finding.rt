@@ -4,7 +4,7 @@ ghost use Rattle.std.specs.Prelude.{◌≡◌, option_map, is_some, is_ok, lengt
 ghost use Rattle.p10_meaning.specs.Objects.{find, may_write, positions};
 ghost use Rattle.p10_meaning.specs.Pointers.{window_in, same_window};
 ghost use Rattle.p10_store.specs.Ranges.{AreGrowing, AreTiled, kind_of, objects_of};
-ghost use Rattle.p10_store.specs.Places.{slot_at, place_in, Places, Targets, HasPlace, FreesAt, frees};
+ghost use Rattle.p10_store.specs.Places.{slot_at, place_in, Places, Targets, HasPlace, HasLivePlace, FreesAt, frees};
 
 use crate::slots::{Provenance, Slot};
 use p10_int::Stop;
@@ -87,11 +87,19 @@ pub fn slot_of(slots: &[Slot], number: u128) -> Option<&Slot>
     requires growing { AreGrowing 0 slots.now }
     ensures { option_map (λ s. s.now) result ≡ slot_at number slots.now }
 {
+    match live_place(slots, number) {
+        Some(place) => Some(&slots[place]),
+        None => None,
+    }
+}
+
+/// The place of the slot of the live object of a number.
+pub fn live_place(slots: &[Slot], number: u128) -> Option<usize>
+    requires growing { AreGrowing 0 slots.now }
+    ensures { HasLivePlace slots.now number result }
+{
     match place_of(slots, number) {
-        Some(place) => {
-            let slot = &slots[place];
-            if slot.live { Some(slot) } else { None }
-        }
+        Some(place) => { if slots[place].live { Some(place) } else { None } }
         None => None,
     }
 }

@@ -3,11 +3,13 @@
 ghost use Rattle.std.specs.Prelude.{◌≡◌, ◌+◌, ◌-◌, ◌*◌, ◌^◌, ◌<◌, ◌≤◌, [], length, slice_get, Some, OnOk, OnErr, IfOk, IsOk};
 ghost use Rattle.std.specs.Result.{result_map_both};
 ghost use Rattle.std.specs.Borrow.{sem};
-ghost use Rattle.p10_meaning.specs.Objects.{cell_at, target_at, shift, inner, less, distance, release};
+ghost use Rattle.p10_meaning.specs.Objects.{cell_at, target_at, shift, inner, less, distance, closed, find, release};
 ghost use Rattle.p10_store.specs.Lending.{LendsCell};
 
 use crate::filling::{provenance_of, put_cells, trim};
-use crate::finding::{cell_place, freed_place, is_live, positions, target_place, window_in};
+use crate::finding::{
+    cell_place, freed_place, is_live, live_place, positions, target_place, window_in,
+};
 use crate::shape::{Origin, Shape};
 use crate::slots::Slot;
 use p10_int::Stop;
@@ -38,7 +40,7 @@ impl Model for Store {
 }
 
 impl Store {
-    ghost use Rattle.p10_store.specs.Stores.{IsLiveIn, first_in, StaysWithRoom, Opens, Closes, IsYoungest, BringsBack, Handle, Releases};
+    ghost use Rattle.p10_store.specs.Stores.{IsLiveIn, first_in, StaysWithRoom, Opens, Closes, Ends, IsYoungest, BringsBack, Handle, Releases};
     ghost use Rattle.p10_store.specs.Origins.{Fills};
 
     /// A store without objects. It takes no memory.
@@ -216,6 +218,17 @@ impl Store {
     {
         self.slots[slot].live = false;
         trim(&mut self.cells, &mut self.slots);
+    }
+
+    /// The object of a number dies, if it is live.
+    pub fn end(&mut self, number: u128)
+        ensures objects { self.new.objects ≡ closed number self.old.objects }
+        ensures effect { Ends number (find number self.old.objects) self.old self.new }
+    {
+        match live_place(&self.slots, number) {
+            Some(place) => self.close(place),
+            None => {}
+        }
     }
 
     /// `free`: the object of a pointer dies, and null is freed without effect. U11 for all but null and the first place of a
