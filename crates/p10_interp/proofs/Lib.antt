@@ -10,3 +10,9 @@ pub mod ByStages
 pub mod Rows
 pub mod OpenedCalls
 pub mod Literals
+pub mod Begun
+pub mod Declared
+pub mod Pointed
+pub mod Turned
+pub mod Chosen
+pub mod Assigned

@@ -9,3 +9,5 @@ pub mod Standing
 pub mod Nothing
 pub mod OpenCalls
 pub mod Machines
+pub mod Declaring
+pub mod Writing

@@ -1,11 +1,14 @@
 //! The open calls.
 
-ghost use Rattle.std.specs.Prelude.{◌≡◌, ◌∷◌, ◌++◌, ◌+◌, [], None, IsTrue, OnOk, IfErr, slice_get, option_map, List, reverse};
+ghost use Rattle.std.specs.Prelude.{◌≡◌, ◌∷◌, ◌++◌, ◌+◌, ◌<◌, IfSome, vec_len, [], None, IsTrue, OnOk, IfErr, slice_get, option_map, map, length, List, reverse};
 ghost use Rattle.p10_interp.specs.private.Nothing.{is_nil};
+ghost use Rattle.p10_core.specs.Views.{plain_variable};
+ghost use Rattle.p10_interp.specs.private.OpenCalls.{IsPlaced};
 
 use crate::base::Base;
 use crate::held::Held;
 use crate::work::Halt;
+use p10_core::Variable;
 use std::alloc::Global;
 
 /// Open calls, the innermost last, with what stands for their variables and with the objects that their blocks opened.
@@ -19,9 +22,11 @@ pub struct Calls<'p> {
 
 impl<'p> Calls<'p> {
     ghost use Rattle.p10_interp.specs.private.Tasks.{Open};
-    ghost use Rattle.p10_interp.specs.private.Operations.{in_new_block};
+    ghost use Rattle.p10_interp.specs.private.Operations.{in_new_block, with_frame};
+    ghost use Rattle.p10_meaning.specs.Statements.{holding_at};
+    ghost use Rattle.p10_interp.specs.declared.base.Base.{Base};
     ghost use Rattle.p10_interp.specs.private.Standing.{held_of};
-    ghost use Rattle.p10_interp.specs.private.OpenCalls.{innermost_held, calls_in, IsMarked};
+    ghost use Rattle.p10_interp.specs.private.OpenCalls.{innermost_held, innermost_variables, standing_at, owning, calls_in, IsMarked, HasVariable};
 
     /// No open call.
     pub fn new(alloc: Global) -> Calls<'p>
@@ -51,26 +56,78 @@ impl<'p> Calls<'p> {
         }
     }
 
+    /// The variable of the function of the innermost call with a number.
+    pub fn variable(&self, number: u32) -> Option<&'p Variable<'p>>
+        ensures { option_map (λ v. plain_variable v.now) result ≡ slice_get (innermost_variables (calls_in self.now)) number }
+    {
+        match self.bases.last() {
+            Some(base) => variable_in(base.function.vars.as_slice(), number),
+            None => None,
+        }
+    }
+
+    /// Something else stands for a variable of the innermost call.
+    pub fn set_held(&mut self, variable: u32, held: Held)
+        ensures { (f : Open) (calls : List Open) → calls_in self.old ≡ f ∷ calls → calls_in self.new ≡ with_frame f (holding_at f.frame variable (held_of held)) ∷ calls }
+    {
+        match self.place_of(variable) {
+            Some(place) => self.held[place] = held,
+            None => {}
+        }
+    }
+
+    /// A variable of the innermost call is an object that its innermost block opened.
+    pub fn stand(&mut self, variable: u32, object: u128) -> Result<(), Halt>
+        ensures ok { OnOk result ((f : Open) (calls : List Open) → calls_in self.old ≡ f ∷ calls → calls_in self.new ≡ with_frame f (standing_at f.frame variable object) ∷ calls) }
+        ensures err { IfErr result (λ e. e ≡ Halt.Memory) }
+    {
+        self.set_held(variable, Held::Stands(object));
+        self.own(object)
+    }
+
+    /// The innermost block has opened an object.
+    fn own(&mut self, object: u128) -> Result<(), Halt>
+        ensures ok { OnOk result ((f : Open) (calls : List Open) → calls_in self.old ≡ f ∷ calls → calls_in self.new ≡ with_frame f (owning f.frame object) ∷ calls) }
+        ensures err { IfErr result (λ e. e ≡ Halt.Memory) }
+    {
+        if self.has_marks() {
+            self.mark(Some(object))
+        } else {
+            Err(Halt::Memory)
+        }
+    }
+
+    /// Where what stands for a variable of the innermost call is, among all.
+    fn place_of(&self, variable: u32) -> Option<usize>
+        ensures here { (b : Base) (bases : List Base) → reverse self.now.bases.items ≡ b ∷ bases → HasVariable b (length self.now.held.items) variable result }
+        ensures within { IfSome result (λ place. place < vec_len self.now.held) }
+    {
+        match self.bases.last() {
+            Some(base) => place_in(base.held, variable, self.held.len()),
+            None => None,
+        }
+    }
+
     /// A block is entered.
     pub fn enter_block(&mut self) -> Result<(), Halt>
         ensures ok { OnOk result ((f : Open) (calls : List Open) → calls_in self.old ≡ f ∷ calls → calls_in self.new ≡ in_new_block f ∷ calls) }
         ensures err { IfErr result (λ e. e ≡ Halt.Memory) }
     {
         if self.has_marks() {
-            self.mark()
+            self.mark(None)
         } else {
             Err(Halt::Memory)
         }
     }
 
     /// Puts a mark after all others.
-    fn mark(&mut self) -> Result<(), Halt>
+    fn mark(&mut self, mark: Option<u128>) -> Result<(), Halt>
         ensures held { self.new.held.items ≡ self.old.held.items }
         ensures bases { self.new.bases.items ≡ self.old.bases.items }
-        ensures ok { OnOk result (self.new.marks.items ≡ self.old.marks.items ++ None ∷ []) }
+        ensures ok { OnOk result (self.new.marks.items ≡ self.old.marks.items ++ mark ∷ []) }
         ensures err { IfErr result (λ e. e ≡ Halt.Memory) }
     {
-        match self.marks.push(None) {
+        match self.marks.push(mark) {
             Ok(()) => Ok(()),
             Err(_) => Err(Halt::Memory),
         }
@@ -101,6 +158,25 @@ fn held_at(held: &[Held], from: usize, variable: u32) -> Option<Held>
     let place = from as u128 + variable as u128;
     if place < held.len() as u128 {
         Some(held[place as usize])
+    } else {
+        None
+    }
+}
+
+/// The variable with a number.
+fn variable_in<'p>(variables: &'p [Variable<'p>], number: u32) -> Option<&'p Variable<'p>>
+    ensures { option_map (λ v. plain_variable v.now) result ≡ slice_get (map plain_variable variables.now) number }
+{
+    variables.get(number as usize)
+}
+
+/// The place of a variable where those of its call begin at a place, among so many.
+fn place_in(from: usize, variable: u32, most: usize) -> Option<usize>
+    ensures { IsPlaced from most variable result }
+{
+    let place = from as u128 + variable as u128;
+    if place < most as u128 {
+        Some(place as usize)
     } else {
         None
     }

@@ -21,7 +21,7 @@ use p10_meaning::{Ptr, Window};
 use p10_store::Stop;
 
 /// The pointer to a single object of so many scalars.
-fn single(object: u128, scalars: u64) -> Ptr
+pub fn single(object: u128, scalars: u64) -> Ptr
     ensures { result ≡ first_of object scalars 1 }
 {
     Ptr::To {

@@ -13,6 +13,7 @@ ghost use Rattle.p10_interp.specs.private.Acts.{sought};
 use crate::outside::Outside;
 use crate::places::{global_target, literal_target, variable_target};
 use crate::stacks::Stacks;
+use crate::steps::{go_on_with_three, go_on_with_two};
 use crate::work::{Halt, Operand, Operation, ValueStep, Work};
 use p10_core::{Place, PlaceForm, Program};
 
@@ -26,53 +27,36 @@ pub fn seek<'p>(
     requires structures { AreWholeStructures (plain_types p.now.types) }
     ensures { (io : Around) (f : Open) (calls : List Open) → calls_in stacks.old.calls ≡ f ∷ calls → Answers (sought (plain_program p.now) (plain_place place.now) (tasks_in stacks.old.tasks) stacks.old.operands f calls (state_of outside.old io)) result (rig_of normal stacks.new) (state_of outside.new io) }
 {
+    let span = place.at.span;
     match &place.form {
         PlaceForm::Var(number) => {
             let held = stacks.calls.held(*number);
-            let target = variable_target(p, &place.ty, *number, held, place.at.span)?;
+            let target = variable_target(p, &place.ty, *number, held, span)?;
             stacks.operands.push(Operand::Located(target))
         }
         PlaceForm::Global(number) => {
-            let target = global_target(p, &place.ty, *number, place.at.span)?;
+            let target = global_target(p, &place.ty, *number, span)?;
             stacks.operands.push(Operand::Located(target))
         }
         PlaceForm::Literal(number, _) => {
-            let target = literal_target(p, &place.ty, *number, place.at.span)?;
+            let target = literal_target(p, &place.ty, *number, span)?;
             stacks.operands.push(Operand::Located(target))
         }
         PlaceForm::Index(array, index) => {
-            if outside.left == 0 {
-                return Err(Halt::Spent);
-            }
-            outside.left -= 1;
-            stacks
-                .tasks
-                .push(Work::Operate(Operation::IndexAt(place.at.span)))?;
-            stacks.tasks.push(Work::Value(ValueStep::Evaluate, index))?;
-            stacks.tasks.push(Work::Value(ValueStep::Evaluate, array))
+            let first = Work::Value(ValueStep::Evaluate, array);
+            let second = Work::Value(ValueStep::Evaluate, index);
+            let after = Work::Operate(Operation::IndexAt(span));
+            go_on_with_three(first, second, after, stacks, outside)
         }
         PlaceForm::Member(whole, number) => {
-            if outside.left == 0 {
-                return Err(Halt::Spent);
-            }
-            outside.left -= 1;
-            stacks.tasks.push(Work::Operate(Operation::MemberAt(
-                place.at.span,
-                &whole.ty,
-                *number,
-                &place.ty,
-            )))?;
-            stacks.tasks.push(Work::LocatePlace(whole))
+            let after = Operation::MemberAt(span, &whole.ty, *number, &place.ty);
+            let first = Work::LocatePlace(whole);
+            go_on_with_two(first, Work::Operate(after), stacks, outside)
         }
         PlaceForm::Deref(pointer) => {
-            if outside.left == 0 {
-                return Err(Halt::Spent);
-            }
-            outside.left -= 1;
-            stacks
-                .tasks
-                .push(Work::Operate(Operation::DereferenceAt(place.at.span)))?;
-            stacks.tasks.push(Work::Value(ValueStep::Evaluate, pointer))
+            let first = Work::Value(ValueStep::Evaluate, pointer);
+            let after = Work::Operate(Operation::DereferenceAt(span));
+            go_on_with_two(first, after, stacks, outside)
         }
     }
 }

@@ -1,7 +1,9 @@
 -- Open calls as ranges of two lists: what stands for their variables, and what their blocks opened.
-use Rattle.std.specs.Prelude.{ℕ, ◌≤◌, List, [], ◌∷◌, map, reverse, length, take, drop, Option, Some, None}
+use Rattle.std.specs.Prelude.{◌≡◌, ℕ, ◌+◌, ◌<◌, ◌≤◌, List, [], ◌∷◌, map, reverse, length, take, drop, Option, Some, None}
 use Rattle.p10_core.specs.Views.{plain_function}
-use Rattle.p10_meaning.specs.Values.{Held}
+use Rattle.p10_meaning.specs.Values.{Held, stands}
+use Rattle.p10_meaning.specs.Statements.{Frame, holding_at}
+use Rattle.p10_core.specs.Typed.{PlainVariable}
 use Rattle.p10_interp.specs.declared.held.Held.{Held as Standing}
 use Rattle.p10_interp.specs.declared.base.Base.{Base}
 use Rattle.p10_interp.specs.declared.calls.Calls.{Calls}
@@ -41,6 +43,27 @@ calls_in c = calls_of (reverse c.bases.items) c.held.items c.marks.items
 abbrev pub innermost_held : List Open → List Held
 innermost_held [] = []
 innermost_held (f ∷ calls) = f.frame.held
+
+-- the variables of the function of the innermost call
+abbrev pub innermost_variables : List Open → List PlainVariable
+innermost_variables [] = []
+innermost_variables (f ∷ calls) = f.function.variables
+
+-- the innermost block has opened an object
+abbrev pub owning : Frame → ℕ → Frame
+owning frame object = record frame { opened = object ∷ frame.opened }
+
+-- a variable is an object that the innermost block opened
+abbrev pub standing_at : Frame → ℕ → ℕ → Frame
+standing_at frame n object = owning (holding_at frame n (stands object)) object
+
+-- where what stands for a variable is among so many, where those of its call begin at a place
+abbrev pub IsPlaced : ℕ → ℕ → ℕ → Option ℕ → Type 0
+IsPlaced from most n (Some place) = (place ≡ from + n) × (place < most)
+IsPlaced from most n None = most ≤ from + n
+
+abbrev pub HasVariable : Base → ℕ → ℕ → Option ℕ → Type 0
+HasVariable b most n place = IsPlaced b.held most n place
 
 -- the marks of the innermost call stand among all
 abbrev pub IsMarkedBy : List Base → ℕ → Type 0

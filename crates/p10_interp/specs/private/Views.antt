@@ -143,6 +143,14 @@ Answers o (Err (Undefined stop span)) new w = o ≡ ends (IsUndefined stop span)
 Answers o (Err Spent) new w = o ≡ ends StepsSpent w
 Answers o (Err Memory) new w = Unit {0}
 
+-- an answer of the code is what a piece gives, with the state that it leaves, but for want of memory
+abbrev pub Gives : {A : Type 0} → Progress A → Result A Halt → State → Type 0
+Gives o (Ok x) w = o ≡ gives x w
+Gives o (Err (Failed span)) w = o ≡ ends (AssertionFailed span) w
+Gives o (Err (Undefined stop span)) w = o ≡ ends (IsUndefined stop span) w
+Gives o (Err Spent) w = o ≡ ends StepsSpent w
+Gives o (Err Memory) w = Unit {0}
+
 -- an answer of the code is what an operation gives, or its stop at the span of a tree, but for want of memory
 abbrev pub Finds : {A : Type 0} → Result A Stop → Span → Result A Halt → Type 0
 Finds r span (Ok x) = r ≡ Ok x

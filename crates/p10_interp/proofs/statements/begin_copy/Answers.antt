@@ -1,0 +1,16 @@
+-- The step pays for the place, before which the work after it was put down.
+use Rattle.std.proofs.Common.{◌∷◌, ◌∙◌, ap}
+use Rattle.p10_core.specs.Types.{plain_type}
+use Rattle.p10_core.specs.Views.{plain_program, plain_place, plain_value}
+use Rattle.p10_meaning.specs.Statements.{normal}
+use Rattle.p10_interp.specs.private.Tasks.{Task, operate, evaluate_value, write_at, locate_place, copy_between}
+use Rattle.p10_interp.specs.private.Views.{operation_of, tasks_in}
+use Rattle.p10_interp.specs.private.Machines.{state_of, rig_of}
+use Rattle.p10_interp.proofs.Begun.{sought_paid}
+use Rattle.p10_interp.proofs.statements.begin_copy.Goals as goal
+
+pub returns : goal.returns
+returns c = λ io f calls e.
+    sought_paid (plain_program c.args.p.now) (plain_place c.args.target.now) (locate_place (plain_place c.args.source.now) ∷ (operate (copy_between c.args.target.now.at.span c.args.source.now.at.span (plain_type c.args.target.now.ty)) ∷ tasks_in c.args.stacks.now.tasks)) _ c.args.stacks.now.operands f calls
+    (state_of c.args.outside.now io) (state_of c.seek.new.outside io) c.seek.result (rig_of normal c.seek.new.stacks) c.if-outside-eq0.false
+    (c.in_ok-push-2.ensures.ok ∙ ap (λ k. locate_place (plain_place c.args.source.now) ∷ k) c.in_ok-push.ensures.ok) (c.seek.ensures io f calls e)

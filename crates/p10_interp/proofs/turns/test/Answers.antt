@@ -1,0 +1,17 @@
+-- The statement is a loop, whose parts are these.
+use Rattle.std.proofs.Common.{◌∷◌, ◌∙◌, sym, ap, refl, subst, option_map, Some}
+use Rattle.p10_core.specs.declared.typed.Value.{Value}
+use Rattle.p10_core.specs.declared.statements.Stmt.{Stmt}
+use Rattle.p10_core.specs.Typed.{statement}
+use Rattle.p10_core.specs.Views.{plain_program, plain_value, plain_labels, plain_statement, plain_statements, plain_statement_form}
+use Rattle.p10_interp.specs.private.Tasks.{execute_statement, begin_loop, test_loop, enter_turn, end_turn, select}
+use Rattle.p10_interp.specs.private.Views.{selection_of}
+use Rattle.p10_interp.proofs.Chosen.{act_by}
+use Rattle.p10_interp.proofs.Begun.{two_tasks, answers_in}
+use Rattle.p10_interp.proofs.Turned.{looped, selects, enters_block}
+use Rattle.p10_interp.proofs.turns.test.Goals as goal
+
+pub returns-in-Loop : goal.returns-in-Loop
+returns-in-Loop c = λ io f calls e.
+    act_by (plain_program c.args.p.now) _ _ _ _ _ _ _ _ _ (looped (λ keyword l. test_loop l) c.args.statement.now.at c.args.statement.now.form _ _ _ _ _ c.in-Loop.is)
+    (c.test_by.ensures io f calls _ refl (sym (ap plain_statement c.deref.ensures)) (looped (λ keyword l. enter_turn l) c.args.statement.now.at c.args.statement.now.form _ _ _ _ _ c.in-Loop.is) (looped (λ keyword l. end_turn l) c.args.statement.now.at c.args.statement.now.form _ _ _ _ _ c.in-Loop.is) e)
