@@ -1,15 +1,16 @@
 -- What an answer rests on: files up to their limits, and what they were judged to be.
-use Rattle.std.proofs.Common.{◌≡◌, ℕ, ◌+◌, ◌<◌, ◌≤◌, zero, suc, List, [], ◌∷◌, length, take, length-take, refl, sym, ◌∙◌, ap, subst, arith, min, Option, Some, None, IsSome, IsSomeAnd, Result, IfOk}
-use Rattle.p10_base.specs.Gathered.{Gathered, LiesIn}
+use Rattle.std.proofs.Common.{◌≡◌, ℕ, inl, inr, ◌+◌, ◌<◌, ◌≤◌, zero, suc, List, [], ◌∷◌, length, take, length-take, refl, sym, ◌∙◌, ap, subst, arith, min, Option, Some, None, IsSome, IsSomeAnd, Result, IfOk}
+use Rattle.p10_base.specs.Gathered.{Gathered}
+use Rattle.p10_world.specs.Faults.{Rose}
 use Rattle.p10_world.specs.Files.{Named, file_of, Lacks}
 use Rattle.p10_base.specs.declared.report.Refusal.{Refusal}
-use Rattle.p10_base.specs.Codes.{IsCode}
+use Rattle.p10_front.specs.Answers.{CanBePrinted}
 use Rattle.p10_first.specs.Certificate.{certificate_text}
 use Rattle.p10_top.specs.declared.answer.Answer.{Answer}
-use Rattle.p10_top.specs.declared.answer.Answer.TheVariants.{AbsentSource, Refused, SourcesOver, AbsentCertificate, Unexpanded, ExpansionOver, NotBuilt, CertificateTooLong, BadCertificate, Failing, Accepted, ReadFault, NoMemory}
+use Rattle.p10_top.specs.declared.answer.Answer.TheVariants.{AbsentSource, Refused, SourcesOver, AbsentCertificate, Unread, ReadingOver, NotBuilt, CertificateTooLong, BadCertificate, Failing, Accepted, ReadFault, NoMemory}
 use Rattle.p10_top.specs.Command.{Names}
 use Rattle.p10_top.specs.Loading.{Gives, IsHeld, IsLonger}
-use Rattle.p10_top.specs.private.Deciding.{IsFront, Decides, decision_without}
+use Rattle.p10_top.specs.private.Deciding.{Answered, IsFront, Decides, decision_without}
 use Rattle.p10_top.specs.Answers.{HasCertificate, setting_of, certificate_limit}
 use Rattle.p10_top.specs.private.Judging.{IsJudged, JudgedPlace}
 use Rattle.p10_top.proofs.Lexing.{refused_is_code}
@@ -59,7 +60,7 @@ is_held (Some files) name limit bytes front = held_of (λ whole. bytes ≡ take 
 -- ## The answers
 
 -- a refusal by lexing has a code whose text is known, and its place lies in the files
-refused_told : (s : Setting) (names : Names) (refusal : Refusal) (g : Gathered) → FailsBy s (gathering.Refused refusal g) → LiesIn g refusal.span × IsCode refusal.family refusal.number
+refused_told : (s : Setting) (names : Names) (refusal : Refusal) (g : Gathered) → FailsBy s (gathering.Refused refusal g) → CanBePrinted g refusal
 refused_told s names refusal g fails = (refused_placed s refusal g fails, refused_is_code _ _ refusal fails.ends.refused)
 
 without_by : (held : Option (List Named)) (names : Names) (fault : GatherFault) → IsFault (setting_of held names) fault → IfOk (decision_without fault) (λ (d : Decision). Decides held names d.sources d.answer)
@@ -69,18 +70,19 @@ without_by held names (gathering.Over limit) fails = record { is_right = fails; 
 without_by held names gathering.Read fails = tt
 without_by held names gathering.Memory fails = tt
 
--- the directories that were read from the command are those of its names
-with_directories : (held : Option (List Named)) (names : Names) (directories : List (List ℕ)) (P : Setting → Type 0) → directories ≡ names.directories → P (record { held = held; roots = names.sources; dirs = directories }) → P (setting_of held names)
-with_directories held names directories P same is = subst (λ ds. P (record { held = held; roots = names.sources; dirs = ds })) same is
+-- the names that files are gathered by are those of the command
+with_names : (held : Option (List Named)) (names : Names) (roots directories : List (List ℕ)) (P : Setting → Type 0) → roots ≡ names.sources → directories ≡ names.directories → P (record { held = held; roots = roots; dirs = directories }) → P (setting_of held names)
+with_names held names roots directories P sources same is =
+    subst (λ ds. P (record { held = held; roots = names.sources; dirs = ds })) same (subst (λ rs. P (record { held = held; roots = rs; dirs = directories })) sources is)
 
-pub decides_without : (held : Option (List Named)) (names : Names) (directories : List (List ℕ)) (fault : GatherFault) (r : Result Decision Trouble) → directories ≡ names.directories → r ≡ decision_without fault →
-    IsFault (record { held = held; roots = names.sources; dirs = directories }) fault → IfOk r (λ (d : Decision). Decides held names d.sources d.answer)
-decides_without held names directories fault r same is fails =
+pub decides_without : (held : Option (List Named)) (names : Names) (roots directories : List (List ℕ)) (fault : GatherFault) (r : Result Decision Trouble) → roots ≡ names.sources → directories ≡ names.directories → r ≡ decision_without fault →
+    IsFault (record { held = held; roots = roots; dirs = directories }) fault → IfOk r (λ (d : Decision). Decides held names d.sources d.answer)
+decides_without held names roots directories fault r sources same is fails =
     subst (λ (r : Result Decision Trouble). IfOk r (λ (d : Decision). Decides held names d.sources d.answer)) (sym is)
-    (without_by held names fault (with_directories held names directories (λ s. IsFault s fault) same fails))
+    (without_by held names fault (with_names held names roots directories (λ s. IsFault s fault) sources same fails))
 
-pub gathers_named : (held : Option (List Named)) (names : Names) (directories : List (List ℕ)) (g : Gathered) → directories ≡ names.directories → Gathers (record { held = held; roots = names.sources; dirs = directories }) g → Gathers (setting_of held names) g
-gathers_named held names directories g same gathers = with_directories held names directories (λ s. Gathers s g) same gathers
+pub gathers_named : (held : Option (List Named)) (names : Names) (roots directories : List (List ℕ)) (g : Gathered) → roots ≡ names.sources → directories ≡ names.directories → Gathers (record { held = held; roots = roots; dirs = directories }) g → Gathers (setting_of held names) g
+gathers_named held names roots directories g sources same gathers = with_names held names roots directories (λ s. Gathers s g) sources same gathers
 
 pub decides_absent : (held later : Option (List Named)) (names : Names) (g : Gathered) → Gathers (setting_of held names) g → later ≡ held → Lacks later names.certificate → Decides held names g AbsentCertificate
 decides_absent held later names g gathers unchanged lacks = record { is_right = (gathers, subst (λ (h : Option (List Named)). Lacks h names.certificate) unchanged lacks); can_be_told = tt }
@@ -93,9 +95,9 @@ has_certificate held names bytes wanted front short same =
 judged_by : (held : Option (List Named)) (names : Names) (g : Gathered) (bytes : List ℕ) (answer : Answer) → Gathers (setting_of held names) g → IsFront held names.certificate certificate_limit bytes → IsJudged g bytes answer → JudgedPlace g answer → Decides held names g answer
 judged_by held names g bytes NotBuilt gathers front none place =
     record { is_right = (gathers, is_held held names.certificate certificate_limit bytes front, none); can_be_told = place }
-judged_by held names g bytes (Unexpanded refusal) gathers front refused place =
+judged_by held names g bytes (Unread refusal) gathers front refused place =
     record { is_right = (gathers, is_held held names.certificate certificate_limit bytes front, refused); can_be_told = place }
-judged_by held names g bytes (ExpansionOver limit) gathers front over place =
+judged_by held names g bytes (ReadingOver limit) gathers front over place =
     record { is_right = (gathers, is_held held names.certificate certificate_limit bytes front, over); can_be_told = tt }
 judged_by held names g bytes CertificateTooLong gathers front (words, root, (p, spell, long)) place =
     record { is_right = (words, p, record { gathers = gathers; cut = root; spell = spell }, is_long held names.certificate certificate_limit bytes front long); can_be_told = tt }
@@ -122,3 +124,23 @@ pub decides_judged : (held later : Option (List Named)) (names : Names) (g : Gat
     IsJudged g read answer → JudgedPlace g answer → Decides held names g answer
 decides_judged held later names g bytes read answer gathers unchanged front same judged place =
     judged_by held names g bytes answer gathers (subst (λ (h : Option (List Named)). IsFront h names.certificate certificate_limit bytes) unchanged front) (subst (λ (b : List ℕ). IsJudged g b answer) same judged) place
+
+no_fault : Rose 0 0 → ⊥
+no_fault (inl more) = absurd (omega (arith, more))
+no_fault (inr last) = absurd (omega (arith, last))
+
+-- an answer that is right without a fault is right whatever the counts of faults are
+pub seen_later : (held : Option (List Named)) (before after : ℕ) (names : Names) (g : Gathered) (answer : Answer) → Decides held names g answer → Answered (record { held = held; faults_before = before; faults_after = after }) names g answer
+seen_later held before after names g (AbsentSource place) decides = record { is_right = decides.is_right; can_be_told = decides.can_be_told }
+seen_later held before after names g (Refused refusal) decides = record { is_right = decides.is_right; can_be_told = decides.can_be_told }
+seen_later held before after names g (SourcesOver limit) decides = record { is_right = decides.is_right; can_be_told = decides.can_be_told }
+seen_later held before after names g AbsentCertificate decides = record { is_right = decides.is_right; can_be_told = decides.can_be_told }
+seen_later held before after names g (Unread refusal) decides = record { is_right = decides.is_right; can_be_told = decides.can_be_told }
+seen_later held before after names g (ReadingOver limit) decides = record { is_right = decides.is_right; can_be_told = decides.can_be_told }
+seen_later held before after names g NotBuilt decides = record { is_right = decides.is_right; can_be_told = decides.can_be_told }
+seen_later held before after names g CertificateTooLong decides = record { is_right = decides.is_right; can_be_told = decides.can_be_told }
+seen_later held before after names g (BadCertificate line) decides = record { is_right = decides.is_right; can_be_told = decides.can_be_told }
+seen_later held before after names g (Failing k at) decides = record { is_right = decides.is_right; can_be_told = decides.can_be_told }
+seen_later held before after names g (Accepted bounds) decides = record { is_right = decides.is_right; can_be_told = decides.can_be_told }
+seen_later held before after names g ReadFault decides = absurd (no_fault decides.is_right)
+seen_later held before after names g NoMemory decides = record { is_right = tt; can_be_told = tt }

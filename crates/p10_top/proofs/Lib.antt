@@ -1,5 +1,4 @@
 -- The lemmas of this crate, by subject.
-pub mod Directories
 pub mod CommandWords
 pub mod Sources
 pub mod Lexing

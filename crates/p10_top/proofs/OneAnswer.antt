@@ -2,7 +2,7 @@
 -- refuted by what a later answer passes.
 use Rattle.std.proofs.Common.{◌≡◌, ◌≢◌, ℕ, ◌<◌, ◌≤◌, List, [], ◌∷◌, length, refl, sym, ◌∙◌, ap, subst, arith, inl, inr, Option, Some, None, IsSome, IsSomeAnd, is_some, Result, Ok, Err}
 use Rattle.std.proofs.lemmas.Bool.{cases_order, both_ways}
-use Rattle.std.proofs.lemmas.Option.{same_Some}
+use Rattle.std.proofs.lemmas.Option.{same_Some, none-some}
 use Rattle.p10_base.specs.declared.report.Bounds.{Bounds}
 use Rattle.p10_base.specs.declared.report.Limit.{Limit}
 use Rattle.p10_base.specs.declared.span.Span.{Span}
@@ -13,7 +13,8 @@ use Rattle.p10_world.specs.Files.{Named, file_of}
 use Rattle.p10_expand.specs.declared.fault.GatherFault.{GatherFault}
 use Rattle.p10_expand.specs.declared.fault.GatherFault.TheVariants as gathering
 use Rattle.p10_expand.specs.Gathering.{Gathers, FailsBy, IsEnding}
-use Rattle.p10_expand.specs.Plain.{PlainObeyed, PlainExpansion, ExpandsTo, ExpandsToOnce}
+use Rattle.p10_front.specs.Readings.{PlainReading, Reads, AreReadAs, AreRefused}
+use Rattle.p10_front.specs.Laws.{ReadsOnce}
 use Rattle.p10_expand.proofs.Once.{ends_once}
 use Rattle.p10_first.specs.declared.program.Program.{Program}
 use Rattle.p10_first.specs.declared.conditions.Condition.{Condition}
@@ -25,22 +26,22 @@ use Rattle.p10_first.proofs.Costs.{one_fails_first}
 use Rattle.p10_first.proofs.CertificateLaws.{certificate_text-injective}
 use Rattle.p10_first.proofs.CertificateWrongLines.{one_wrong_line, no_wrong_line}
 use Rattle.p10_top.specs.declared.answer.Answer.{Answer}
-use Rattle.p10_top.specs.declared.answer.Answer.TheVariants.{AbsentSource, Refused, SourcesOver, AbsentCertificate, Unexpanded, ExpansionOver, NotBuilt, CertificateTooLong, BadCertificate, Failing, Accepted, ReadFault, NoMemory}
-use Rattle.p10_top.specs.Command.{Names, IsVerify}
-use Rattle.p10_top.specs.Answers.{Seen, IsRight, RootWords, IsNoProgram, IsUnexpanded, SpellNone, HasProgram, setting_of, place_of, certificate_limit}
-use Rattle.p10_top.specs.Told.{MaySay, Saying, SaysRight, saying_of, status_of}
-use Rattle.p10_top.proofs.CommandWords.{verify_again}
+use Rattle.p10_top.specs.declared.answer.Answer.TheVariants.{AbsentSource, Refused, SourcesOver, AbsentCertificate, Unread, ReadingOver, NotBuilt, CertificateTooLong, BadCertificate, Failing, Accepted, ReadFault, NoMemory}
+use Rattle.p10_top.specs.Command.{Names}
+use Rattle.p10_top.specs.Answers.{Seen, IsRight, RootWords, IsNoProgram, SpellNone, HasProgram, setting_of, place_of, certificate_limit}
+use Rattle.p10_top.specs.Told.{MaySay, for_none, for_verify, for_any, Saying, SaysRight, saying_of, status_of}
+use Rattle.p10_top.proofs.CommandWords.{same_names}
 
 -- ## Stages
 
--- the place of an answer in the order of answers; gathering and expansion give just one each
+-- the place of an answer in the order of answers; gathering and reading give just one each
 abbrev number_of : Answer → ℕ
 number_of (AbsentSource place) = 1
 number_of (Refused refusal) = 1
 number_of (SourcesOver limit) = 1
 number_of AbsentCertificate = 2
-number_of (Unexpanded refusal) = 3
-number_of (ExpansionOver limit) = 3
+number_of (Unread refusal) = 3
+number_of (ReadingOver limit) = 3
 number_of NotBuilt = 4
 number_of CertificateTooLong = 5
 number_of (BadCertificate line) = 6
@@ -53,7 +54,7 @@ number_of NoMemory = 10
 record Passed (names : Names) (files : List Named) (number : ℕ) : Type 0 where
   gathered : 1 ≤ number → (g : Gathered) × Gathers (setting_of (Some files) names) g
   certificate : 2 ≤ number → IsSome (file_of names.certificate files)
-  expanded : 3 ≤ number → (g : Gathered) × (roots : List (List PlainWord)) × (obeyed : List PlainObeyed) × Gathers (setting_of (Some files) names) g × ExpandsTo g (Ok (record { roots = roots; obeyed = obeyed; refusal = None }))
+  read : 3 ≤ number → (g : Gathered) × (reading : PlainReading) × Gathers (setting_of (Some files) names) g × AreReadAs g reading
   program : 4 ≤ number → (g : Gathered) × (words : List PlainWord) × (p : Program) × HasProgram (Some files) names g words p
   certificate_short : 5 ≤ number → (bytes : List ℕ) × (file_of names.certificate files ≡ Some bytes) × (length bytes ≤ certificate_limit)
   claims : 6 ≤ number → (c : Claims) × (file_of names.certificate files ≡ Some (certificate_text c)) × IsCertificate c
@@ -77,17 +78,17 @@ abbrev told : List Named → ℕ → ℕ → Seen
 told files before after = record { held = Some files; faults_before = before; faults_after = after }
 
 passes : (files : List Named) (before after : ℕ) (names : Names) (g : Gathered) (answer : Answer) (number : ℕ) → IsRight (told files before after) names g answer → number < number_of answer → number_of answer ≤ 8 → Passed names files number
-passes files before after names g (AbsentSource place) number right earlier plain = record { gathered = never 1 number (omega (arith, earlier)); certificate = never 2 number (omega (arith, earlier)); expanded = never 3 number (omega (arith, earlier)); program = never 4 number (omega (arith, earlier)); certificate_short = never 5 number (omega (arith, earlier)); claims = never 6 number (omega (arith, earlier)); accepted = never 7 number (omega (arith, earlier)) }
-passes files before after names g (Refused refusal) number right earlier plain = record { gathered = never 1 number (omega (arith, earlier)); certificate = never 2 number (omega (arith, earlier)); expanded = never 3 number (omega (arith, earlier)); program = never 4 number (omega (arith, earlier)); certificate_short = never 5 number (omega (arith, earlier)); claims = never 6 number (omega (arith, earlier)); accepted = never 7 number (omega (arith, earlier)) }
-passes files before after names g (SourcesOver limit) number right earlier plain = record { gathered = never 1 number (omega (arith, earlier)); certificate = never 2 number (omega (arith, earlier)); expanded = never 3 number (omega (arith, earlier)); program = never 4 number (omega (arith, earlier)); certificate_short = never 5 number (omega (arith, earlier)); claims = never 6 number (omega (arith, earlier)); accepted = never 7 number (omega (arith, earlier)) }
-passes files before after names g AbsentCertificate number (gathers, lacks) earlier plain = record { gathered = λ at. (g, gathers); certificate = never 2 number (omega (arith, earlier)); expanded = never 3 number (omega (arith, earlier)); program = never 4 number (omega (arith, earlier)); certificate_short = never 5 number (omega (arith, earlier)); claims = never 6 number (omega (arith, earlier)); accepted = never 7 number (omega (arith, earlier)) }
-passes files before after names g (Unexpanded refusal) number (gathers, held, refused) earlier plain = record { gathered = λ at. (g, gathers); certificate = λ at. held; expanded = never 3 number (omega (arith, earlier)); program = never 4 number (omega (arith, earlier)); certificate_short = never 5 number (omega (arith, earlier)); claims = never 6 number (omega (arith, earlier)); accepted = never 7 number (omega (arith, earlier)) }
-passes files before after names g (ExpansionOver limit) number (gathers, held, over) earlier plain = record { gathered = λ at. (g, gathers); certificate = λ at. held; expanded = never 3 number (omega (arith, earlier)); program = never 4 number (omega (arith, earlier)); certificate_short = never 5 number (omega (arith, earlier)); claims = never 6 number (omega (arith, earlier)); accepted = never 7 number (omega (arith, earlier)) }
-passes files before after names g NotBuilt number (gathers, held, none) earlier plain = record { gathered = λ at. (g, gathers); certificate = λ at. held; expanded = λ at. (g, none.roots, none.obeyed, gathers, none.expands); program = never 4 number (omega (arith, earlier)); certificate_short = never 5 number (omega (arith, earlier)); claims = never 6 number (omega (arith, earlier)); accepted = never 7 number (omega (arith, earlier)) }
-passes files before after names g CertificateTooLong number (words, p, program, long) earlier plain = record { gathered = λ at. (g, program.gathers); certificate = λ at. longer_is_there (file_of names.certificate files) _ long; expanded = λ at. (g, words ∷ [], program.cut.obeyed, program.gathers, program.cut.expands); program = λ at. (g, words, p, program); certificate_short = never 5 number (omega (arith, earlier)); claims = never 6 number (omega (arith, earlier)); accepted = never 7 number (omega (arith, earlier)) }
-passes files before after names g (BadCertificate line) number (words, p, bytes, program, certificate, wrong) earlier plain = record { gathered = λ at. (g, program.gathers); certificate = λ at. there _ bytes certificate.given; expanded = λ at. (g, words ∷ [], program.cut.obeyed, program.gathers, program.cut.expands); program = λ at. (g, words, p, program); certificate_short = λ at. (bytes, certificate.given, certificate.short); claims = never 6 number (omega (arith, earlier)); accepted = never 7 number (omega (arith, earlier)) }
-passes files before after names g (Failing k place) number (words, p, c, judges, fails, place_is) earlier plain = record { gathered = λ at. (g, judges.program.gathers); certificate = λ at. there _ (certificate_text c) judges.certificate.given; expanded = λ at. (g, words ∷ [], judges.program.cut.obeyed, judges.program.gathers, judges.program.cut.expands); program = λ at. (g, words, p, judges.program); certificate_short = λ at. (certificate_text c, judges.certificate.given, judges.certificate.short); claims = λ at. (c, judges.certificate.given, judges.is_certificate); accepted = never 7 number (omega (arith, earlier)) }
-passes files before after names g (Accepted bounds) number (words, p, c, judges, accepts, total) earlier plain = record { gathered = λ at. (g, judges.program.gathers); certificate = λ at. there _ (certificate_text c) judges.certificate.given; expanded = λ at. (g, words ∷ [], judges.program.cut.obeyed, judges.program.gathers, judges.program.cut.expands); program = λ at. (g, words, p, judges.program); certificate_short = λ at. (certificate_text c, judges.certificate.given, judges.certificate.short); claims = λ at. (c, judges.certificate.given, judges.is_certificate); accepted = λ at. (g, words, p, c, judges.program, judges.certificate.given, judges.is_certificate, accepts) }
+passes files before after names g (AbsentSource place) number right earlier plain = record { gathered = never 1 number (omega (arith, earlier)); certificate = never 2 number (omega (arith, earlier)); read = never 3 number (omega (arith, earlier)); program = never 4 number (omega (arith, earlier)); certificate_short = never 5 number (omega (arith, earlier)); claims = never 6 number (omega (arith, earlier)); accepted = never 7 number (omega (arith, earlier)) }
+passes files before after names g (Refused refusal) number right earlier plain = record { gathered = never 1 number (omega (arith, earlier)); certificate = never 2 number (omega (arith, earlier)); read = never 3 number (omega (arith, earlier)); program = never 4 number (omega (arith, earlier)); certificate_short = never 5 number (omega (arith, earlier)); claims = never 6 number (omega (arith, earlier)); accepted = never 7 number (omega (arith, earlier)) }
+passes files before after names g (SourcesOver limit) number right earlier plain = record { gathered = never 1 number (omega (arith, earlier)); certificate = never 2 number (omega (arith, earlier)); read = never 3 number (omega (arith, earlier)); program = never 4 number (omega (arith, earlier)); certificate_short = never 5 number (omega (arith, earlier)); claims = never 6 number (omega (arith, earlier)); accepted = never 7 number (omega (arith, earlier)) }
+passes files before after names g AbsentCertificate number (gathers, lacks) earlier plain = record { gathered = λ at. (g, gathers); certificate = never 2 number (omega (arith, earlier)); read = never 3 number (omega (arith, earlier)); program = never 4 number (omega (arith, earlier)); certificate_short = never 5 number (omega (arith, earlier)); claims = never 6 number (omega (arith, earlier)); accepted = never 7 number (omega (arith, earlier)) }
+passes files before after names g (Unread refusal) number (gathers, held, refused) earlier plain = record { gathered = λ at. (g, gathers); certificate = λ at. held; read = never 3 number (omega (arith, earlier)); program = never 4 number (omega (arith, earlier)); certificate_short = never 5 number (omega (arith, earlier)); claims = never 6 number (omega (arith, earlier)); accepted = never 7 number (omega (arith, earlier)) }
+passes files before after names g (ReadingOver limit) number (gathers, held, over) earlier plain = record { gathered = λ at. (g, gathers); certificate = λ at. held; read = never 3 number (omega (arith, earlier)); program = never 4 number (omega (arith, earlier)); certificate_short = never 5 number (omega (arith, earlier)); claims = never 6 number (omega (arith, earlier)); accepted = never 7 number (omega (arith, earlier)) }
+passes files before after names g NotBuilt number (gathers, held, none) earlier plain = record { gathered = λ at. (g, gathers); certificate = λ at. held; read = λ at. (g, none.reading, gathers, none.read); program = never 4 number (omega (arith, earlier)); certificate_short = never 5 number (omega (arith, earlier)); claims = never 6 number (omega (arith, earlier)); accepted = never 7 number (omega (arith, earlier)) }
+passes files before after names g CertificateTooLong number (words, p, program, long) earlier plain = record { gathered = λ at. (g, program.gathers); certificate = λ at. longer_is_there (file_of names.certificate files) _ long; read = λ at. (g, program.cut.reading, program.gathers, program.cut.read); program = λ at. (g, words, p, program); certificate_short = never 5 number (omega (arith, earlier)); claims = never 6 number (omega (arith, earlier)); accepted = never 7 number (omega (arith, earlier)) }
+passes files before after names g (BadCertificate line) number (words, p, bytes, program, certificate, wrong) earlier plain = record { gathered = λ at. (g, program.gathers); certificate = λ at. there _ bytes certificate.given; read = λ at. (g, program.cut.reading, program.gathers, program.cut.read); program = λ at. (g, words, p, program); certificate_short = λ at. (bytes, certificate.given, certificate.short); claims = never 6 number (omega (arith, earlier)); accepted = never 7 number (omega (arith, earlier)) }
+passes files before after names g (Failing k place) number (words, p, c, judges, fails, place_is) earlier plain = record { gathered = λ at. (g, judges.program.gathers); certificate = λ at. there _ (certificate_text c) judges.certificate.given; read = λ at. (g, judges.program.cut.reading, judges.program.gathers, judges.program.cut.read); program = λ at. (g, words, p, judges.program); certificate_short = λ at. (certificate_text c, judges.certificate.given, judges.certificate.short); claims = λ at. (c, judges.certificate.given, judges.is_certificate); accepted = never 7 number (omega (arith, earlier)) }
+passes files before after names g (Accepted bounds) number (words, p, c, judges, accepts, total) earlier plain = record { gathered = λ at. (g, judges.program.gathers); certificate = λ at. there _ (certificate_text c) judges.certificate.given; read = λ at. (g, judges.program.cut.reading, judges.program.gathers, judges.program.cut.read); program = λ at. (g, words, p, judges.program); certificate_short = λ at. (certificate_text c, judges.certificate.given, judges.certificate.short); claims = λ at. (c, judges.certificate.given, judges.is_certificate); accepted = λ at. (g, words, p, c, judges.program, judges.certificate.given, judges.is_certificate, accepts) }
 passes files before after names g ReadFault number right earlier plain = absurd (omega (arith, plain))
 passes files before after names g NoMemory number right earlier plain = absurd (omega (arith, plain))
 
@@ -123,43 +124,41 @@ same_fault files names f h this that =
     let same : ◌≡◌ {A = Result Gathered GatherFault} (Err f) (Err h) = same_end files names (Err f) (Err h) this that in
     cc
 
--- what is common to expansions, where they have the same words or the same refusal
+-- what is common to readings, where they have the same words or the same refusal
 abbrev first_root : List (List PlainWord) → List PlainWord
 first_root [] = []
 first_root (words ∷ roots) = words
 
-abbrev refusal_of : Result PlainExpansion Limit → Option Refusal
-refusal_of (Ok expansion) = expansion.refusal
+abbrev refusal_of : Result PlainReading Limit → Option Refusal
+refusal_of (Ok reading) = reading.refusal
 refusal_of (Err limit) = None
 
-abbrev roots_of : Result PlainExpansion Limit → List (List PlainWord)
-roots_of (Ok expansion) = expansion.roots
+abbrev roots_of : Result PlainReading Limit → List (List PlainWord)
+roots_of (Ok reading) = reading.expansion.roots
 roots_of (Err limit) = []
 
-root_words_once : ExpandsToOnce → (g : Gathered) (words others : List PlainWord) → RootWords g words → RootWords g others → words ≡ others
-root_words_once once g words others this that = ap (λ a. first_root (roots_of a)) (once g _ _ this.expands that.expands)
+root_words_once : ReadsOnce → (g : Gathered) (words others : List PlainWord) → RootWords g words → RootWords g others → words ≡ others
+root_words_once once g words others this that = ap first_root (sym this.only ∙ ap roots_of (once g _ _ this.read.reads that.read.reads) ∙ that.only)
 
-refused_and_whole : ExpandsToOnce → (g : Gathered) (refusal : Refusal) (roots : List (List PlainWord)) (obeyed : List PlainObeyed) → IsUnexpanded g refusal → ExpandsTo g (Ok (record { roots = roots; obeyed = obeyed; refusal = None })) → ⊥
-refused_and_whole once g refusal roots obeyed refused whole =
-    let same : ◌≡◌ {A = Option Refusal} (Some refusal) None = ap refusal_of (once g _ _ refused.expands whole) in
+refused_and_whole : ReadsOnce → (g : Gathered) (refusal : Refusal) (reading : PlainReading) → AreRefused g refusal → AreReadAs g reading → ⊥
+refused_and_whole once g refusal reading refused whole = none-some refusal (sym whole.unrefused ∙ ap refusal_of (once g _ _ whole.reads refused.reads) ∙ refused.refused)
+
+over_and_whole : ReadsOnce → (g : Gathered) (limit : Limit) (reading : PlainReading) → Reads g (Err limit) → AreReadAs g reading → ⊥
+over_and_whole once g limit reading over whole =
+    let same : ◌≡◌ {A = Result PlainReading Limit} (Err limit) (Ok reading) = once g _ _ over whole.reads in
     cc
 
-over_and_whole : ExpandsToOnce → (g : Gathered) (limit : Limit) (roots : List (List PlainWord)) (obeyed : List PlainObeyed) → ExpandsTo g (Err limit) → ExpandsTo g (Ok (record { roots = roots; obeyed = obeyed; refusal = None })) → ⊥
-over_and_whole once g limit roots obeyed over whole =
-    let same : ◌≡◌ {A = Result PlainExpansion Limit} (Err limit) (Ok (record { roots = roots; obeyed = obeyed; refusal = None })) = once g _ _ over whole in
-    cc
+one_refusal : ReadsOnce → (g : Gathered) (refusal other : Refusal) → AreRefused g refusal → AreRefused g other → refusal ≡ other
+one_refusal once g refusal other this that = same_Some refusal other (sym this.refused ∙ ap refusal_of (once g _ _ this.reads that.reads) ∙ that.refused)
 
-one_refusal : ExpandsToOnce → (g : Gathered) (refusal other : Refusal) → IsUnexpanded g refusal → IsUnexpanded g other → refusal ≡ other
-one_refusal once g refusal other this that = same_Some refusal other (ap refusal_of (once g _ _ this.expands that.expands))
-
-refused_and_over : ExpandsToOnce → (g : Gathered) (refusal : Refusal) (limit : Limit) → IsUnexpanded g refusal → ExpandsTo g (Err limit) → ⊥
+refused_and_over : ReadsOnce → (g : Gathered) (refusal : Refusal) (limit : Limit) → AreRefused g refusal → Reads g (Err limit) → ⊥
 refused_and_over once g refusal limit refused over =
-    let same : ◌≡◌ {A = Option Refusal} (Some refusal) None = ap refusal_of (once g _ _ refused.expands over) in
+    let same : ◌≡◌ {A = Result PlainReading Limit} (Ok refused.reading) (Err limit) = once g _ _ refused.reads over in
     cc
 
-one_limit : ExpandsToOnce → (g : Gathered) (limit other : Limit) → ExpandsTo g (Err limit) → ExpandsTo g (Err other) → limit ≡ other
+one_limit : ReadsOnce → (g : Gathered) (limit other : Limit) → Reads g (Err limit) → Reads g (Err other) → limit ≡ other
 one_limit once g limit other this that =
-    let same : ◌≡◌ {A = Result PlainExpansion Limit} (Err limit) (Err other) = once g _ _ this that in
+    let same : ◌≡◌ {A = Result PlainReading Limit} (Err limit) (Err other) = once g _ _ this that in
     cc
 
 -- sources have one program, by one list of words
@@ -168,18 +167,18 @@ record Same (g h : Gathered) (words others : List PlainWord) (p q : Program) : T
   words_are : words ≡ others
   program_is : p ≡ q
 
-reads_once : ExpandsToOnce → (files : List Named) (names : Names) (g h : Gathered) (words others : List PlainWord) (p q : Program) → HasProgram (Some files) names g words p → HasProgram (Some files) names h others q → Same g h words others p q
+reads_once : ReadsOnce → (files : List Named) (names : Names) (g h : Gathered) (words others : List PlainWord) (p q : Program) → HasProgram (Some files) names g words p → HasProgram (Some files) names h others q → Same g h words others p q
 reads_once once files names g h words others p q this that =
     let sources : g ≡ h = same_sources files names g h this.gathers that.gathers in
     let same : words ≡ others = root_words_once once h words others (subst (λ x. RootWords x words) sources this.cut) that.cut in
     record { sources_are = sources; words_are = same; program_is = Spells-unique (texts others) p q (subst (λ (ws : List PlainWord). Spells (texts ws) p) same this.spell) that.spell }
 
-no_and_some : ExpandsToOnce → (g : Gathered) (words : List PlainWord) (p : Program) → IsNoProgram g → RootWords g words → Spells (texts words) p → ⊥
+no_and_some : ReadsOnce → (g : Gathered) (words : List PlainWord) (p : Program) → IsNoProgram g → RootWords g words → Spells (texts words) p → ⊥
 no_and_some once g words p none root spell =
-    let same : none.roots ≡ words ∷ [] = ap roots_of (once g _ _ none.expands root.expands) in
+    let same : none.reading.expansion.roots ≡ words ∷ [] = ap roots_of (once g _ _ none.read.reads root.read.reads) ∙ root.only in
     subst (λ roots. SpellNone roots) same none.none p spell
 
-stops : ExpandsToOnce → (files : List Named) (before after : ℕ) (names : Names) (g : Gathered) (answer : Answer) → IsRight (told files before after) names g answer → number_of answer ≤ 8 → Passed names files (number_of answer) → number_of answer < 8 → ⊥
+stops : ReadsOnce → (files : List Named) (before after : ℕ) (names : Names) (g : Gathered) (answer : Answer) → IsRight (told files before after) names g answer → number_of answer ≤ 8 → Passed names files (number_of answer) → number_of answer < 8 → ⊥
 stops once files before after names g (AbsentSource place) right plain passed earlier =
     let other = passed.gathered (omega arith) in gathered_or_not files names other.0 _ other.1 right
 stops once files before after names g (Refused refusal) right plain passed earlier =
@@ -187,12 +186,12 @@ stops once files before after names g (Refused refusal) right plain passed earli
 stops once files before after names g (SourcesOver limit) right plain passed earlier =
     let other = passed.gathered (omega arith) in gathered_or_not files names other.0 _ other.1 right
 stops once files before after names g AbsentCertificate (gathers, lacks) plain passed earlier = none_and_some _ lacks (passed.certificate (omega arith))
-stops once files before after names g (Unexpanded refusal) (gathers, held, refused) plain passed earlier =
-    let (h, roots, obeyed, others, whole) = passed.expanded (omega arith) in
-    refused_and_whole once g refusal roots obeyed refused (subst (λ x. ExpandsTo x (Ok (record { roots = roots; obeyed = obeyed; refusal = None }))) (same_sources files names h g others gathers) whole)
-stops once files before after names g (ExpansionOver limit) (gathers, held, over) plain passed earlier =
-    let (h, roots, obeyed, others, whole) = passed.expanded (omega arith) in
-    over_and_whole once g limit roots obeyed over (subst (λ x. ExpandsTo x (Ok (record { roots = roots; obeyed = obeyed; refusal = None }))) (same_sources files names h g others gathers) whole)
+stops once files before after names g (Unread refusal) (gathers, held, refused) plain passed earlier =
+    let (h, reading, others, whole) = passed.read (omega arith) in
+    refused_and_whole once g refusal reading refused (subst (λ x. AreReadAs x reading) (same_sources files names h g others gathers) whole)
+stops once files before after names g (ReadingOver limit) (gathers, held, over) plain passed earlier =
+    let (h, reading, others, whole) = passed.read (omega arith) in
+    over_and_whole once g limit reading over (subst (λ x. AreReadAs x reading) (same_sources files names h g others gathers) whole)
 stops once files before after names g NotBuilt (gathers, held, none) plain passed earlier =
     let (h, words, p, program) = passed.program (omega arith) in
     let same : h ≡ g = same_sources files names h g program.gathers gathers in
@@ -225,7 +224,7 @@ fault_saying names gathering.Read = saying_of names (record { files = []; roots 
 fault_saying names gathering.Memory = saying_of names (record { files = []; roots = [] }) NoMemory
 
 -- two answers at one place say the same
-same_place : ExpandsToOnce → (files : List Named) (before after : ℕ) (names : Names) (g h : Gathered) (a b : Answer) → IsRight (told files before after) names g a → IsRight (told files before after) names h b → number_of a ≡ number_of b → number_of a ≤ 8 → saying_of names g a ≡ saying_of names h b
+same_place : ReadsOnce → (files : List Named) (before after : ℕ) (names : Names) (g h : Gathered) (a b : Answer) → IsRight (told files before after) names g a → IsRight (told files before after) names h b → number_of a ≡ number_of b → number_of a ≤ 8 → saying_of names g a ≡ saying_of names h b
 same_place once files before after names g h (AbsentSource m) (AbsentSource n) right right' same plain = ap (λ (f : GatherFault). fault_saying names f) (same_fault files names (gathering.RootAbsent m) (gathering.RootAbsent n) right right')
 same_place once files before after names g h (AbsentSource m) (Refused q) right right' same plain = ap (λ (f : GatherFault). fault_saying names f) (same_fault files names (gathering.RootAbsent m) (gathering.Refused q h) right right')
 same_place once files before after names g h (AbsentSource m) (SourcesOver k) right right' same plain = ap (λ (f : GatherFault). fault_saying names f) (same_fault files names (gathering.RootAbsent m) (gathering.Over k) right right')
@@ -236,15 +235,15 @@ same_place once files before after names g h (SourcesOver l) (AbsentSource n) ri
 same_place once files before after names g h (SourcesOver l) (Refused q) right right' same plain = ap (λ (f : GatherFault). fault_saying names f) (same_fault files names (gathering.Over l) (gathering.Refused q h) right right')
 same_place once files before after names g h (SourcesOver l) (SourcesOver k) right right' same plain = ap (λ (f : GatherFault). fault_saying names f) (same_fault files names (gathering.Over l) (gathering.Over k) right right')
 same_place once files before after names g h AbsentCertificate AbsentCertificate right right' same plain = refl
-same_place once files before after names g h (Unexpanded r) (Unexpanded q) (gathers, held, refused) (gathers', held', refused') same plain =
+same_place once files before after names g h (Unread r) (Unread q) (gathers, held, refused) (gathers', held', refused') same plain =
     let sources : g ≡ h = same_sources files names g h gathers gathers' in
-    ap (λ (x : Gathered). saying_of names x (Unexpanded r)) sources ∙ ap (λ (x : Refusal). saying_of names h (Unexpanded x)) (one_refusal once h r q (subst (λ x. IsUnexpanded x r) sources refused) refused')
-same_place once files before after names g h (Unexpanded r) (ExpansionOver l) (gathers, held, refused) (gathers', held', over) same plain =
-    absurd (refused_and_over once h r l (subst (λ x. IsUnexpanded x r) (same_sources files names g h gathers gathers') refused) over)
-same_place once files before after names g h (ExpansionOver l) (Unexpanded r) (gathers, held, over) (gathers', held', refused) same plain =
-    absurd (refused_and_over once g r l (subst (λ x. IsUnexpanded x r) (same_sources files names h g gathers' gathers) refused) over)
-same_place once files before after names g h (ExpansionOver l) (ExpansionOver k) (gathers, held, over) (gathers', held', over') same plain =
-    ap (λ (x : Limit). saying_of names g (ExpansionOver x)) (one_limit once h l k (subst (λ x. ExpandsTo x (Err l)) (same_sources files names g h gathers gathers') over) over')
+    ap (λ (x : Gathered). saying_of names x (Unread r)) sources ∙ ap (λ (x : Refusal). saying_of names h (Unread x)) (one_refusal once h r q (subst (λ x. AreRefused x r) sources refused) refused')
+same_place once files before after names g h (Unread r) (ReadingOver l) (gathers, held, refused) (gathers', held', over) same plain =
+    absurd (refused_and_over once h r l (subst (λ x. AreRefused x r) (same_sources files names g h gathers gathers') refused) over)
+same_place once files before after names g h (ReadingOver l) (Unread r) (gathers, held, over) (gathers', held', refused) same plain =
+    absurd (refused_and_over once g r l (subst (λ x. AreRefused x r) (same_sources files names h g gathers' gathers) refused) over)
+same_place once files before after names g h (ReadingOver l) (ReadingOver k) (gathers, held, over) (gathers', held', over') same plain =
+    ap (λ (x : Limit). saying_of names g (ReadingOver x)) (one_limit once h l k (subst (λ x. Reads x (Err l)) (same_sources files names g h gathers gathers') over) over')
 same_place once files before after names g h NotBuilt NotBuilt right right' same plain = ap (λ (x : Gathered). saying_of names x NotBuilt) (same_sources files names g h right.0 right'.0)
 same_place once files before after names g h CertificateTooLong CertificateTooLong right right' same plain = refl
 same_place once files before after names g h (BadCertificate m) (BadCertificate n) (words, p, bytes, program, certificate, wrong) (words', p', bytes', program', certificate', wrong') same plain =
@@ -265,8 +264,8 @@ same_place once files before after names g h (AbsentSource m) _ right right' sam
 same_place once files before after names g h (Refused r) _ right right' same plain = absurd (omega (arith, same))
 same_place once files before after names g h (SourcesOver l) _ right right' same plain = absurd (omega (arith, same))
 same_place once files before after names g h AbsentCertificate _ right right' same plain = absurd (omega (arith, same))
-same_place once files before after names g h (Unexpanded r) _ right right' same plain = absurd (omega (arith, same))
-same_place once files before after names g h (ExpansionOver l) _ right right' same plain = absurd (omega (arith, same))
+same_place once files before after names g h (Unread r) _ right right' same plain = absurd (omega (arith, same))
+same_place once files before after names g h (ReadingOver l) _ right right' same plain = absurd (omega (arith, same))
 same_place once files before after names g h NotBuilt _ right right' same plain = absurd (omega (arith, same))
 same_place once files before after names g h CertificateTooLong _ right right' same plain = absurd (omega (arith, same))
 same_place once files before after names g h (BadCertificate m) _ right right' same plain = absurd (omega (arith, same))
@@ -275,7 +274,7 @@ same_place once files before after names g h (Accepted bounds) _ right right' sa
 same_place once files before after names g h ReadFault _ right right' same plain = absurd (omega (arith, plain))
 same_place once files before after names g h NoMemory _ right right' same plain = absurd (omega (arith, plain))
 
-one_answer : ExpandsToOnce → (files : List Named) (before after : ℕ) (names : Names) (g h : Gathered) (a b : Answer) → IsRight (told files before after) names g a → IsRight (told files before after) names h b → number_of a ≤ 8 → number_of b ≤ 8 → saying_of names g a ≡ saying_of names h b
+one_answer : ReadsOnce → (files : List Named) (before after : ℕ) (names : Names) (g h : Gathered) (a b : Answer) → IsRight (told files before after) names g a → IsRight (told files before after) names h b → number_of a ≤ 8 → number_of b ≤ 8 → saying_of names g a ≡ saying_of names h b
 one_answer once files before after names g h a b right right' plain plain' =
     elim (cases_order (number_of a) (number_of b)) [
       | inl same ↦ same_place once files before after names g h a b right right' same plain
@@ -291,8 +290,8 @@ plain_answer (AbsentSource place) five seven = omega arith
 plain_answer (Refused refusal) five seven = omega arith
 plain_answer (SourcesOver limit) five seven = omega arith
 plain_answer AbsentCertificate five seven = omega arith
-plain_answer (Unexpanded refusal) five seven = omega arith
-plain_answer (ExpansionOver limit) five seven = omega arith
+plain_answer (Unread refusal) five seven = omega arith
+plain_answer (ReadingOver limit) five seven = omega arith
 plain_answer NotBuilt five seven = omega arith
 plain_answer CertificateTooLong five seven = omega arith
 plain_answer (BadCertificate line) five seven = omega arith
@@ -301,22 +300,18 @@ plain_answer (Accepted bounds) five seven = omega arith
 plain_answer ReadFault five seven = absurd (five refl)
 plain_answer NoMemory five seven = absurd (seven refl)
 
--- the words tell the names
-same_names : (words : List (List ℕ)) (some other : Names) → IsVerify words some → IsVerify words other → some ≡ other
-same_names words some other is is' =
-    let same : ◌≡◌ {A = Option Names} (Some some) (Some other) = sym (verify_again words some is) ∙ verify_again words other is' in
-    same_Some some other same
-
-says_right : ExpandsToOnce → (files : List Named) (before after : ℕ) (names : Names) (some other : Saying) → SaysRight names (told files before after) some → SaysRight names (told files before after) other → some.status ≢ 5 → some.status ≢ 7 → other.status ≢ 5 → other.status ≢ 7 → some ≡ other
+says_right : ReadsOnce → (files : List Named) (before after : ℕ) (names : Names) (some other : Saying) → SaysRight names (told files before after) some → SaysRight names (told files before after) other → some.status ≢ 5 → some.status ≢ 7 → other.status ≢ 5 → other.status ≢ 7 → some ≡ other
 says_right once files before after names some other s o five seven five' seven' =
     let plain = plain_answer s.answer (λ is. five (ap (λ (y : Saying). y.status) s.said ∙ is)) (λ is. seven (ap (λ (y : Saying). y.status) s.said ∙ is)) in
     let plain' = plain_answer o.answer (λ is. five' (ap (λ (y : Saying). y.status) o.said ∙ is)) (λ is. seven' (ap (λ (y : Saying). y.status) o.said ∙ is)) in
     s.said ∙ one_answer once files before after names s.sources o.sources s.answer o.answer s.is_right o.is_right plain plain' ∙ sym o.said
 
-pub says_one_thing : ExpandsToOnce → (words : List (List ℕ)) (files : List Named) (before after : ℕ) (some other : Saying) → MaySay words (told files before after) some → MaySay words (told files before after) other → some.status ≢ 5 → some.status ≢ 7 → other.status ≢ 5 → other.status ≢ 7 → some ≡ other
-says_one_thing once words files before after some other (inl (none, said)) (inl (none', said')) five seven five' seven' = said ∙ sym said'
-says_one_thing once words files before after some other (inl (none, said)) (inr (names, is, says)) five seven five' seven' = absurd (none names is)
-says_one_thing once words files before after some other (inr (names, is, says)) (inl (none, said)) five seven five' seven' = absurd (none names is)
-says_one_thing once words files before after some other (inr (names, is, says)) (inr (names', is', says')) five seven five' seven' =
+pub says_one_thing : ReadsOnce → (words : List (List ℕ)) (files : List Named) (before after : ℕ) (some other : Saying) → MaySay words (told files before after) some → MaySay words (told files before after) other → some.status ≢ 5 → some.status ≢ 7 → other.status ≢ 5 → other.status ≢ 7 → some ≡ other
+says_one_thing once words files before after some other (for_none none said) (for_none none' said') five seven five' seven' = said ∙ sym said'
+says_one_thing once words files before after some other (for_none none said) (for_verify names is says) five seven five' seven' = absurd (none names is)
+says_one_thing once words files before after some other (for_verify names is says) (for_none none said) five seven five' seven' = absurd (none names is)
+says_one_thing once words files before after some other (for_verify names is says) (for_verify names' is' says') five seven five' seven' =
     says_right once files before after names some other says
     (subst (λ (n : Names). SaysRight n (told files before after) other) (same_names words names' names is' is) says') five seven five' seven'
+says_one_thing once words files before after some other (for_any said) may five seven five' seven' = absurd (seven (ap (λ (y : Saying). y.status) said))
+says_one_thing once words files before after some other may (for_any said) five seven five' seven' = absurd (seven' (ap (λ (y : Saying). y.status) said))

@@ -1,5 +1,5 @@
 -- The words of a source, and the program that they spell.
-use Rattle.std.proofs.Common.{◌≡◌, ◌≢◌, ℕ, false, ◌+◌, ◌-◌, ◌<◌, ◌≤◌, List, [], ◌∷◌, ◌++◌, length, length-append, get_or, refl, sym, ap, subst, arith, map, All, Option, Some, None, Result, Ok, Err, IfOk, ◌∙◌, Vec, Global}
+use Rattle.std.proofs.Common.{◌≡◌, ◌≢◌, ℕ, false, ◌+◌, ◌-◌, ◌<◌, ◌≤◌, List, [], ◌∷◌, ◌++◌, length, length-append, get_or, refl, sym, ap, subst, arith, map, All, Option, Some, None, Result, Ok, Err, IfOk, IfSome, ◌∙◌, Vec, Global}
 use Rattle.std.proofs.lemmas.List.{get_or-map, length-map}
 use Rattle.p10_base.specs.declared.word.Word.{Word}
 use Rattle.p10_base.specs.declared.word.Kind.TheVariants.{Punct}
@@ -8,20 +8,22 @@ use Rattle.p10_base.specs.Words.{PlainWord, plain_word, Text, plain_words}
 use Rattle.p10_first.specs.declared.program.Program.{Program}
 use Rattle.p10_first.specs.declared.conditions.Condition.{Condition}
 use Rattle.p10_first.specs.declared.conditions.Condition.TheVariants.{K1, K5, K11, K12, K14}
-use Rattle.p10_first.specs.Form.{spelling, Spells, texts, program_words, items_words, return_words, head_words}
+use Rattle.p10_first.specs.Form.{Spells, texts, program_words, items_words, return_words, head_words}
 use Rattle.p10_top.specs.declared.answer.Answer.{Answer}
-use Rattle.p10_top.specs.declared.answer.Answer.TheVariants.{AbsentSource, Refused, SourcesOver, AbsentCertificate, Unexpanded, ExpansionOver, NotBuilt, CertificateTooLong, BadCertificate, Failing, Accepted, ReadFault, NoMemory}
-use Rattle.p10_base.specs.declared.report.Family.{Family}
+use Rattle.p10_top.specs.declared.answer.Answer.TheVariants.{AbsentSource, Refused, SourcesOver, AbsentCertificate, Unread, ReadingOver, NotBuilt, CertificateTooLong, BadCertificate, Failing, Accepted, ReadFault, NoMemory}
 use Rattle.p10_base.specs.declared.report.Refusal.{Refusal}
 use Rattle.p10_base.specs.Gathered.{Gathered, count_of, LiesIn}
-use Rattle.p10_base.specs.Codes.{IsCode}
-use Rattle.p10_expand.specs.declared.expanded.Expanded.{Expanded}
-use Rattle.p10_expand.specs.Answers.{IsExpansion, expansion_of, lists_of}
-use Rattle.p10_expand.specs.Plain.{ExpandsTo, plain_expansion}
-use Rattle.p10_expand.proofs.PlainAnswers.{WordComes, expanded_to, refusal_lies, words_come}
-use Rattle.p10_top.specs.Answers.{SpellsNone, SpellNone, RootWords, IsNoProgram, IsUnexpanded, place_at, place_of}
+use Rattle.p10_expand.specs.Answers.{lists_of}
+use Rattle.p10_expand.proofs.PlainAnswers.{WordComes, words_come}
+use Rattle.p10_front.specs.declared.fault.FrontFault.{FrontFault}
+use Rattle.p10_front.specs.declared.fault.FrontFault.TheVariants as front
+use Rattle.p10_front.specs.declared.reading.Reading.{Reading}
+use Rattle.p10_front.specs.Readings.{Reads, AreRefused}
+use Rattle.p10_front.specs.Answers.{reading_of, CanBePrinted, IsFault}
+use Rattle.p10_front.proofs.Parsing.{reads_expand}
+use Rattle.p10_top.specs.Answers.{SpellNone, RootWords, IsNoProgram, place_at, place_of}
 use Rattle.p10_top.specs.Told.{beginning}
-use Rattle.p10_top.specs.private.Judging.{IsWeighed, AreJudged, IsJudged, JudgedPlace}
+use Rattle.p10_top.specs.private.Judging.{IsWeighed, AreJudged, IsAnswerTo, IsJudged, JudgedPlace}
 
 -- ## How many words
 
@@ -85,8 +87,8 @@ are_judged words p bytes (AbsentSource place) spell w = absurd w
 are_judged words p bytes (Refused refusal) spell w = absurd w
 are_judged words p bytes (SourcesOver limit) spell w = absurd w
 are_judged words p bytes AbsentCertificate spell w = absurd w
-are_judged words p bytes (Unexpanded refusal) spell w = absurd w
-are_judged words p bytes (ExpansionOver limit) spell w = absurd w
+are_judged words p bytes (Unread refusal) spell w = absurd w
+are_judged words p bytes (ReadingOver limit) spell w = absurd w
 are_judged words p bytes NotBuilt spell w = absurd w
 are_judged words p bytes ReadFault spell w = absurd w
 are_judged words p bytes NoMemory spell w = absurd w
@@ -101,7 +103,7 @@ judged_none words bytes none = none
 -- ## What sources are judged to be
 
 by_words : (g : Gathered) (words : List PlainWord) (bytes : List ℕ) (answer : Answer) → RootWords g words → AreJudged words bytes answer → IsJudged g bytes answer
-by_words g words bytes NotBuilt root none = record { roots = words ∷ []; obeyed = root.obeyed; expands = root.expands; none = none }
+by_words g words bytes NotBuilt root none = record { reading = root.reading; read = root.read; none = subst SpellNone (sym root.only) none }
 by_words g words bytes CertificateTooLong root are = (words, root, are)
 by_words g words bytes (BadCertificate line) root are = (words, root, are)
 by_words g words bytes (Failing k at) root are = (words, root, are)
@@ -110,8 +112,8 @@ by_words g words bytes (AbsentSource place) root are = absurd are.2
 by_words g words bytes (Refused refusal) root are = absurd are.2
 by_words g words bytes (SourcesOver limit) root are = absurd are.2
 by_words g words bytes AbsentCertificate root are = absurd are.2
-by_words g words bytes (Unexpanded refusal) root are = absurd are.2
-by_words g words bytes (ExpansionOver limit) root are = absurd are.2
+by_words g words bytes (Unread refusal) root are = absurd are.2
+by_words g words bytes (ReadingOver limit) root are = absurd are.2
 by_words g words bytes ReadFault root are = absurd are.2
 by_words g words bytes NoMemory root are = absurd are.2
 
@@ -126,8 +128,8 @@ by_place g words bytes (AbsentSource place) some come are = tt
 by_place g words bytes (Refused refusal) some come are = tt
 by_place g words bytes (SourcesOver limit) some come are = tt
 by_place g words bytes AbsentCertificate some come are = tt
-by_place g words bytes (Unexpanded refusal) some come are = absurd are.2
-by_place g words bytes (ExpansionOver limit) some come are = tt
+by_place g words bytes (Unread refusal) some come are = absurd are.2
+by_place g words bytes (ReadingOver limit) some come are = tt
 by_place g words bytes ReadFault some come are = tt
 by_place g words bytes NoMemory some come are = tt
 
@@ -138,29 +140,29 @@ one_list [] d one = absurd (omega (arith, one))
 one_list (words ∷ []) d one = refl
 one_list (words ∷ other ∷ all) d one = absurd (omega (arith, one))
 
-root_words : (g : Gathered) (expanded : Expanded) (all : List (Vec Word Global)) (words : Vec Word Global) → IsExpansion g expanded → expanded.refusal ≡ None → all ≡ expanded.roots → length all ≡ 1 → words ≡ get_or all 0 words → RootWords g (map plain_word words.items)
-root_words g expanded all words is none roots one first =
-    let plain = plain_expansion (expansion_of expanded) in
-    let lists : plain.roots ≡ map plain_word words.items ∷ [] =
-    ap (λ xs. map (map plain_word) (lists_of xs)) (sym roots) ∙ (one_list all words one ∙ ap (λ (v : Vec Word Global). map plain_word v.items ∷ []) (sym first)) in
-    record {
-      obeyed = plain.obeyed;
-      expands = subst (λ xs. ExpandsTo g (Ok (record { roots = xs; obeyed = plain.obeyed; refusal = None }))) lists
-          (subst (λ (r : Option Refusal). ExpandsTo g (Ok (record { roots = plain.roots; obeyed = plain.obeyed; refusal = r }))) none (expanded_to g expanded is));
-    }
+root_words : (g : Gathered) (reading : Reading) (all : List (Vec Word Global)) (words : Vec Word Global) → Reads g (Ok (reading_of reading)) → reading.refusal ≡ None → all ≡ reading.expanded.roots → length all ≡ 1 → words ≡ get_or all 0 words → RootWords g (map plain_word words.items)
+root_words g reading all words reads none roots one first = record {
+  reading = reading_of reading;
+  read = record { reads = reads; unrefused = none };
+  only = ap (λ xs. map (map plain_word) (lists_of xs)) (sym roots) ∙ (one_list all words one ∙ ap (λ (v : Vec Word Global). map plain_word v.items ∷ []) (sym first));
+}
 
-pub root_judged : {E : Type 0} (g : Gathered) (expanded : Expanded) (all : List (Vec Word Global)) (words : Vec Word Global) (read : List Word) (bytes : List ℕ) (r : Result Answer E) → IsExpansion g expanded → expanded.refusal ≡ None → all ≡ expanded.roots → length all ≡ 1 → words ≡ get_or all 0 words → read ≡ words.items →
+pub root_judged : {E : Type 0} (g : Gathered) (reading : Reading) (all : List (Vec Word Global)) (words : Vec Word Global) (read : List Word) (bytes : List ℕ) (r : Result Answer E) → Reads g (Ok (reading_of reading)) → reading.refusal ≡ None → all ≡ reading.expanded.roots → length all ≡ 1 → words ≡ get_or all 0 words → read ≡ words.items →
     IfOk r (AreJudged (map plain_word read) bytes) → IfOk r (IsJudged g bytes)
-root_judged g expanded all words read bytes (Err e) is none roots one first same are = tt
-root_judged g expanded all words read bytes (Ok answer) is none roots one first same are =
-    by_words g (map plain_word words.items) bytes answer (root_words g expanded all words is none roots one first) (subst (λ ws. AreJudged (map plain_word ws) bytes answer) same are)
+root_judged g reading all words read bytes (Err e) reads none roots one first same are = tt
+root_judged g reading all words read bytes (Ok answer) reads none roots one first same are =
+    by_words g (map plain_word words.items) bytes answer (root_words g reading all words reads none roots one first) (subst (λ ws. AreJudged (map plain_word ws) bytes answer) same are)
 
-pub root_placed : {E : Type 0} (g : Gathered) (expanded : Expanded) (all : List (Vec Word Global)) (words : Vec Word Global) (read : List Word) (bytes : List ℕ) (r : Result Answer E) → 0 < count_of g → IsExpansion g expanded → expanded.refusal ≡ None → all ≡ expanded.roots → length all ≡ 1 → words ≡ get_or all 0 words → read ≡ words.items →
+-- the words of the only root come from the files
+root_comes : (g : Gathered) (words : List PlainWord) → RootWords g words → All (WordComes g) words
+root_comes g words root =
+    subst (λ roots. All (λ (ws : List PlainWord). All (WordComes g) ws) roots) root.only (words_come g root.reading.expansion (reads_expand g root.reading root.read.reads)) 0 words (omega arith)
+
+pub root_placed : {E : Type 0} (g : Gathered) (reading : Reading) (all : List (Vec Word Global)) (words : Vec Word Global) (read : List Word) (bytes : List ℕ) (r : Result Answer E) → 0 < count_of g → Reads g (Ok (reading_of reading)) → reading.refusal ≡ None → all ≡ reading.expanded.roots → length all ≡ 1 → words ≡ get_or all 0 words → read ≡ words.items →
     IfOk r (AreJudged (map plain_word read) bytes) → IfOk r (JudgedPlace g)
-root_placed g expanded all words read bytes (Err e) some is none roots one first same are = tt
-root_placed g expanded all words read bytes (Ok answer) some is none roots one first same are =
-    let root = root_words g expanded all words is none roots one first in
-    by_place g (map plain_word words.items) bytes answer some (words_come g _ root.expands 0 (map plain_word words.items) (omega arith)) (subst (λ ws. AreJudged (map plain_word ws) bytes answer) same are)
+root_placed g reading all words read bytes (Err e) some reads none roots one first same are = tt
+root_placed g reading all words read bytes (Ok answer) some reads none roots one first same are =
+    by_place g (map plain_word words.items) bytes answer some (root_comes g (map plain_word words.items) (root_words g reading all words reads none roots one first)) (subst (λ ws. AreJudged (map plain_word ws) bytes answer) same are)
 
 -- ### None, and several
 
@@ -169,29 +171,29 @@ spell_none [] several = tt
 spell_none (words ∷ []) several = absurd (several refl)
 spell_none (words ∷ other ∷ roots) several = tt
 
-pub several_judged : (g : Gathered) (expanded : Expanded) (all : List (Vec Word Global)) → IsExpansion g expanded → expanded.refusal ≡ None → all ≡ expanded.roots → length all ≢ 1 → IsNoProgram g
-several_judged g expanded all is none roots several =
-    let plain = plain_expansion (expansion_of expanded) in
-    record {
-      roots = plain.roots;
-      obeyed = plain.obeyed;
-      expands = subst (λ (r : Option Refusal). ExpandsTo g (Ok (record { roots = plain.roots; obeyed = plain.obeyed; refusal = r }))) none (expanded_to g expanded is);
-      none = spell_none plain.roots (λ one. several (ap length roots ∙ (sym (length-map expanded.roots _) ∙ (sym (length-map (lists_of expanded.roots) (map plain_word)) ∙ one))));
-    }
+pub several_judged : (g : Gathered) (reading : Reading) (all : List (Vec Word Global)) → Reads g (Ok (reading_of reading)) → reading.refusal ≡ None → all ≡ reading.expanded.roots → length all ≢ 1 → IsNoProgram g
+several_judged g reading all reads none roots several = record {
+  reading = reading_of reading;
+  read = record { reads = reads; unrefused = none };
+  none = spell_none (reading_of reading).expansion.roots (λ one. several (ap length roots ∙ (sym (length-map reading.expanded.roots _) ∙ (sym (length-map (lists_of reading.expanded.roots) (map plain_word)) ∙ one))));
+}
 
-pub several_placed : (g : Gathered) → 0 < count_of g → JudgedPlace g NotBuilt
-several_placed g some = begins_in g some
+pub refused_judged : (g : Gathered) (reading : Reading) (refusal : Refusal) → Reads g (Ok (reading_of reading)) → reading.refusal ≡ Some refusal → AreRefused g refusal
+refused_judged g reading refusal reads refused = record { reading = reading_of reading; reads = reads; refused = refused }
 
-pub refused_judged : (g : Gathered) (expanded : Expanded) (refusal : Refusal) → IsExpansion g expanded → expanded.refusal ≡ Some refusal → IsUnexpanded g refusal
-refused_judged g expanded refusal is refused =
-    let plain = plain_expansion (expansion_of expanded) in
-    record {
-      roots = plain.roots;
-      obeyed = plain.obeyed;
-      expands = subst (λ (r : Option Refusal). ExpandsTo g (Ok (record { roots = plain.roots; obeyed = plain.obeyed; refusal = r }))) refused (expanded_to g expanded is);
-    }
+pub refused_placed : (g : Gathered) (reading : Reading) (refusal : Refusal) → IfSome reading.refusal (CanBePrinted g) → reading.refusal ≡ Some refusal → CanBePrinted g refusal
+refused_placed g reading refusal prints refused = subst (λ (r : Option Refusal). IfSome r (CanBePrinted g)) refused prints
 
-pub refused_placed : (g : Gathered) (expanded : Expanded) (refusal : Refusal) → IsExpansion g expanded → expanded.refusal ≡ Some refusal → LiesIn g refusal.span × IsCode refusal.family refusal.number
-refused_placed g expanded refusal is refused =
-    let (lies, family, least, greatest) = refusal_lies g _ refusal (expanded_to g expanded is) refused in
-    (lies, subst (λ (f : Family). IsCode f refusal.number) (sym family) (least, greatest))
+-- ### A limit
+
+over_judged : (g : Gathered) (bytes : List ℕ) (fault : FrontFault) (answer : Answer) → IsFault g fault → IsAnswerTo fault answer → IsJudged g bytes answer × JudgedPlace g answer
+over_judged g bytes (front.Over limit) answer over is = subst (λ (a : Answer). IsJudged g bytes a × JudgedPlace g a) (sym is) (over, tt)
+over_judged g bytes front.Memory answer fault is = absurd is
+
+pub unread_judged : {E : Type 0} (g : Gathered) (bytes : List ℕ) (fault : FrontFault) (r : Result Answer E) → IsFault g fault → IfOk r (IsAnswerTo fault) → IfOk r (IsJudged g bytes)
+unread_judged g bytes fault (Ok answer) over is = (over_judged g bytes fault answer over is).0
+unread_judged g bytes fault (Err e) over is = tt
+
+pub unread_placed : {E : Type 0} (g : Gathered) (fault : FrontFault) (r : Result Answer E) → IsFault g fault → IfOk r (IsAnswerTo fault) → IfOk r (JudgedPlace g)
+unread_placed g fault (Ok answer) over is = (over_judged g [] fault answer over is).1
+unread_placed g fault (Err e) over is = tt

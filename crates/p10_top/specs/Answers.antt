@@ -9,7 +9,7 @@ use Rattle.p10_world.specs.Files.{Named, Lacks}
 use Rattle.p10_base.specs.Words.{PlainWord}
 use Rattle.p10_expand.specs.declared.fault.GatherFault.TheVariants as gathering
 use Rattle.p10_expand.specs.Gathering.{Setting, Gathers, FailsBy}
-use Rattle.p10_expand.specs.Plain.{PlainObeyed, ExpandsTo}
+use Rattle.p10_front.specs.Readings.{PlainReading, Reads, AreReadAs, AreRefused}
 use Rattle.p10_first.specs.declared.program.Program.{Program}
 use Rattle.p10_first.specs.declared.conditions.Condition.{Condition}
 use Rattle.p10_first.specs.declared.conditions.Condition.TheVariants.{K1, K5, K11, K12, K14}
@@ -17,7 +17,7 @@ use Rattle.p10_first.specs.Form.{Spells, texts}
 use Rattle.p10_first.specs.Certificate.{Claims, certificate_text, IsCertificate, IsFirstWrongLine}
 use Rattle.p10_first.specs.Conditions.{Accepts, IsFirstFailure}
 use Rattle.p10_top.specs.declared.answer.Answer.{Answer}
-use Rattle.p10_top.specs.declared.answer.Answer.TheVariants.{AbsentSource, Refused, SourcesOver, AbsentCertificate, Unexpanded, ExpansionOver, NotBuilt, CertificateTooLong, BadCertificate, Failing, Accepted, ReadFault, NoMemory}
+use Rattle.p10_top.specs.declared.answer.Answer.TheVariants.{AbsentSource, Refused, SourcesOver, AbsentCertificate, Unread, ReadingOver, NotBuilt, CertificateTooLong, BadCertificate, Failing, Accepted, ReadFault, NoMemory}
 use Rattle.p10_top.specs.Command.{Names}
 use Rattle.p10_top.specs.Loading.{Gives, IsHeld, IsLonger}
 use Rattle.p10_base.specs.declared.report.TheConstants.Limit.{MOST_CERTIFICATE_BYTES}
@@ -34,10 +34,11 @@ certificate_limit = MOST_CERTIFICATE_BYTES
 abbrev pub setting_of : Option (List Named) → Names → Setting
 setting_of held names = record { held = held; roots = names.sources; dirs = names.directories }
 
--- the words of the only root, after its directives are obeyed and its macros replaced
+-- the words of the only root, after its directives are obeyed and its macros replaced; trees of the grammar spell them
 pub record RootWords (g : Gathered) (words : List PlainWord) : Type 0 where
-  pub obeyed : List PlainObeyed
-  pub expands : ExpandsTo g (Ok (record { roots = words ∷ []; obeyed = obeyed; refusal = None }))
+  pub reading : PlainReading
+  pub read : AreReadAs g reading
+  pub only : reading.expansion.roots ≡ words ∷ []
 
 -- words spell no program
 abbrev pub SpellsNone : List PlainWord → Type 0
@@ -48,18 +49,11 @@ abbrev pub SpellNone : List (List PlainWord) → Type 0
 SpellNone (words ∷ []) = SpellsNone words
 SpellNone roots = Unit {0}
 
--- the sources are no program that can be verified yet
+-- the sources are read, but are no program that can be verified yet
 pub record IsNoProgram (g : Gathered) : Type 0 where
-  pub roots : List (List PlainWord)
-  pub obeyed : List PlainObeyed
-  pub expands : ExpandsTo g (Ok (record { roots = roots; obeyed = obeyed; refusal = None }))
-  pub none : SpellNone roots
-
--- a directive or a use of a macro in the sources is refused
-pub record IsUnexpanded (g : Gathered) (refusal : Refusal) : Type 0 where
-  pub roots : List (List PlainWord)
-  pub obeyed : List PlainObeyed
-  pub expands : ExpandsTo g (Ok (record { roots = roots; obeyed = obeyed; refusal = Some refusal }))
+  pub reading : PlainReading
+  pub read : AreReadAs g reading
+  pub none : SpellNone reading.expansion.roots
 
 -- the program of gathered sources
 pub record HasProgram (held : Option (List Named)) (names : Names) (g : Gathered) (words : List PlainWord) (p : Program) : Type 0 where
@@ -110,8 +104,8 @@ IsRight seen names g (AbsentSource place) = FailsBy (setting_of seen.held names)
 IsRight seen names g (Refused refusal) = FailsBy (setting_of seen.held names) (gathering.Refused refusal g)
 IsRight seen names g (SourcesOver limit) = FailsBy (setting_of seen.held names) (gathering.Over limit)
 IsRight seen names g AbsentCertificate = Gathers (setting_of seen.held names) g × Lacks seen.held names.certificate
-IsRight seen names g (Unexpanded refusal) = Gathers (setting_of seen.held names) g × IsHeld seen.held names.certificate × IsUnexpanded g refusal
-IsRight seen names g (ExpansionOver limit) = Gathers (setting_of seen.held names) g × IsHeld seen.held names.certificate × ExpandsTo g (Err limit)
+IsRight seen names g (Unread refusal) = Gathers (setting_of seen.held names) g × IsHeld seen.held names.certificate × AreRefused g refusal
+IsRight seen names g (ReadingOver limit) = Gathers (setting_of seen.held names) g × IsHeld seen.held names.certificate × Reads g (Err limit)
 IsRight seen names g NotBuilt = Gathers (setting_of seen.held names) g × IsHeld seen.held names.certificate × IsNoProgram g
 IsRight seen names g CertificateTooLong =
     (words : List PlainWord) × (p : Program) × HasProgram seen.held names g words p × IsLonger seen.held names.certificate certificate_limit

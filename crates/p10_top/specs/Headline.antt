@@ -1,5 +1,5 @@
 -- What a verified certificate promises.
-use Rattle.std.specs.Prelude.{ℕ, ◌≡◌, List, Some}
+use Rattle.std.specs.Prelude.{◌≡◌, List, Some}
 use Rattle.p10_base.specs.Gathered.{Gathered}
 use Rattle.p10_world.specs.Files.{Named, file_of}
 use Rattle.p10_first.specs.declared.program.Program.{Program}
@@ -8,7 +8,7 @@ use Rattle.p10_expand.specs.Gathering.{Gathers}
 use Rattle.p10_first.specs.Form.{Spells, texts}
 use Rattle.p10_first.specs.Certificate.{Claims, certificate_text, IsCertificate}
 use Rattle.p10_first.specs.Meaning.{Within}
-use Rattle.p10_top.specs.Command.{Names, IsVerify}
+use Rattle.p10_top.specs.Command.{Names, IsVerifyLine}
 use Rattle.p10_top.specs.Answers.{setting_of, RootWords}
 
 -- The words are `verify` with sources, directories of included files and a certificate. The sources expand to
@@ -17,7 +17,7 @@ use Rattle.p10_top.specs.Answers.{setting_of, RootWords}
 -- claimed depth, and nothing is allocated or freed.
 pub record Verified (words : List Text) (files : List Named) : Type 0 where
   pub names : Names
-  pub is_verify : IsVerify words names
+  pub is_verify : IsVerifyLine words names
   pub sources : Gathered
   pub gathers : Gathers (setting_of (Some files) names) sources
   pub tokens : List PlainWord

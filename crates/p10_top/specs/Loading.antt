@@ -1,5 +1,5 @@
 -- What is known of a file where its bytes were asked for up to a limit.
-use Rattle.std.specs.Prelude.{ℕ, ◌≡◌, ◌+◌, ◌<◌, ◌≤◌, List, length, Option, Some, IfSome, IsSome, IsSomeAnd}
+use Rattle.std.specs.Prelude.{ℕ, ◌≡◌, ◌<◌, List, length, Option, Some, IfSome, IsSome, IsSomeAnd}
 use Rattle.p10_world.specs.Files.{Named, file_of}
 
 -- where files are told, the one of that name has these bytes

@@ -1,5 +1,5 @@
 -- What is said for an answer: the status of the program, and the texts on its two outputs.
-use Rattle.std.specs.Prelude.{ℕ, ◌≡◌, ◌⊎◌, List, [], slice_index_or, Option}
+use Rattle.std.specs.Prelude.{ℕ, ◌≡◌, List, [], slice_index_or, Option}
 use Rattle.std.specs.Io.KnownBytes.{Appends}
 use Rattle.p10_base.specs.declared.span.Span.{Span}
 use Rattle.p10_base.specs.declared.report.Refusal.{Refusal}
@@ -9,8 +9,8 @@ use Rattle.p10_report.specs.Lines.{accepted_line, failing_line, limit_line, refu
 use Rattle.p10_report.specs.Messages.{absent_line, bad_certificate_line, out_of_memory_line, read_fault_line, usage_line}
 use Rattle.p10_first.specs.Conditions.{number_of_condition}
 use Rattle.p10_top.specs.declared.answer.Answer.{Answer}
-use Rattle.p10_top.specs.declared.answer.Answer.TheVariants.{AbsentSource, Refused, SourcesOver, AbsentCertificate, Unexpanded, ExpansionOver, NotBuilt, CertificateTooLong, BadCertificate, Failing, Accepted, ReadFault, NoMemory}
-use Rattle.p10_top.specs.Command.{Names, IsVerify}
+use Rattle.p10_top.specs.declared.answer.Answer.TheVariants.{AbsentSource, Refused, SourcesOver, AbsentCertificate, Unread, ReadingOver, NotBuilt, CertificateTooLong, BadCertificate, Failing, Accepted, ReadFault, NoMemory}
+use Rattle.p10_top.specs.Command.{Names, IsVerifyLine, IsNoCommand}
 use Rattle.p10_top.specs.Answers.{Seen, IsRight}
 use Rattle.p10_base.specs.Codes.{subset_refusal}
 use Rattle.p10_base.specs.declared.codes.SubsetCode.TheVariants as code
@@ -23,8 +23,8 @@ status_of (AbsentSource place) = 9
 status_of (Refused refusal) = 3
 status_of (SourcesOver limit) = 8
 status_of AbsentCertificate = 9
-status_of (Unexpanded refusal) = 3
-status_of (ExpansionOver limit) = 8
+status_of (Unread refusal) = 3
+status_of (ReadingOver limit) = 8
 status_of NotBuilt = 3
 status_of CertificateTooLong = 8
 status_of (BadCertificate line) = 4
@@ -53,8 +53,8 @@ err_text names sources (AbsentSource place) = absent_line (slice_index_or names.
 err_text names sources (Refused refusal) = refusal_line sources refusal
 err_text names sources (SourcesOver limit) = limit_line limit
 err_text names sources AbsentCertificate = absent_line names.certificate
-err_text names sources (Unexpanded refusal) = refusal_line sources refusal
-err_text names sources (ExpansionOver limit) = limit_line limit
+err_text names sources (Unread refusal) = refusal_line sources refusal
+err_text names sources (ReadingOver limit) = limit_line limit
 err_text names sources NotBuilt = refusal_line sources not_built
 err_text names sources CertificateTooLong = limit_line CERTIFICATE_BYTES
 err_text names sources (BadCertificate line) = bad_certificate_line line
@@ -72,13 +72,13 @@ pub record Saying : Type 0 where
 abbrev pub usage_saying : Saying
 usage_saying = record { status = 2; out = []; err = usage_line }
 
+-- what is said where memory is wanting before the command is known
+abbrev pub memory_saying : Saying
+memory_saying = record { status = 7; out = []; err = out_of_memory_line }
+
 -- what is said for an answer, where the words name these files and these sources were gathered
 abbrev pub saying_of : Names → Gathered → Answer → Saying
 saying_of names sources answer = record { status = status_of answer; out = out_text sources answer; err = err_text names sources answer }
-
--- no command has these words
-abbrev pub IsNoCommand : List Text → Type 0
-IsNoCommand words = (names : Names) → IsVerify words names → ⊥
 
 -- something is said for a right answer to `verify` with these names
 pub record SaysRight (names : Names) (seen : Seen) (saying : Saying) : Type 0 where
@@ -87,9 +87,11 @@ pub record SaysRight (names : Names) (seen : Seen) (saying : Saying) : Type 0 wh
   pub is_right : IsRight seen names sources answer
   pub said : saying ≡ saying_of names sources answer
 
--- what may be said to a command line
-abbrev pub MaySay : List Text → Seen → Saying → Type 0
-MaySay words seen saying = (IsNoCommand words × (saying ≡ usage_saying)) ⊎ ((names : Names) × IsVerify words names × SaysRight names seen saying)
+-- what may be said to a command line; want of memory may come at any
+pub data MaySay (words : List Text) (seen : Seen) (saying : Saying) : Type 0 where
+  for_none : IsNoCommand words → saying ≡ usage_saying → MaySay words seen saying
+  for_verify : (names : Names) → IsVerifyLine words names → SaysRight names seen saying → MaySay words seen saying
+  for_any : saying ≡ memory_saying → MaySay words seen saying
 
 -- both outputs took all of their texts
 pub record BothTake (out_old out_new err_old err_new : Option (List ℕ)) (out err : List ℕ) : Type 0 where

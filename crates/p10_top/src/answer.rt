@@ -16,11 +16,11 @@ pub enum Answer {
     SourcesOver(Limit),
     /// There is no such certificate.
     AbsentCertificate,
-    /// A directive or a use of a macro is refused.
-    Unexpanded(Refusal),
-    /// The expansion of the sources passes a limit: M3, M4 or M6.
-    ExpansionOver(Limit),
-    /// The sources are no program that can be verified yet.
+    /// The sources are refused where they are read: D1 to D8 by their directives and macros, G1 by the grammar.
+    Unread(Refusal),
+    /// The sources pass a limit where they are read: M3, M4 or M6 by expansion, M5 by nesting.
+    ReadingOver(Limit),
+    /// The sources are read, but are no program that can be verified yet.
     NotBuilt,
     /// The certificate is over its limit.
     CertificateTooLong,
@@ -46,11 +46,11 @@ impl Answer {
         match self {
             Answer::Accepted(_) => 0,
             Answer::Failing(..) => 1,
-            Answer::Refused(_) | Answer::Unexpanded(_) | Answer::NotBuilt => 3,
+            Answer::Refused(_) | Answer::Unread(_) | Answer::NotBuilt => 3,
             Answer::BadCertificate(_) => 4,
             Answer::ReadFault => 5,
             Answer::NoMemory => 7,
-            Answer::SourcesOver(_) | Answer::ExpansionOver(_) | Answer::CertificateTooLong => 8,
+            Answer::SourcesOver(_) | Answer::ReadingOver(_) | Answer::CertificateTooLong => 8,
             Answer::AbsentSource(_) | Answer::AbsentCertificate => 9,
         }
     }

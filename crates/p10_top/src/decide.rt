@@ -6,7 +6,7 @@ ghost use Rattle.p10_top.specs.private.CommandReading.{names_of};
 ghost use Rattle.p10_top.specs.private.Deciding.{Decides, decision_without};
 
 use crate::answer::Answer;
-use crate::command::{Verify, directories};
+use crate::command::{Verify, strings};
 use crate::judge::{CERTIFICATE_LIMIT, judge};
 use crate::load::{Trouble, load};
 use p10_base::Sources;
@@ -25,24 +25,22 @@ pub struct Decision {
 ///
 /// # Errors
 /// A read failed, only where the count of faults of `files` rose; or memory is wanting.
-pub fn decide<F: Files>(
-    alloc: Global,
-    verify: &Verify<'_>,
-    files: &mut F,
-) -> Result<Decision, Trouble>
-    requires some { 0 < length verify.now.sources.now }
-    requires few { length verify.now.sources.now ≤ 65536 }
+pub fn decide<F: Files>(alloc: Global, verify: &Verify, files: &mut F) -> Result<Decision, Trouble>
+    requires some { 0 < length verify.now.sources }
+    requires few { length verify.now.sources ≤ 65536 }
     ensures right { IfOk result (λ decision. Decides (F.held files.old) (names_of verify.now) decision.sources decision.answer) }
     ensures failed { IsErrOf result Trouble.Read → Rose (F.faults files.old) (F.faults files.new) }
     ensures count { F.faults files.old ≤ F.faults files.new }
     ensures held { F.held files.new ≡ F.held files.old }
 {
-    let directories = directories(alloc, verify.include)?;
-    let sources = match gather(alloc, files, verify.sources, &directories) {
+    let directories = strings(alloc, verify.directories.as_slice())?;
+    let roots = strings(alloc, verify.sources.as_slice())?;
+    let sources = match gather(alloc, files, &roots, &directories) {
         Ok(sources) => sources,
         Err(fault) => return without_sources(alloc, fault),
     };
-    let Some(certificate) = load(alloc, files, verify.certificate, CERTIFICATE_LIMIT)? else {
+    let Some(certificate) = load(alloc, files, verify.certificate.as_str(), CERTIFICATE_LIMIT)?
+    else {
         return Ok(Decision {
             answer: Answer::AbsentCertificate,
             sources,

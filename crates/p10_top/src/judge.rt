@@ -1,17 +1,18 @@
 //! What the sources and the certificate come to.
 
-ghost use Rattle.std.specs.Prelude.{◌≡◌, ◌≤◌, ◌<◌, length, map, IfOk};
+ghost use Rattle.std.specs.Prelude.{◌≡◌, ◌≤◌, ◌<◌, length, map, IfOk, IfSome, Ok};
 ghost use Rattle.p10_base.specs.Gathered.{count_of};
 ghost use Rattle.p10_expand.specs.Gathering.{HaveWords};
-ghost use Rattle.p10_expand.specs.Answers.{IsExpansion};
+ghost use Rattle.p10_front.specs.Readings.{Reads};
+ghost use Rattle.p10_front.specs.Answers.{reading_of, CanBePrinted};
 ghost use Rattle.p10_base.specs.Words.{plain_word};
 ghost use Rattle.p10_top.specs.Answers.{place_of};
-ghost use Rattle.p10_top.specs.private.Judging.{AreJudged, IsJudged, IsWeighed, JudgedPlace};
+ghost use Rattle.p10_top.specs.private.Judging.{AreJudged, IsAnswerTo, IsJudged, IsWeighed, JudgedPlace};
 
 use crate::answer::Answer;
 use p10_base::{Limit, Sources, Span, Word};
-use p10_expand::{ExpandFault, Expanded, expand};
 use p10_first::{Condition, Program, certificate, failing};
+use p10_front::{FrontFault, Reading, read};
 use std::alloc::{AllocError, Global};
 
 /// The most bytes of a certificate.
@@ -76,29 +77,42 @@ pub fn judge(alloc: Global, sources: &Sources, certificate: &[u8]) -> Result<Ans
     ensures judged { IfOk result (IsJudged sources.now certificate.now) }
     ensures place { IfOk result (JudgedPlace sources.now) }
 {
-    match expand(alloc, sources) {
-        Ok(expanded) => judge_expanded(alloc, sources, &expanded, certificate),
-        Err(ExpandFault::Over(limit)) => Ok(Answer::ExpansionOver(limit)),
-        Err(ExpandFault::Memory) => Err(AllocError),
+    match read(alloc, sources) {
+        Ok(reading) => judge_reading(alloc, sources, &reading, certificate),
+        Err(fault) => answer_unread(fault),
     }
 }
 
-/// What expanded sources and the bytes of a certificate come to.
-fn judge_expanded(
+/// The answer where sources aren't read.
+///
+/// # Errors
+/// Want of memory alone.
+fn answer_unread(fault: FrontFault) -> Result<Answer, AllocError>
+    ensures { IfOk result (IsAnswerTo fault) }
+{
+    match fault {
+        FrontFault::Over(limit) => Ok(Answer::ReadingOver(limit)),
+        FrontFault::Memory => Err(AllocError),
+    }
+}
+
+/// What sources that are read and the bytes of a certificate come to.
+fn judge_reading(
     alloc: Global,
     sources: &Sources,
-    expanded: &Expanded<'_>,
+    reading: &Reading<'_>,
     certificate: &[u8],
 ) -> Result<Answer, AllocError>
     requires some { 0 < count_of sources.now }
-    requires expanded { IsExpansion sources.now expanded.now }
+    requires read { Reads sources.now (Ok (reading_of reading.now)) }
+    requires refusal { IfSome reading.now.refusal (CanBePrinted sources.now) }
     ensures judged { IfOk result (IsJudged sources.now certificate.now) }
     ensures place { IfOk result (JudgedPlace sources.now) }
 {
-    if let Some(refusal) = expanded.refusal {
-        return Ok(Answer::Unexpanded(refusal));
+    if let Some(refusal) = reading.refusal {
+        return Ok(Answer::Unread(refusal));
     }
-    match expanded.roots.as_slice() {
+    match reading.expanded.roots.as_slice() {
         [words] => judge_words(alloc, words, certificate),
         _ => Ok(Answer::NotBuilt),
     }

@@ -2,12 +2,12 @@
 
 ghost use Rattle.p10_top.specs.Laws.{SaysOneThing};
 
-use p10_expand::expands_to_once;
+use p10_front::laws::one_reading;
 
 /// Where files are told, only one thing may be said to a command line, but for a read fault and want
 /// of memory.
 pub fn one_thing_is_said()
     ensures { SaysOneThing }
 {
-    expands_to_once();
+    one_reading();
 }

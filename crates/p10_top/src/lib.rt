@@ -6,11 +6,15 @@
 #![tactic(auto)]
 
 ghost use Rattle.std.specs.Prelude.{◌≡◌, ◌≢◌, ◌⊎◌, IfSome, map, string_bytes};
+ghost use Rattle.std.specs.Io.KnownBytes.{Appends};
 ghost use Rattle.p10_world.specs.Faults.{Rose};
+ghost use Rattle.p10_report.specs.Stops.{StopsWithin};
 ghost use Rattle.p10_top.specs.Headline.{Verified};
 ghost use Rattle.p10_top.specs.Told.{Told, Stopped};
+ghost use Rattle.p10_top.specs.private.Deciding.{unread_saying};
 
-use p10_report::put_usage;
+use p10_report::{put_out_of_memory, put_usage};
+use p10_words::Usage;
 use p10_world::{Files, Sink, Source};
 use std::alloc::Global;
 
@@ -27,11 +31,12 @@ mod verify;
 
 pub use p10_first as first;
 
-/// Runs `p10` on the words behind the program's name, and gives the status with which it exits.
+/// Runs `p10` on the words after the program's name, and gives the status with which it exits.
 ///
-/// `verify [--include DIRECTORIES] --cert CERTIFICATE SOURCE..` tells on `out` whether the certificate bounds
-/// every run of the sources' program; all else is told on `err`. `DIRECTORIES` are joined by `:`, and included
-/// files are looked for in them. Nothing is read of `input` by this command.
+/// `verify [--include DIRECTORIES] --cert CERTIFICATE SOURCE..`, with options and sources in any order, tells on `out`
+/// whether the certificate bounds every run of the sources' program; all else is told on `err`. `DIRECTORIES` are joined
+/// by `:`, and included files are looked for in them. Nothing is read of `input` by this command. Other commands can't be
+/// obeyed yet, and are none.
 ///
 /// The statuses: 0 accepted, 1 a condition doesn't hold, 2 no command, 3 the source is refused, 4 no
 /// certificate, 5 a read failed, 6 a write failed, 7 want of memory, 8 a limit is passed, 9 a file is
@@ -61,10 +66,26 @@ pub fn p10_main<F: Files, I: Source, O: Sink, E: Sink>(
     ensures held { F.held files.new ≡ F.held files.old }
     ensures input { input.new ≡ input.old }
 {
-    match command::read(words) {
-        Some(verify) => verify::run(alloc, &verify, files, out, err),
-        None => match put_usage(err) {
+    match command::read(alloc, words) {
+        Ok(verify) => verify::run(alloc, &verify, files, out, err),
+        Err(fault) => tell_unread(fault, err),
+    }
+}
+
+/// Tells why no command was read, and gives the status with which the program exits.
+fn tell_unread<E: Sink>(fault: Usage, err: &mut E) -> u8
+    ensures status { result ≢ 6 → result ≡ (unread_saying fault).status }
+    ensures told { result ≢ 6 → Appends (E.taken err.old) (E.taken err.new) (unread_saying fault).err }
+    ensures stopped { result ≡ 6 → StopsWithin (E.taken err.old) (E.taken err.new) (unread_saying fault).err }
+    ensures write { result ≡ 6 → Rose (E.faults err.old) (E.faults err.new) }
+{
+    match fault {
+        Usage::Refused => match put_usage(err) {
             Ok(()) => 2,
+            Err(_) => 6,
+        },
+        Usage::Memory => match put_out_of_memory(err) {
+            Ok(()) => 7,
             Err(_) => 6,
         },
     }

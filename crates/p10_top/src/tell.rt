@@ -27,7 +27,7 @@ const BEGINNING: Span = Span {
 /// # Errors
 /// A fault only where the count of faults of an output rose; each has then taken a front of its text.
 pub fn tell<O: Sink, E: Sink>(
-    verify: &Verify<'_>,
+    verify: &Verify,
     answer: &Answer,
     sources: &Sources,
     out: &mut O,
@@ -44,9 +44,9 @@ pub fn tell<O: Sink, E: Sink>(
         Answer::AbsentSource(place) => put_absent(err, verify.source(*place)),
         Answer::Refused(refusal) => put_refusal(err, sources, refusal),
         Answer::SourcesOver(limit) => put_limit(err, *limit),
-        Answer::AbsentCertificate => put_absent(err, verify.certificate),
-        Answer::Unexpanded(refusal) => put_refusal(err, sources, refusal),
-        Answer::ExpansionOver(limit) => put_limit(err, *limit),
+        Answer::AbsentCertificate => put_absent(err, verify.certificate.as_str()),
+        Answer::Unread(refusal) => put_refusal(err, sources, refusal),
+        Answer::ReadingOver(limit) => put_limit(err, *limit),
         Answer::NotBuilt => put_refusal(
             err,
             sources,

@@ -17,13 +17,13 @@ use std::alloc::Global;
 /// Runs the command, and gives the status with which the program exits.
 pub fn run<F: Files, O: Sink, E: Sink>(
     alloc: Global,
-    verify: &Verify<'_>,
+    verify: &Verify,
     files: &mut F,
     out: &mut O,
     err: &mut E,
 ) -> u8
-    requires some { 0 < length verify.now.sources.now }
-    requires few { length verify.now.sources.now ≤ 65536 }
+    requires some { 0 < length verify.now.sources }
+    requires few { length verify.now.sources ≤ 65536 }
     ensures told { result ≢ 6 → ToldFor (names_of verify.now)
         (record { held = F.held files.old; faults_before = F.faults files.old; faults_after = F.faults files.new })
         (O.taken out.old) (O.taken out.new) (E.taken err.old) (E.taken err.new) result }
@@ -41,9 +41,9 @@ pub fn run<F: Files, O: Sink, E: Sink>(
 }
 
 /// The answer to the command, with the sources in which its places lie.
-fn answer_to<F: Files>(alloc: Global, verify: &Verify<'_>, files: &mut F) -> Decision
-    requires some { 0 < length verify.now.sources.now }
-    requires few { length verify.now.sources.now ≤ 65536 }
+fn answer_to<F: Files>(alloc: Global, verify: &Verify, files: &mut F) -> Decision
+    requires some { 0 < length verify.now.sources }
+    requires few { length verify.now.sources ≤ 65536 }
     ensures right { Answered
         (record { held = F.held files.old; faults_before = F.faults files.old; faults_after = F.faults files.new })
         (names_of verify.now) result.sources result.answer }

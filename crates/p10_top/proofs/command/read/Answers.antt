@@ -1,16 +1,17 @@
-use Rattle.std.proofs.Common.{arith, string_bytes}
-use Rattle.std.proofs.lemmas.List.{length-map}
-use Rattle.p10_top.proofs.CommandWords.{few_sources, read_found, read_none, some_sources}
+use Rattle.p10_top.proofs.CommandWords.{read_few, read_found, read_refused, read_some, read_unread}
 use Rattle.p10_top.proofs.command.read.Goals as goal
 
-pub returns-clause-found : goal.returns-clause-found
-returns-clause-found c = read_found _ _ (omega (arith, length-map c.args.words.now string_bytes, c.if-words-gt-MOST_WORDS.false)) c.parsed.ensures
+pub returns-in-Ok-clause-found : goal.returns-in-Ok-clause-found
+returns-in-Ok-clause-found c = read_found _ _ _ c.verify_of.ensures c.in-Ok.ensures.found
 
-pub returns-clause-some : goal.returns-clause-some
-returns-clause-some c = some_sources _ _ (read_found _ _ (omega (arith, length-map c.args.words.now string_bytes, c.if-words-gt-MOST_WORDS.false)) c.parsed.ensures)
+pub returns-in-Ok-clause-some : goal.returns-in-Ok-clause-some
+returns-in-Ok-clause-some c = read_some _ _ (read_found _ _ _ c.verify_of.ensures c.in-Ok.ensures.found)
 
-pub returns-clause-few : goal.returns-clause-few
-returns-clause-few c = few_sources _ _ (read_found _ _ (omega (arith, length-map c.args.words.now string_bytes, c.if-words-gt-MOST_WORDS.false)) c.parsed.ensures)
+pub returns-in-Ok-clause-few : goal.returns-in-Ok-clause-few
+returns-in-Ok-clause-few c = read_few _ _ (read_found _ _ _ c.verify_of.ensures c.in-Ok.ensures.found)
 
-pub returns-clause-none : goal.returns-clause-none
-returns-clause-none c = read_none _ _ c.parsed.ensures
+pub returns-in-Ok-clause-refused : goal.returns-in-Ok-clause-refused
+returns-in-Ok-clause-refused c = read_refused _ _ _ c.verify_of.ensures c.in-Ok.ensures.found
+
+pub returns-in-Err-clause-refused : goal.returns-in-Err-clause-refused
+returns-in-Err-clause-refused c = read_unread _ c.in-Err.fault c.read_words.result c.in-Err.is c.read_words.ensures.refused

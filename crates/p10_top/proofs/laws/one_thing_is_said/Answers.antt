@@ -2,4 +2,4 @@ use Rattle.p10_top.proofs.OneAnswer as lemma
 use Rattle.p10_top.proofs.laws.one_thing_is_said.Goals as goal
 
 pub returns : goal.returns
-returns c = lemma.says_one_thing c.expands_to_once.ensures
+returns c = lemma.says_one_thing c.one_reading.ensures

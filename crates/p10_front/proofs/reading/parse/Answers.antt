@@ -1,0 +1,14 @@
+use Rattle.p10_front.proofs.Parsing.{parsed_spelled, parsed_unexpanded, parsed_without, unparsed_without}
+use Rattle.p10_front.proofs.reading.parse.Goals as goal
+
+pub returns-in-Some-clause-parsed : goal.returns-in-Some-clause-parsed
+returns-in-Some-clause-parsed c = parsed_unexpanded c.args.expanded c.in-Some.refusal c.refused.result c.in-Some.is c.refused.ensures
+
+pub returns-in-Ok-clause-parsed : goal.returns-in-Ok-clause-parsed
+returns-in-Ok-clause-parsed c = parsed_spelled c.args.expanded c.as_slice.result.now c.in_default.is c.as_slice.ensures c.in-Ok.all.items c.of.result c.in-Ok.ensures.within c.in-Ok.ensures.found c.of.ensures
+
+pub returns-in-Err-clause-parsed : goal.returns-in-Err-clause-parsed
+returns-in-Err-clause-parsed c = parsed_without c.args.expanded c.as_slice.result.now c.in_default.is c.as_slice.ensures c.in-Err.fault c.without_trees.result c.in-Err.ensures.fault c.without_trees.ensures
+
+pub returns-in-Err-clause-fault : goal.returns-in-Err-clause-fault
+returns-in-Err-clause-fault c = unparsed_without c.args.expanded c.as_slice.result.now c.in_default.is c.as_slice.ensures c.in-Err.fault c.without_trees.result c.in-Err.ensures.fault c.without_trees.ensures
