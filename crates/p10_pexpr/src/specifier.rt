@@ -18,9 +18,7 @@ use crate::expression::expression;
 use crate::next::{Specifying, may_have_body};
 use crate::scope::Scope;
 use crate::trouble::Trouble;
-use p10_syn::{
-    Enumerator, Expr, Field, Member, Naming, Said, Setting, Sign, Spec, said_after,
-};
+use p10_syn::{Enumerator, Expr, Field, Member, Naming, Said, Setting, Sign, Spec, said_after};
 use std::alloc::Global;
 
 /// Reads specifiers, at least one.
