@@ -1,3 +1,4 @@
 -- Lemmas of this crate.
 mod Linking
 mod Keeping
+mod Later

@@ -23,7 +23,7 @@ module _ {T : Type 0} where
       let e : i ≡ i + 0 = omega arith in
       ap (option_map (λ (e : Entry T). e.what)) (ap (slice_get all) e ∙ h 0)
 
-  agrees : (all rest : List (Entry T)) (name : Text) (found : Option ℕ) (i : ℕ) → ((k : ℕ) → slice_get all (i + k) ≡ slice_get rest k) →
+  pub agrees : (all rest : List (Entry T)) (name : Text) (found : Option ℕ) (i : ℕ) → ((k : ℕ) → slice_get all (i + k) ≡ slice_get rest k) →
       last_after (what_at all found) name (bound_of rest) ≡ what_at all (last_place found i name rest)
   agrees all [] name found i h = refl
   agrees all (x ∷ rest) name found i h =

@@ -2,6 +2,7 @@
 
 ghost use Rattle.p10_bindings.specs.private.Links.{IsLinked};
 
+use crate::bound::Bound;
 use crate::entry::Entry;
 use p10_base::NameList;
 use std::alloc::{AllocError, Global};
@@ -18,10 +19,11 @@ pub struct Bindings<'s, T> {
 }
 
 impl<'s, T: Drop> Bindings<'s, T> {
-    ghost use Rattle.std.specs.Prelude.{◌≡◌, [], ◌∷◌, ◌++◌, Some, take, length, option_copied, OnOk, OnErr, IfOk, slice_get, ◌-◌};
+    ghost use Rattle.std.specs.Prelude.{◌≡◌, [], ◌∷◌, ◌++◌, Some, take, drop, length, option_copied, OnOk, OnErr, IfOk, IfSome, IfNone, slice_get, reverse, ◌-◌};
     ghost use Rattle.p10_base.specs.Names.{place_in};
     ghost use Rattle.p10_bindings.specs.Lookup.{last_bound};
     ghost use Rattle.p10_bindings.specs.Bound.{bound_in, what_at};
+    ghost use Rattle.p10_bindings.specs.Taken.{names_of};
     ghost use Rattle.p10_bindings.specs.private.Links.{written};
 
     /// No names.
@@ -48,6 +50,16 @@ impl<'s, T: Drop> Bindings<'s, T> {
     {
         match self.spellings.place(name) {
             Some(spelling) => self.what_at(self.last_at(spelling)),
+            None => None,
+        }
+    }
+
+    /// What the last declared of the names with this spelling stands for, without the first `from` names.
+    pub fn find_from(&self, from: usize, name: &[u8]) -> Option<&T>
+        ensures { option_copied result ≡ last_bound name.now (drop from (bound_in self.now)) }
+    {
+        match self.spellings.place(name) {
+            Some(spelling) => self.what_at(place_from(from, self.last_at(spelling))),
             None => None,
         }
     }
@@ -119,27 +131,72 @@ impl<'s, T: Drop> Bindings<'s, T> {
         ensures { bound_in self.new ≡ take count (bound_in self.old) }
     {
         while self.entries.len() > count {
-            self.forget();
+            self.take_last();
         }
     }
 
-    /// Forgets the name that was declared last.
-    fn forget(&mut self)
-        ensures { self.new.entries.items ≡ take (length self.old.entries.items - 1) self.old.entries.items }
+    /// Takes out the names that were declared last, until `count` are left, and gives them in the order in which they were
+    /// declared. Out of memory they are forgotten.
+    pub fn take_from(
+        &mut self,
+        alloc: Global,
+        count: usize,
+    ) -> Result<Vec<Bound<'s, T>>, AllocError>
+        ensures left { bound_in self.new ≡ take count (bound_in self.old) }
+        ensures taken { IfOk result (λ taken. names_of taken.items ≡ drop count (bound_in self.old)) }
     {
-        if let Some(entry) = self.entries.pop() {
-            let (spelling, earlier) = links_of(&entry);
-            self.last[spelling] = earlier;
+        let taken = self.take_back(alloc, count);
+        self.keep(count);
+        let mut taken = taken?;
+        taken.reverse();
+        Ok(taken)
+    }
+
+    /// Takes out the names after the first `count`, the last one first.
+    fn take_back(&mut self, alloc: Global, count: usize) -> Result<Vec<Bound<'s, T>>, AllocError>
+        ensures left { take count (bound_in self.new) ≡ take count (bound_in self.old) }
+        ensures taken { IfOk result (λ taken. reverse (names_of taken.items) ≡ drop count (bound_in self.old)) }
+    {
+        let mut taken = Vec::new(alloc);
+        while self.entries.len() > count {
+            if let Some(bound) = self.take_last() {
+                taken.push(bound)?;
+            }
+        }
+        Ok(taken)
+    }
+
+    /// Takes out the name that was declared last.
+    fn take_last(&mut self) -> Option<Bound<'s, T>>
+        ensures left { self.new.entries.items ≡ take (length self.old.entries.items - 1) self.old.entries.items }
+        ensures taken { IfSome result (λ b. bound_in self.old ≡ bound_in self.new ++ (b.name.now, b.what) ∷ []) }
+        ensures none { IfNone result (length self.old.entries.items ≡ 0) }
+    {
+        match self.entries.pop() {
+            Some(entry) => {
+                let Entry {
+                    name,
+                    spelling,
+                    what,
+                    earlier,
+                } = entry;
+                self.last[spelling] = earlier;
+                Some(Bound { name, what })
+            }
+            None => None,
         }
     }
 }
 
 ghost use Rattle.std.specs.Prelude.{◌≡◌};
+ghost use Rattle.p10_bindings.specs.private.Later.{kept_from};
 
-/// The spelling of an entry, and the entry before it with that spelling.
-fn links_of<T>(entry: &Entry<'_, T>) -> (usize, Option<usize>)
-    ensures spelling { result.0 ≡ entry.now.spelling }
-    ensures earlier { result.1 ≡ entry.now.earlier }
+/// A place, if it isn't before a number.
+fn place_from(from: usize, place: Option<usize>) -> Option<usize>
+    ensures { result ≡ kept_from from place }
 {
-    (entry.spelling, entry.earlier)
+    match place {
+        Some(place) => { if from <= place { Some(place) } else { None } }
+        None => None,
+    }
 }

@@ -14,6 +14,8 @@
 #![tactic(auto)]
 
 mod bindings;
+mod bound;
 mod entry;
 
 pub use bindings::Bindings;
+pub use bound::Bound;

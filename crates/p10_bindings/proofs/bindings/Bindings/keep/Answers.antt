@@ -9,4 +9,4 @@ loop-self-preserved g c =
     let counted = c.len.ensures in
     let same = c.loop-self.self.entries.ok.0 in
     let low : c.args.count < length c.loop-self.self.entries.items = omega arith in
-    kept_on (bound_of c.args.self.now.entries.items) c.loop-self.self.entries.items c.forget.new.self.entries.items c.args.count c.loop-self.invariant low c.forget.ensures
+    kept_on (bound_of c.args.self.now.entries.items) c.loop-self.self.entries.items c.take_last.new.self.entries.items c.args.count c.loop-self.invariant low c.take_last.ensures.left
