@@ -2,6 +2,7 @@ pub mod Allocated
 pub mod Asked
 pub mod Bound
 pub mod Firsts
+pub mod Innermost
 pub mod KnownSizes
 pub mod Lengths
 pub mod Members

@@ -1,6 +1,7 @@
 -- The definitions that the contracts of this crate cite.
 pub mod First
 pub mod Scopes
+pub mod Innermost
 pub mod Operands
 pub mod Operators
 pub mod Calls

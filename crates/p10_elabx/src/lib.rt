@@ -14,6 +14,7 @@
 mod allocations;
 mod arrays;
 mod assignment;
+mod block;
 mod callee;
 mod calls;
 mod casts;
@@ -41,6 +42,7 @@ mod values;
 mod words;
 
 pub use assignment::assigned;
+pub use block::Block;
 pub use callee::{Callee, Wants};
 pub use calls::{call_judged, callee_of, wanted_of};
 pub use declarators::{has_const_word, other_word};

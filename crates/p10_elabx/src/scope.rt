@@ -1,5 +1,6 @@
 //! Scopes: what names stand for in the blocks that are open (C99 6.2.1).
 
+use crate::block::Block;
 use crate::named::Named;
 use p10_bindings::Bindings;
 use p10_core::Types;
@@ -81,5 +82,68 @@ impl<'s> Scope<'s> {
         ensures { option_map meaning_of (option_copied result) ≡ tagged (plain_scope self.now) name.now }
     {
         self.tags.find(name)
+    }
+}
+
+#[tactic(auto, using(crate::proofs::Innermost::found_here, crate::proofs::Innermost::rest_are, crate::proofs::Bound::kept_are))]
+impl<'s> Scope<'s> {
+    ghost use Rattle.std.specs.Prelude.{◌≡◌, ◌<◌, drop, length, option_map, option_copied, IfOk};
+    ghost use Rattle.p10_bindings.specs.Taken.{names_of};
+    ghost use Rattle.p10_elabx.specs.Scopes.{last_floor, left};
+    ghost use Rattle.p10_elabx.specs.Innermost.{named_here, tagged_here, is_outermost};
+    ghost use Rattle.p10_elabx.specs.Views.{meaning_of, bindings_of};
+    ghost use Rattle.p10_elabx.specs.PlainScopes.{plain_scope};
+
+    /// What a name that is no tag stands for, if it is declared in the innermost block.
+    pub fn named_here(&self, name: &[u8]) -> Option<&Named>
+        ensures { option_map meaning_of (option_copied result) ≡ named_here (plain_scope self.now) name.now }
+    {
+        let (names, _) = self.floor();
+        self.names.find_from(names, name)
+    }
+
+    /// What a tag stands for, if it is declared in the innermost block.
+    pub fn tagged_here(&self, name: &[u8]) -> Option<&Named>
+        ensures { option_map meaning_of (option_copied result) ≡ tagged_here (plain_scope self.now) name.now }
+    {
+        let (_, tags) = self.floor();
+        self.tags.find_from(tags, name)
+    }
+
+    /// Whether no block is open inside the outermost one.
+    pub fn is_outermost(&self) -> bool
+        ensures { result ≡ is_outermost (plain_scope self.now) }
+    {
+        match self.floors.last() {
+            Some(_) => false,
+            None => true,
+        }
+    }
+
+    /// Closes the innermost of at least two blocks, and gives what was declared in it. Out of memory that is forgotten.
+    pub fn close(&mut self, alloc: Global) -> Result<Block<'s>, AllocError>
+        requires { 0 < length (plain_scope self.old).floors }
+        ensures left { plain_scope self.new ≡ left (plain_scope self.old) }
+        ensures names { IfOk result (λ b. bindings_of (names_of b.names.items) ≡ drop (last_floor (plain_scope self.old).floors).0 (plain_scope self.old).names) }
+        ensures tags { IfOk result (λ b. bindings_of (names_of b.tags.items) ≡ drop (last_floor (plain_scope self.old).floors).1 (plain_scope self.old).tags) }
+    {
+        let (names, tags) = self.floor();
+        self.floors.pop();
+        let names = self.names.take_from(alloc, names);
+        let tags = self.tags.take_from(alloc, tags);
+        Ok(Block {
+            names: names?,
+            tags: tags?,
+        })
+    }
+
+    /// How many names and tags stood where the innermost block was opened.
+    fn floor(&self) -> (usize, usize)
+        ensures { result ≡ last_floor (plain_scope self.now).floors }
+    {
+        match self.floors.last() {
+            Some(floor) => *floor,
+            None => (0, 0),
+        }
     }
 }
