@@ -1,6 +1,12 @@
 pub mod Allocated
+pub mod Allocating
+pub mod Answered
+pub mod Answering
+pub mod Arms
 pub mod Asked
 pub mod Bound
+pub mod CallParts
+pub mod DeclaratorArms
 pub mod Firsts
 pub mod Innermost
 pub mod KnownSizes
@@ -12,8 +18,10 @@ pub mod Refusing
 pub mod SpecifierTrees
 pub mod Strings
 pub mod Ties
+pub mod TreeNodes
 pub mod TreeRows
 pub mod Turns
+pub mod Walks
 pub mod WholeForms
 pub mod WholeParts
 pub mod WholeTexts

@@ -47,7 +47,7 @@ tied_any ss j k t = record {
   reads = or_same j.reads (reads_object j.found) k.reads (reads_object k.found) t.reads (same_test reads_object j.found k.found (λ rs qs. refl) t.found);
 }
 
-tied_value : (ss : List PlainStructure) (j k : Judged PlainOperand) → Tied PlainOperand j k → Tied PlainValue (as_value ss j) (as_value ss k)
+pub tied_value : (ss : List PlainStructure) (j k : Judged PlainOperand) → Tied PlainOperand j k → Tied PlainValue (as_value ss j) (as_value ss k)
 unfolding as_value
 tied_value ss j k t = tied_on_part (any_value ss j) (any_value ss k) not_void (tied_any ss j k t)
 

@@ -13,4 +13,5 @@ pub mod Wholeness
 pub mod Views
 pub mod PlainScopes
 pub mod Built
+pub mod Answers
 pub mod private

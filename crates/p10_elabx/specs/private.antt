@@ -1,3 +1,5 @@
 -- The definitions that only the contracts of private functions cite.
 pub mod Counted
 pub mod Updating
+pub mod Walking
+pub mod Numbers
