@@ -7,6 +7,7 @@ pub mod Lists
 pub mod MemberLayouts
 pub mod ScalarCounts
 pub mod SizesOfTypes
+pub mod StandingFor
 pub mod StatementRows
 pub mod Tables
 pub mod TypeViews

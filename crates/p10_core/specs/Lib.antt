@@ -10,5 +10,6 @@ pub mod Addresses
 pub mod Whole
 pub mod WholePrograms
 pub mod Completing
+pub mod Representing
 pub mod Laws
 pub mod private

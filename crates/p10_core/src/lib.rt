@@ -20,6 +20,7 @@ mod make_initializers;
 mod make_statements;
 mod members;
 mod program;
+mod representing;
 mod sizes;
 mod statements;
 mod structures;

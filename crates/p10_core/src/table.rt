@@ -9,6 +9,7 @@ use crate::c_type::{CType, TypeForm};
 use crate::lay::Lay;
 use crate::laying::lay_members;
 use crate::members::{has_members, integer_bytes, place_of_member};
+use crate::representing::{represent_all, representatives_of};
 use crate::structures::{Body, Member, Structure};
 use p10_base::ListBuf;
 use std::alloc::{AllocError, Global};
@@ -38,6 +39,7 @@ impl<'s> Types<'s> {
     ghost use Rattle.p10_core.specs.Rows.{is_complete, is_modifiable};
     ghost use Rattle.p10_core.specs.WholePrograms.{AreWholeStructures, IsWholeType, IsObjectType, most_bytes};
     ghost use Rattle.p10_core.specs.Completing.{with_structure, member_layout, completed, is_whole_type, is_object_type, are_objects, is_open_in, takes_members};
+    ghost use Rattle.p10_core.specs.Representing.{representatives, represented};
     ghost use Rattle.p10_core.specs.private.Partials.{IsLay};
 
     /// No structures.
@@ -215,6 +217,22 @@ impl<'s> Types<'s> {
             Some(body) => body.scalars,
             None => 0,
         }
+    }
+
+    /// The numbers of the structures that stand for each one and for those of other roots that are compatible with it.
+    pub fn representatives(&self, alloc: Global) -> Result<Vec<u32>, AllocError>
+        ensures { IfOk result (λ numbers. numbers.items ≡ representatives (plain_types self.now)) }
+    {
+        representatives_of(alloc, self.structures.as_slice())
+    }
+
+    /// Sets which structures stand for each one, by their numbers in order (C99 6.2.7).
+    pub fn represent(&mut self, numbers: &[u32])
+        requires as_many { length numbers.now ≡ length (plain_types self.old) }
+        requires built { AreBuilt (represented (plain_types self.old) numbers.now) }
+        ensures { plain_types self.new ≡ represented (plain_types self.old) numbers.now }
+    {
+        represent_all(self.structures.as_mut_slice(), numbers);
     }
 
     /// The structures are whole at each moment: what a body says of itself is so, and none contains itself.
