@@ -7,8 +7,14 @@ pub mod Expressions
 pub mod Marks
 pub mod Statements
 pub mod Linkage
+pub mod HeadViews
+pub mod LinkedViews
+pub mod LinkedLists
 pub mod Outer
+pub mod OuterViews
+pub mod Uniting
 pub mod Between
 pub mod Programs
 pub mod Laws
 pub mod Examples
+pub mod private

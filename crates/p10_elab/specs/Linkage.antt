@@ -106,14 +106,15 @@ linked_noted h linked now s =
 abbrev pub is_main_name : Text → Bool
 is_main_name name = bytes_eq name (codes "main")
 
+-- whether a function has no parameters and gives an `int`, as far as that is known
+abbrev pub has_main_form : LinkedType → Bool
+has_main_form (a_function [] r) = same r int_type
+has_main_form unknown_function = true
+has_main_form t = false
+
 -- whether a declaration is `int main(void)` with external linkage (C99 5.1.2.2.1)
 abbrev pub is_main : Linked → Bool
-is_main l = not l.internal && has_form l.type
-  where
-    has_form : LinkedType → Bool
-    has_form (a_function [] r) = same r int_type
-    has_form unknown_function = true
-    has_form t = false
+is_main l = not l.internal && has_main_form l.type
 
 -- a `main` of another form, at its name
 abbrev pub main_problem : Bool → Text → At → List Problem

@@ -3,6 +3,7 @@ use Rattle.std.specs.Prelude.{ℕ, ◌+◌, nat_eq, Bool, true, false, not, ◌&
 use Rattle.p10_base.specs.declared.at.At.{At}
 use Rattle.p10_base.specs.declared.codes.SubsetCode.TheVariants as subset
 use Rattle.p10_core.specs.declared.program.Extent.{Extent}
+use Rattle.p10_elab.specs.declared.outer_object.Sighting.{Sighting}
 use Rattle.p10_syn.specs.Trees.{Identifier, Initializer, InitDeclarator, Declaration, Definition, Statements, External, Outer, Defines}
 use Rattle.p10_core.specs.Types.{PlainType, unqualified}
 use Rattle.p10_core.specs.Sizes.{size_of}
@@ -40,11 +41,6 @@ pub record Defined : Type 0 where
   pub type : PlainType
   pub initializer : PlainInitializer
   pub sensor : Bool
-
--- where an object is first declared in a root: its number, and how many functions stood before
-pub record Sighting : Type 0 where
-  pub number : ℕ
-  pub from : ℕ
 
 -- what is known after some declarations and functions of the roots: what stands where the next one does; the root's number; all
 -- declarations with linkage; the functions; the objects of blocks with their numbers, and those that are defined outside of functions;
@@ -219,14 +215,15 @@ declared_outside h heads k d =
 
 -- ## Functions with their bodies
 
+-- whether there is no name
+abbrev pub is_nameless : Option (Identifier At) → Bool
+is_nameless None = true
+is_nameless (Some name) = false
+
 -- the parameters of a function with a body have names (C99 6.9.1p5)
 abbrev pub names_noted : Keep → List PlainParameter → PlainStanding → PlainStanding
 names_noted h [] s = s
 names_noted h (p ∷ rest) s = names_noted h rest (refusing h (is_nameless p.name) subset.NoPrototype p.at s)
-  where
-    is_nameless : Option (Identifier At) → Bool
-    is_nameless None = true
-    is_nameless (Some name) = false
 
 -- a parameter as a variable of its function
 abbrev pub parameter_variable : Frame → PlainStanding → ℕ → PlainParameter → Identifier At → PlainVariable

@@ -1,0 +1,8 @@
+use Rattle.std.proofs.Common.{◌≡◌, map, drop}
+use Rattle.p10_elabx.specs.First.{only_first}
+use Rattle.p10_elabd.specs.Views.{plain_parameter, plain_standing}
+use Rattle.p10_elab.specs.Outer.{names_noted}
+use Rattle.p10_elab.proofs.root_end.note_names.Given as goal
+
+abbrev pub invariant-loop-parameter : goal.invariant-loop-parameter
+invariant-loop-parameter l = names_noted only_first (map plain_parameter (drop l.parameter-index l.parameters)) (plain_standing l.standing) ≡ names_noted only_first (map plain_parameter l.parameters) (plain_standing l.fn.standing)
