@@ -9,8 +9,6 @@ pub struct Outside {
     pub store: Store,
     /// The bytes that were taken from the source and not given yet.
     pub pending: Queue<u8>,
-    /// Whether the source has ended.
-    pub ended: bool,
     /// The values of sensors that weren't read yet.
     pub sensors: Queue<i128>,
     /// The numbers of requests for memory that are denied.
