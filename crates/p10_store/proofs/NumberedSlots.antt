@@ -3,7 +3,7 @@ use Rattle.std.proofs.Common.{◌≡◌, ◌≢◌, ℕ, zero, suc, get_or, ◌+
 use Rattle.std.proofs.lemmas.Bool.Decides.{nat_tests}
 use Rattle.std.proofs.lemmas.Option.{same_Some, none-some, slice_get_within, slice_get-get_or, get_or_from_slice_get}
 use Rattle.p10_store.specs.declared.slots.Slot.{Slot}
-use Rattle.p10_store.specs.Ranges.{AreGrowing}
+use Rattle.p10_store.specs.Ranges.{AreGrowing, AreBelow}
 use Rattle.p10_store.specs.Places.{has, slot_at, HasSlot, HasLiveSlot, IsSearched}
 
 pub at_least : (n i : ℕ) (ss : List Slot) (s : Slot) → AreGrowing n ss → slice_get ss i ≡ Some s → n ≤ s.number
@@ -140,3 +140,12 @@ pub found_at : (ss : List Slot) (n i : ℕ) (d : Slot) → AreGrowing 0 ss → H
 found_at ss n i d g h =
     let s : HasSlot ss n i = record { slot = h.slot; there = h.there; number = h.number } in
     found_live ss n i d g s (subst (λ s. s.live ≡ true) (sym (get_or_from_slice_get ss i h.slot d h.there)) h.live)
+
+-- no slot has the number of the next object
+below_at : (opened i : ℕ) (ss : List Slot) (s : Slot) → AreBelow opened ss → slice_get ss i ≡ Some s → s.number < opened
+below_at opened i [] s b e = absurd (none-some _ e)
+below_at opened zero (r ∷ ss) s b e = subst (λ s. s.number < opened) (same_Some _ _ e) b.0
+below_at opened (suc i) (r ∷ ss) s b e = below_at opened i ss s b.1 e
+
+pub none_at_opened : (opened : ℕ) (ss : List Slot) → AreBelow opened ss → slot_at opened ss ≡ None
+none_at_opened opened ss b = slot_none opened ss (λ i s e d. let h : s.number < opened = below_at opened i ss s b e in omega (arith, h, d))

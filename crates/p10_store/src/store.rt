@@ -1,6 +1,6 @@
 //! The store.
 
-ghost use Rattle.std.specs.Prelude.{◌≡◌, ◌+◌, ◌-◌, ◌*◌, ◌^◌, ◌<◌, ◌≤◌, [], length, slice_get, Some, OnOk, OnErr, IfOk, IsOk};
+ghost use Rattle.std.specs.Prelude.{◌≡◌, ◌+◌, ◌-◌, ◌*◌, ◌^◌, ◌<◌, ◌≤◌, [], length, slice_get, Some, None, OnOk, OnErr, IfOk, IsOk};
 ghost use Rattle.std.specs.Result.{result_map_both};
 ghost use Rattle.std.specs.Borrow.{sem};
 ghost use Rattle.p10_meaning.specs.Objects.{cell_at, target_at, shift, inner, less, distance, closed, find, release};
@@ -60,6 +60,11 @@ impl Store {
     {
         self.opened
     }
+
+    /// No live object has the number of the next one. Nothing runs here: a caller stands on the contract.
+    pub fn next_is_new(&self)
+        ensures { find self.now.opened self.now.objects ≡ None }
+    {}
 
     /// The cell at a pointer: U5, U7, U6 (C99 6.5.3.2p4). The elements of the pointer's array are scalars.
     pub fn place(&self, pointer: Ptr) -> Result<&Cell, Stop>
