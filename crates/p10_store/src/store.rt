@@ -64,7 +64,9 @@ impl Store {
     /// No live object has the number of the next one. Nothing runs here: a caller stands on the contract.
     pub fn next_is_new(&self)
         ensures { find self.now.opened self.now.objects ≡ None }
-    {}
+    {
+        let _opened = self.opened;
+    }
 
     /// The cell at a pointer: U5, U7, U6 (C99 6.5.3.2p4). The elements of the pointer's array are scalars.
     pub fn place(&self, pointer: Ptr) -> Result<&Cell, Stop>
