@@ -16,3 +16,9 @@ pub mod Pointed
 pub mod Turned
 pub mod Chosen
 pub mod Assigned
+pub mod LeftCalls
+pub mod EnteredCalls
+pub mod Advanced
+pub mod Operated
+pub mod ClosedBlocks
+pub mod Passed

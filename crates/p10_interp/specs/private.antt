@@ -11,3 +11,7 @@ pub mod OpenCalls
 pub mod Machines
 pub mod Declaring
 pub mod Writing
+pub mod Entering
+pub mod Leaving
+pub mod Running
+pub mod Arriving

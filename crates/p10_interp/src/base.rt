@@ -11,3 +11,10 @@ pub struct Base<'p> {
     pub held: usize,
     pub marks: usize,
 }
+
+/// How deep calls are nested: open calls, and the bytes of their frames.
+#[derive(Clone, Copy, Debug)]
+pub struct Depth {
+    pub calls: u64,
+    pub bytes: u128,
+}

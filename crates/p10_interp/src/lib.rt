@@ -9,20 +9,28 @@
 #![tactic(auto)]
 
 mod accesses;
+mod acting;
+mod arguments;
 mod assignments;
 mod base;
 mod calls;
 mod choosing;
 mod copying;
 mod declaring;
+mod entering;
 mod held;
+mod holding;
 pub mod laws;
+mod leaving;
+mod operate;
 mod operations;
 mod operators;
 mod outside;
+mod passing;
 mod places;
 mod pointing;
 mod queue;
+mod running;
 mod scalars;
 mod seek;
 mod stacks;

@@ -1,7 +1,8 @@
 //! A list that is taken from its front.
 
-ghost use Rattle.std.specs.Prelude.{◌≡◌, ◌∷◌, [], MatchOption, reverse};
+ghost use Rattle.std.specs.Prelude.{◌≡◌, ◌∷◌, [], OnOk, IfErr, MatchOption, reverse};
 
+use crate::work::Halt;
 use std::alloc::Global;
 use std::marker::Model;
 
@@ -21,6 +22,8 @@ impl<T> Model for Queue<T> {
 }
 
 impl<T: Drop> Queue<T> {
+    ghost use Rattle.p10_interp.specs.private.Nothing.{is_nil};
+
     /// No items.
     pub fn new(alloc: Global) -> Queue<T>
         ensures { result ≡ [] }
@@ -30,10 +33,44 @@ impl<T: Drop> Queue<T> {
         }
     }
 
+    /// These items, the first of them next.
+    pub fn of(items: Vec<T>) -> Queue<T>
+        ensures { result ≡ items.items }
+    {
+        let mut items = items;
+        items.reverse();
+        Queue { items }
+    }
+
+    /// Takes all items away.
+    pub fn clear(&mut self)
+        ensures { self.new ≡ [] }
+    {
+        self.items.clear();
+    }
+
+    /// Puts an item before all others.
+    pub fn put_first(&mut self, item: T) -> Result<(), Halt>
+        ensures ok { OnOk result (self.new ≡ item ∷ self.old) }
+        ensures err { IfErr result (λ e. e ≡ Halt.Memory) }
+    {
+        match self.items.push(item) {
+            Ok(()) => Ok(()),
+            Err(_) => Err(Halt::Memory),
+        }
+    }
+
     /// Takes the next item.
     pub fn next(&mut self) -> Option<T>
         ensures { MatchOption result ((self.old ≡ []) × (self.new ≡ [])) (λ item. self.old ≡ item ∷ self.new) }
     {
         self.items.pop()
+    }
+
+    /// Whether there are no items.
+    pub fn is_empty(&self) -> bool
+        ensures { result ≡ is_nil self.now }
+    {
+        self.items.is_empty()
     }
 }

@@ -12,7 +12,7 @@ ghost use Rattle.p10_interp.specs.private.Operations.{in_new_block};
 ghost use Rattle.p10_interp.specs.private.Views.{Answers, flow_of, operation_of, task_of, tasks_in};
 ghost use Rattle.p10_interp.specs.private.OpenCalls.{calls_in};
 ghost use Rattle.p10_interp.specs.private.Machines.{Around, state_of, rig_of, Moves};
-ghost use Rattle.p10_interp.specs.private.Acts.{begun_statement, goes_on, goes_back, sought};
+ghost use Rattle.p10_interp.specs.private.Acts.{begun_statement, begun_statements, goes_on, goes_back, sought};
 
 use crate::declaring::begin_declare;
 use crate::outside::Outside;
@@ -83,8 +83,27 @@ pub fn begin_statement<'p>(
     }
 }
 
+/// The first of statements begins to be executed.
+pub fn begin_statements<'p>(
+    p: &'p Program<'p>,
+    statements: &'p [Stmt],
+    stacks: &mut Stacks<'p>,
+    outside: &mut Outside,
+) -> Result<Flow, Halt>
+    requires structures { AreWholeStructures (plain_types p.now.types) }
+    ensures { (io : Around) (f : Open) (calls : List Open) → calls_in stacks.old.calls ≡ f ∷ calls → Moves (begun_statements (plain_program p.now) (plain_statements statements.now) (tasks_in stacks.old.tasks) stacks.old.operands f calls (state_of outside.old io)) result stacks.new (state_of outside.new io) }
+{
+    match statements {
+        [] => Ok(Flow::Normal),
+        [first, rest @ ..] => {
+            stacks.tasks.push(Work::ExecuteStatements(rest))?;
+            begin_statement(p, first, stacks, outside)
+        }
+    }
+}
+
 /// Execution goes on with the next work.
-fn normally(begun: Result<(), Halt>) -> Result<Flow, Halt>
+pub fn normally(begun: Result<(), Halt>) -> Result<Flow, Halt>
     ensures { (stacks : Stacks) (o : Progress Rig) (w : State) → Answers o begun (rig_of normal stacks) w → Moves o result stacks w }
 {
     match begun {

@@ -44,6 +44,11 @@ impl<'p> Tasks<'p> {
     {
         self.items.pop()
     }
+
+    /// The piece on top.
+    pub fn top(&self) -> Option<Work<'p>> {
+        self.items.last().copied()
+    }
 }
 
 /// Operands, the last on top.

@@ -14,7 +14,7 @@ ghost use Rattle.p10_interp.specs.private.Operations.{count_of};
 ghost use Rattle.p10_interp.specs.private.Views.{Answers, Gives, operation_of, tasks_in};
 ghost use Rattle.p10_interp.specs.private.OpenCalls.{calls_in};
 ghost use Rattle.p10_interp.specs.private.Machines.{Around, state_of, rig_of};
-ghost use Rattle.p10_interp.specs.private.Acts.{begun, begun_form, may_give_none, use_after, reading, casting, sought, goes_on};
+ghost use Rattle.p10_interp.specs.private.Acts.{begun, begun_form, begun_unused, may_give_none, use_after, reading, casting, sought, goes_on};
 
 use crate::outside::Outside;
 use crate::scalars::convert_to;
@@ -62,6 +62,20 @@ pub fn begin_value<'p>(
     ensures { (io : Around) (f : Open) (calls : List Open) → calls_in stacks.old.calls ≡ f ∷ calls → Answers (begun (plain_program p.now) (plain_value value.now) (tasks_in stacks.old.tasks) stacks.old.operands f calls (state_of outside.old io)) result (rig_of normal stacks.new) (state_of outside.new io) }
 {
     push_use(value, &mut stacks.tasks)?;
+    begin_form(p, value, stacks, outside)
+}
+
+/// Begins to evaluate a value that isn't used.
+pub fn begin_unused<'p>(
+    p: &'p Program<'p>,
+    value: &'p Value,
+    stacks: &mut Stacks<'p>,
+    outside: &mut Outside,
+) -> Result<(), Halt>
+    requires structures { AreWholeStructures (plain_types p.now.types) }
+    ensures { (io : Around) (f : Open) (calls : List Open) → calls_in stacks.old.calls ≡ f ∷ calls → Answers (begun_unused (plain_program p.now) (plain_value value.now) (tasks_in stacks.old.tasks) stacks.old.operands f calls (state_of outside.old io)) result (rig_of normal stacks.new) (state_of outside.new io) }
+{
+    stacks.tasks.push(Work::Operate(Operation::DropValue))?;
     begin_form(p, value, stacks, outside)
 }
 

@@ -27,6 +27,15 @@ pub enum Flow {
     Returned(Option<Scalar>),
 }
 
+/// Where the acts of the machine pause.
+#[derive(Clone, Copy, Debug)]
+pub enum Pause {
+    /// All work is done.
+    Over(Flow),
+    /// The outside is wanted before the next act.
+    Held(Flow),
+}
+
 /// What a place is.
 #[derive(Clone, Copy, Debug)]
 pub enum Target {

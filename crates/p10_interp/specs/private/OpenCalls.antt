@@ -1,14 +1,17 @@
 -- Open calls as ranges of two lists: what stands for their variables, and what their blocks opened.
-use Rattle.std.specs.Prelude.{◌≡◌, ℕ, ◌+◌, ◌<◌, ◌≤◌, List, [], ◌∷◌, map, reverse, length, take, drop, Option, Some, None}
+use Rattle.std.specs.Prelude.{◌≡◌, ℕ, ◌+◌, ◌<◌, ◌≤◌, ltb, Bool, false, List, [], ◌∷◌, ◌++◌, map, reverse, length, take, drop, Option, Some, None}
 use Rattle.p10_core.specs.Views.{plain_function}
 use Rattle.p10_meaning.specs.Values.{Held, stands}
 use Rattle.p10_meaning.specs.Statements.{Frame, holding_at}
-use Rattle.p10_core.specs.Typed.{PlainVariable}
+use Rattle.p10_meaning.specs.Calling.{Depth}
+use Rattle.p10_core.specs.Typed.{PlainVariable, PlainFunction}
 use Rattle.p10_interp.specs.declared.held.Held.{Held as Standing}
 use Rattle.p10_interp.specs.declared.base.Base.{Base}
+use Rattle.p10_interp.specs.declared.base.Depth.{Depth as Deep}
 use Rattle.p10_interp.specs.declared.calls.Calls.{Calls}
 use Rattle.p10_interp.specs.private.Standing.{held_of}
 use Rattle.p10_interp.specs.private.Tasks.{Open}
+use Rattle.p10_interp.specs.private.Operations.{with_frame}
 
 -- the objects of the innermost block: those that were opened after its mark
 abbrev pub own : List (Option ℕ) → List ℕ
@@ -72,3 +75,47 @@ IsMarkedBy (b ∷ bases) n = b.marks ≤ n
 
 abbrev pub IsMarked : Calls → Type 0
 IsMarked c = IsMarkedBy (reverse c.bases.items) (length c.marks.items)
+
+-- what stands for the variables of the innermost call stands among all
+abbrev pub IsHeldBy : List Base → ℕ → Type 0
+IsHeldBy [] n = ⊥
+IsHeldBy (b ∷ bases) n = b.held ≤ n
+
+abbrev pub IsHeld : Calls → Type 0
+IsHeld c = IsHeldBy (reverse c.bases.items) (length c.held.items)
+
+-- how deep calls are nested
+abbrev pub calls_deep : Deep → Depth
+calls_deep d = record { calls = d.calls; bytes = d.bytes }
+
+-- a call that was opened, with nothing for its variables
+abbrev pub opened_call : PlainFunction → Depth → Open
+opened_call h depth = record { function = h; depth = depth; frame = record { held = []; opened = [] }; outer = [] }
+
+-- one more variable stands for something
+abbrev pub holding_next : Frame → Held → Frame
+holding_next frame held = record frame { held = frame.held ++ held ∷ [] }
+
+-- the object that the first mark is
+abbrev pub first_own : List (Option ℕ) → Option ℕ
+first_own [] = None
+first_own (mark ∷ marks) = mark
+
+-- the object that the innermost block opened last
+abbrev pub last_own_of : List Base → List (Option ℕ) → Option ℕ
+last_own_of [] marks = None
+last_own_of (b ∷ bases) marks = first_own (reverse (drop b.marks marks))
+
+-- the innermost call has a mark among so many
+abbrev pub has_mark_of : List Base → ℕ → Bool
+has_mark_of [] n = false
+has_mark_of (b ∷ bases) n = ltb b.marks n
+
+-- the call whose innermost block owns these objects
+abbrev pub owning_all : Open → List ℕ → Open
+owning_all f opened = with_frame f (record f.frame { opened = opened })
+
+-- the object that the innermost block opened last is taken from it
+abbrev pub TakesOwn : Open → List Open → Option ℕ → List Open → Type 0
+TakesOwn f calls None now = (f.frame.opened ≡ []) × (now ≡ f ∷ calls)
+TakesOwn f calls (Some object) now = (rest : List ℕ) × ((f.frame.opened ≡ object ∷ rest) × (now ≡ owning_all f rest ∷ calls))

@@ -4,7 +4,7 @@ use Rattle.p10_base.specs.declared.span.Span.{Span}
 use Rattle.p10_int.specs.declared.operators.Stop.{Stop}
 use Rattle.p10_core.specs.declared.statements.LoopKeyword.{LoopKeyword}
 use Rattle.p10_core.specs.Types.{plain_type}
-use Rattle.p10_core.specs.Typed.{PlainValue, value, conditional, PlainStatement, statement, if_then, if_else, loop, switch}
+use Rattle.p10_core.specs.Typed.{PlainValue, value, conditional, no_values, PlainStatement, statement, if_then, if_else, loop, switch}
 use Rattle.p10_core.specs.Views.{plain_value, plain_values, plain_place, plain_item, plain_statement, plain_statements}
 use Rattle.p10_meaning.specs.States.{State, AssertionFailed, Undefined as IsUndefined, StepsSpent, Progress, gives, ends}
 use Rattle.p10_meaning.specs.Values.{Target, Variable, Sensor, Element}
@@ -75,10 +75,14 @@ operation_of (FillFrom span t items) = fill_from span (plain_type t.now) (map pl
 operation_of (AssertAt span) = assert_at span
 operation_of GiveBack = give_back
 
+-- nothing is done
+abbrev pub nothing : Task
+nothing = evaluate_values no_values
+
 -- the two values of a `?:`; of any other value nothing is done
 abbrev pub choice_of : PlainValue → Task
 choice_of (value at t (conditional c a b)) = choose a b
-choice_of v = end_switch
+choice_of v = nothing
 
 -- what is done with a value
 abbrev pub value_task : ValueStep → PlainValue → Task
@@ -91,17 +95,17 @@ value_task Choose v = choice_of v
 abbrev pub branches_of : PlainStatement → Task
 branches_of (statement at (if_then v a)) = branch a None
 branches_of (statement at (if_else v a b)) = branch a (Some b)
-branches_of x = end_switch
+branches_of x = nothing
 
 -- what is done with a loop; with any other statement nothing is done
 abbrev pub in_loop : (LoopKeyword → Loop → Task) → PlainStatement → Task
 in_loop task (statement at (loop head first tested third body)) = task head.keyword (record { tested = tested; third = third; body = body })
-in_loop task x = end_switch
+in_loop task x = nothing
 
 -- the labels and the body of a `switch`; with any other statement nothing is done
 abbrev pub selection_of : PlainStatement → Task
 selection_of (statement at (switch keyword v labels body)) = select labels body
-selection_of x = end_switch
+selection_of x = nothing
 
 -- what is done with a statement
 abbrev pub statement_task : StatementStep → PlainStatement → Task
