@@ -91,7 +91,7 @@ members_bare p w order (m ∷ ms) h =
     ap (λ xs. xs ++ scalars_of_members (layout_of p.structures) ms) (sym same.same_scalars) ∙
     ap (λ xs. scalars p m.type ++ xs) (members_bare p w order ms (All-tail (IsWholeMember p.structures order) m ms h))
 
-members_are : (p : PlainProgram) → AreWholeStructures p.structures → (c : Bool) (k : ℕ) (o : Option PlainBody) → body_of p.structures k ≡ o →
+pub members_are : (p : PlainProgram) → AreWholeStructures p.structures → (c : Bool) (k : ℕ) (o : Option PlainBody) → body_of p.structures k ≡ o →
     scalars_of p.structures (structure c k) ≡ flat_map (λ (x : PlainMember). scalars p x.type) (members_of p.structures k)
 members_are p w c k None e =
     let none : members_of p.structures k ≡ [] = ap members_in e in

@@ -5,7 +5,7 @@ use Rattle.p10_meaning.specs.declared.pointers.Cell.{Cell}
 use Rattle.p10_meaning.specs.Pointers.{unset}
 use Rattle.p10_meaning.specs.Objects.{Object}
 use Rattle.p10_store.specs.declared.shape.Origin.{Origin}
-use Rattle.p10_store.specs.declared.shape.Origin.TheVariants.{Declared, Allocated, Literal}
+use Rattle.p10_store.specs.declared.shape.Origin.TheVariants.{Declared, Allocated, Literal, DeclaredWith, AllocatedWith}
 use Rattle.p10_store.specs.declared.slots.Slot.{Slot}
 use Rattle.p10_store.specs.Origins.{origin_of, character, first_cells, Fills}
 use Rattle.p10_store.specs.Stores.{Opens}
@@ -53,6 +53,8 @@ length_first : (origin : Origin) (n : ℕ) → Fills origin n → length (first_
 length_first Declared n f = length-replicate n unset
 length_first Allocated n f = length-replicate n unset
 length_first (Literal bytes) n f = length-map bytes.now character ∙ f
+length_first (DeclaredWith cells) n f = f
+length_first (AllocatedWith cells) n f = f
 
 -- a slot was put after all others, and its cells after all others
 pub record IsOpened (cells news : List Cell) (ss slots : List Slot) (opened : ℕ) (s : Slot) (origin : Origin) (old new : Sizes) : Type 0 where

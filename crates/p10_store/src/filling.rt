@@ -23,7 +23,19 @@ pub fn put_cells(cells: &mut Vec<Cell>, origin: Origin<'_>, len: usize) -> Resul
     match origin {
         Origin::Declared | Origin::Allocated => put_unset(cells, len),
         Origin::Literal(bytes) => put_characters(cells, bytes),
+        Origin::DeclaredWith(given) => put_given(cells, given),
+        Origin::AllocatedWith(given) => put_given(cells, given),
     }
+}
+
+/// Puts cells after all others.
+fn put_given(cells: &mut Vec<Cell>, given: &[Cell]) -> Result<(), AllocError>
+    ensures items { cells.new.items ≡ (if is_ok result then cells.old.items ++ given.now else cells.old.items) }
+    ensures capacity { vec_capacity cells.old ≤ vec_capacity cells.new }
+    ensures len { OnOk result (vec_len cells.new ≡ vec_len cells.old + length given.now) }
+    ensures room { vec_len cells.old + length given.now ≤ vec_capacity cells.old → IsOk result }
+{
+    cells.extend_from_slice(given)
 }
 
 /// Puts unset cells after all others.
@@ -96,5 +108,7 @@ pub fn provenance_of(origin: Origin<'_>) -> Provenance
         Origin::Declared => Provenance::Declared,
         Origin::Allocated => Provenance::Allocated,
         Origin::Literal(_) => Provenance::Literal,
+        Origin::DeclaredWith(_) => Provenance::Declared,
+        Origin::AllocatedWith(_) => Provenance::Allocated,
     }
 }

@@ -7,6 +7,7 @@ ghost use Rattle.p10_core.specs.Sizes.{scalars_of};
 ghost use Rattle.p10_core.specs.WholePrograms.{AreWholeStructures, IsWholeProgram, IsWholeType};
 
 use p10_core::{CType, Program, TypeForm, Types};
+use p10_meaning::Cell;
 use std::alloc::{AllocError, Global};
 
 /// What an element of an object is made of.
@@ -62,8 +63,12 @@ fn structure_scalars(types: &Types<'_>, number: u32) -> u64
 pub enum Origin<'b> {
     /// A declaration: its scalars are unset.
     Declared,
-    /// `malloc` or `calloc`: its scalars are unset. Only such an object is freed.
+    /// `malloc`: its scalars are unset. Only what was allocated is freed.
     Allocated,
     /// A string literal with these bytes: its scalars are the bytes as values of `char`, and may not be written.
     Literal(&'b [u8]),
+    /// A declaration with an initial value: its scalars are these cells.
+    DeclaredWith(&'b [Cell]),
+    /// `calloc`: its scalars are these cells.
+    AllocatedWith(&'b [Cell]),
 }

@@ -217,6 +217,14 @@ impl Store {
         }
     }
 
+    /// A number is passed over: no object has it.
+    pub fn skip(&mut self)
+        requires opened { self.old.opened < 2 ^ 128 - 1 }
+        ensures { self.new ≡ record self.old { opened = self.old.opened + 1 } }
+    {
+        self.opened += 1;
+    }
+
     /// The live object in a slot dies.
     pub fn close(&mut self, slot: usize)
         requires { IsLiveIn self.old.slots slot }
