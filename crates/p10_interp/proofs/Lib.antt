@@ -22,3 +22,12 @@ pub mod Advanced
 pub mod Operated
 pub mod ClosedBlocks
 pub mod Passed
+pub mod TypesOfScalars
+pub mod Requested
+pub mod Filled
+pub mod Items
+pub mod Membered
+pub mod Statics
+pub mod ConstantValues
+pub mod GivenConstants
+pub mod Starting

@@ -15,3 +15,8 @@ pub mod Entering
 pub mod Leaving
 pub mod Running
 pub mod Arriving
+pub mod Kinds
+pub mod Listing
+pub mod Releasing
+pub mod Constants
+pub mod Statics

@@ -10,18 +10,26 @@
 
 mod accesses;
 mod acting;
+mod allocating;
 mod arguments;
 mod assignments;
 mod base;
 mod calls;
 mod choosing;
+mod constants;
 mod copying;
 mod declaring;
 mod entering;
+mod filling;
 mod held;
 mod holding;
+mod kinds;
 pub mod laws;
 mod leaving;
+mod library;
+mod listed;
+mod members;
+mod opening;
 mod operate;
 mod operations;
 mod operators;

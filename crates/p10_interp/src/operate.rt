@@ -14,6 +14,9 @@ ghost use Rattle.p10_interp.specs.private.Acts.{act};
 
 use crate::assignments::{Applied, read, read_old, write, write_new};
 use crate::copying::copy;
+use crate::filling::fill;
+use crate::library::call_library;
+use crate::members::member;
 use crate::operations::{
     apply_binary_to, apply_unary_to, assert_value, convert, drop_value, give_none, read_none,
     take_address, take_truth, use_value,
@@ -106,6 +109,13 @@ fn operate_at<'p>(
             write_new(applied, span, t, stacks, outside)
         }
         Operation::CopyBetween(to, from, t) => copy(p, to, from, t, stacks, outside),
+        Operation::CallLibrary(function, span, t, count) => {
+            call_library(p, (function, span, t), count, stacks, outside)
+        }
+        Operation::MemberAt(span, whole, number, t) => {
+            member(p, span, (whole, number, t), &mut stacks.operands, outside)
+        }
+        Operation::FillFrom(span, t, items) => fill(p, span, t, items, stacks, outside),
         _ => Err(Halt::Memory),
     }
 }

@@ -1,6 +1,7 @@
 //! What a run holds besides its stacks: its objects, what it gets from outside, and what it counts.
 
 use crate::queue::Queue;
+use p10_meaning::Cell;
 use p10_store::Store;
 
 /// The state of a run, but for its stacks.
@@ -25,4 +26,6 @@ pub struct Outside {
     /// Whether initialisation has ended, and how many allocations and `free`s came after that.
     pub marked: bool,
     pub after: u128,
+    /// The cells with which an object is opened.
+    pub cells: Vec<Cell>,
 }

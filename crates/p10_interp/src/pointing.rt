@@ -53,7 +53,7 @@ pub fn decay(
 
 /// The pointer to the first element of the array of so many elements of so many scalars that begins at a scalar of an
 /// element: U5, U7.
-fn inner(
+pub fn inner(
     store: &Store,
     pointer: Ptr,
     at: u64,

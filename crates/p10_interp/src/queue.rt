@@ -1,6 +1,6 @@
 //! A list that is taken from its front.
 
-ghost use Rattle.std.specs.Prelude.{◌≡◌, ◌∷◌, [], OnOk, IfErr, MatchOption, reverse};
+ghost use Rattle.std.specs.Prelude.{◌≡◌, ◌∷◌, [], OnOk, IfErr, MatchOption, reverse, slice_get};
 
 use crate::work::Halt;
 use std::alloc::Global;
@@ -72,5 +72,19 @@ impl<T: Drop> Queue<T> {
         ensures { result ≡ is_nil self.now }
     {
         self.items.is_empty()
+    }
+}
+
+impl<T: Copy> Queue<T> {
+    /// The item at a place.
+    pub fn get(&self, place: usize) -> Option<T>
+        ensures { result ≡ slice_get self.now place }
+    {
+        let count = self.items.len();
+        if place < count {
+            Some(self.items[count - 1 - place])
+        } else {
+            None
+        }
     }
 }

@@ -1,6 +1,11 @@
 -- Each operation is done by its own function.
-use Rattle.std.proofs.Common.{◌∷◌}
+use Rattle.std.proofs.Common.{◌∷◌, subst}
+use Rattle.p10_core.specs.Types.{plain_type}
 use Rattle.p10_core.specs.Views.{plain_program}
+use Rattle.p10_interp.specs.private.Tasks.{call_library}
+use Rattle.p10_interp.specs.private.Operations.{done_by}
+use Rattle.p10_interp.specs.private.Views.{Answers, left_with}
+use Rattle.p10_interp.specs.private.OpenCalls.{calls_in}
 use Rattle.p10_interp.specs.private.Machines.{state_of}
 use Rattle.p10_interp.proofs.Operated.{done_as, done_kept}
 use Rattle.p10_interp.proofs.operate.operate_at.Goals as goal
@@ -25,3 +30,15 @@ returns-in-ReadOld-clause-done c = λ io f calls e. done_as (plain_program c.arg
 
 pub returns-in-WriteNew-clause-done : goal.returns-in-WriteNew-clause-done
 returns-in-WriteNew-clause-done c = λ io f calls e. done_as (plain_program c.args.p.now) _ _ _ _ _ _ _ _ c.in-WriteNew.is (c.write_new.ensures.done (plain_program c.args.p.now) io f calls e)
+
+pub returns-in-CallLibrary-clause-done : goal.returns-in-CallLibrary-clause-done
+returns-in-CallLibrary-clause-done c = λ io f calls e.
+    done_as (plain_program c.args.p.now) _ _ _ _ _ _ _ _ c.in-CallLibrary.is
+    (subst (λ cs. Answers (done_by (plain_program c.args.p.now) (call_library c.in-CallLibrary.function c.in-CallLibrary.span (plain_type c.in-CallLibrary.t.now) c.in-CallLibrary.count) c.args.stacks.now.operands cs (state_of c.args.outside.now io)) c.call_library.result (left_with c.call_library.new.stacks.operands (calls_in c.call_library.new.stacks.calls)) (state_of c.call_library.new.outside io)) e
+    (c.call_library.ensures.done io))
+
+pub returns-in-MemberAt-clause-done : goal.returns-in-MemberAt-clause-done
+returns-in-MemberAt-clause-done c = λ io f calls e. done_kept (plain_program c.args.p.now) _ _ _ _ _ _ _ _ _ c.in-MemberAt.is e (c.member.ensures io (f ∷ calls))
+
+pub returns-in-FillFrom-clause-done : goal.returns-in-FillFrom-clause-done
+returns-in-FillFrom-clause-done c = λ io f calls e. done_as (plain_program c.args.p.now) _ _ _ _ _ _ _ _ c.in-FillFrom.is (c.fill.ensures.done io f calls e)

@@ -1,0 +1,11 @@
+-- An allocation is opened.
+use Rattle.std.proofs.Common.{refl, sym, ◌∙◌, ap, length}
+use Rattle.p10_meaning.specs.Objects.{allocated}
+use Rattle.p10_store.specs.declared.shape.Origin.TheVariants.{AllocatedWith}
+use Rattle.p10_interp.specs.private.Machines.{state_of}
+use Rattle.p10_interp.proofs.Requested.{opened_is}
+use Rattle.p10_interp.proofs.allocating.open_zeroed.Goals as goal
+
+pub returns-in-Ok-clause-ok : goal.returns-in-Ok-clause-ok
+returns-in-Ok-clause-ok c = λ io.
+    opened_is _ c.args.outside.now.store c.open.new.self c.args.stride c.args.count allocated c.args.outside.now.cells.items (state_of c.args.outside.now io) c.in-Ok.ensures.ok refl c.as_slice-cells.ensures.value refl refl
