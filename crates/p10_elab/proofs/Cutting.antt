@@ -1,9 +1,9 @@
 -- Roots that follow one another are cut where they were joined.
-use Rattle.std.proofs.Common.{◌≡◌, Bool, true, false, if◌then◌else◌, List, [], ◌∷◌, ◌++◌, refl, ◌∙◌, ap}
+use Rattle.std.proofs.Common.{◌≡◌, true, if◌then◌else◌, List, [], ◌∷◌, ◌++◌, refl, ◌∙◌, ap}
 use Rattle.p10_base.specs.declared.at.At.{At}
 use Rattle.p10_syn.specs.Trees.{External}
-use Rattle.p10_elab.specs.Programs.{begins_root, root_follows, with_first, roots_of}
-use Rattle.p10_elab.specs.Laws.{AreInside, IsRoot, AreRoots, all_of, RootsAreFound}
+use Rattle.p10_elab.specs.Roots.{root_follows, with_first, roots_of}
+use Rattle.p10_elab.specs.Laws.{AreInside, AreRoots, all_of, RootsAreFound}
 
 one_found : (e : External At) (rest after : List (External At)) → AreInside rest → root_follows after ≡ true → roots_of (e ∷ (rest ++ after)) ≡ (e ∷ rest) ∷ roots_of after
 one_found e [] after h next = ap (λ b. if b then (e ∷ []) ∷ roots_of after else with_first e (roots_of after)) next

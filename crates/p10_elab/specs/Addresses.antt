@@ -1,10 +1,11 @@
 -- Which variables of a function have their address taken, in operands that are evaluated: the other scalars are frame variables.
-use Rattle.std.specs.Prelude.{ℕ, ◌+◌, Bool, false, if◌then◌else◌, List, [], ◌∷◌, ◌++◌, Option, Some, None, bytes_eq}
+use Rattle.std.specs.Prelude.{ℕ, ◌+◌, Bool, false, if◌then◌else◌, List, [], ◌∷◌, ◌++◌, Option, Some, None}
 use Rattle.p10_base.specs.Words.{Text}
 use Rattle.p10_base.specs.declared.at.At.{At}
-use Rattle.p10_syn.specs.declared.sign.Sign.TheVariants as sign
+use Rattle.p10_bindings.specs.Lookup.{last_bound}
 use Rattle.p10_syn.specs.Trees.{Identifier, Expression, expression, Name, Number, Character, Strings, Unary, Step, Binary, Assign, Conditional, Call, Index, Member, Arrow, Cast, SizeofExpression, SizeofType, Comma, Expressions, NoExpressions, MoreExpressions, Optional, Absent, Present, Specifiers, NoSpecifiers, MoreSpecifiers, Specifier, Keyword, Typedef, Structure, Enumeration, Members, NoMembers, MoreMembers, MemberDeclaration, member_declaration, Enumerators, NoEnumerators, MoreEnumerators, Enumerator, enumerator}
 use Rattle.p10_syn.specs.Trees.{Initializer, Value, Braced, Initializers, NoInitializers, MoreInitializers, InitDeclarator, Declaration, Statement, Empty, Evaluate, Block, If, IfElse, Switch, While, Do, For, Case, Default, Label, Goto, Break, Continue, Return, Declare, Pragma, Statements, NoStatements, MoreStatements}
+use Rattle.p10_elabx.specs.Judging.{is_and}
 use Rattle.p10_elabd.specs.Words.{storage_of}
 use Rattle.p10_elabd.specs.declared.site.Storage.{Storage}
 use Rattle.p10_elabd.specs.declared.site.Storage.TheVariants as storage_is
@@ -12,14 +13,17 @@ use Rattle.p10_elabd.specs.Shapes.{PlainParameter, name_in, declares_function}
 
 -- ## Names
 
--- names that are declared in a function, the last one first: a variable with its number, or something else
+-- names that are declared in a function, in their order: a variable with its number, or something else
 abbrev pub LocalNames : Type 0
 LocalNames = List (Text × Option ℕ)
 
--- the variable that a name stands for
+-- the variable that a name stands for: its last declaration counts (C99 6.2.1p4)
 abbrev pub variable_named : LocalNames → Text → Option ℕ
-variable_named [] name = None
-variable_named ((other, number) ∷ rest) name = if bytes_eq other name then number else variable_named rest name
+variable_named names name = variable_in (last_bound name names)
+  where
+    variable_in : Option (Option ℕ) → Option ℕ
+    variable_in None = None
+    variable_in (Some number) = number
 
 abbrev mutual
   -- the constants of enumerations that specifiers declare
@@ -55,7 +59,7 @@ abbrev mutual
 -- names that stand for no variable, after those before
 abbrev pub with_others : LocalNames → List (Identifier At) → LocalNames
 with_others names [] = names
-with_others names (x ∷ rest) = with_others ((x.name, None) ∷ names) rest
+with_others names (x ∷ rest) = with_others (names ++ (x.name, None) ∷ []) rest
 
 -- ## Expressions
 
@@ -68,6 +72,10 @@ taken_at names (expression at n (Name x)) = in_list (variable_named names x.name
     in_list (Some n) = n ∷ []
 taken_at names e = []
 
+-- the variable of which an operator takes the address: `&` alone does
+abbrev pub taken_by : Bool → LocalNames → Expression At → List ℕ
+taken_by is_address names e = if is_address then taken_at names e else []
+
 abbrev mutual
   -- the variables whose addresses are taken in an expression; operands of `sizeof` aren't evaluated
   pub taken_in : LocalNames → Expression At → List ℕ
@@ -75,8 +83,7 @@ abbrev mutual
   taken_in names (expression at n (Number text)) = []
   taken_in names (expression at n (Character text)) = []
   taken_in names (expression at n (Strings texts)) = []
-  taken_in names (expression at n (Unary sign.And e)) = taken_at names e ++ taken_in names e
-  taken_in names (expression at n (Unary word e)) = taken_in names e
+  taken_in names (expression at n (Unary word e)) = taken_by (is_and word) names e ++ taken_in names e
   taken_in names (expression at n (Step side word e)) = taken_in names e
   taken_in names (expression at n (Binary word a b)) = taken_in names a ++ taken_in names b
   taken_in names (expression at n (Assign word a b)) = taken_in names a ++ taken_in names b
@@ -130,8 +137,8 @@ taking w ns = record w { taken = w.taken ++ ns }
 
 -- a declarator in a block: without a storage word it declares the next variable
 abbrev pub walked_name : Walk → Storage → Bool → Text → Walk
-walked_name w storage_is.Unnamed false name = record w { names = (name, Some w.variables) ∷ w.names; variables = w.variables + 1 }
-walked_name w s function name = record w { names = (name, None) ∷ w.names }
+walked_name w storage_is.Unnamed false name = record w { names = w.names ++ (name, Some w.variables) ∷ []; variables = w.variables + 1 }
+walked_name w s function name = record w { names = w.names ++ (name, None) ∷ [] }
 
 -- a declarator by the name that it declares
 abbrev pub walked_declarator : Walk → Storage → InitDeclarator At → Option (Identifier At) → Walk
@@ -182,14 +189,15 @@ abbrev mutual
   walked_all w NoStatements = w
   walked_all w (MoreStatements s rest) = walked_all (walked w s) rest
 
+-- a parameter, which is the next variable, perhaps without a name
+abbrev pub walked_parameter : Walk → Option (Identifier At) → Walk
+walked_parameter w None = record w { variables = w.variables + 1 }
+walked_parameter w (Some name) = walked_name w storage_is.Unnamed false name.name
+
 -- the names of parameters, which are the first variables
 abbrev pub with_parameters : Walk → List PlainParameter → Walk
 with_parameters w [] = w
-with_parameters w (p ∷ rest) = with_parameters (named_by w p.name) rest
-  where
-    named_by : Walk → Option (Identifier At) → Walk
-    named_by w None = record w { variables = w.variables + 1 }
-    named_by w (Some name) = walked_name w storage_is.Unnamed false name.name
+with_parameters w (p ∷ rest) = with_parameters (walked_parameter w p.name) rest
 
 -- the variables whose addresses are taken in the body of a function
 abbrev pub addresses_taken : List PlainParameter → Statements At → List ℕ

@@ -1,6 +1,11 @@
 -- What the roots define, as the code keeps it.
+use Rattle.p10_elab.specs.declared.outline.Outline.{Outline}
 use Rattle.p10_elab.specs.declared.head.Head.{Head}
-use Rattle.p10_elab.specs.Heads.{Head as PlainHead}
+use Rattle.p10_elab.specs.Heads.{Outline as PlainOutline, Head as PlainHead}
+
+-- a declarator outside of functions
+abbrev pub plain_outline : Outline → PlainOutline
+plain_outline o = record { name = o.name.now; at = o.at; function = o.function; static = o.internal; defining = o.defining }
 
 -- a function or an object that is defined
 abbrev pub plain_head : Head → PlainHead

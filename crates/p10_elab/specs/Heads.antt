@@ -9,15 +9,10 @@ use Rattle.p10_elabd.specs.Words.{storage_of}
 use Rattle.p10_elabd.specs.declared.site.Storage.{Storage}
 use Rattle.p10_elabd.specs.declared.site.Storage.TheVariants as storage_is
 use Rattle.p10_elabd.specs.Shapes.{name_in, declares_function}
+use Rattle.p10_elab.specs.declared.outline.Defining.{Defining}
+use Rattle.p10_elab.specs.declared.outline.Defining.TheVariants as defined
 
 -- ## Declarators of objects and functions
-
--- how a declarator of an object declares it: elsewhere; for the time being, unless another one has an initialiser; with its
--- initialiser (C99 6.9.2)
-pub data Defining : Type 0 where
-  elsewhere : Defining
-  tentatively : Defining
-  fully : Defining
 
 -- a declarator outside of functions: its name, whether it declares a function, whether `static` stands before it, and how it defines
 pub record Outline : Type 0 where
@@ -34,13 +29,13 @@ is_static s = false
 
 -- how a declarator without an initialiser defines an object
 abbrev pub defining_by : Storage → Defining
-defining_by storage_is.Extern = elsewhere
-defining_by s = tentatively
+defining_by storage_is.Extern = defined.Elsewhere
+defining_by s = defined.Tentatively
 
 -- how a declarator defines an object
 abbrev pub defining_of : Storage → Option (Initializer At) → Defining
 defining_of s None = defining_by s
-defining_of s (Some i) = fully
+defining_of s (Some i) = defined.Fully
 
 -- the outline of a declarator with a name
 abbrev pub outline_of : Storage → InitDeclarator At → Option (Identifier At) → List Outline
@@ -50,7 +45,7 @@ outline_of s d (Some name) = record {
   at = name.place;
   function = declares_function d.declarator;
   static = is_static s;
-  defining = if declares_function d.declarator then elsewhere else defining_of s d.initial;
+  defining = if declares_function d.declarator then defined.Elsewhere else defining_of s d.initial;
 } ∷ []
 
 -- the outlines of declarators
@@ -67,7 +62,7 @@ outlines_by s ds = outlines_of s ds
 abbrev pub definition_outline : Definition At → Option (Identifier At) → List Outline
 definition_outline d None = []
 definition_outline d (Some name) =
-    record { name = name.name; at = name.place; function = true; static = is_static (storage_of d.specifiers); defining = fully } ∷ []
+    record { name = name.name; at = name.place; function = true; static = is_static (storage_of d.specifiers); defining = defined.Fully } ∷ []
 
 -- the outlines of a declaration or function
 abbrev pub outlines_in : External At → List Outline
@@ -100,7 +95,7 @@ abbrev pub is_fully : Outline → Bool
 is_fully o = fully_by o.defining
   where
     fully_by : Defining → Bool
-    fully_by fully = true
+    fully_by defined.Fully = true
     fully_by d = false
 
 -- whether an outline defines an object for the time being
@@ -108,7 +103,7 @@ abbrev pub is_tentative : Outline → Bool
 is_tentative o = tentative_by o.defining
   where
     tentative_by : Defining → Bool
-    tentative_by tentatively = true
+    tentative_by defined.Tentatively = true
     tentative_by d = false
 
 -- the first of the outlines with a name that passes a test

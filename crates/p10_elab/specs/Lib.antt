@@ -1,11 +1,16 @@
 -- The definitions that the contracts of this crate cite.
 pub mod Heads
+pub mod HeadViews
+pub mod PlainHeads
+pub mod Roots
 pub mod Addresses
 pub mod Locals
 pub mod LocalDeclarations
 pub mod Expressions
 pub mod Marks
 pub mod Statements
+pub mod LocalViews
+pub mod FrameViews
 pub mod Linkage
 pub mod HeadViews
 pub mod LinkedViews

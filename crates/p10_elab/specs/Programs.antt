@@ -1,5 +1,5 @@
 -- The typed program of trees, or the first row of the subset that holds in them, or limit M8.
-use Rattle.std.specs.Prelude.{ℕ, zero, suc, ◌+◌, nat_eq, nat_le, nat_lt, Bool, true, false, not, ◌||◌, if◌then◌else◌, List, [], ◌∷◌, ◌++◌, map, length, sum, Option, Some, None}
+use Rattle.std.specs.Prelude.{ℕ, zero, suc, ◌+◌, nat_eq, nat_le, nat_lt, Bool, false, not, ◌||◌, if◌then◌else◌, List, [], ◌∷◌, ◌++◌, map, length, sum, Option, Some, None}
 use Rattle.std.specs.List.{position_from}
 use Rattle.p10_base.specs.declared.at.At.{At}
 use Rattle.p10_base.specs.declared.span.Span.{Span}
@@ -9,7 +9,7 @@ use Rattle.p10_core.specs.declared.program.Extent.{Extent}
 use Rattle.p10_core.specs.declared.statements.MarkKind.{MarkKind}
 use Rattle.p10_core.specs.declared.statements.MarkKind.TheVariants.{InitDone, TaskLoop}
 use Rattle.p10_syn.specs.Places.{nowhere}
-use Rattle.p10_syn.specs.Trees.{External, Outer, Defines}
+use Rattle.p10_syn.specs.Trees.{External}
 use Rattle.p10_core.specs.Sizes.{size_of}
 use Rattle.p10_core.specs.Types.{PlainStructure}
 use Rattle.p10_core.specs.Typed.{value, call, sense, place, global, literal, PlainStatement, statement, mark, statements_list, PlainFunction, PlainObject, PlainLiteral, PlainProgram}
@@ -19,6 +19,7 @@ use Rattle.p10_elabx.specs.declared.problem.Problem.{Problem}
 use Rattle.p10_elabx.specs.First.{Keep, every, least}
 use Rattle.p10_elabd.specs.Standing.{PlainStanding}
 use Rattle.p10_elab.specs.Heads.{Heads, heads_of_roots}
+use Rattle.p10_elab.specs.Roots.{roots_of}
 use Rattle.p10_elab.specs.Linkage.{is_main_name}
 use Rattle.p10_elab.specs.Outer.{Defined, Known, nothing_known, roots_passed}
 use Rattle.p10_elab.specs.Between.{taken_together}
@@ -163,28 +164,6 @@ abbrev pub is_too_large : PlainProgram → Bool
 is_too_large p =
     not (nat_le (sum (map (λ o. o.bytes) p.objects)) MOST_STATIC_BYTES)
     || (is_over (map (λ o. o.bytes) p.objects) || (is_over (map frame_bytes p.functions) || is_over (map (λ l. length l.bytes) p.literals)))
-
--- ## Roots
-
--- whether a declaration or function begins its root: its first word is the root's first
-abbrev pub begins_root : External At → Bool
-begins_root (Outer at d) = nat_eq at.first 0
-begins_root (Defines d) = nat_eq d.landmarks.whole.first 0
-
--- whether what comes next, if anything, begins a root
-abbrev pub root_follows : List (External At) → Bool
-root_follows [] = true
-root_follows (e ∷ rest) = begins_root e
-
--- roots, of which the first one has one declaration or function more at its beginning
-abbrev pub with_first : External At → List (List (External At)) → List (List (External At))
-with_first e [] = (e ∷ []) ∷ []
-with_first e (root ∷ rest) = (e ∷ root) ∷ rest
-
--- the roots of declarations and functions that follow one another: each root has one of them at least (C99 6.9p1)
-abbrev pub roots_of : List (External At) → List (List (External At))
-roots_of [] = []
-roots_of (e ∷ rest) = if root_follows rest then (e ∷ []) ∷ roots_of rest else with_first e (roots_of rest)
 
 -- ## The answer
 

@@ -21,15 +21,12 @@ use Rattle.p10_elabd.specs.declared.site.Site.TheVariants as site_is
 use Rattle.p10_elab.specs.Locals.{Frame, Local, Done, done_in, refusing_in, opened, closed}
 use Rattle.p10_elab.specs.LocalDeclarations.{Declaring, declared_locally}
 use Rattle.p10_elab.specs.Expressions.{expression_statement, clause_done, optional_clause, test_done, optional_test, switch_done, statement_added}
-use Rattle.p10_elab.specs.Marks.{Kind, other_item, mark_item, kind_of, mark_of}
+use Rattle.p10_elab.specs.declared.round.Round.{Round}
+use Rattle.p10_elab.specs.declared.kind.Kind.{Kind}
+use Rattle.p10_elab.specs.declared.kind.Kind.TheVariants as item
+use Rattle.p10_elab.specs.Marks.{mark_of, test_kind}
 
 -- ## What stands round a statement
-
--- whether a loop and a `switch` stand round it, and whether it stands at the top level of the block of a `switch`, where labels may stand
-pub record Round : Type 0 where
-  pub in_loop : Bool
-  pub in_switch : Bool
-  pub at_labels : Bool
 
 -- nothing does
 abbrev pub in_nothing : Round
@@ -90,6 +87,14 @@ head_of word keyword l = record { number = l.loops; keyword = word; span = keywo
 abbrev pub with_loop : Local → Local
 with_loop l = record l { loops = l.loops + 1 }
 
+-- what a statement that isn't a declaration is among the items of a body
+abbrev pub kind_of : Keep → Local → Statement At → Kind
+kind_of h l (Pragma at text) = item.Mark (mark_of text) at
+kind_of h l (Return at k e) = item.Return
+kind_of h l (While at k e body) = test_kind (test_done h (opened (with_loop l)) e).made
+kind_of h l (For at k (Empty place) Absent Absent body) = item.Task
+kind_of h l other = item.Other
+
 -- statements in braces
 abbrev pub block_of : At → Option (List PlainStatement) → Option PlainStatement
 block_of at None = None
@@ -135,7 +140,7 @@ items_added made (s ∷ rest) = items_added (statement_added made s) rest
 
 -- the items of a declaration after others
 abbrev pub with_declared : Block' → Declaring → Block'
-with_declared b d = record { made = items_added b.made d.items; kinds = b.kinds ++ map (λ _. other_item) d.items; after = d.after }
+with_declared b d = record { made = items_added b.made d.items; kinds = b.kinds ++ map (λ _. item.Other) d.items; after = d.after }
 
 -- a declaration makes nothing where it is refused as a whole; one that declares nothing may be refused too, and has a problem then
 abbrev pub with_statement : Block' → Kind → Done PlainStatement → Block'
@@ -308,13 +313,13 @@ abbrev mutual
   items_done h f in_main r b (MoreStatements (Declare d) rest) =
       items_done h f in_main r (with_declared b (declared_locally h f site_is.InBlock b.after d)) rest
   items_done h f in_main r b (MoreStatements (Pragma at text) rest) =
-      items_done h f in_main r (with_statement b (mark_item (mark_of text) at) (pragma_done h in_main at (mark (mark_of text)) b.after)) rest
+      items_done h f in_main r (with_statement b (item.Mark (mark_of text) at) (pragma_done h in_main at (mark (mark_of text)) b.after)) rest
   items_done h f in_main r b (MoreStatements s rest) =
-      items_done h f in_main r (with_statement b (kind_of h b.after.standing s) (done h f r b.after s)) rest
+      items_done h f in_main r (with_statement b (kind_of h b.after s) (done h f r b.after s)) rest
 
   -- items of the block of a `switch`, each after its labels
   pub switched_done : Keep → Frame → Round → Option PlainValue → Switched → Statements At → Switched
   switched_done h f r on' w NoStatements = w
   switched_done h f r on' w (MoreStatements s rest) =
       let k : Labelled = with_labels h on' w s in
-      switched_done h f r on' (record { items = with_statement w.items other_item (done h f r k.after s); labels = k }) rest
+      switched_done h f r on' (record { items = with_statement w.items item.Other (done h f r k.after s); labels = k }) rest

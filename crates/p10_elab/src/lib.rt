@@ -2,31 +2,65 @@
 //!
 //! `elaborated` (`specs/Programs.antt`) says what the trees of roots come to: a typed program, the first of the rows S1 to S30 that hold
 //! in them, or limit M8. It is a definition with its laws.
-//! In code: [`LinkedNames`], the declarations with linkage, found by their names, and what they declare; [`taken_together`], which takes
-//! those of all roots together and makes structures one that have to be. The walk over declarations isn't here yet.
+//! In code: [`heads_of_units`], what the roots define, with numbers by names; [`addresses_taken`], the variables of a function that are no
+//! frame variables; [`LinkedNames`], the declarations with linkage, found by their names, and what they declare; [`taken_together`],
+//! which takes those of all roots together and makes structures one that have to be. The walks over declarations and over statements
+//! aren't here yet.
 //! Which types, tags and names declarations declare is left to `p10_elabd`, and what expressions are to `p10_elabx`.
 #![tactic(auto)]
 
 mod agreeing;
 mod between;
+mod block_numbers;
+mod both;
+mod conditions;
+mod constants;
+mod defined;
+mod first_names;
+mod frame;
 mod groups;
 mod head;
+mod heads;
+mod kind;
+mod labels;
 pub mod laws;
 mod linkage;
 mod linked;
 mod linked_names;
+mod local;
+mod marking;
+mod marks;
 mod meeting;
+mod numbers;
 mod outer_object;
+mod outline;
+mod outlines;
+mod pieces;
 mod root_end;
+mod root_heads;
+mod roots;
+mod round;
+mod sites;
 mod sizes;
+mod specifiers;
+mod statics;
+mod taken;
+mod taken_set;
 mod together;
 mod uniting;
+mod walk;
 
+pub use constants::constants_of;
+pub use defined::heads_of_units;
 pub use head::Head;
+pub use heads::Heads;
+pub use kind::Kind;
 pub use linkage::{differs, internal_by, is_main, is_main_name, main_problem};
 pub use linked::{LinkedKind, LinkedName};
 pub use linked_names::LinkedNames;
 pub use outer_object::{OuterObject, Sighting};
 pub use root_end::{extents_of, note_names, note_sizes};
+pub use round::Round;
 pub use sizes::is_too_large;
 pub use together::taken_together;
+pub use walk::addresses_taken;
