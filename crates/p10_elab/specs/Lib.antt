@@ -12,7 +12,6 @@ pub mod Statements
 pub mod LocalViews
 pub mod FrameViews
 pub mod Linkage
-pub mod HeadViews
 pub mod LinkedViews
 pub mod LinkedLists
 pub mod Outer
