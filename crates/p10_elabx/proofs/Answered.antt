@@ -1,6 +1,6 @@
 -- One answer for an expression.
-use Rattle.std.specs.Prelude.{◌≡◌, ℕ, ◌<◌, Bool, true, false, Ok, Err, List, if◌then◌else◌, nat_lt, nat_le}
-use Rattle.std.proofs.Common.{sym, ◌∙◌, subst, arith}
+use Rattle.std.specs.Prelude.{◌≡◌, ℕ, Bool, true, false, Ok, Err, List, if◌then◌else◌, nat_lt, nat_le}
+use Rattle.std.proofs.Common.{subst, arith}
 use Rattle.std.proofs.lemmas.Bool.Decides.{nat_tests}
 use Rattle.p10_base.specs.Codes.{subset_number}
 use Rattle.p10_core.specs.declared.typed.Value.{Value}

@@ -1,12 +1,11 @@
 -- The row that is kept is the first of all.
-use Rattle.std.specs.Prelude.{◌≡◌, Ok, Err, Result, List, [], ◌∷◌, refl}
-use Rattle.std.proofs.Common.{ap, sym, ◌∙◌, subst}
+use Rattle.std.specs.Prelude.{Ok, Err, Result, [], ◌∷◌, refl}
+use Rattle.std.proofs.Common.{ap, subst}
 use Rattle.p10_base.specs.declared.at.At.{At}
 use Rattle.p10_syn.specs.Trees.{Expression}
 use Rattle.p10_core.specs.declared.typed.Value.{Value}
 use Rattle.p10_core.specs.Typed.{PlainValue}
 use Rattle.p10_core.specs.Views.{plain_value}
-use Rattle.p10_elabx.specs.declared.problem.Problem.{Problem}
 use Rattle.p10_elabx.specs.declared.elaborate.ElabFault.{ElabFault}
 use Rattle.p10_elabx.specs.declared.elaborate.ElabFault.TheVariants.{Refused, NothingSaid, Memory}
 use Rattle.p10_elabx.specs.First.{Found, every, only_first}

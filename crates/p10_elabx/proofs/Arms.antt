@@ -1,12 +1,12 @@
 -- What is found in calls, casts and rows of expressions, by what the walk finds in their parts.
-use Rattle.std.specs.Prelude.{◌≡◌, ℕ, Bool, true, false, Option, Some, None, List, [], map, Vec, refl}
+use Rattle.std.specs.Prelude.{◌≡◌, Option, Some, None, List, [], map, Vec, refl}
 use Rattle.std.specs.declared.alloc.Global.{Global}
 use Rattle.std.proofs.Common.{ap, sym, ◌∙◌, Box}
 use Rattle.p10_base.specs.declared.at.At.{At}
 use Rattle.p10_syn.specs.declared.tree.Form.TheVariants as form
 use Rattle.p10_syn.specs.declared.tree.Expr.{Expr}
 use Rattle.p10_syn.specs.declared.tree.TypeName.{TypeName}
-use Rattle.p10_syn.specs.Trees.{Identifier, Expression, expression, Call, Expressions, expression_row}
+use Rattle.p10_syn.specs.Trees.{Identifier, Expression, Expressions, expression_row}
 use Rattle.p10_syn.specs.Built.{expression_of, kind_of}
 use Rattle.p10_core.specs.declared.typed.Library.{Library}
 use Rattle.p10_elabx.specs.First.{Judged, only_first}

@@ -1,10 +1,10 @@
 -- Declared names of the code as the definitions see them.
-use Rattle.std.specs.Prelude.{◌≡◌, ℕ, zero, suc, Bool, true, false, Option, Some, None, option_map, List, [], ◌∷◌, ◌++◌, map, take, length, bytes_eq, if◌then◌else◌, refl}
-use Rattle.std.proofs.Common.{ap, sym, ◌∙◌}
+use Rattle.std.specs.Prelude.{◌≡◌, ℕ, zero, suc, Bool, true, false, Option, Some, option_map, List, [], ◌∷◌, ◌++◌, take, length, bytes_eq, if◌then◌else◌, refl}
+use Rattle.std.proofs.Common.{ap, ◌∙◌}
 use Rattle.p10_base.specs.Words.{Text}
 use Rattle.p10_bindings.specs.Lookup.{last_after}
 use Rattle.p10_elabx.specs.declared.named.Named.{Named}
-use Rattle.p10_elabx.specs.Scopes.{Meaning, Binding, last_named}
+use Rattle.p10_elabx.specs.Scopes.{last_named}
 use Rattle.p10_elabx.specs.Views.{meaning_of, binding_of, bindings_of}
 
 mapped_if : (b : Bool) (n : Named) (o : Option Named) → option_map meaning_of (if b then Some n else o) ≡ (if b then Some (meaning_of n) else option_map meaning_of o)

@@ -1,9 +1,9 @@
 -- What is found in a call, by what the walk finds in its parts.
-use Rattle.std.specs.Prelude.{◌≡◌, ℕ, Option, Some, List, map, length}
+use Rattle.std.specs.Prelude.{◌≡◌, ℕ, Option, List, map, length}
 use Rattle.std.proofs.Common.{ap, sym, ◌∙◌}
 use Rattle.p10_base.specs.declared.at.At.{At}
 use Rattle.p10_syn.specs.declared.tree.Expr.{Expr}
-use Rattle.p10_syn.specs.Trees.{Identifier, Expressions, expression_row}
+use Rattle.p10_syn.specs.Trees.{Identifier, expression_row}
 use Rattle.p10_syn.specs.Built.{expression_of}
 use Rattle.p10_core.specs.declared.typed.Library.{Library}
 use Rattle.p10_elabx.specs.declared.allocations.Site.{Site}

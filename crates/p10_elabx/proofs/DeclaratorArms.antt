@@ -1,5 +1,5 @@
 -- What a declarator of a function makes of a type, by what the walk finds in its parts.
-use Rattle.std.specs.Prelude.{◌≡◌, ℕ, Bool, List, map, Vec}
+use Rattle.std.specs.Prelude.{◌≡◌, Bool, List, map, Vec}
 use Rattle.std.specs.declared.alloc.Global.{Global}
 use Rattle.std.proofs.Common.{ap, sym, ◌∙◌, Box}
 use Rattle.p10_base.specs.declared.at.At.{At}

@@ -1,5 +1,5 @@
 -- Declared names of the innermost block of the code as the definitions see them.
-use Rattle.std.specs.Prelude.{◌≡◌, ℕ, zero, suc, Option, None, option_map, List, [], ◌∷◌, drop, refl}
+use Rattle.std.specs.Prelude.{◌≡◌, ℕ, zero, suc, None, option_map, List, [], ◌∷◌, drop, refl}
 use Rattle.std.proofs.Common.{ap, ◌∙◌}
 use Rattle.p10_base.specs.Words.{Text}
 use Rattle.p10_bindings.specs.Lookup.{last_bound}

@@ -1,6 +1,6 @@
 -- Structures and enumerations among specifiers of the code.
 use Rattle.std.specs.Prelude.{◌≡◌, suc, ◌+◌, ◌-◌, Some, None, List, [], ◌∷◌, map, length, slice_get, refl}
-use Rattle.std.proofs.Common.{ap, sym, ◌∙◌, subst, arith}
+use Rattle.std.proofs.Common.{ap, sym, ◌∙◌, arith}
 use Rattle.p10_base.specs.declared.at.At.{At}
 use Rattle.p10_syn.specs.declared.tree.Spec.{Spec}
 use Rattle.p10_syn.specs.Trees.{specifier_row}

@@ -1,5 +1,5 @@
 -- Nodes of the code's trees that have rows, as the definitions see them.
-use Rattle.std.proofs.Common.{◌≡◌, ℕ, Bool, refl, ap, sym, ◌∙◌, map, rules, Vec, Box}
+use Rattle.std.proofs.Common.{◌≡◌, Bool, refl, ap, sym, ◌∙◌, map, rules, Vec, Box}
 use Rattle.std.specs.declared.alloc.Global.{Global}
 use Rattle.p10_base.specs.declared.at.At.{At}
 use Rattle.p10_syn.specs.declared.tree.Form.TheVariants as form

@@ -1,5 +1,5 @@
 -- The walk over rows of trees, one turn at a time.
-use Rattle.std.specs.Prelude.{◌≡◌, ℕ, ◌+◌, Bool, List, map, Option, slice_get, refl}
+use Rattle.std.specs.Prelude.{◌≡◌, ℕ, ◌+◌, Bool, List, map, Option, slice_get}
 use Rattle.std.proofs.Common.{◌∙◌, ap, sym, drop}
 use Rattle.p10_syn.specs.declared.tree.Expr.{Expr}
 use Rattle.p10_syn.specs.declared.tree.Parameter.{Parameter}

@@ -1,5 +1,5 @@
 -- Names, places, sizes, calls and allocations that are found are whole.
-use Rattle.std.specs.Prelude.{◌≡◌, ℕ, suc, ◌+◌, ◌≤◌, ℤ, pos, Bool, true, false, not, ◌&&◌, nat_eq, nat_le, Option, Some, None, is_some, Result, Ok, Err, List, [], ◌∷◌, ◌++◌, map, length, take, slice_get, if◌then◌else◌, refl}
+use Rattle.std.specs.Prelude.{◌≡◌, ℕ, ◌≤◌, pos, Bool, true, false, ◌&&◌, nat_le, Option, Some, None, is_some, Ok, Err, List, [], ◌∷◌, ◌++◌, map, slice_get, if◌then◌else◌, refl}
 use Rattle.std.proofs.Common.{ap, sym, ◌∙◌, subst, arith}
 use Rattle.std.proofs.lemmas.Int.{ints}
 use Rattle.std.proofs.lemmas.Bool.{leb-true}
@@ -12,28 +12,26 @@ use Rattle.p10_int.specs.declared.operators.UnOp.TheVariants as unary_operator
 use Rattle.p10_int.specs.Types.{InRange, promoted}
 use Rattle.p10_syn.specs.declared.sign.Sign.{Sign}
 use Rattle.p10_syn.specs.declared.sign.Sign.TheVariants as sign
-use Rattle.p10_syn.specs.Trees.{Identifier}
 use Rattle.p10_core.specs.declared.typed.Library.{Library}
 use Rattle.p10_core.specs.declared.typed.Library.TheVariants.{Assert, CAssert, Getchar, Putchar, Malloc, Calloc, Free}
-use Rattle.p10_core.specs.Types.{PlainType, void, integer, pointer, array, structure, qualified, unqualified, bare, PlainMember, PlainStructure, body_of, members_of, member_named}
+use Rattle.p10_core.specs.Types.{PlainType, void, integer, pointer, array, structure, unqualified, bare, PlainMember, PlainStructure, body_of, members_of, member_named}
 use Rattle.p10_core.specs.Sizes.{size_of}
-use Rattle.p10_core.specs.Typed.{PlainValue, value, constant, cast, built_in, call, PlainPlace, place, variable, global, index, member, dereference, PlainValues, no_values, more_values, type_of, place_type, at_of}
-use Rattle.p10_core.specs.Rows.{same, is_integer, is_pointer, is_scalar, is_complete, fits, int_type}
+use Rattle.p10_core.specs.Typed.{PlainValue, value, cast, built_in, PlainPlace, place, dereference, PlainValues, no_values, more_values, type_of, place_type, at_of}
+use Rattle.p10_core.specs.Rows.{same, is_integer, is_pointer, is_scalar, is_complete, fits}
 use Rattle.p10_core.specs.Constants.{is_null, inconstant_part, fold, is_constant, gives_zero}
 use Rattle.p10_core.specs.WholePrograms.{most_bytes}
-use Rattle.p10_core.specs.Whole.{Surroundings, SeenVariable, SeenObject, allocations, IsWholeValue, AreWholeValues, CountsElements, ArgumentsFit, IsWholePlace, is_frame, form_of}
-use Rattle.p10_elabx.specs.declared.operand.PlaceKind.{PlaceKind}
+use Rattle.p10_core.specs.Whole.{Surroundings, allocations, IsWholeValue, AreWholeValues, CountsElements, ArgumentsFit, IsWholePlace}
 use Rattle.p10_elabx.specs.declared.operand.PlaceKind.TheVariants.{Object, Frame, Sensor}
 use Rattle.p10_elabx.specs.declared.allocations.Site.{Site}
-use Rattle.p10_elabx.specs.First.{Keep, Found, Ruled, Judged, on, pair, ruled}
+use Rattle.p10_elabx.specs.First.{Found, Ruled, on}
 use Rattle.p10_elabx.specs.Scopes.{PlainScope, Meaning, local, object, callable, number, named_type, tagged_type, unknown_name, unknown_tag, named, library_named}
 use Rattle.p10_elabx.specs.Operands.{PlainOperand, a_value, a_place, a_function, converted, is_sensor_kind}
-use Rattle.p10_elabx.specs.Operators.{unary_value, has_size, size_value, operand_size, dereferenced, indexed, element_of, promoted_value, member_there, member_by, member_in, member_found, arrow_found, address_found}
-use Rattle.p10_elabx.specs.Calls.{Callee, of_program, of_library, not_declared, no_function, refused_before, callee_of, undeclared, Wanted, anything, of_type, any_scalar, any_pointer, library_wants, wanted_value, pointer_value, with_value, call_value, library_result, count_arguments, points_to, allocation, element_count, size_constant}
+use Rattle.p10_elabx.specs.Operators.{unary_value, has_size, size_value, operand_size, dereferenced, indexed, promoted_value, member_there, member_by, member_in, member_found, arrow_found, address_found}
+use Rattle.p10_elabx.specs.Calls.{Callee, of_program, of_library, callee_of, undeclared, Wanted, anything, of_type, any_scalar, any_pointer, library_wants, wanted_value, pointer_value, with_value, call_value, count_arguments, points_to, allocation, element_count, size_constant}
 use Rattle.p10_elabx.specs.TypeNames.{Shape, a_type, an_open_array, a_function_type}
 use Rattle.p10_elabx.specs.Judging.{variable_kind, object_kind, undeclared_name, name_found, valued, unary_found, shape_size, cast_found, sized_shape, shape_allocation, size_shape, either_size, either_shape}
 use Rattle.p10_elabx.specs.Wholeness.{Stands, is_frame_meaning}
-use Rattle.p10_elabx.proofs.WholeParts.{IfFound, IfRuled, if_lift, if_on, if_so, if_not, mark_off, bare_off, same_is, WholeValue, WholeOf, converted_whole, fitted_whole, unmarked, WholeOperand, KindIs, AreSimple, frame_of, sensor_of, unary_whole, cast_whole}
+use Rattle.p10_elabx.proofs.WholeParts.{IfFound, IfRuled, if_on, if_so, mark_off, bare_off, same_is, WholeValue, WholeOf, converted_whole, fitted_whole, WholeOperand, frame_of, sensor_of, unary_whole, cast_whole}
 
 -- ## Names
 

@@ -1,5 +1,5 @@
 -- What is found is whole: rows, conversions, operands as values.
-use Rattle.std.specs.Prelude.{◌≡◌, ℕ, suc, ◌+◌, Bool, true, false, not, ◌&&◌, ◌||◌, nat_eq, Option, Some, None, Result, Ok, Err, List, [], ◌∷◌, if◌then◌else◌, refl}
+use Rattle.std.specs.Prelude.{◌≡◌, ℕ, Bool, true, false, not, ◌&&◌, ◌||◌, nat_eq, Option, Some, None, Ok, Err, List, [], if◌then◌else◌, refl}
 use Rattle.std.proofs.Common.{ap, sym, ◌∙◌, subst}
 use Rattle.std.specs.Bool.{beq}
 use Rattle.std.proofs.lemmas.Bool.{eqb-true, eq-eqb, false_from_ne_true, false≢true}
@@ -11,17 +11,16 @@ use Rattle.p10_int.specs.declared.operators.BinOp.{BinOp}
 use Rattle.p10_int.specs.declared.operators.BinOp.TheVariants.{Add, Sub, Mul, Div, Rem, Shl, Shr, And, Or, Xor, Lt, Gt, Le, Ge, Eq, Ne}
 use Rattle.p10_int.specs.declared.operators.UnOp.{UnOp}
 use Rattle.p10_int.specs.declared.operators.UnOp.TheVariants.{Plus, Neg, Not, Com}
-use Rattle.p10_int.specs.Types.{promoted, usual_of}
 use Rattle.p10_core.specs.declared.typed.LogicOp.{LogicOp}
 use Rattle.p10_core.specs.Types.{PlainType, void, integer, pointer, array, structure, unqualified, bare, PlainStructure}
-use Rattle.p10_core.specs.Typed.{PlainValue, value, read, sense, decay, convert, cast, unary, binary, logic, conditional, PlainPlace, place, PlainPlaceForm, variable, global, literal, index, member, dereference, at_of, type_of, place_at, place_type}
-use Rattle.p10_core.specs.Rows.{Row, UnaryRow, row, row_where, usual_row, compared_row, moved_row, integers_row, sum_row, difference_row, shift_row, order_row, equality_row, binary_row, conditional_row, unary_row, promoted_row, negation_row, adds_const, fits, may_cast, same, same_form, same_integer, number_of, mark_of, is_void, is_array, is_integer, is_pointer, is_scalar, is_complete, int_type}
+use Rattle.p10_core.specs.Typed.{PlainValue, value, convert, PlainPlace, place, PlainPlaceForm, variable, global, literal, index, member, dereference, at_of, type_of, place_at, place_type}
+use Rattle.p10_core.specs.Rows.{Row, UnaryRow, row_where, integers_row, sum_row, difference_row, shift_row, order_row, equality_row, binary_row, conditional_row, unary_row, promoted_row, adds_const, fits, may_cast, same, same_form, same_integer, number_of, mark_of, is_void, is_array, is_integer, is_scalar, is_complete}
 use Rattle.p10_core.specs.Constants.{is_null}
-use Rattle.p10_core.specs.Whole.{Surroundings, SeenVariable, SeenObject, IsVariable, IsObject, IsSensor, Reads, Decays, Converts, integers, pointers, nulls, Casts, to_void, integers as cast_integers, nulls as cast_nulls, UnaryAgrees, BinaryAgrees, ConditionalAgrees, IsWholeValue, IsWholePlace, is_frame, is_sensor, form_of}
+use Rattle.p10_core.specs.Whole.{Surroundings, SeenVariable, SeenObject, Converts, integers, pointers, nulls, Casts, to_void, integers as cast_integers, nulls as cast_nulls, IsWholeValue, IsWholePlace, is_frame, is_sensor, form_of}
 use Rattle.p10_elabx.specs.declared.operand.PlaceKind.{PlaceKind}
 use Rattle.p10_elabx.specs.declared.operand.PlaceKind.TheVariants.{Object, Frame, Sensor}
 use Rattle.p10_elabx.specs.declared.problem.Problem.{Problem}
-use Rattle.p10_elabx.specs.First.{Keep, every, only_first, Found, Ruled, refused, nothing_said, lift, Judged, pair, on, refused_where}
+use Rattle.p10_elabx.specs.First.{Keep, Found, Ruled, lift, Judged, pair, on, refused_where}
 use Rattle.p10_elabx.specs.Operands.{PlainOperand, a_value, a_place, a_function, sensed, read_form, read_value, place_value, operand_value, not_void, is_sensor_kind, any_value, as_value, converted}
 use Rattle.p10_elabx.specs.Operators.{unary_by, unary_value, binary_by, binary_value, logic_value, conditional_by, conditional_value, fitted, cast_value}
 

@@ -1,6 +1,6 @@
 -- Literals: their bytes, and the numbers in the ranges of their types.
-use Rattle.std.specs.Prelude.{◌≡◌, ℕ, zero, suc, ◌<◌, ◌≤◌, ◌+◌, ◌-◌, ℤ, pos, Bool, true, false, ◌||◌, ◌==◌, nat_lt, nat_le, Option, Some, None, option_map, option_and_then, Result, Ok, Err, List, [], ◌∷◌, ◌++◌, length, if◌then◌else◌, refl, All, slice_index_or}
-use Rattle.std.proofs.Common.{◌-ℤ◌, ap, sym, ◌∙◌, subst, arith}
+use Rattle.std.specs.Prelude.{◌≡◌, ℕ, zero, suc, ◌<◌, ◌-◌, ℤ, pos, Bool, true, false, ◌||◌, ◌==◌, nat_lt, Option, Some, None, option_map, option_and_then, List, [], ◌∷◌, ◌++◌, if◌then◌else◌, refl}
+use Rattle.std.proofs.Common.{◌-ℤ◌, ap, sym, subst, arith}
 use Rattle.std.proofs.lemmas.Int.{ints}
 use Rattle.p10_base.specs.Words.{Text}
 use Rattle.p10_base.specs.declared.at.At.{At}
@@ -15,12 +15,10 @@ use Rattle.p10_lex.specs.Characters.{simple_escape, is_allowed, IsEscape, simple
 use Rattle.p10_lex.specs.Literals.{inside, values_of, one_of, character_value}
 use Rattle.p10_lex.proofs.CharacterLaws.{reads}
 use Rattle.p10_lex.proofs.Enclosing.{inside_takes}
-use Rattle.p10_core.specs.Types.{integer}
 use Rattle.p10_core.specs.Whole.{Surroundings, IsListed}
-use Rattle.p10_elabx.specs.First.{Ruled}
-use Rattle.p10_elabx.specs.Literals.{constant_types, first_type, constant_of_type, integer_value, number_found, character_by, character_found, string_value, joined_after as values_after, strings_value, string_of, string_by, strings_found}
+use Rattle.p10_elabx.specs.Literals.{constant_types, first_type, constant_of_type, integer_value, number_found, character_by, character_found, string_value, joined_after as values_after, strings_value, string_by, strings_found}
 use Rattle.p10_elabx.specs.Wholeness.{AreBytes, AllAreBytes}
-use Rattle.p10_elabx.proofs.WholeParts.{IfRuled, WholeOperand, KindIs, if_so}
+use Rattle.p10_elabx.proofs.WholeParts.{IfRuled, WholeOperand, if_so}
 
 -- ## Numbers
 

@@ -1,5 +1,5 @@
 -- What is found in a tree is whole in the scope of the tree, by its form.
-use Rattle.std.specs.Prelude.{◌≡◌, ℕ, zero, suc, ◌+◌, ◌≤◌, ◌<◌, Bool, true, false, not, ◌||◌, nat_eq, Option, Some, None, option_map, Result, Ok, Err, List, [], ◌∷◌, ◌++◌, map, length, take, slice_get, if◌then◌else◌, refl}
+use Rattle.std.specs.Prelude.{◌≡◌, ℕ, zero, suc, ◌+◌, ◌<◌, Bool, true, false, not, ◌||◌, nat_eq, Option, Some, None, Ok, Err, List, [], ◌∷◌, ◌++◌, map, length, take, slice_get, if◌then◌else◌, refl}
 use Rattle.std.proofs.Common.{ap, sym, ◌∙◌, subst, arith, add-one}
 use Rattle.std.proofs.lemmas.Bool.{eqb-true, eq-eqb, false≢true}
 use Rattle.p10_base.specs.declared.at.At.{At}
@@ -7,10 +7,10 @@ use Rattle.p10_base.specs.declared.codes.SubsetCode.{SubsetCode}
 use Rattle.p10_base.specs.declared.codes.SubsetCode.TheVariants as subset
 use Rattle.p10_int.specs.declared.operators.BinOp.{BinOp}
 use Rattle.p10_syn.specs.declared.sign.Sign.{Sign}
-use Rattle.p10_syn.specs.Trees.{Identifier, Expression, expression, Form, Name, Number, Character, Strings, Unary, Step, Binary, Assign, Conditional, Call, Index, Member, Arrow, Cast, SizeofExpression, SizeofType, Comma, Expressions, NoExpressions, MoreExpressions}
+use Rattle.p10_syn.specs.Trees.{Identifier, Expression, expression, Name, Number, Character, Strings, Unary, Step, Binary, Assign, Conditional, Call, Index, Member, Arrow, Cast, SizeofExpression, SizeofType, Comma, Expressions, NoExpressions, MoreExpressions}
 use Rattle.p10_core.specs.declared.typed.Library.{Library}
 use Rattle.p10_core.specs.declared.typed.Library.TheVariants.{Assert, CAssert, Getchar, Putchar, Malloc, Calloc, Free}
-use Rattle.p10_core.specs.Types.{PlainType, PlainStructure}
+use Rattle.p10_core.specs.Types.{PlainType}
 use Rattle.p10_core.specs.Typed.{PlainValue, PlainValues, no_values, PlainStatementForm}
 use Rattle.p10_core.specs.Rows.{is_complete}
 use Rattle.p10_core.specs.Whole.{Surroundings, SeenVariable, SeenObject, SeenFunction, IsWholeValue, AreWholeValues}
@@ -18,16 +18,16 @@ use Rattle.p10_elabx.specs.declared.problem.Problem.{Problem}
 use Rattle.p10_elabx.specs.declared.signs.Operation.{Operation}
 use Rattle.p10_elabx.specs.declared.signs.Operation.TheVariants.{Values, Truth, Nothing}
 use Rattle.p10_elabx.specs.declared.allocations.Site.{Site}
-use Rattle.p10_elabx.specs.First.{Keep, every, Found, Ruled, refused, nothing_said, Judged, pair, on, on_part, also, refused_where, unordered}
-use Rattle.p10_elabx.specs.Scopes.{PlainScope, Meaning, named}
-use Rattle.p10_elabx.specs.Operands.{PlainOperand, a_value, a_place, a_function, operand_value, any_value, as_value}
-use Rattle.p10_elabx.specs.Operators.{binary_value, logic_value, conditional_value, operand_size, indexed, member_found, arrow_found, address_found}
-use Rattle.p10_elabx.specs.Calls.{Callee, of_program, of_library, not_declared, no_function, refused_before, callee_of, Wanted, of_type, library_wants, wants_of, wanted_of, wanted_value, Listed, no_arguments, with_value, argument_judged, with_argument, call_problem, is_assert, is_allocator, with_problem, call_value, call_judged, operand_call, other_call}
+use Rattle.p10_elabx.specs.First.{Keep, every, Found, refused, nothing_said, Judged, pair, on, also, refused_where, unordered}
+use Rattle.p10_elabx.specs.Scopes.{PlainScope, named}
+use Rattle.p10_elabx.specs.Operands.{PlainOperand, any_value, as_value}
+use Rattle.p10_elabx.specs.Operators.{operand_size, member_found, arrow_found, address_found}
+use Rattle.p10_elabx.specs.Calls.{Callee, of_program, of_library, not_declared, no_function, refused_before, callee_of, Wanted, of_type, library_wants, wants_of, wanted_of, wanted_value, Listed, no_arguments, argument_judged, with_argument, call_problem, is_assert, is_allocator, with_problem, call_value, call_judged, operand_call, other_call}
 use Rattle.p10_elabx.specs.TypeNames.{Shape}
 use Rattle.p10_elabx.specs.Literals.{number_found, character_found, strings_found}
-use Rattle.p10_elabx.specs.Judging.{name_found, valued, operation_of, is_and, is_star, unary_found, unary_judged, unary_by_sign, may_be_place, place_of, address_judged, values_judged, truth_judged, binary_judged, conditional_judged, index_judged, member_judged, arrow_judged, size_judged, shape_size, type_size_judged, cast_found, is_void_shape, cast_judged, nested, comma_judged, sized_shape, shape_allocation, one_element, counted_elements, size_shape, either_shape, two_sizes, other_allocation, Factor, product_judged, cleared_judged, count_of, called_name, for_name, memory_called, for_memory, judge, judge_arguments, judge_cast, judge_allocation, judge_bytes, judge_size, judge_type}
-use Rattle.p10_elabx.specs.Wholeness.{Stands, is_frame_name, IsAllowed, AreAllowed, EachAllowed, ValuesAreWhole}
-use Rattle.p10_elabx.proofs.WholeParts.{IfFound, IfRuled, if_lift, if_on, if_pair, if_where, WholeValue, WholeOf, unmarked, WholeOperand, AreSimple, any_whole, value_whole, binary_whole, logic_whole, conditional_whole}
+use Rattle.p10_elabx.specs.Judging.{name_found, is_and, is_star, unary_found, unary_judged, unary_by_sign, may_be_place, place_of, address_judged, values_judged, truth_judged, binary_judged, conditional_judged, index_judged, member_judged, arrow_judged, size_judged, shape_size, type_size_judged, is_void_shape, cast_judged, nested, comma_judged, sized_shape, one_element, counted_elements, size_shape, two_sizes, other_allocation, product_judged, cleared_judged, count_of, called_name, for_name, memory_called, for_memory, judge, judge_arguments, judge_cast, judge_allocation, judge_bytes}
+use Rattle.p10_elabx.specs.Wholeness.{Stands, is_frame_name, AreAllowed, EachAllowed, ValuesAreWhole}
+use Rattle.p10_elabx.proofs.WholeParts.{IfFound, IfRuled, if_lift, if_on, if_pair, if_where, WholeValue, WholeOperand, AreSimple, any_whole, value_whole, binary_whole, logic_whole, conditional_whole}
 use Rattle.p10_elabx.proofs.WholeTexts.{number_whole, character_whole, strings_whole}
 use Rattle.p10_elabx.proofs.WholeForms.{name_whole, valued_whole, unary_found_whole, indexed_whole, member_whole, arrow_whole, address_whole, operand_size_whole, shape_size_whole, cast_found_whole, IsThere, callee_there, AllMeet, Meets, meet_more, whole_more, wanted_whole, program_whole, IsValued, library_whole, IsMemory, Counts, shape_allocation_whole, sized_shape_whole, SizedWhole, size_shape_whole, counted_whole, either_shape_whole}
 

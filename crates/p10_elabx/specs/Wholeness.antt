@@ -4,7 +4,7 @@ use Rattle.p10_base.specs.Words.{Text}
 use Rattle.p10_base.specs.declared.at.At.{At}
 use Rattle.p10_int.specs.declared.types.IntType.TheVariants.{Int}
 use Rattle.p10_int.specs.Types.{InRange}
-use Rattle.p10_syn.specs.Trees.{Expression, expression, Form, Name, Number, Character, Strings, Unary, Step, Binary, Assign, Conditional, Call, Index, Member, Arrow, Cast, SizeofExpression, SizeofType, Comma, Expressions, NoExpressions, MoreExpressions}
+use Rattle.p10_syn.specs.Trees.{Expression, expression, Form, Name, Character, Strings, Unary, Step, Binary, Assign, Conditional, Call, Index, Member, Arrow, Cast, Comma, Expressions, NoExpressions, MoreExpressions}
 use Rattle.p10_core.specs.Types.{PlainType}
 use Rattle.p10_core.specs.Typed.{PlainValue}
 use Rattle.p10_core.specs.Rows.{is_scalar, is_integer}
