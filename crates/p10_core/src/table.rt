@@ -72,6 +72,13 @@ impl<'s> Types<'s> {
         Ok(number)
     }
 
+    /// How many structures there are.
+    pub fn count(&self) -> usize
+        ensures { result ≡ length (plain_types self.now) }
+    {
+        self.structures.len()
+    }
+
     /// The structure with a number.
     pub fn structure(&self, number: u32) -> Option<&Structure<'s>>
         ensures { option_map plain_structure (option_copied result) ≡ slice_get (plain_types self.now) number }
