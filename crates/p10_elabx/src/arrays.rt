@@ -142,7 +142,7 @@ fn constant_length(
 }
 
 /// An array of elements with a length, which is a constant expression.
-fn array_of(
+pub fn array_of(
     alloc: Global,
     types: &Types<'_>,
     ty: CType,

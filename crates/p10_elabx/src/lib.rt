@@ -47,14 +47,17 @@ mod values;
 mod walk;
 mod words;
 
+pub use arrays::array_of;
 pub use assignment::assigned;
 pub use block::Block;
 pub use callee::{Callee, Wants};
 pub use calls::{call_judged, callee_of, wanted_of};
-pub use declarators::{has_const_word, other_word};
+pub use declarators::{declarator_place, has_const_word, other_word};
 pub use elaborate::{ElabFault, value};
 pub use judged::{Judged, Listed, joined};
+pub use literals::strings_value;
 pub use named::Named;
+pub use names::library_named;
 pub use operand::{Operand, PlaceKind};
 pub use operators::fitted;
 pub use problem::Problem;
@@ -62,9 +65,10 @@ pub use scope::Scope;
 pub use shape::{Made, Shape};
 pub use signs::{assignment_of, step_of};
 pub use targets::{by_sign, step_judged};
-pub use type_names::specifiers_judged;
-pub use values::{any_value, as_value};
+pub use type_names::{specified_type, specifiers_at, specifiers_judged, typedef_rule};
+pub use values::{any_value, as_value, converted};
 pub use walk::{
     judge, judge_arguments, judge_declarator, judge_parameters, judge_target, judge_type,
     judge_value,
 };
+pub use words::{Said, is_bad_mixture, said_of};

@@ -103,7 +103,7 @@ fn string_value(alloc: Global, text: &[u8]) -> Result<Option<Vec<u8>>, AllocErro
 }
 
 /// The bytes of strings that stand side by side.
-fn strings_value(alloc: Global, texts: &[&[u8]]) -> Result<Option<Vec<u8>>, AllocError>
+pub fn strings_value(alloc: Global, texts: &[&[u8]]) -> Result<Option<Vec<u8>>, AllocError>
     ensures { IfOk result (λ found. option_map (λ bytes. bytes.items) found ≡ strings_value (Some []) (map (λ text. text.now) texts.now)) }
 {
     let mut bytes = Vec::new(alloc);

@@ -21,6 +21,7 @@ pub struct Scope<'s> {
 #[tactic(auto, using(crate::proofs::Bound::found_is, crate::proofs::Bound::as_many, crate::proofs::Bound::kept_are, crate::proofs::Bound::one_more))]
 impl<'s> Scope<'s> {
     ghost use Rattle.std.specs.Prelude.{◌≡◌, ◌<◌, length, option_map, option_copied, OnOk, OnErr};
+    ghost use Rattle.p10_elabx.specs.Innermost.{hidden};
     ghost use Rattle.p10_elabx.specs.Scopes.{empty_scope, entered, left, declared, named, tagged};
     ghost use Rattle.p10_elabx.specs.Views.{meaning_of};
     ghost use Rattle.p10_elabx.specs.PlainScopes.{plain_scope};
@@ -68,6 +69,14 @@ impl<'s> Scope<'s> {
         } else {
             self.names.declare(name, what)
         }
+    }
+
+    /// Lets a tag name nothing yet in the innermost block. Out of memory, nothing is changed.
+    pub fn hide_tag(&mut self, name: &'s [u8]) -> Result<(), AllocError>
+        ensures ok { OnOk result (plain_scope self.new ≡ hidden (plain_scope self.old) name.now) }
+        ensures err { OnErr result (plain_scope self.new ≡ plain_scope self.old) }
+    {
+        self.tags.declare(name, Named::Unknown)
     }
 
     /// What a name stands for that is no tag.
@@ -120,9 +129,8 @@ impl<'s> Scope<'s> {
         }
     }
 
-    /// Closes the innermost of at least two blocks, and gives what was declared in it. Out of memory that is forgotten.
+    /// Closes the innermost block, and gives what was declared in it. Out of memory that is forgotten.
     pub fn close(&mut self, alloc: Global) -> Result<Block<'s>, AllocError>
-        requires { 0 < length (plain_scope self.old).floors }
         ensures left { plain_scope self.new ≡ left (plain_scope self.old) }
         ensures names { IfOk result (λ b. bindings_of (names_of b.names.items) ≡ drop (last_floor (plain_scope self.old).floors).0 (plain_scope self.old).names) }
         ensures tags { IfOk result (λ b. bindings_of (names_of b.tags.items) ≡ drop (last_floor (plain_scope self.old).floors).1 (plain_scope self.old).tags) }

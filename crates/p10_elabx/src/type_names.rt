@@ -48,7 +48,7 @@ fn keyword_rule(at: At, word: Sign) -> Result<Option<CType>, Option<Problem>>
 }
 
 /// A typedef name.
-fn typedef_rule(
+pub fn typedef_rule(
     alloc: Global,
     at: At,
     what: Option<&Named>,
@@ -238,7 +238,7 @@ fn specifiers_found(
 }
 
 /// The type that a mixture of words and names is, with its mark.
-fn specified_type(
+pub fn specified_type(
     alloc: Global,
     said: &Said,
     named: Option<CType>,
@@ -268,7 +268,7 @@ fn specifier_at(spec: &Spec<'_>) -> At
 }
 
 /// The place of all specifiers, from the first to the last; where there are none, one that is given.
-fn specifiers_at(at: At, specs: &[Spec<'_>]) -> At
+pub fn specifiers_at(at: At, specs: &[Spec<'_>]) -> At
     ensures { result ≡ specifiers_at at (specifier_row (map specifier_of specs.now)) }
 {
     match (specs.first(), specs.last()) {
