@@ -27,3 +27,4 @@ mod Specified
 mod Takings
 mod TreeNodes
 mod Walking
+pub mod Flags

@@ -16,6 +16,8 @@ pub mod LinkedViews
 pub mod LinkedLists
 pub mod Outer
 pub mod OuterViews
+pub mod SightingViews
+pub mod KnownViews
 pub mod Uniting
 pub mod Between
 pub mod Programs

@@ -27,7 +27,7 @@ use Rattle.p10_elab.specs.Addresses.{addresses_taken, constants_of}
 use Rattle.p10_elab.specs.Locals.{Frame, Local, specified_in, makes_sensors, no_initializer, unknown_in, typedef_passed, filled_array, brackets_of, initialized_by}
 use Rattle.p10_elab.specs.LocalDeclarations.{is_frame_variable, is_typedef}
 use Rattle.p10_elabd.specs.Initializers.{elements_given}
-use Rattle.p10_elab.specs.Linkage.{LinkedType, a_function, an_object, unknown_function, unknown_object, Linked, last_linked, internal_by, linked_noted, is_static, is_main, is_main_name, main_problem}
+use Rattle.p10_elab.specs.Linkage.{is_function, LinkedType, a_function, an_object, unknown_function, unknown_object, Linked, last_linked, internal_by, linked_noted, is_static, is_main, is_main_name, main_problem}
 use Rattle.p10_elab.specs.Marks.{marks_noted}
 use Rattle.p10_elab.specs.Statements.{in_nothing, Block', no_items_yet, items_done}
 
@@ -67,27 +67,36 @@ abbrev pub is_sighted : ℕ → List Sighting → Bool
 is_sighted n [] = false
 is_sighted n (s ∷ rest) = nat_eq s.number n || is_sighted n rest
 
--- the first declaration of an object in a root
-abbrev pub sighted : ℕ → Known → Known
-sighted n k =
-    if is_sighted n k.sightings then k else record k { sightings = k.sightings ++ record { number = n; from = length k.functions } ∷ [] }
+-- the objects that a root declares, with one more, unless it was declared before
+abbrev pub with_sighting : Sighting → List Sighting → List Sighting
+with_sighting s all = if is_sighted s.number all then all else all ++ s ∷ []
+
+-- the same where that is wanted, by the object's number and how many functions stand before
+abbrev pub sighted_where : Bool → ℕ → ℕ → List Sighting → List Sighting
+sighted_where wanted n from all = if wanted then with_sighting (record { number = n; from = from }) all else all
+
+-- the number of the function or object that a declared name stands for
+abbrev pub linked_number : Heads → Linked → ℕ
+linked_number heads l = number_in (if is_function l.type then heads.functions else heads.objects) l.root l.internal l.name
+
+-- what a declared name stands for, by its number
+abbrev pub meaning_by : LinkedType → ℕ → Bool → Meaning
+meaning_by (a_function ts r) n sensor = callable n ts r
+meaning_by (an_object t) n sensor = object n t sensor
+meaning_by unknown n sensor = unknown_name
 
 -- what a declared name stands for: a function or an object by its number
 abbrev pub linked_meaning : Heads → Linked → Meaning
-linked_meaning heads l = by_type l.type
-  where
-    by_type : LinkedType → Meaning
-    by_type (a_function ts r) = callable (number_in heads.functions l.root l.internal l.name) ts r
-    by_type (an_object t) = object (number_in heads.objects l.root l.internal l.name) t l.sensor
-    by_type unknown = unknown_name
+linked_meaning heads l = meaning_by l.type (linked_number heads l) l.sensor
+
+-- whether an object of a known type is declared
+abbrev pub is_object : LinkedType → Bool
+is_object (an_object t) = true
+is_object t = false
 
 -- an object is in scope from its first declaration on
 abbrev pub sighted_by : Heads → Linked → Known → Known
-sighted_by heads l k = by_type l.type
-  where
-    by_type : LinkedType → Known
-    by_type (an_object t) = sighted (number_in heads.objects l.root l.internal l.name) k
-    by_type t = k
+sighted_by heads l k = record k { sightings = sighted_where (is_object l.type) (linked_number heads l) (length k.functions) k.sightings }
 
 -- a declaration with linkage
 abbrev pub with_linked : Keep → Heads → Linked → Known → Known

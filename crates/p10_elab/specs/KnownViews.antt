@@ -1,0 +1,23 @@
+-- What is known of the program, as the code keeps it.
+use Rattle.std.specs.Prelude.{map}
+use Rattle.p10_core.specs.Views.{plain_function, plain_object}
+use Rattle.p10_elabd.specs.Views.{plain_standing}
+use Rattle.p10_elab.specs.declared.known.Known.{Known}
+use Rattle.p10_elab.specs.LinkedLists.{linked_in}
+use Rattle.p10_elab.specs.SightingViews.{sightings_in}
+use Rattle.p10_elab.specs.OuterViews.{plain_outer_object}
+use Rattle.p10_elab.specs.Outer.{Known as PlainKnown}
+
+-- what is known
+abbrev pub plain_known : Known → PlainKnown
+plain_known k = record {
+  standing = plain_standing k.standing;
+  root = k.root;
+  linked = linked_in k.linked;
+  functions = map plain_function k.functions.items;
+  block_objects = map (λ b. (b.0, plain_object b.1)) k.block_objects.items;
+  objects = map plain_outer_object k.objects.items;
+  sightings = sightings_in k.sightings;
+  visible = k.visible.items;
+  mains = k.mains.items;
+}
