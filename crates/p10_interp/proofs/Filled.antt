@@ -178,6 +178,12 @@ continues_stop B Memory o other next x w e h = tt
 pub fill_stops : {B : Type 0} (o other next : Progress Done) (r : Result B Halt) (halt : Halt) (x : Done) (w : State) → r ≡ Err halt → o ≡ other → Continues {A = Done} {B = B} other next (Err halt) w → Answers o r x w
 fill_stops {B = B} o other next r halt x w is e h = subst (λ r. Answers o r x w) (sym is) (continues_stop B halt o other next x w e h)
 
+pub fill_stopped : {B : Type 0} (span : Span) (xs ys : List (ℕ × Scalar)) (types : List PlainType) (i : ℕ) (q : Ptr) (frame : Frame) (o : Progress Done) (w u : State) (r : Result B Halt) (halt : Halt) → ys ≡ xs → r ≡ Err halt → o ≡ fill span xs (drop i types) i q frame w →
+    Continues {A = Done} {B = B} (fill span ys (drop i types) i q frame w) (fill span ys (drop (suc i) types) (suc i) q frame u) (Err halt) u → Answers o r (record { flow = normal; frame = frame }) u
+fill_stopped {B = B} span xs ys types i q frame o w u r halt e is h c =
+    fill_stops o (fill span xs (drop i types) i q frame w) (fill span xs (drop (suc i) types) (suc i) q frame u) r halt (record { flow = normal; frame = frame }) u is h
+    (subst (λ xs. Continues {A = Done} {B = B} (fill span xs (drop i types) i q frame w) (fill span xs (drop (suc i) types) (suc i) q frame u) (Err halt) u) e c)
+
 -- ## The operation
 
 pub filled : {B : Type 0} (p : PlainProgram) (span : Span) (t : PlainType) (items : List PlainItem) (operands mid rest : List Operand) (f : Open) (calls cs : List Open) (w v : State) (n : ℕ) (xs : List Scalar) (target : Target) (to : Ptr) (r : Result B Halt) →

@@ -31,3 +31,4 @@ pub mod Statics
 pub mod ConstantValues
 pub mod GivenConstants
 pub mod Starting
+pub mod Ordered

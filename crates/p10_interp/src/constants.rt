@@ -1,6 +1,6 @@
 //! Constant expressions in the initialisers of objects of static lifetime (C99 6.6, 6.7.8p4).
 
-ghost use Rattle.std.specs.Prelude.{◌≡◌, [], List, true, map, length, OnOk, IfOk};
+ghost use Rattle.std.specs.Prelude.{◌≡◌, [], List, true, slice_get, map, length, OnOk, IfOk};
 ghost use Rattle.std.specs.List.{All};
 ghost use Rattle.p10_core.specs.Addresses.{is_static_value};
 ghost use Rattle.p10_core.specs.Types.{plain_type, bare};
@@ -16,6 +16,7 @@ ghost use Rattle.p10_interp.specs.private.Views.{tasks_in};
 ghost use Rattle.p10_interp.specs.private.Operations.{scalars_of_items};
 ghost use Rattle.p10_interp.specs.private.OpenCalls.{calls_in};
 ghost use Rattle.p10_interp.specs.private.Machines.{state_of};
+ghost use Rattle.p10_interp.specs.private.Listing.{IsAhead, IsListedFrom};
 ghost use Rattle.p10_interp.specs.private.Releasing.{PutsAt};
 ghost use Rattle.p10_interp.specs.private.Constants.{nothing_around, IsConstantState, value_given, given_or, scalars_if, is_ended, IsOutside};
 
@@ -23,7 +24,7 @@ use crate::allocating::{put_cell, put_zeros_of_one};
 use crate::arguments::take_arguments;
 use crate::base::Depth;
 use crate::kinds::kind_at;
-use crate::listed::{Listed, count_of_items, scalar_for};
+use crate::listed::{Listed, count_of_items, list, passed, scalar_for};
 use crate::outside::Outside;
 use crate::queue::Queue;
 use crate::running::run;
@@ -162,10 +163,7 @@ fn put_listed<'p>(
     let Some(scalars) = width_of(&p.types, t) else {
         return Err(Halt::Memory);
     };
-    let listed = Listed {
-        items: items_if(given, items),
-        values: &values,
-    };
+    let listed = list(items_if(given, items), &values);
     put_listed_cells(&p.types, t, listed, scalars, cells)
 }
 
@@ -185,11 +183,14 @@ fn put_listed_cells(
     cells: &mut Vec<Cell>,
 ) -> Result<(), Halt>
     requires structures { AreWholeStructures (plain_types types.now) }
+    requires list { IsListedFrom 0 (map plain_item listed.items.now) listed.values.now listed.ordered listed.place listed.used }
     requires width { count ≡ length (scalars_of (plain_types types.now) (bare (plain_types types.now) (plain_type t.now))) }
     ensures { OnOk result (cells.new.items ≡ listed_cells 0 (scalars_of (plain_types types.now) (bare (plain_types types.now) (plain_type t.now))) (scalars_of_items (map plain_item listed.entry.items.now) listed.entry.values.now)) }
 {
     cells.clear();
+    let mut listed = listed;
     for i in 0..count {
+        listed = passed(listed, i);
         put_listed_cell(types, t, listed, i, cells)?;
     }
     Ok(())
@@ -204,6 +205,8 @@ fn put_listed_cell(
     cells: &mut Vec<Cell>,
 ) -> Result<(), Halt>
     requires structures { AreWholeStructures (plain_types types.now) }
+    requires list { IsListedFrom number (map plain_item listed.items.now) listed.values.now listed.ordered listed.place listed.used }
+    requires ahead { IsAhead number (slice_get (map plain_item listed.items.now) listed.place) }
     ensures { OnOk result (PutsAt cells.old.items (listed_cells 0 (scalars_of (plain_types types.now) (bare (plain_types types.now) (plain_type t.now))) (scalars_of_items (map plain_item listed.entry.items.now) listed.entry.values.now)) number cells.new.items) }
 {
     match kind_at(types, t, number) {

@@ -1,6 +1,6 @@
 //! The list of an initialiser fills an object (C99 6.7.8).
 
-ghost use Rattle.std.specs.Prelude.{◌≡◌, ◌∷◌, suc, List, length, map, drop};
+ghost use Rattle.std.specs.Prelude.{◌≡◌, ◌∷◌, suc, List, length, map, drop, slice_get};
 ghost use Rattle.p10_core.specs.Types.{plain_type, bare};
 ghost use Rattle.p10_core.specs.Sizes.{scalars_of};
 ghost use Rattle.p10_core.specs.Views.{plain_program, plain_types, plain_item};
@@ -12,11 +12,12 @@ ghost use Rattle.p10_interp.specs.private.OpenCalls.{calls_in};
 ghost use Rattle.p10_interp.specs.private.Views.{Answers, left_with, tasks_in};
 ghost use Rattle.p10_interp.specs.private.Machines.{Around, state_of};
 ghost use Rattle.p10_interp.specs.private.Writing.{Continues};
+ghost use Rattle.p10_interp.specs.private.Listing.{IsAhead, IsListedFrom};
 
 use crate::arguments::take_arguments;
 use crate::copying::write_part;
 use crate::kinds::kind_at;
-use crate::listed::{Listed, count_of_items, scalar_for};
+use crate::listed::{Listed, count_of_items, list, passed, scalar_for};
 use crate::operations::pointer_to;
 use crate::outside::Outside;
 use crate::stacks::Stacks;
@@ -47,11 +48,8 @@ pub fn fill(
     let Some(scalars) = width_of(&p.types, t) else {
         return Err(Halt::Memory);
     };
-    let listed = Listed {
-        items,
-        values: &stacks.arguments,
-    };
     let place = (span, pointer_to(target));
+    let listed = list(items, &stacks.arguments);
     fill_scalars(&p.types, t, listed, place, scalars, outside)
 }
 
@@ -65,10 +63,13 @@ fn fill_scalars(
     outside: &mut Outside,
 ) -> Result<(), Halt>
     requires structures { AreWholeStructures (plain_types types.now) }
+    requires list { IsListedFrom 0 (map plain_item listed.items.now) listed.values.now listed.ordered listed.place listed.used }
     requires width { count ≡ length (scalars_of (plain_types types.now) (bare (plain_types types.now) (plain_type t.now))) }
     ensures { (io : Around) (frame : Frame) → Answers (fill place.0 (scalars_of_items (map plain_item listed.entry.items.now) listed.entry.values.now) (scalars_of (plain_types types.now) (bare (plain_types types.now) (plain_type t.now))) 0 place.1 frame (state_of outside.old io)) result (record { flow = normal; frame = frame }) (state_of outside.new io) }
 {
+    let mut listed = listed;
     for i in 0..count {
+        listed = passed(listed, i);
         fill_scalar(types, t, listed, place, i, outside)?;
     }
     Ok(())
@@ -84,6 +85,8 @@ fn fill_scalar(
     outside: &mut Outside,
 ) -> Result<(), Halt>
     requires structures { AreWholeStructures (plain_types types.now) }
+    requires list { IsListedFrom i (map plain_item listed.items.now) listed.values.now listed.ordered listed.place listed.used }
+    requires ahead { IsAhead i (slice_get (map plain_item listed.items.now) listed.place) }
     ensures { (io : Around) (frame : Frame) → Continues (fill place.0 (scalars_of_items (map plain_item listed.entry.items.now) listed.entry.values.now) (drop i (scalars_of (plain_types types.now) (bare (plain_types types.now) (plain_type t.now)))) i place.1 frame (state_of outside.old io)) (fill place.0 (scalars_of_items (map plain_item listed.entry.items.now) listed.entry.values.now) (drop (suc i) (scalars_of (plain_types types.now) (bare (plain_types types.now) (plain_type t.now)))) (suc i) place.1 frame (state_of outside.new io)) result (state_of outside.new io) }
 {
     let (span, to) = place;

@@ -1,23 +1,14 @@
--- The next item is looked at.
-use Rattle.std.proofs.Common.{◌+◌, drop, map, ◌∙◌, ap, sym, arith}
+-- The next item gives the scalar, or none does.
+use Rattle.std.proofs.Common.{◌+◌, drop, map, ap, get_or, arith}
 use Rattle.p10_core.specs.Views.{plain_item}
 use Rattle.p10_interp.specs.private.Operations.{scalars_of_items}
-use Rattle.p10_interp.specs.private.Listing.{first_listed}
-use Rattle.p10_interp.proofs.Filled.{item_looked, item_found, none_listed}
+use Rattle.p10_interp.proofs.Ordered.{none_there, next_gives}
 use Rattle.p10_interp.proofs.listed.find_listed.Goals as goal
 
-pub loop-place-preserved : goal.loop-place-preserved
-loop-place-preserved c = (
-  omega (arith, c.loop-place.invariant.0, c.count_taken-used.ensures.most),
-  item_looked c.args.listed.items.now c.args.listed.values.now c.loop-place.place c.loop-place.used (c.loop-place.used + c.count_taken-used.result) c.args.number c.index-items-place.result _ c.loop-place-test.true c.index-items-place.is c.loop-place.invariant.1
-      (c.in-None.ensures (λ xs. scalars_of_items (map plain_item (drop (c.loop-place.place + 1) c.args.listed.items.now)) xs) ∙
-      ap (λ r. first_listed c.args.number (scalars_of_items (map plain_item (drop (c.loop-place.place + 1) c.args.listed.items.now)) (drop (c.loop-place.used + r) c.args.listed.values.now))) (sym c.count_taken-used.ensures.taken)),
-)
-
-pub returns-in-Some : goal.returns-in-Some
-returns-in-Some c =
-    item_found c.args.listed.items.now c.args.listed.values.now c.loop-place.place c.loop-place.used c.args.number c.index-items-place.result c.in-Some.x _ c.loop-place-test.true c.index-items-place.is c.loop-place.invariant.1
-    (c.in-Some.ensures (λ xs. scalars_of_items (map plain_item (drop (c.loop-place.place + 1) c.args.listed.items.now)) xs))
+pub returns-then-place-listed : goal.returns-then-place-listed
+returns-then-place-listed c = none_there c.args.number c.args.listed.items.now c.args.listed.values.now c.args.listed.ordered c.args.listed.place c.args.listed.used (omega (arith, c.if-place-listed.true)) c.requires.list
 
 pub returns : goal.returns
-returns c = none_listed c.args.listed.items.now c.args.listed.values.now c.loop-place.place c.loop-place.used c.args.number _ (omega (arith, c.loop-place-test.false)) c.loop-place.invariant.1
+returns c =
+    next_gives c.args.number c.args.listed.items.now c.args.listed.values.now c.args.listed.ordered c.args.listed.place c.args.listed.used (get_or c.args.listed.items.now c.args.listed.place c.index-listed-place.result) c.scalar_in.result (omega (arith, c.if-place-listed.false)) (ap (λ d. get_or c.args.listed.items.now c.args.listed.place d) c.index-listed-place.is) c.if-not-listed.false c.requires.list c.requires.ahead
+    (c.scalar_in.ensures (λ xs. scalars_of_items (drop (c.args.listed.place + 1) (map plain_item c.args.listed.items.now)) xs))

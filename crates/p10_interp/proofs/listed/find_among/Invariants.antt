@@ -3,7 +3,7 @@ use Rattle.std.proofs.Common.{◌≡◌, ◌≤◌, map, drop}
 use Rattle.p10_core.specs.Views.{plain_item}
 use Rattle.p10_interp.specs.private.Operations.{scalars_of_items}
 use Rattle.p10_interp.specs.private.Listing.{first_listed}
-use Rattle.p10_interp.proofs.listed.find_listed.Given as goal
+use Rattle.p10_interp.proofs.listed.find_among.Given as goal
 
 abbrev pub invariant-loop-place : goal.invariant-loop-place
 invariant-loop-place l =
