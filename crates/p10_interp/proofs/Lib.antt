@@ -32,3 +32,10 @@ pub mod ConstantValues
 pub mod GivenConstants
 pub mod Starting
 pub mod Ordered
+pub mod Served
+pub mod ListedStatements
+pub mod Parted
+pub mod Entered
+pub mod Traded
+pub mod Answered
+pub mod Settled

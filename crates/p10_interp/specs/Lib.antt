@@ -1,3 +1,5 @@
 -- The definitions that the contracts of this crate cite: those of public clauses, and in `private` those of private ones alone.
 pub mod Stages
+pub mod Resting
+pub mod Machines
 pub mod private

@@ -20,3 +20,9 @@ pub mod Listing
 pub mod Releasing
 pub mod Constants
 pub mod Statics
+pub mod Serving
+pub mod Trading
+pub mod Parts
+pub mod Placing
+pub mod Settling
+pub mod Reserving

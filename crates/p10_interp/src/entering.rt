@@ -63,7 +63,7 @@ fn pay_and_enter<'p>(
 }
 
 /// The function with a number.
-fn function_at<'p>(functions: &'p [Func<'p>], number: u32) -> Option<&'p Func<'p>>
+pub fn function_at<'p>(functions: &'p [Func<'p>], number: u32) -> Option<&'p Func<'p>>
     ensures { option_map (λ f. plain_function f.now) result ≡ slice_get (map plain_function functions.now) number }
 {
     functions.get(number as usize)

@@ -6,7 +6,7 @@ ghost use Rattle.p10_interp.specs.private.Operations.{first_result, first_value,
 
 use crate::work::{Halt, Operand, Target, Work};
 use p10_meaning::Scalar;
-use std::alloc::Global;
+use std::alloc::{AllocError, Global};
 use std::marker::Model;
 
 /// The work that is left, the next piece on top.
@@ -27,6 +27,13 @@ impl<'p> Tasks<'p> {
         }
     }
 
+    /// Takes all work away.
+    pub fn clear(&mut self)
+        ensures { tasks_in self.new ≡ [] }
+    {
+        self.items.clear();
+    }
+
     /// Puts a piece of work on top.
     pub fn push(&mut self, work: Work<'p>) -> Result<(), Halt>
         ensures ok { OnOk result (tasks_in self.new ≡ task_of work.entry ∷ tasks_in self.old) }
@@ -43,6 +50,13 @@ impl<'p> Tasks<'p> {
         ensures { MatchOption result (tasks_in self.old ≡ []) (λ work. tasks_in self.old ≡ task_of work ∷ tasks_in self.new) }
     {
         self.items.pop()
+    }
+
+    /// Makes room for so many further pieces of work.
+    pub fn reserve(&mut self, count: u64) -> Result<(), AllocError>
+        ensures { tasks_in self.new ≡ tasks_in self.old }
+    {
+        self.items.reserve(count as usize)
     }
 
     /// The piece on top.
@@ -75,6 +89,20 @@ impl Operands {
         Operands {
             items: Vec::new(alloc),
         }
+    }
+
+    /// Takes all operands away.
+    pub fn clear(&mut self)
+        ensures { self.new ≡ [] }
+    {
+        self.items.clear();
+    }
+
+    /// Makes room for so many further operands.
+    pub fn reserve(&mut self, count: u64) -> Result<(), AllocError>
+        ensures { self.new ≡ self.old }
+    {
+        self.items.reserve(count as usize)
     }
 
     /// Puts an operand on top.

@@ -1,0 +1,25 @@
+-- The value of the call is that of the run.
+use Rattle.p10_core.specs.Views.{plain_program}
+use Rattle.p10_interp.proofs.Parted.{main_goes, main_yields, part_breaks, part_then}
+use Rattle.p10_interp.proofs.Served.{comes_by, proceed_goes_on}
+use Rattle.p10_interp.specs.declared.work.Pause.TheVariants.{Over}
+use Rattle.p10_interp.specs.private.Arriving.{paused_at}
+use Rattle.p10_interp.specs.private.Machines.{rig_of}
+use Rattle.p10_interp.specs.private.OpenCalls.{calls_in}
+use Rattle.p10_interp.specs.private.Parts.{after_main, frame_in, stage_of}
+use Rattle.p10_interp.specs.private.Resuming.{proceed}
+use Rattle.p10_interp.specs.private.Serving.{moment_of, state_at}
+use Rattle.p10_interp.specs.private.Views.{flow_of}
+use Rattle.p10_meaning.specs.Statements.{normal}
+use Rattle.std.proofs.Common.{arith}
+use Rattle.p10_interp.proofs.engine.Engine.work_to_return.Goals as goal
+
+pub returns-in-Ok-clause-comes : goal.returns-in-Ok-clause-comes
+returns-in-Ok-clause-comes g c = λ n few.
+    part_then (proceed (plain_program c.args.p.now) n (rig_of normal c.args.self.now.stacks)) after_main n (moment_of c.args.self.now (g.I.Source.left c.args.input.now) (g.O.Sink.taken c.args.out.now)) (moment_of c.work_off.new.self (g.I.Source.left c.work_off.new.input) (g.O.Sink.taken c.work_off.new.out)) (moment_of c.work_off.new.self (g.I.Source.left c.work_off.new.input) (g.O.Sink.taken c.work_off.new.out)) (record { flow = flow_of c.in-Ok.field-0; operands = c.work_off.new.self.stacks.operands; calls = calls_in c.work_off.new.self.stacks.calls }) c.returned.result _ (c.in-Ok.ensures.comes n few)
+    (comes_by (after_main (record { flow = flow_of c.in-Ok.field-0; operands = c.work_off.new.self.stacks.operands; calls = calls_in c.work_off.new.self.stacks.calls })) c.work_off.new.self.outside.left c.work_off.new.self.outside c.work_off.new.self.outside c.work_off.new.self.ended (g.I.Source.left c.work_off.new.input) (g.O.Sink.taken c.work_off.new.out) c.returned.result (λ ended. stage_of ended (frame_in (calls_in c.work_off.new.self.stacks.calls))) (main_goes c.work_off.new.self.outside.left (record { flow = flow_of c.in-Ok.field-0; operands = c.work_off.new.self.stacks.operands; calls = calls_in c.work_off.new.self.stacks.calls })) (omega arith)
+    (λ rest earlier. main_yields (record { flow = flow_of c.in-Ok.field-0; operands = c.work_off.new.self.stacks.operands; calls = calls_in c.work_off.new.self.stacks.calls }) c.returned.result (frame_in (calls_in c.work_off.new.self.stacks.calls)) (state_at c.work_off.new.self.outside rest earlier) c.returned.ensures.ok c.returned.ensures.err))
+
+pub returns-in-Err-clause-comes : goal.returns-in-Err-clause-comes
+returns-in-Err-clause-comes g c = λ n few.
+    part_breaks (proceed (plain_program c.args.p.now) n (rig_of normal c.args.self.now.stacks)) after_main n (moment_of c.args.self.now (g.I.Source.left c.args.input.now) (g.O.Sink.taken c.args.out.now)) (moment_of c.work_off.new.self (g.I.Source.left c.work_off.new.input) (g.O.Sink.taken c.work_off.new.out)) c.in-Err.broken (λ flow. paused_at (plain_program c.args.p.now) n c.work_off.new.self.stacks (Over flow)) _ (proceed_goes_on (plain_program c.args.p.now) n (rig_of normal c.args.self.now.stacks)) few (main_goes n) (c.in-Err.ensures.comes n few)
