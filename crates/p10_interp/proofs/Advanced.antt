@@ -1,15 +1,13 @@
 -- The loops of the machine: each act leaves what the work comes to as it was, and takes a step or leaves less to be done.
-use Rattle.std.proofs.Common.{◌≡◌, ℕ, ◌<◌, ◌≤◌, ◌⊎◌, inl, inr, List, [], ◌∷◌, refl, sym, ◌∙◌, ap, subst, arith, Result, Ok, Err}
+use Rattle.std.proofs.Common.{◌≡◌, ℕ, ◌<◌, ◌≤◌, ◌⊎◌, inl, inr, List, ◌∷◌, sym, ◌∙◌, ap, subst, arith, Result, Ok, Err}
 use Rattle.std.proofs.Math.Nat.{eq-or-lt_of_le}
 use Rattle.p10_core.specs.Typed.{PlainProgram}
-use Rattle.p10_meaning.specs.States.{State, AssertionFailed, Undefined as IsUndefined, StepsSpent, Progress, gives, ends, and_then}
-use Rattle.p10_meaning.specs.Statements.{Flow, normal, broken, continued, returned}
+use Rattle.p10_meaning.specs.States.{State, Progress, gives, and_then}
 use Rattle.p10_meaning.specs.Laws.{Follows}
 use Rattle.p10_interp.specs.declared.work.Halt.{Halt}
 use Rattle.p10_interp.specs.declared.work.Halt.TheVariants.{Failed, Undefined, Spent, Memory}
 use Rattle.p10_interp.specs.declared.work.Flow.{Flow as Way}
 use Rattle.p10_interp.specs.declared.work.Pause.{Pause}
-use Rattle.p10_interp.specs.declared.work.Pause.TheVariants.{Over, Held}
 use Rattle.p10_interp.specs.declared.stacks.Stacks.{Stacks}
 use Rattle.p10_interp.specs.private.Tasks.{Task, Operand, Open, Left, Rig}
 use Rattle.p10_interp.specs.private.Views.{flow_of, tasks_in}
@@ -18,8 +16,7 @@ use Rattle.p10_interp.specs.private.Machines.{rig_of, Moves}
 use Rattle.p10_interp.specs.private.Resuming.{proceed}
 use Rattle.p10_interp.specs.private.Acts.{next_act}
 use Rattle.p10_interp.specs.private.Weights.{weights}
-use Rattle.p10_interp.specs.private.Arriving.{Arrives, Falls}
-use Rattle.p10_interp.specs.private.Running.{left_of, Comes}
+use Rattle.p10_interp.specs.private.Arriving.{Arrives}
 use Rattle.p10_interp.proofs.Right.{next_right}
 use Rattle.p10_interp.proofs.Lighter.{IsLighter, next_light}
 
@@ -54,16 +51,7 @@ light most o r w v e h =
 pub lighter : (p : PlainProgram) (flow next : Way) (t : Task) (k : List Task) (operands : List Operand) (calls : List Open) (w v : State) (new : Stacks) → Moves (next_act p (flow_of flow) t k operands calls w) (Ok next) new v → IsLess (weights (t ∷ k)) (rig_of (flow_of next) new) w v
 lighter p flow next t k operands calls w v new h = light _ _ _ w v h (next_light p (flow_of flow) t k operands calls w)
 
--- ## All work is done
-
-pub all_done : (p : PlainProgram) (n : ℕ) (flow : Way) (s : Stacks) (w : State) → tasks_in s.tasks ≡ [] → proceed p n (rig_of (flow_of flow) s) w ≡ gives (left_of flow s) w
-all_done p n flow s w e = ap (λ tasks. proceed p n (record { flow = flow_of flow; tasks = tasks; operands = s.operands; calls = calls_in s.calls }) w) e ∙ none (flow_of flow)
-  where
-    none : (flow : Flow) → proceed p n (record { flow = flow; tasks = []; operands = s.operands; calls = calls_in s.calls }) w ≡ gives (record { flow = flow; operands = s.operands; calls = calls_in s.calls }) w
-    none normal = refl
-    none broken = refl
-    none continued = refl
-    none (returned x) = refl
+-- ## Where the work arrives
 
 -- what the work comes to, from where it was to where it is
 pub arrived : (p : PlainProgram) (n : ℕ) (o next : Progress Left) (r : Result Pause Halt) (new : Stacks) (w : State) → o ≡ next → Arrives p n next r new w → Arrives p n o r new w
@@ -96,21 +84,3 @@ falls_by first most now left a left_now same few less all = by (eq-or-lt_of_le f
     by : (left_now ≡ left) ⊎ (left_now < left) → (left_now < a) ⊎ ((left_now ≡ a) × (now < first))
     by (inl e) = let l : now < most = less (omega (arith, e)) in inr (e ∙ same, omega (arith, l, all))
     by (inr l) = inl (omega (arith, l, same))
-
--- ## Pauses
-
--- where the machine pauses, no more steps are left
-pub pause_left : (pause : Pause) (l m l' m' : ℕ) → Falls pause l m l' m' → l' ≤ l
-pause_left (Over flow) l m l' m' h = h
-pause_left (Held flow) l m l' m' (inl h) = omega (arith, h)
-pause_left (Held flow) l m l' m' (inr (e, h)) = omega (arith, e)
-
--- the end of the machine
-pub ended : (p : PlainProgram) (n : ℕ) (o : Progress Left) (halt : Halt) (new : Stacks) (w : State) → Arrives p n o (Err halt) new w → Comes o (Err halt) new w
-ended p n o (Failed span) new w h = h
-ended p n o (Undefined stop span) new w h = h
-ended p n o Spent new w h = h
-ended p n o Memory new w h = tt
-
-pub comes_by : (o next : Progress Left) (r : Result Way Halt) (new : Stacks) (w : State) → o ≡ next → Comes next r new w → Comes o r new w
-comes_by o next r new w e h = subst (λ o. Comes o r new w) (sym e) h

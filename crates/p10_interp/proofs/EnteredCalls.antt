@@ -1,9 +1,8 @@
 -- A call is entered: its arguments are taken, and its variables are held one after the other.
-use Rattle.std.proofs.Common.{◌≡◌, ℕ, zero, suc, ◌+◌, ◌-◌, ◌<◌, ◌≤◌, eqb, cond, set, map, drop, length, get_or, Bool, true, false, List, [], ◌∷◌, ◌++◌, replicate, refl, sym, ◌∙◌, subst, ap, arith, Result, Ok, Err, OnOk, Option, Some, None}
+use Rattle.std.proofs.Common.{◌≡◌, ℕ, zero, suc, ◌+◌, ◌-◌, ◌<◌, ◌≤◌, eqb, cond, set, map, drop, length, get_or, Bool, true, false, List, [], ◌∷◌, ◌++◌, refl, sym, ◌∙◌, subst, ap, arith, Result, Ok, Err, OnOk, Option, Some, None}
 use Rattle.std.proofs.lemmas.List.{append-nil, append_assoc, drop_more}
 use Rattle.std.proofs.lemmas.Option.{same_Some, none-some}
 use Rattle.std.proofs.lemmas.Bool.Decides.{nat_tests}
-use Rattle.p10_int.specs.declared.operators.Stop.{Stop}
 use Rattle.p10_core.specs.declared.program.Variable.{Variable}
 use Rattle.p10_core.specs.declared.program.Func.{Func}
 use Rattle.p10_core.specs.Views.{plain_variable, plain_function}
@@ -14,7 +13,7 @@ use Rattle.p10_meaning.specs.declared.pointers.Cell.{Cell}
 use Rattle.p10_meaning.specs.Pointers.{unset, holding, first_of}
 use Rattle.p10_meaning.specs.Objects.{Object, declared, find, put, opened_with, write_at}
 use Rattle.p10_meaning.specs.States.{State}
-use Rattle.p10_meaning.specs.Values.{Held, holds, stands, absent, open_object}
+use Rattle.p10_meaning.specs.Values.{Held, holds, stands, open_object}
 use Rattle.p10_meaning.specs.Calling.{Depth, deeper, raised, Entered, entered}
 use Rattle.p10_store.specs.declared.shape.Origin.TheVariants.{Declared}
 use Rattle.p10_store.specs.Stores.{Held as Store, Opens}
@@ -22,7 +21,7 @@ use Rattle.p10_interp.specs.private.Tasks.{Operand, evaluated, located, Open}
 use Rattle.p10_interp.specs.private.Operations.{first_value, below, taken_before, with_frame}
 use Rattle.p10_interp.specs.private.Machines.{Around}
 use Rattle.p10_interp.specs.private.Resuming.{depth_of}
-use Rattle.p10_interp.specs.private.OpenCalls.{opened_call, owning_all, owning, holding_next}
+use Rattle.p10_interp.specs.private.OpenCalls.{opened_call, owning_all, holding_next}
 use Rattle.p10_interp.proofs.LeftCalls.{drop_past}
 use Rattle.p10_interp.specs.private.Entering.{OpensArgument, HoldsNext, holding_all, IsHolding, IsEntered}
 
@@ -33,12 +32,6 @@ value_taken n xs [] x e = absurd (none-some _ e)
 value_taken n xs (evaluated None ∷ operands) x e = absurd (none-some _ e)
 value_taken n xs (evaluated (Some y) ∷ operands) x e = ap (λ y. taken_before n (y ∷ xs) operands) (same_Some _ _ e)
 value_taken n xs (located target ∷ operands) x e = absurd (none-some _ e)
-
-pub value_missing : (n : ℕ) (xs : List Scalar) (operands : List Operand) → first_value operands ≡ None → taken_before (suc n) xs operands ≡ None
-value_missing n xs [] e = refl
-value_missing n xs (evaluated None ∷ operands) e = refl
-value_missing n xs (evaluated (Some y) ∷ operands) e = absurd (none-some _ (sym e))
-value_missing n xs (located target ∷ operands) e = refl
 
 pub taken_more : (count i : ℕ) (all : Option (List Scalar × List Operand)) (xs ys : List Scalar) (operands fewer : List Operand) (x : Scalar) → i < count → all ≡ taken_before (count - i) xs operands → Some x ≡ first_value operands → fewer ≡ below operands → ys ≡ x ∷ xs →
     all ≡ taken_before (count - (i + 1)) ys fewer
@@ -93,28 +86,6 @@ argument_opened x object old mid new w v o none is written kept same number afte
           ap (λ k. record w { objects = opened_with w.objects w.opened declared (holding x ∷ []); opened = k }) one);
     }
 
--- ## What stands for the next variable
-
-pub absent_next : (frame : Bool) (xs ys : List Scalar) (w : State) → xs ≡ [] → ys ≡ [] → HoldsNext frame xs w absent ys w
-absent_next frame xs ys w d e =
-    subst (λ xs. HoldsNext frame xs w absent ys w) (sym d) (subst (λ ys. HoldsNext frame [] w absent ys w) (sym e) (record { held_is = λ v rest e. refl; state_is = λ v rest e. refl }))
-
-pub cell_next : (frame : Bool) (xs ys : List Scalar) (x : Scalar) (w : State) → frame ≡ true → xs ≡ x ∷ ys → HoldsNext frame xs w (holds (holding x)) ys w
-cell_next frame xs ys x w e d =
-    subst (λ xs. HoldsNext frame xs w (holds (holding x)) ys w) (sym d) (record {
-      held_is = λ v rest same. let k : v.frame ≡ true = same ∙ e in rw k refl;
-      state_is = λ v rest same. let k : v.frame ≡ true = same ∙ e in rw k refl;
-    })
-
-pub object_next : (frame : Bool) (xs ys : List Scalar) (x : Scalar) (w : State) (object : ℕ) (new : State) → frame ≡ false → xs ≡ x ∷ ys → OpensArgument x w object new → HoldsNext frame xs w (stands object) ys new
-object_next frame xs ys x w object new e d o =
-    subst (λ xs. HoldsNext frame xs w (stands object) ys new) (sym d)
-    (subst (λ object. HoldsNext frame (x ∷ ys) w (stands object) ys new) (sym o.number)
-    (subst (λ new. HoldsNext frame (x ∷ ys) w (stands w.opened) ys new) (sym o.state) (record {
-      held_is = λ v rest same. let k : v.frame ≡ false = same ∙ e in rw k refl;
-      state_is = λ v rest same. let k : v.frame ≡ false = same ∙ e in rw k refl;
-    })))
-
 -- ## All variables
 
 pub holding_starts : (all : Entered) (f : Open) (calls now : List Open) → now ≡ f ∷ calls → IsHolding all all f calls now
@@ -154,15 +125,6 @@ numbers_by o first end (suc k) l h g d = let s : o ≡ first = omega (arith, l, 
 pub owned_between : (o first end : ℕ) (f : Open) (around now : List Open) → o ≤ end → first ≤ o + (first - end) → o ≤ first →
     now ≡ owning_all f (numbers_from o (end - o) ++ f.frame.opened) ∷ around → now ≡ owning_all f (numbers_from first (end - first) ++ f.frame.opened) ∷ around
 owned_between o first end f around now l h g e = e ∙ ap (λ ns. owning_all f (ns ++ f.frame.opened) ∷ around) (numbers_by o first end (end - first) l h g refl)
-
--- one more object is the block's
-pub owned_more : (o end : ℕ) (f : Open) (around now more : List Open) → 0 < o → o ≤ end → now ≡ owning_all f (numbers_from o (end - o) ++ f.frame.opened) ∷ around →
-    ((f : Open) (calls : List Open) → now ≡ f ∷ calls → more ≡ with_frame f (owning f.frame (o - 1)) ∷ calls) → more ≡ owning_all f (numbers_from (o - 1) (end - (o - 1)) ++ f.frame.opened) ∷ around
-owned_more o end f around now more l b e go =
-    let one : o ≡ o - 1 + 1 = omega (arith, l) in
-    let k : end - (o - 1) ≡ suc (end - o) = omega (arith, l, b) in
-    go _ around e ∙
-    (ap (λ n. owning_all f ((o - 1) ∷ (numbers_from n (end - o) ++ f.frame.opened)) ∷ around) one ∙ ap (λ k. owning_all f (numbers_from (o - 1) k ++ f.frame.opened) ∷ around) (sym k))
 
 -- ## The objects of a new frame
 

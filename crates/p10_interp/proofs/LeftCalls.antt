@@ -1,15 +1,14 @@
 -- Open calls as ranges of two lists: a call is opened and left, a block is left, and an object is taken from its block.
-use Rattle.std.proofs.Common.{map, sym, ◌≡◌, ◌≤◌, ◌<◌, ℕ, zero, suc, List, [], ◌∷◌, ◌++◌, reverse, refl, ◌∙◌, ap, subst, Bool, true, false, ltb, length, Some, None, take, drop, ◌-◌, ◌+◌, arith, Option, Result, Ok, Err, OnOk}
+use Rattle.std.proofs.Common.{sym, ◌≡◌, ◌≤◌, ◌<◌, ℕ, zero, suc, List, [], ◌∷◌, ◌++◌, reverse, refl, ◌∙◌, ap, subst, Bool, true, false, ltb, length, Some, None, take, drop, ◌-◌, ◌+◌, arith, Option, Result, Ok, Err, OnOk}
 use Rattle.std.proofs.lemmas.List.{reverse-append, drop-append-le, take-append-le, length-append, map-append}
 use Rattle.std.proofs.lemmas.Bool.Decides.{nat_tests}
 use Rattle.p10_interp.specs.declared.held.Held.{Held as Standing}
 use Rattle.p10_interp.specs.declared.base.Base.{Base}
 use Rattle.p10_interp.specs.declared.calls.Calls.{Calls}
-use Rattle.p10_core.specs.Views.{plain_function}
 use Rattle.p10_interp.specs.private.Standing.{held_of}
 use Rattle.p10_interp.specs.private.Tasks.{Open}
 use Rattle.p10_interp.specs.private.Operations.{after_block, with_frame}
-use Rattle.p10_interp.specs.private.OpenCalls.{own, open_of, calls_of, calls_in, first_own, last_own_of, has_mark_of, owning_all, TakesOwn, holding_next, IsHeld, IsHeldBy, opened_call}
+use Rattle.p10_interp.specs.private.OpenCalls.{own, open_of, calls_of, calls_in, first_own, last_own_of, has_mark_of, TakesOwn, holding_next, IsHeld, IsHeldBy}
 
 -- ## Lists
 
@@ -18,12 +17,6 @@ drop_past zero [] l = refl
 drop_past zero (x ∷ xs) l = absurd (omega (arith, l))
 drop_past (suc n) [] l = refl
 drop_past (suc n) (x ∷ xs) l = drop_past n xs (omega (arith, l))
-
-pub take_all : {A : Type 0} (n : ℕ) (xs : List A) → length xs ≤ n → take n xs ≡ xs
-take_all zero [] l = refl
-take_all zero (x ∷ xs) l = absurd (omega (arith, l))
-take_all (suc n) [] l = refl
-take_all (suc n) (x ∷ xs) l = ap (λ ys. x ∷ ys) (take_all n xs (omega (arith, l)))
 
 -- a list is what stands before its last item, and that item
 record HasLast {A : Type 0} (xs : List A) : Type 0 where
@@ -66,11 +59,6 @@ cut_last n (m ∷ ms) l =
 
 -- ## An object is taken from its block
 
-own_none : (marks : List (Option ℕ)) → first_own marks ≡ None → own marks ≡ []
-own_none [] e = refl
-own_none (None ∷ marks) e = refl
-own_none (Some o ∷ marks) e = absurd cc
-
 abbrev Takes : List Open → Option ℕ → List Open → Type 0
 Takes [] o now = Unit {0}
 Takes (f ∷ calls) o now = TakesOwn f calls o now
@@ -93,10 +81,6 @@ some_taken (b ∷ bases) held marks o e =
     let c : IsCut b.marks marks (take (length marks - 1) marks) = cut_last b.marks marks (within b.marks marks o e (ltb b.marks (length marks)) refl) in
     taken b (drop b.held held) _ _ _ _ c.last o c.inside e (ap (λ ms. calls_of bases (take b.held held) ms) c.outside)
 
-none_taken : (r : List Base) (held : List Standing) (marks : List (Option ℕ)) → last_own_of r marks ≡ None → Takes (calls_of r held marks) None (calls_of r held marks)
-none_taken [] held marks e = tt
-none_taken (b ∷ bases) held marks e = (own_none (reverse (drop b.marks marks)) e, refl)
-
 pub takes_some : (old new : Calls) (o : ℕ) → new.bases.items ≡ old.bases.items → new.held.items ≡ old.held.items → new.marks.items ≡ take (length old.marks.items - 1) old.marks.items → Some o ≡ last_own_of (reverse old.bases.items) old.marks.items →
     (f : Open) (calls : List Open) → calls_in old ≡ f ∷ calls → TakesOwn f calls (Some o) (calls_in new)
 takes_some old new o b h m e = λ f calls is.
@@ -104,22 +88,6 @@ takes_some old new o b h m e = λ f calls is.
     (subst (λ now. Takes (calls_in old) (Some o) now)
     (sym (ap (λ bases. calls_of (reverse bases) new.held.items new.marks.items) b ∙ (ap (λ held. calls_of (reverse old.bases.items) held new.marks.items) h ∙ ap (λ marks. calls_of (reverse old.bases.items) old.held.items marks) m)))
     (some_taken (reverse old.bases.items) old.held.items old.marks.items o (sym e)))
-
-pub takes_none : (c : Calls) → None ≡ last_own_of (reverse c.bases.items) c.marks.items → (f : Open) (calls : List Open) → calls_in c ≡ f ∷ calls → TakesOwn f calls None (calls_in c)
-takes_none c e = λ f calls is. subst (λ all. Takes all None (calls_in c)) is (none_taken (reverse c.bases.items) c.held.items c.marks.items (sym e))
-
--- there is a mark where an object was opened
-pub fewer_marks : (bases : List Base) (marks fewer : List (Option ℕ)) (o : ℕ) → Some o ≡ last_own_of bases marks → fewer ≡ take (length marks - 1) marks → length fewer < length marks
-fewer_marks [] marks fewer o e is = absurd cc
-fewer_marks (b ∷ bases) marks fewer o e is =
-    let l : b.marks < length marks = within b.marks marks o (sym e) (ltb b.marks (length marks)) refl in
-    let k : length fewer ≤ length marks - 1 = subst (λ xs. length xs ≤ length marks - 1) (sym is) (few (length marks - 1) marks) in
-    omega (arith, l, k)
-  where
-    few : {A : Type 0} (n : ℕ) (xs : List A) → length (take n xs) ≤ n
-    few zero xs = omega arith
-    few (suc n) [] = omega arith
-    few (suc n) (x ∷ xs) = let h : length (take n xs) ≤ n = few n xs in omega (arith, h)
 
 -- ## A block is left
 
@@ -139,13 +107,6 @@ mark_left (b ∷ bases) held marks e = λ none.
     let c : IsCut b.marks marks (take (length marks - 1) marks) = cut_last b.marks marks (grind (arith, nat_tests, e)) in
     left b (drop b.held held) _ _ _ _ c.last c.inside (ap (λ ms. calls_of bases (take b.held held) ms) c.outside) none
 
-no_mark_left : (r : List Base) (held : List Standing) (marks : List (Option ℕ)) → has_mark_of r (length marks) ≡ false → Leaves (calls_of r held marks) (calls_of r held marks)
-no_mark_left [] held marks e = tt
-no_mark_left (b ∷ bases) held marks e = λ none.
-    let d : drop b.marks marks ≡ [] = drop_past b.marks marks (grind (arith, nat_tests, e)) in
-    ap (λ ms. open_of b (drop b.held held) (reverse ms) ∷ calls_of bases (take b.held held) (take b.marks marks)) d ∙
-    ap (λ ms. after_block (open_of b (drop b.held held) (reverse ms)) ∷ calls_of bases (take b.held held) (take b.marks marks)) (sym d)
-
 pub leaves_marked : (old new : Calls) → new.bases.items ≡ old.bases.items → new.held.items ≡ old.held.items → new.marks.items ≡ take (length old.marks.items - 1) old.marks.items → has_mark_of (reverse old.bases.items) (length old.marks.items) ≡ true →
     (f : Open) (calls : List Open) → calls_in old ≡ f ∷ calls → f.frame.opened ≡ [] → calls_in new ≡ after_block f ∷ calls
 leaves_marked old new b h m e = λ f calls is.
@@ -153,33 +114,6 @@ leaves_marked old new b h m e = λ f calls is.
     (subst (λ now. Leaves (calls_in old) now)
     (sym (ap (λ bases. calls_of (reverse bases) new.held.items new.marks.items) b ∙ (ap (λ held. calls_of (reverse old.bases.items) held new.marks.items) h ∙ ap (λ marks. calls_of (reverse old.bases.items) old.held.items marks) m)))
     (mark_left (reverse old.bases.items) old.held.items old.marks.items e))
-
-pub leaves_unmarked : (c : Calls) → has_mark_of (reverse c.bases.items) (length c.marks.items) ≡ false → (f : Open) (calls : List Open) → calls_in c ≡ f ∷ calls → f.frame.opened ≡ [] → calls_in c ≡ after_block f ∷ calls
-leaves_unmarked c e = λ f calls is. subst (λ all. Leaves all (calls_in c)) is (no_mark_left (reverse c.bases.items) c.held.items c.marks.items e)
-
--- ## A call is left
-
-abbrev rest : List Open → List Open
-rest [] = []
-rest (f ∷ calls) = calls
-
-pub call_left : (r bases : List Base) (b : Base) (held fewer : List Standing) (marks less : List (Option ℕ)) → r ≡ b ∷ bases → fewer ≡ take b.held held → less ≡ take b.marks marks →
-    (f : Open) (calls : List Open) → calls_of r held marks ≡ f ∷ calls → calls_of bases fewer less ≡ calls
-call_left r bases b held fewer marks less e h m = λ f calls is.
-    ap (λ held. calls_of bases held less) h ∙ (ap (λ marks. calls_of bases (take b.held held) marks) m ∙
-    (sym (ap (λ r. rest (calls_of r held marks)) e) ∙ ap rest is))
-
--- ## A call is opened
-
-pub call_opened : (b : Base) (bases : List Base) (held : List Standing) (marks : List (Option ℕ)) → b.held ≡ length held → b.marks ≡ length marks →
-    calls_of (b ∷ bases) held marks ≡ opened_call (plain_function b.function.now) (record { calls = b.calls; bytes = b.bytes }) ∷ calls_of bases held marks
-call_opened b bases held marks h m =
-    let dh : drop b.held held ≡ [] = drop_past b.held held (omega (arith, h)) in
-    let dm : drop b.marks marks ≡ [] = drop_past b.marks marks (omega (arith, m)) in
-    ap (λ hs. open_of b hs (reverse (drop b.marks marks)) ∷ calls_of bases (take b.held held) (take b.marks marks)) dh ∙
-    (ap (λ ms. open_of b [] (reverse ms) ∷ calls_of bases (take b.held held) (take b.marks marks)) dm ∙
-    (ap (λ hs. open_of b [] [] ∷ calls_of bases hs (take b.marks marks)) (take_all b.held held (omega (arith, h))) ∙
-    ap (λ ms. open_of b [] [] ∷ calls_of bases held ms) (take_all b.marks marks (omega (arith, m)))))
 
 -- ## A variable is held
 

@@ -1,14 +1,14 @@
 -- The act for an operation is what the operation comes to.
-use Rattle.std.proofs.Common.{◌≡◌, List, ◌∷◌, refl, sym, ◌∙◌, ap, subst, Result, Ok, Err}
+use Rattle.std.proofs.Common.{◌≡◌, List, sym, ◌∙◌, ap, subst, Result, Ok, Err}
 use Rattle.p10_core.specs.Typed.{PlainProgram}
-use Rattle.p10_meaning.specs.States.{State, Progress, gives, ends, and_then}
+use Rattle.p10_meaning.specs.States.{State, gives, and_then}
 use Rattle.p10_meaning.specs.Statements.{normal}
 use Rattle.p10_interp.specs.declared.work.Halt.{Halt}
 use Rattle.p10_interp.specs.declared.work.Halt.TheVariants.{Failed, Undefined, Spent, Memory}
 use Rattle.p10_interp.specs.declared.work.Flow.{Flow as Way}
 use Rattle.p10_interp.specs.declared.work.Operation.{Operation as Doing}
 use Rattle.p10_interp.specs.declared.stacks.Stacks.{Stacks}
-use Rattle.p10_interp.specs.private.Tasks.{Task, operate, Operand, Open, Left, Rig}
+use Rattle.p10_interp.specs.private.Tasks.{Task, operate, Operand, Open, Left}
 use Rattle.p10_interp.specs.private.Operations.{done_by}
 use Rattle.p10_interp.specs.private.Views.{Answers, operation_of, left_with, tasks_in}
 use Rattle.p10_interp.specs.private.OpenCalls.{calls_in}

@@ -1,5 +1,5 @@
 -- Work that is another, and work in the innermost call.
-use Rattle.std.proofs.Common.{◌≡◌, ℕ, ◌≤◌, Bool, true, false, List, [], ◌∷◌, length, get_or, take, drop, ◌-◌, option_map, refl, sym, ◌∙◌, ap, subst, arith, Result, Ok, Err, Option, Some, None}
+use Rattle.std.proofs.Common.{◌≡◌, ◌≤◌, false, List, [], ◌∷◌, length, get_or, take, drop, ◌-◌, option_map, refl, sym, ◌∙◌, ap, subst, arith, Result, Some, None}
 use Rattle.p10_base.specs.declared.at.At.{At}
 use Rattle.p10_core.specs.declared.typed.Value.{Value}
 use Rattle.p10_core.specs.declared.statements.Stmt.{Stmt}
@@ -7,7 +7,7 @@ use Rattle.p10_core.specs.declared.statements.StmtForm.{StmtForm}
 use Rattle.p10_core.specs.declared.statements.StmtForm.TheVariants.{If}
 use Rattle.p10_core.specs.Typed.{PlainValue, PlainStatement, statement, PlainProgram}
 use Rattle.p10_core.specs.Views.{plain_statement, plain_statements, plain_statement_form}
-use Rattle.p10_meaning.specs.States.{State, Progress, gives}
+use Rattle.p10_meaning.specs.States.{State, Progress}
 use Rattle.p10_meaning.specs.Statements.{Flow, normal, broken, continued, returned}
 use Rattle.p10_interp.specs.declared.work.Halt.{Halt}
 use Rattle.p10_interp.specs.declared.work.Flow.{Flow as Way}
@@ -44,10 +44,6 @@ passed_as p flow t other k operands calls w v r new e h = subst (λ t. Moves (pa
 pub passed_by : (p : PlainProgram) (flow other : Way) (t : Task) (k : List Task) (operands : List Operand) (calls : List Open) (w v : State) (r : Result Way Halt) (new : Stacks) → flow ≡ other →
     Moves (pass p (flow_of other) t k operands calls w) r new v → Moves (pass p (flow_of flow) t k operands calls w) r new v
 passed_by p flow other t k operands calls w v r new e h = subst (λ flow. Moves (pass p (flow_of flow) t k operands calls w) r new v) (sym e) h
-
--- the open calls are these
-pub moves_in : (go : List Open → Progress Rig) (calls others : List Open) (r : Result Way Halt) (new : Stacks) (v : State) → others ≡ calls → Moves (go others) r new v → Moves (go calls) r new v
-moves_in go calls others r new v e h = subst (λ calls. Moves (go calls) r new v) e h
 
 -- a call is open
 pub in_call : (go : List Open → Progress Rig) (calls : List Open) (r : Result Way Halt) (new : Stacks) (v : State) → is_nil calls ≡ false → ((f : Open) (others : List Open) → calls ≡ f ∷ others → Moves (go (f ∷ others)) r new v) → Moves (go calls) r new v

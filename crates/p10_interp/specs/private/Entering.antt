@@ -6,7 +6,7 @@ use Rattle.p10_meaning.specs.Pointers.{holding}
 use Rattle.p10_meaning.specs.Objects.{declared}
 use Rattle.p10_meaning.specs.States.{State}
 use Rattle.p10_meaning.specs.Values.{Held, open_object}
-use Rattle.p10_meaning.specs.Calling.{Depth, deeper, raised, Entered, entered}
+use Rattle.p10_meaning.specs.Calling.{deeper, raised, Entered, entered}
 use Rattle.p10_interp.specs.declared.work.Halt.{Halt}
 use Rattle.p10_interp.specs.declared.work.Halt.TheVariants.{Failed, Undefined, Spent, Memory}
 use Rattle.p10_interp.specs.private.Tasks.{Operand, Open}

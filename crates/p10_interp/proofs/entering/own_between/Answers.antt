@@ -1,7 +1,6 @@
 -- The objects from the first on, and no other.
-use Rattle.std.proofs.Common.{arith}
 use Rattle.p10_interp.specs.private.OpenCalls.{calls_in}
-use Rattle.p10_interp.proofs.EnteredCalls.{owned_between, owned_more}
+use Rattle.p10_interp.proofs.EnteredCalls.{owned_between}
 use Rattle.p10_interp.proofs.entering.own_between.Goals as goal
 
 pub returns-clause-ok : goal.returns-clause-ok

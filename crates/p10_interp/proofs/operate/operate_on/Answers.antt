@@ -2,7 +2,7 @@
 use Rattle.std.proofs.Common.{◌∷◌}
 use Rattle.p10_core.specs.Views.{plain_program}
 use Rattle.p10_interp.specs.private.Machines.{state_of}
-use Rattle.p10_interp.proofs.Operated.{done_as, done_kept}
+use Rattle.p10_interp.proofs.Operated.{done_kept}
 use Rattle.p10_interp.proofs.operate.operate_on.Goals as goal
 
 pub returns-in-UseValue-clause-done : goal.returns-in-UseValue-clause-done
