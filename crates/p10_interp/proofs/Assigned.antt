@@ -7,7 +7,7 @@ use Rattle.p10_core.specs.Typed.{PlainProgram}
 use Rattle.p10_meaning.specs.declared.pointers.Ptr.{Ptr}
 use Rattle.p10_meaning.specs.declared.pointers.Scalar.{Scalar}
 use Rattle.p10_meaning.specs.Pointers.{holding}
-use Rattle.p10_meaning.specs.States.{State, Progress, gives, step, and_then, or_undefined}
+use Rattle.p10_meaning.specs.States.{State, Progress, gives, and_then, or_undefined}
 use Rattle.p10_meaning.specs.Scalars.{converted_to, operated}
 use Rattle.p10_meaning.specs.Values.{Target, width, pointer_to, read_target}
 use Rattle.p10_meaning.specs.Statements.{Done, normal, write_target, copy_scalars}

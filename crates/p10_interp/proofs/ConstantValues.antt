@@ -1,5 +1,5 @@
 -- A constant expression is evaluated alike wherever it stands, and changes nothing but the steps that are left.
-use Rattle.std.proofs.Common.{◌≡◌, ℕ, zero, suc, ◌+◌, ◌≤◌, arith, cond, Bool, true, false, List, [], ◌∷◌, ◌++◌, refl, sym, ◌∙◌, ap, subst, Option, Some, None, Result, Ok, Err, ℤ}
+use Rattle.std.proofs.Common.{◌≡◌, ℕ, zero, suc, ◌+◌, arith, cond, Bool, true, false, List, [], ◌∷◌, refl, sym, ◌∙◌, ap, subst, Result, Ok, Err, ℤ}
 use Rattle.std.specs.Prelude.{if◌then◌else◌}
 use Rattle.std.specs.List.{All}
 use Rattle.std.proofs.lemmas.List.Elements.{All-head, All-tail}
@@ -8,15 +8,14 @@ use Rattle.p10_base.specs.declared.at.At.{At}
 use Rattle.p10_int.specs.declared.operators.Stop.{Stop}
 use Rattle.p10_core.specs.Types.{PlainType}
 use Rattle.p10_core.specs.Typed.{PlainValue, value, PlainForm, constant, read, sense, address, decay, convert, cast, unary, binary, logic, conditional, call, built_in, PlainPlace, place, PlainPlaceForm, variable, global, literal, index, member, dereference, PlainVariable, PlainProgram}
-use Rattle.p10_meaning.specs.States.{State, End, AssertionFailed, Undefined, StepsSpent, Progress, gives, ends, step_at, step, and_then, or_undefined}
+use Rattle.p10_meaning.specs.States.{State, AssertionFailed, Undefined, StepsSpent, Progress, gives, ends, step_at, step, and_then, or_undefined}
 use Rattle.p10_meaning.specs.Scalars.{is_true}
 use Rattle.p10_meaning.specs.Values.{Calls, Setting, Held, Target, Variable, Sensor, Element, sensed_from, sensed, read_target, give, is_void, is_structure, is_decided, evaluate, discard, perform, locate, find_place}
 use Rattle.p10_core.specs.Typed.{PlainWritten, one_scalar, scalars_of_text, PlainItem}
 use Rattle.p10_core.specs.WholePrograms.{IsStaticWritten}
 use Rattle.p10_core.specs.Addresses.{is_static_value}
-use Rattle.p10_meaning.specs.declared.pointers.Scalar.{Scalar}
-use Rattle.p10_meaning.specs.Statements.{text_scalars, written_scalars, listed_scalars}
-use Rattle.p10_meaning.specs.Opening.{constant_setting, constant_scalars}
+use Rattle.p10_meaning.specs.Statements.{written_scalars, listed_scalars}
+use Rattle.p10_meaning.specs.Opening.{constant_setting}
 use Rattle.p10_meaning.specs.Laws.{with_more}
 use Rattle.p10_meaning.proofs.Agreeing.{IsSame, CallsAgree, agrees_spent}
 use Rattle.p10_meaning.proofs.AgreeingValues.{evaluate_agrees as evaluate_more}

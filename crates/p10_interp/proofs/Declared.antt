@@ -1,12 +1,11 @@
 -- What a declaration does to the open calls and to the state.
-use Rattle.std.proofs.Common.{◌≡◌, ℕ, suc, ◌+◌, ◌*◌, true, false, List, [], ◌∷◌, map, length, replicate, refl, sym, ◌∙◌, subst, ap, arith, Result, Ok, Err, Option, Some, None, slice_get, option_map}
+use Rattle.std.proofs.Common.{◌≡◌, ℕ, suc, ◌*◌, true, false, List, [], ◌∷◌, length, replicate, refl, sym, ◌∙◌, subst, ap, arith, Result, Err, Option, Some, slice_get}
 use Rattle.p10_base.specs.declared.span.Span.{Span}
 use Rattle.p10_core.specs.Types.{PlainType}
 use Rattle.p10_core.specs.Typed.{PlainInitializer, PlainVariable, PlainProgram}
 use Rattle.p10_meaning.specs.declared.pointers.Ptr.{Ptr}
-use Rattle.p10_meaning.specs.declared.pointers.Cell.{Cell}
 use Rattle.p10_meaning.specs.Pointers.{unset, first_of}
-use Rattle.p10_meaning.specs.Objects.{Object, declared, opened_with}
+use Rattle.p10_meaning.specs.Objects.{declared, opened_with}
 use Rattle.p10_meaning.specs.States.{State, Progress}
 use Rattle.p10_meaning.specs.Scalars.{unset_cells}
 use Rattle.p10_meaning.specs.Values.{holds, scalars, width, open_object, Variable, Element}

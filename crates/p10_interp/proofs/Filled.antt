@@ -1,6 +1,6 @@
 -- Objects that are filled by a list.
 use Rattle.std.proofs.Common.{◌≡◌, ◌≢◌, pos, ◌<◌, ℕ, zero, suc, ◌+◌, ◌-◌, ◌≤◌, eqb, cond, Bool, true, false, List, [], ◌∷◌, ◌++◌, length, drop, map, refl, sym, ◌∙◌, ap, subst, arith, Result, Ok, Err, IfOk, take, Option, Some, None, slice_get, get_or, option_map}
-use Rattle.std.proofs.lemmas.Bool.{eqb-true, eq-eqb}
+use Rattle.std.proofs.lemmas.Bool.{eq-eqb}
 use Rattle.std.proofs.lemmas.Option.{none-some, same_Some}
 use Rattle.std.proofs.lemmas.List.{take_all}
 use Rattle.p10_meaning.specs.declared.pointers.Cell.{Cell}
@@ -8,13 +8,13 @@ use Rattle.p10_meaning.specs.Opening.{listed_cells}
 use Rattle.p10_base.specs.declared.span.Span.{Span}
 use Rattle.p10_int.specs.declared.operators.Stop.{Stop}
 use Rattle.p10_core.specs.Types.{PlainType}
-use Rattle.p10_core.specs.Typed.{PlainWritten, one_scalar, scalars_of_text, PlainItem, PlainProgram, PlainValue}
+use Rattle.p10_core.specs.Typed.{one_scalar, scalars_of_text, PlainItem, PlainProgram, PlainValue}
 use Rattle.p10_meaning.specs.declared.pointers.Ptr.{Ptr}
 use Rattle.p10_meaning.specs.declared.pointers.Scalar.{Scalar}
 use Rattle.p10_meaning.specs.declared.pointers.Scalar.TheVariants.{Int}
 use Rattle.p10_meaning.specs.Pointers.{holding}
 use Rattle.p10_meaning.specs.Objects.{Object}
-use Rattle.p10_meaning.specs.States.{State, Undefined as IsUndefined, StepsSpent, Progress, gives, ends, step_at, step, or_undefined}
+use Rattle.p10_meaning.specs.States.{State, Undefined as IsUndefined, StepsSpent, Progress, ends, step_at, or_undefined}
 use Rattle.p10_meaning.specs.Scalars.{converted_to, zero_of}
 use Rattle.p10_meaning.specs.Values.{Target, scalars, pointer_to}
 use Rattle.p10_meaning.specs.Statements.{Frame, Done, normal, goes, write_part, text_scalars, listed_scalar, fill}
@@ -28,7 +28,7 @@ use Rattle.p10_interp.specs.private.Writing.{Changes, Continues}
 use Rattle.p10_interp.proofs.Assigned.{done_left}
 use Rattle.p10_interp.proofs.Begun.{step_paid}
 use Rattle.p10_interp.specs.declared.kinds.Kind.{Kind}
-use Rattle.p10_interp.specs.private.Kinds.{HasKind, IsOfKind, HasKindAt}
+use Rattle.p10_interp.specs.private.Kinds.{HasKind, HasKindAt}
 use Rattle.p10_interp.specs.private.Listing.{first_listed, byte_for, taken_by, LooksAt}
 use Rattle.p10_interp.specs.private.Entering.{Takes}
 use Rattle.p10_core.specs.declared.statements.Item.{Item}
@@ -36,7 +36,7 @@ use Rattle.p10_core.specs.declared.typed.Value.{Value}
 use Rattle.p10_core.specs.declared.statements.Written.{Written}
 use Rattle.p10_core.specs.declared.statements.Written.TheVariants.{Scalar as ScalarWritten}
 use Rattle.p10_core.specs.Views.{plain_item, plain_written, plain_value}
-use Rattle.p10_interp.proofs.Items.{left_at, none_left}
+use Rattle.p10_interp.proofs.Items.{left_at, none_left, not_equal}
 
 -- ## What a list gives
 
@@ -76,22 +76,18 @@ text_passed (c ∷ bytes) s i ys e = case (eqb s i) e (text_passed bytes (suc s)
     case true e h = absurd (none-some _ (sym e))
     case false e h = h e
 
-eqb_not : (s i : ℕ) (d : Bool) → eqb s i ≡ d → ¬ (s ≡ i) → d ≡ false
-eqb_not s i true e n = absurd (n (eqb-true s i e))
-eqb_not s i false e n = refl
-
 -- the byte for a scalar stands at its place
 pub byte_before : (bytes : List ℕ) (s i : ℕ) → i < s → None ≡ byte_for bytes s i
 byte_before [] s i l = refl
 byte_before (c ∷ bytes) s i l =
-    let d : eqb s i ≡ false = eqb_not s i (eqb s i) refl (λ (e : s ≡ i). absurd (omega (arith, e, l))) in
+    let d : eqb s i ≡ false = not_equal s i (eqb s i) refl (λ (e : s ≡ i). absurd (omega (arith, e, l))) in
     byte_before bytes (suc s) i (omega (arith, l)) ∙ ap (λ b. cond b (Some c) (byte_for bytes (suc s) i)) (sym d)
 
 pub byte_at : (bytes : List ℕ) (s i k : ℕ) → s + k ≡ i → slice_get bytes k ≡ byte_for bytes s i
 byte_at [] s i k e = refl
 byte_at (c ∷ bytes) s i zero e = ap (λ b. cond b (Some c) (byte_for bytes (suc s) i)) (sym (eq-eqb s i (omega (arith, e))))
 byte_at (c ∷ bytes) s i (suc k) e =
-    let d : eqb s i ≡ false = eqb_not s i (eqb s i) refl (λ (x : s ≡ i). absurd (omega (arith, x, e))) in
+    let d : eqb s i ≡ false = not_equal s i (eqb s i) refl (λ (x : s ≡ i). absurd (omega (arith, x, e))) in
     byte_at bytes (suc s) i k (omega (arith, e)) ∙ ap (λ b. cond b (Some c) (byte_for bytes (suc s) i)) (sym d)
 
 -- ## Values of items
@@ -255,7 +251,7 @@ pub value_passed : (number s : ℕ) (v : PlainValue) (xs : List Scalar) (used ne
     first_listed number (scalars_written s (one_scalar v) (drop used xs) more) ≡ first_listed number (more (drop next xs))
 value_passed number s v xs used next x more got ne e =
     value_next number s v xs used x more got ∙
-    (ap (λ b. cond b (Some x) (first_listed number (more (drop (suc used) xs)))) (eqb_not s number (eqb s number) refl ne) ∙ ap (λ n. first_listed number (more (drop n xs))) (let d : suc used ≡ next = omega (arith, e) in d))
+    (ap (λ b. cond b (Some x) (first_listed number (more (drop (suc used) xs)))) (not_equal s number (eqb s number) refl ne) ∙ ap (λ n. first_listed number (more (drop n xs))) (let d : suc used ≡ next = omega (arith, e) in d))
 
 -- ## What an item gives for a number
 

@@ -1,28 +1,26 @@
 -- What the machine gives for constant expressions, outside of functions.
-use Rattle.std.proofs.Common.{◌≡◌, ℕ, suc, ◌+◌, ◌^◌, Bool, true, false, List, [], ◌∷◌, ◌++◌, length, append-nil, refl, sym, ◌∙◌, ap, subst, arith, Option, Some, None, Result, Ok, Err}
+use Rattle.std.proofs.Common.{◌≡◌, ℕ, ◌+◌, ◌^◌, Bool, true, false, List, [], ◌∷◌, length, append-nil, refl, sym, ◌∙◌, ap, subst, arith, Option, Some, None, Err}
 use Rattle.std.specs.List.{All}
-use Rattle.std.proofs.lemmas.Option.{none-some, same_Some}
 use Rattle.p10_core.specs.Typed.{PlainValue, PlainFunction, PlainProgram, PlainItem}
 use Rattle.p10_core.specs.Addresses.{is_static_value}
 use Rattle.p10_core.specs.WholePrograms.{IsStaticWritten}
 use Rattle.p10_meaning.specs.declared.pointers.Scalar.{Scalar}
-use Rattle.p10_meaning.specs.States.{State, End, AssertionFailed, Undefined as IsUndefined, StepsSpent, Progress, gives, ends, and_then}
-use Rattle.p10_meaning.specs.Values.{Calls, Setting, evaluate}
-use Rattle.p10_meaning.specs.Statements.{Flow, normal, listed_scalars}
+use Rattle.p10_meaning.specs.States.{State, AssertionFailed, Undefined as IsUndefined, StepsSpent, Progress, gives, ends, and_then}
+use Rattle.p10_meaning.specs.Values.{Setting, evaluate}
+use Rattle.p10_meaning.specs.Statements.{normal, listed_scalars}
 use Rattle.p10_meaning.specs.Calling.{Depth, call_at, setting_of}
 use Rattle.p10_meaning.specs.Opening.{constant_setting, constant_state, constant_scalars}
 use Rattle.p10_meaning.specs.Laws.{with_more}
 use Rattle.p10_interp.specs.declared.work.Halt.{Halt}
 use Rattle.p10_interp.specs.declared.work.Halt.TheVariants.{Failed, Undefined, Spent, Memory}
-use Rattle.p10_interp.specs.declared.work.Flow.{Flow as Way}
 use Rattle.p10_interp.specs.declared.stacks.Stacks.{Stacks}
 use Rattle.p10_interp.specs.private.Tasks.{Task, evaluate_value, evaluate_items, Operand, evaluated, Open, Left, Rig}
 use Rattle.p10_interp.specs.private.Operations.{first_value, taken_before, put_values, count_of_items, scalars_of_items}
 use Rattle.p10_interp.specs.private.Resuming.{values_of_items, proceed}
 use Rattle.p10_interp.proofs.Operands.{taken_put, AreMany, items_are_many, items_right}
 use Rattle.p10_interp.specs.private.Constants.{IsConstantState, value_given, scalars_if, is_ended, IsOutside}
-use Rattle.p10_interp.specs.private.Running.{left_of, Comes}
-use Rattle.p10_interp.proofs.ConstantValues.{OnlySteps, OnlyBy, SameValue, Constant, evaluated_constant, listed_constant}
+use Rattle.p10_interp.specs.private.Running.{Comes}
+use Rattle.p10_interp.proofs.ConstantValues.{OnlySteps, Constant, evaluated_constant, listed_constant}
 
 -- a call without variables
 abbrev pub outside_call : PlainFunction → Depth → Open

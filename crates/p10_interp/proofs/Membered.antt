@@ -1,5 +1,5 @@
 -- Members of structures.
-use Rattle.std.proofs.Common.{◌≡◌, ℕ, suc, ◌+◌, ◌-◌, ◌≤◌, List, [], ◌∷◌, length, take, refl, sym, ◌∙◌, ap, subst, arith, Result, Ok, Err, OnOk, IfErr, Option, Some, None, IfSome, slice_get, false}
+use Rattle.std.proofs.Common.{◌≡◌, ℕ, suc, ◌+◌, ◌-◌, ◌≤◌, List, ◌∷◌, length, take, sym, ◌∙◌, ap, subst, arith, Result, Ok, Err, OnOk, IfErr, Option, Some, None, IfSome, slice_get, false}
 use Rattle.std.specs.Prelude.{flat_map}
 use Rattle.p10_base.specs.declared.span.Span.{Span}
 use Rattle.p10_core.specs.Types.{PlainType, PlainMember, PlainBody, PlainStructure, structure, bare, body_of, members_in, members_of}
@@ -7,7 +7,7 @@ use Rattle.p10_core.specs.Sizes.{scalars_of}
 use Rattle.p10_core.specs.Typed.{PlainProgram}
 use Rattle.p10_meaning.specs.declared.pointers.Ptr.{Ptr}
 use Rattle.p10_meaning.specs.Objects.{inner}
-use Rattle.p10_meaning.specs.States.{State, gives, or_undefined}
+use Rattle.p10_meaning.specs.States.{State, or_undefined}
 use Rattle.p10_meaning.specs.Values.{Target, Element, width, pointer_to, scalars_before}
 use Rattle.p10_interp.specs.declared.work.Halt.{Halt}
 use Rattle.p10_interp.specs.declared.work.Halt.TheVariants.{Memory}

@@ -1,5 +1,5 @@
 -- What pointers come to, and reads and writes through them.
-use Rattle.std.proofs.Common.{◌≡◌, ℕ, zero, suc, ◌+◌, ◌-◌, ◌<◌, List, [], ◌∷◌, ◌++◌, length, take, map, refl, sym, ◌∙◌, ap, subst, arith, Result, Ok, Err, Option, Some, None, slice_get, option_map}
+use Rattle.std.proofs.Common.{◌≡◌, ℕ, zero, suc, ◌+◌, ◌-◌, ◌<◌, List, [], ◌∷◌, ◌++◌, length, take, refl, sym, ◌∙◌, ap, subst, arith, Result, Ok, Err, Some, slice_get}
 use Rattle.std.specs.Prelude.{flat_map}
 use Rattle.std.proofs.lemmas.List.{length-append}
 use Rattle.std.proofs.lemmas.Option.{none-some, same_Some}
@@ -7,17 +7,16 @@ use Rattle.p10_base.specs.declared.span.Span.{Span}
 use Rattle.p10_int.specs.declared.operators.Stop.{Stop}
 use Rattle.p10_meaning.specs.declared.pointers.Ptr.{Ptr}
 use Rattle.p10_meaning.specs.declared.pointers.Ptr.TheVariants.{Null, To}
-use Rattle.p10_meaning.specs.declared.pointers.Scalar.{Scalar}
 use Rattle.p10_meaning.specs.declared.pointers.Cell.{Cell}
 use Rattle.p10_meaning.specs.Objects.{Object, on_ok, alive, reach, inner, write_at}
-use Rattle.p10_meaning.specs.States.{State, Undefined as IsUndefined, Progress, gives, ends, and_then, or_undefined}
-use Rattle.p10_meaning.specs.Values.{Held as Standing, Element}
+use Rattle.p10_meaning.specs.States.{State, Undefined as IsUndefined, Progress, gives, ends, or_undefined}
+use Rattle.p10_meaning.specs.Values.{Element}
 use Rattle.p10_meaning.specs.Statements.{Frame, Done, write_target, goes, part_of, write_part, copy_scalars}
 use Rattle.p10_store.specs.Stores.{Held}
 use Rattle.p10_interp.specs.declared.work.Halt.{Halt}
 use Rattle.p10_interp.specs.declared.work.Halt.TheVariants.{Failed, Undefined, Spent, Memory}
-use Rattle.p10_interp.specs.private.Tasks.{Operand, Open, Left}
-use Rattle.p10_interp.specs.private.Operations.{leaves_done, with_frame}
+use Rattle.p10_interp.specs.private.Tasks.{Operand, Open}
+use Rattle.p10_interp.specs.private.Operations.{leaves_done}
 use Rattle.p10_interp.specs.private.Views.{Answers, Finds, Gives, left_with}
 use Rattle.p10_interp.specs.private.Writing.{Changes, Continues}
 

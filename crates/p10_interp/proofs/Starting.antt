@@ -1,44 +1,17 @@
 -- The state before anything was executed.
-use Rattle.std.proofs.Common.{◌≡◌, ℕ, ℤ, ◌+◌, ◌≤◌, Bool, List, [], ◌++◌, length, take, append-nil, Result, Ok, Err, IfOk, OnOk, refl, sym, ◌∙◌, ap, arith}
+use Rattle.std.proofs.Common.{◌≡◌, ℕ, ◌+◌, ◌≤◌, List, [], ◌++◌, length, take, Result, Ok, Err, IfOk, OnOk, refl, sym, ◌∙◌, ap, arith}
 use Rattle.std.proofs.lemmas.List.{take_all}
-use Rattle.std.specs.Prelude.{is_none}
 use Rattle.p10_core.specs.Typed.{PlainObject, PlainLiteral, PlainProgram}
 use Rattle.p10_meaning.specs.declared.pointers.Cell.{Cell}
 use Rattle.p10_meaning.specs.declared.world.World.{World}
-use Rattle.p10_core.specs.Types.{PlainType}
-use Rattle.p10_meaning.specs.declared.pointers.Scalar.{Scalar}
-use Rattle.p10_meaning.specs.States.{State, Progress, gives, ends}
-use Rattle.p10_meaning.specs.Scalars.{zero_of, zero_cells}
+use Rattle.p10_meaning.specs.States.{State}
+use Rattle.p10_meaning.specs.Scalars.{zero_cells}
 use Rattle.p10_meaning.specs.Values.{scalars}
-use Rattle.p10_meaning.specs.Opening.{static_objects, literal_objects, opening_with, opening, constant_state, constant_scalar, initial_cells}
+use Rattle.p10_meaning.specs.Opening.{static_objects, literal_objects, opening_with, opening, constant_state, initial_cells}
 use Rattle.p10_store.specs.Stores.{Held}
 use Rattle.p10_interp.specs.private.Machines.{Around}
-use Rattle.p10_interp.specs.private.Constants.{nothing_around, IsConstantState, value_given, given_or}
+use Rattle.p10_interp.specs.private.Constants.{nothing_around, IsConstantState}
 use Rattle.p10_interp.specs.private.Statics.{HasStatics, starting}
-
-abbrev state_with : Held → List ℕ → List ℕ → List ℤ → List ℕ → ℕ → Bool → Around → State
-state_with s pending denied sensors waiting left marked io = record {
-  objects = s.objects;
-  opened = s.opened;
-  input = pending ++ io.rest;
-  sensors = sensors;
-  denied = denied;
-  requests = 0;
-  output = io.out ++ waiting;
-  left = left;
-  calls = 0;
-  bytes = 0;
-  marked = marked;
-  after_mark = 0;
-}
-
-pub starts : (p : PlainProgram) (s : Held) (pending denied waiting : List ℕ) (sensors : List ℤ) (left : ℕ) (marked : Bool) (io : Around) → pending ≡ [] → sensors ≡ [] → waiting ≡ [] → marked ≡ is_none p.mark →
-    state_with s pending denied sensors waiting left marked io ≡ starting p s denied left io
-starts p s pending denied waiting sensors left marked io e f g m =
-    ap (λ pending. state_with s pending denied sensors waiting left marked io) e ∙
-    (ap (λ sensors. state_with s [] denied sensors waiting left marked io) f ∙
-    (ap (λ waiting. state_with s [] denied [] waiting left marked io) g ∙
-    (ap (λ m. state_with s [] denied [] [] left m io) m ∙ ap (λ out. record (starting p s denied left io) { output = out }) (append-nil io.out))))
 
 statics_start : (p : PlainProgram) (cells : PlainObject → List Cell) (s : Held) (world : World) (left : ℕ) (io : Around) → HasStatics p cells s → io.rest ≡ world.input → world.sensors ≡ [] →
     starting p s world.denied left io ≡ record (opening_with cells p world left) { output = io.out }
@@ -75,7 +48,3 @@ if_ok_on (Err e) P Q go h = tt
 pub on_ok_then : {A B C : Type 0} (r : Result A B) (a b c : C) → b ≡ c → OnOk r (a ≡ b) → OnOk r (a ≡ c)
 on_ok_then (Ok x) a b c e h = h ∙ e
 on_ok_then (Err x) a b c e h = tt
-
-pub given_value : (t : PlainType) (o : Progress Scalar) → given_or (value_given o) (zero_of t) ≡ constant_scalar t o
-given_value t (gives x w) = refl
-given_value t (ends end w) = refl

@@ -5,6 +5,7 @@ use Rattle.std.proofs.lemmas.List.{take_all}
 use Rattle.std.specs.List.{All}
 use Rattle.std.proofs.lemmas.List.Elements.{All-head, All-tail}
 use Rattle.p10_core.specs.Typed.{PlainObject, PlainLiteral}
+use Rattle.p10_interp.proofs.Items.{take_next}
 use Rattle.p10_meaning.specs.declared.pointers.Cell.{Cell}
 use Rattle.p10_meaning.specs.declared.pointers.Scalar.TheVariants.{Int}
 use Rattle.p10_int.specs.declared.types.IntType.TheVariants.{Char}
@@ -12,11 +13,6 @@ use Rattle.p10_int.specs.Conversion.{converted}
 use Rattle.p10_meaning.specs.Pointers.{holding}
 use Rattle.p10_meaning.specs.Objects.{Object, declared, literal}
 use Rattle.p10_meaning.specs.Opening.{static_objects, literal_objects}
-
-take_next : {A : Type 0} (xs : List A) (i : ℕ) (x : A) → slice_get xs i ≡ Some x → take (suc i) xs ≡ take i xs ++ x ∷ []
-take_next [] i x e = absurd (none-some _ e)
-take_next (y ∷ xs) zero x e = ap (λ x. x ∷ []) (same_Some _ _ e)
-take_next (y ∷ xs) (suc i) x e = ap (λ ys. y ∷ ys) (take_next xs i x e)
 
 if_more : (b : Bool) (x : Object) (xs ys zs : List Object) → xs ≡ ys ++ zs → cond b xs (x ∷ xs) ≡ cond b ys (x ∷ ys) ++ zs
 if_more true x xs ys zs e = e
@@ -68,6 +64,3 @@ all_at P (y ∷ xs) (suc i) x a e = all_at P xs i x (All-tail P y xs a) e
 
 pub literals_all : (first : List Object) (from : ℕ) (all : List PlainLiteral) (i : ℕ) (now : List Object) → length all ≤ i → now ≡ first ++ literal_objects from (take i all) → now ≡ first ++ literal_objects from all
 literals_all first from all i now l e = e ∙ ap (λ xs. first ++ literal_objects from xs) (take_all i all l)
-
-pub statics_all : (cells : PlainObject → List Cell) (all : List PlainObject) (i : ℕ) (now : List Object) → length all ≤ i → now ≡ static_objects cells 0 (take i all) → now ≡ static_objects cells 0 all
-statics_all cells all i now l e = e ∙ ap (λ xs. static_objects cells 0 xs) (take_all i all l)

@@ -1,5 +1,5 @@
 -- Loops and `switch` after one of their parts.
-use Rattle.std.proofs.Common.{◌≡◌, ℕ, zero, suc, ◌-◌, arith, length, take, List, [], ◌∷◌, drop, refl, sym, ◌∙◌, ap, subst, Result, Option, Some, None, option_map}
+use Rattle.std.proofs.Common.{◌≡◌, ℕ, zero, suc, ◌-◌, arith, length, take, List, [], ◌∷◌, drop, refl, sym, ◌∙◌, ap, subst, Result, Option, option_map}
 use Rattle.std.proofs.lemmas.List.{length-drop}
 use Rattle.p10_core.specs.declared.typed.Value.{Value}
 use Rattle.p10_core.specs.declared.statements.Stmt.{Stmt}
@@ -7,7 +7,7 @@ use Rattle.p10_core.specs.declared.statements.StmtForm.{StmtForm}
 use Rattle.p10_core.specs.declared.statements.StmtForm.TheVariants.{Loop as LoopForm, Switch, Block}
 use Rattle.p10_core.specs.declared.statements.LoopKeyword.{LoopKeyword}
 use Rattle.p10_base.specs.declared.at.At.{At}
-use Rattle.p10_core.specs.Typed.{PlainStatementForm, statement, PlainProgram}
+use Rattle.p10_core.specs.Typed.{statement, PlainProgram}
 use Rattle.p10_core.specs.Views.{plain_value, plain_labels, plain_statement, plain_statements, plain_statement_form}
 use Rattle.p10_meaning.specs.States.{State}
 use Rattle.p10_interp.specs.declared.work.Halt.{Halt}

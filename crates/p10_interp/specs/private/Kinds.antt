@@ -1,6 +1,6 @@
 -- What kind of scalar a type is.
 use Rattle.std.specs.Prelude.{◌≡◌, ℕ, List, Option, Some, None, slice_get}
-use Rattle.p10_core.specs.Types.{PlainType, void, integer, pointer, array, structure}
+use Rattle.p10_core.specs.Types.{PlainType, integer, pointer}
 use Rattle.p10_interp.specs.declared.kinds.Kind.{Kind}
 use Rattle.p10_interp.specs.declared.kinds.Kind.TheVariants.{Integer, Pointer}
 

@@ -1,11 +1,10 @@
 -- A frame variable, a sensor, or a cell of an object.
-use Rattle.std.proofs.Common.{◌≡◌, ◌∙◌, sym, ap, subst, option_map, slice_get}
+use Rattle.std.proofs.Common.{◌∙◌, sym, ap, subst, slice_get}
 use Rattle.p10_core.specs.Types.{plain_type}
 use Rattle.p10_meaning.specs.Pointers.{read_of}
 use Rattle.p10_meaning.specs.Objects.{on_ok, cell_at}
 use Rattle.p10_meaning.specs.Values.{held_cell, read_target}
 use Rattle.p10_interp.specs.private.OpenCalls.{innermost_held}
-use Rattle.p10_interp.specs.private.Standing.{held_of}
 use Rattle.p10_interp.specs.private.Views.{Finds, Gives, target_of}
 use Rattle.p10_interp.specs.private.Machines.{state_of}
 use Rattle.p10_interp.proofs.Pointed.{finds_gives}

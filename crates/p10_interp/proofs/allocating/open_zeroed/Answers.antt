@@ -1,7 +1,6 @@
 -- An allocation is opened.
-use Rattle.std.proofs.Common.{refl, sym, ◌∙◌, ap, length}
+use Rattle.std.proofs.Common.{refl}
 use Rattle.p10_meaning.specs.Objects.{allocated}
-use Rattle.p10_store.specs.declared.shape.Origin.TheVariants.{AllocatedWith}
 use Rattle.p10_interp.specs.private.Machines.{state_of}
 use Rattle.p10_interp.proofs.Requested.{opened_is}
 use Rattle.p10_interp.proofs.allocating.open_zeroed.Goals as goal

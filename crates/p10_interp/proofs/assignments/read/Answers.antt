@@ -1,11 +1,8 @@
 -- A read that stops stops the operation.
-use Rattle.std.proofs.Common.{◌-◌, ◌∙◌, sym, ap, Err}
+use Rattle.std.proofs.Common.{◌∙◌, sym, ap, Err}
 use Rattle.std.proofs.lemmas.Result.{err_from_is_err_and}
 use Rattle.p10_core.specs.Types.{plain_type}
-use Rattle.p10_core.specs.Views.{plain_program}
-use Rattle.p10_interp.specs.private.Operations.{first_value, first_target, below}
-use Rattle.p10_interp.specs.private.OpenCalls.{calls_in}
-use Rattle.p10_interp.specs.private.Views.{left_with, target_of}
+use Rattle.p10_interp.specs.private.Views.{target_of}
 use Rattle.p10_interp.specs.private.Machines.{state_of}
 use Rattle.p10_interp.proofs.Assigned.{read_stops}
 use Rattle.p10_interp.proofs.assignments.read.Goals as goal

@@ -1,11 +1,10 @@
 -- Both places are there, and their scalars are copied.
-use Rattle.std.proofs.Common.{◌-◌, ◌∙◌, sym, ap, Err}
-use Rattle.std.proofs.lemmas.Result.{err_from_is_err_and}
+use Rattle.std.proofs.Common.{◌∙◌, sym, ap}
 use Rattle.p10_core.specs.Types.{plain_type}
 use Rattle.p10_core.specs.Views.{plain_program}
-use Rattle.p10_interp.specs.private.Operations.{first_value, first_target, below}
+use Rattle.p10_interp.specs.private.Operations.{first_target, below}
 use Rattle.p10_interp.specs.private.OpenCalls.{calls_in}
-use Rattle.p10_interp.specs.private.Views.{left_with, target_of}
+use Rattle.p10_interp.specs.private.Views.{target_of}
 use Rattle.p10_interp.specs.private.Machines.{state_of}
 use Rattle.p10_interp.proofs.Assigned.{copied}
 use Rattle.p10_interp.proofs.copying.copy.Goals as goal

@@ -1,5 +1,5 @@
 -- What is left to be copied comes to what all comes to.
-use Rattle.std.proofs.Common.{◌≡◌, ◌-◌, ◌≤◌}
+use Rattle.std.proofs.Common.{◌≡◌, ◌-◌}
 use Rattle.p10_meaning.specs.Statements.{Frame, copy_scalars}
 use Rattle.p10_interp.specs.private.Machines.{Around, state_of}
 use Rattle.p10_interp.proofs.copying.copy_scalars.Given as goal

@@ -1,5 +1,5 @@
 -- The variable is there, and its initialiser comes next.
-use Rattle.std.proofs.Common.{◌∙◌, sym, ap, Err, option_map, slice_get}
+use Rattle.std.proofs.Common.{◌∙◌, ap, Err, option_map}
 use Rattle.std.proofs.lemmas.Result.{err_from_is_err_and}
 use Rattle.p10_core.specs.Views.{plain_program, plain_variable}
 use Rattle.p10_interp.specs.private.OpenCalls.{calls_in}

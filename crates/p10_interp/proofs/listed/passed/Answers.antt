@@ -1,5 +1,5 @@
 -- The next item is passed.
-use Rattle.std.proofs.Common.{map, arith}
+use Rattle.std.proofs.Common.{map}
 use Rattle.p10_core.specs.Views.{plain_item}
 use Rattle.p10_interp.proofs.Ordered.{list_next}
 use Rattle.p10_interp.proofs.listed.passed.Goals as goal

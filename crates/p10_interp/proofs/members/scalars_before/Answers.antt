@@ -1,6 +1,6 @@
 -- The members are those of the structure that stands for it.
 use Rattle.std.proofs.Common.{sym, ◌∙◌, ap, map, false, option_map, option_copied}
-use Rattle.p10_core.specs.Types.{PlainType, structure, bare, plain_form_of_type, plain_body, plain_member, plain_type, representative_of}
+use Rattle.p10_core.specs.Types.{structure, bare, plain_form_of_type, plain_body, plain_member, plain_type, representative_of}
 use Rattle.p10_core.specs.Views.{plain_types}
 use Rattle.p10_interp.proofs.Membered.{before_member}
 use Rattle.p10_interp.proofs.members.scalars_before.Goals as goal

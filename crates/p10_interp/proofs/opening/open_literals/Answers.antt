@@ -1,8 +1,7 @@
 -- The next literal is opened.
-use Rattle.std.proofs.Common.{◌+◌, map, length, refl, arith, ◌∙◌, ap}
+use Rattle.std.proofs.Common.{◌+◌, map, refl, arith}
 use Rattle.p10_core.specs.Views.{plain_literal}
-use Rattle.std.proofs.lemmas.List.{take_all, length-map}
-use Rattle.p10_meaning.specs.Opening.{literal_objects}
+use Rattle.std.proofs.lemmas.List.{length-map}
 use Rattle.p10_interp.proofs.Items.{item_there}
 use Rattle.p10_interp.proofs.Statics.{literal_next, literals_all}
 use Rattle.p10_interp.proofs.opening.open_literals.Goals as goal

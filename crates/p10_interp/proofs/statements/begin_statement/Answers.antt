@@ -1,6 +1,6 @@
 -- Each form of statement begins with its own parts.
-use Rattle.std.proofs.Common.{◌∙◌, ap, subst}
-use Rattle.p10_core.specs.Views.{plain_program, plain_statement_form, plain_statements}
+use Rattle.std.proofs.Common.{◌∙◌, ap}
+use Rattle.p10_core.specs.Views.{plain_program, plain_statement_form}
 use Rattle.p10_interp.proofs.Rows.{plain_block}
 use Rattle.p10_interp.proofs.Begun.{executed_by, moves_by, if_executed, switch_executed, loop_executed, first_are, block_are, normal_in}
 use Rattle.p10_interp.proofs.statements.begin_statement.Goals as goal

@@ -1,16 +1,9 @@
 -- The body is a block, whose statements are these.
-use Rattle.std.proofs.Common.{◌∷◌, ◌∙◌, sym, ap, refl, subst, option_map, Some}
-use Rattle.p10_core.specs.declared.typed.Value.{Value}
-use Rattle.p10_core.specs.declared.statements.Stmt.{Stmt}
-use Rattle.p10_core.specs.Typed.{statement}
-use Rattle.p10_core.specs.Views.{plain_program, plain_value, plain_labels, plain_statement, plain_statements, plain_statement_form}
-use Rattle.p10_interp.specs.private.Tasks.{execute_statement, begin_loop, test_loop, enter_turn, end_turn, select}
-use Rattle.p10_interp.specs.private.Views.{selection_of, tasks_in}
-use Rattle.p10_interp.proofs.Chosen.{act_by}
-use Rattle.p10_interp.proofs.Begun.{two_tasks, answers_in}
+use Rattle.std.proofs.Common.{Some}
+use Rattle.p10_interp.specs.private.Views.{tasks_in}
 use Rattle.p10_meaning.specs.Statements.{normal}
 use Rattle.p10_interp.specs.private.Machines.{rig_of}
-use Rattle.p10_interp.proofs.Turned.{looped, selects, enters_block}
+use Rattle.p10_interp.proofs.Turned.{enters_block}
 use Rattle.p10_interp.proofs.turns.enter_at.Goals as goal
 
 pub returns-in-Block : goal.returns-in-Block

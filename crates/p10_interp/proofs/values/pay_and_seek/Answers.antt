@@ -1,9 +1,8 @@
 -- The step pays for the place, before which the work after it was put down.
-use Rattle.std.proofs.Common.{◌∷◌, ◌∙◌, ap}
-use Rattle.p10_core.specs.Types.{plain_type}
-use Rattle.p10_core.specs.Views.{plain_program, plain_place, plain_value}
+use Rattle.std.proofs.Common.{◌∷◌}
+use Rattle.p10_core.specs.Views.{plain_program, plain_place}
 use Rattle.p10_meaning.specs.Statements.{normal}
-use Rattle.p10_interp.specs.private.Tasks.{Task, operate, evaluate_value, write_at, locate_place, copy_between}
+use Rattle.p10_interp.specs.private.Tasks.{operate}
 use Rattle.p10_interp.specs.private.Views.{operation_of, tasks_in}
 use Rattle.p10_interp.specs.private.Machines.{state_of, rig_of}
 use Rattle.p10_interp.proofs.Begun.{sought_paid}
