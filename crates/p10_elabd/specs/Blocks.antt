@@ -1,28 +1,13 @@
 -- Names of the innermost block (C99 6.2.1, 6.7p3).
-use Rattle.std.specs.Prelude.{ℕ, Bool, true, false, if◌then◌else◌, List, [], ◌∷◌, drop, Option, None, is_some}
+use Rattle.std.specs.Prelude.{Bool, true, false, if◌then◌else◌, is_some}
 use Rattle.p10_base.specs.Words.{Text}
 use Rattle.p10_base.specs.declared.at.At.{At}
 use Rattle.p10_base.specs.declared.codes.SubsetCode.TheVariants as subset
 use Rattle.p10_syn.specs.Trees.{Identifier}
 use Rattle.p10_elabx.specs.First.{Keep}
-use Rattle.p10_elabx.specs.Scopes.{Meaning, PlainScope, last_named, last_floor, declared, library_named}
+use Rattle.p10_elabx.specs.Scopes.{Meaning, PlainScope, declared, library_named}
+use Rattle.p10_elabx.specs.Innermost.{named_here, is_outermost}
 use Rattle.p10_elabd.specs.Standing.{PlainStanding, refusing}
-
--- what a name stands for that is declared in the innermost block
-abbrev pub named_here : PlainScope → Text → Option Meaning
-named_here s name = last_named None name (drop (last_floor s.floors).0 s.names)
-
--- what a tag stands for that is declared in the innermost block
-abbrev pub tagged_here : PlainScope → Text → Option Meaning
-tagged_here s name = last_named None name (drop (last_floor s.floors).1 s.tags)
-
--- whether no block is open inside the outermost one
-abbrev pub is_outermost : PlainScope → Bool
-is_outermost s = no_floor s.floors
-  where
-    no_floor : List (ℕ × ℕ) → Bool
-    no_floor [] = true
-    no_floor (f ∷ rest) = false
 
 -- whether a name may not be declared here: it is declared in this block already, or it is that of a library function, outside of
 -- functions

@@ -1,5 +1,5 @@
 -- What specifiers and declarators declare: types, tags, members, constants of enumerations, parameters (C99 6.7).
-use Rattle.std.specs.Prelude.{ℕ, ◌+◌, ℤ, pos, Bool, true, false, ◌||◌, if◌then◌else◌, List, [], ◌∷◌, ◌++◌, Option, Some, None, is_some, Ok, Err}
+use Rattle.std.specs.Prelude.{ℕ, ◌+◌, ℤ, pos, Bool, true, false, not, ◌||◌, if◌then◌else◌, List, [], ◌∷◌, ◌++◌, Option, Some, None, option_map, is_some, Ok, Err}
 use Rattle.p10_base.specs.declared.at.At.{At}
 use Rattle.p10_base.specs.declared.codes.SubsetCode.TheVariants as subset
 use Rattle.p10_syn.specs.declared.sign.Sign.{Sign}
@@ -32,11 +32,7 @@ both_named (Some a) None = None
 
 -- a type as what a specifier names
 abbrev pub as_named : Passed PlainType → Passed (Option PlainType)
-as_named p = record { made = named_by p.made; after = p.after }
-  where
-    named_by : Option PlainType → Option (Option PlainType)
-    named_by None = None
-    named_by (Some t) = Some (Some t)
+as_named p = record { made = option_map (λ t. Some t) p.made; after = p.after }
 
 -- a word as a specifier
 abbrev pub word_passed : Keep → Site → Allowed → Bool → At → Sign → PlainStanding → Passed (Option PlainType)
@@ -76,9 +72,28 @@ tag_passed h alone at word None s = nothing_made s
 tag_passed h alone at word (Some tag) s = structure_named h alone tag s
 
 -- an enumeration's name, where it has no constants
-abbrev pub enumeration_passed : Keep → At → Option (Identifier At) → PlainStanding → Passed PlainType
-enumeration_passed h at None s = nothing_made s
-enumeration_passed h at (Some tag) s = enumeration_named h at tag s
+abbrev pub enumeration_by_name : Keep → At → Option (Identifier At) → PlainStanding → Passed PlainType
+enumeration_by_name h at None s = nothing_made s
+enumeration_by_name h at (Some tag) s = enumeration_named h at tag s
+
+-- one constant of an enumeration
+abbrev pub one_enumerator_passed : Keep → Passed ℤ → Enumerator At → Passed ℤ
+one_enumerator_passed h p (enumerator at name value) = enumerator_passed h p.made name value p.after
+
+-- constants of an enumeration after those before, each with the value of the next one
+abbrev pub enumerators_passed : Keep → Passed ℤ → Enumerators At → Passed ℤ
+enumerators_passed h p NoEnumerators = p
+enumerators_passed h p (MoreEnumerators e rest) = enumerators_passed h (one_enumerator_passed h p e) rest
+
+-- before the first constant of an enumeration, whose value is 0 where none is written
+abbrev pub first_constant : PlainStanding → Passed ℤ
+first_constant s = record { made = Some (pos 0); after = s }
+
+-- an enumeration with its constants, or by its tag alone
+abbrev pub enumeration_passed : Keep → At → Option (Identifier At) → PlainStanding → Enumerators At → Passed PlainType
+enumeration_passed h at tag s NoEnumerators = enumeration_by_name h at tag s
+enumeration_passed h at tag s (MoreEnumerators e rest) =
+    passed int_type (with_enumeration tag (enumerators_passed h (first_constant (enumeration_begun h tag s)) (MoreEnumerators e rest)).after)
 
 -- where the members of a union or a structure stand
 abbrev pub begun_with : Keep → Sign → Option (Identifier At) → PlainStanding → Begun
@@ -96,25 +111,25 @@ abbrev pub parameter_added : Option (List PlainParameter) → At → Option (Ide
 parameter_added (Some parameters) at name (Some t) = Some (parameters ++ record { at = at; name = name; type = t } ∷ [])
 parameter_added parameters at name t = None
 
+-- whether a type is `void` without a mark
+abbrev pub is_plain_void : PlainType → Bool
+is_plain_void (void c) = not c
+is_plain_void t = false
+
 -- whether what is declared is `void` without a name: as the only parameter it says that there are none (C99 6.7.5.3p10)
 abbrev pub is_no_parameter : Declarator At → Option PlainType → Bool
-is_no_parameter (Unnamed at) (Some (void false)) = true
+is_no_parameter (Unnamed at) (Some t) = is_plain_void t
 is_no_parameter d t = false
 
 -- the type of specifiers, before a declarator
 abbrev pub based : Option PlainType → PlainStanding → Passed DeclaredType
-based None s = nothing_made s
-based (Some t) s = passed (of_type t) s
+based t s = record { made = option_map of_type t; after = s }
 
 -- a parameter after others, by what its declarator made of the type of its specifiers
 abbrev pub with_declared_parameter : Keep → ℕ → Option (List PlainParameter) → At → Declarator At → Passed DeclaredType → Passed (List PlainParameter)
 with_declared_parameter h i before at d j =
     let u : Passed PlainType = parameter_declared h at (place_or at (name_in d)) (declarator_place d) j.made j.after in
     record { made = parameter_added before at (name_in d) u.made; after = with_parameter h i (name_in d) u.made u.after }
-
--- the only parameter, which may say that there are none
-abbrev pub with_only_parameter : Keep → At → Declarator At → Passed PlainType → Passed DeclaredType → Passed (List PlainParameter)
-with_only_parameter h at d t j = if is_no_parameter d t.made then passed [] t.after else with_declared_parameter h 0 (Some []) at d j
 
 -- ## The trees
 
@@ -130,15 +145,16 @@ abbrev mutual
   pub specifier_passed : Keep → Site → Allowed → Bool → Bool → PlainStanding → Specifier At → Passed (Option PlainType)
   specifier_passed h site allowed alone stored s (Keyword at word) = word_passed h site allowed stored at word s
   specifier_passed h site allowed alone stored s (Typedef name) = noted h (lift (typedef_rule name.place (named s.scope name.name))) s
-  specifier_passed h site allowed alone stored s (Structure at word tag NoMembers) = as_named (tag_passed h alone at word tag s)
-  specifier_passed h site allowed alone stored s (Structure at word tag (MoreMembers m rest)) =
+  specifier_passed h site allowed alone stored s (Structure at word tag members) = as_named (structure_passed h alone at word tag s members)
+  specifier_passed h site allowed alone stored s (Enumeration at tag enumerators comma) = as_named (enumeration_passed h at tag s enumerators)
+
+  -- a structure or a union with its members, or by its tag alone
+  pub structure_passed : Keep → Bool → At → Sign → Option (Identifier At) → PlainStanding → Members At → Passed PlainType
+  structure_passed h alone at word tag s NoMembers = tag_passed h alone at word tag s
+  structure_passed h alone at word tag s (MoreMembers m rest) =
       let b : Begun = begun_with h word tag s in
       let p : Passed (List PlainMember) = members_passed h (member_passed h (passed [] b.standing) m) rest in
-      as_named (unless_union h at word (structure_made h at tag b.number p.made (ended p.after)))
-  specifier_passed h site allowed alone stored s (Enumeration at tag NoEnumerators comma) = as_named (enumeration_passed h at tag s)
-  specifier_passed h site allowed alone stored s (Enumeration at tag (MoreEnumerators e rest) comma) =
-      let p : Passed ℤ = enumerators_passed h (one_enumerator_passed h (record { made = Some (pos 0); after = enumeration_begun h tag s }) e) rest in
-      passed (Some int_type) (with_enumeration tag p.after)
+      unless_union h at word (structure_made h at tag b.number p.made (ended p.after))
 
   -- declarations of members after those before
   pub members_passed : Keep → Passed (List PlainMember) → Members At → Passed (List PlainMember)
@@ -163,15 +179,6 @@ abbrev mutual
       let j : Passed DeclaredType = declarator_passed h name_at (based t (with_width h (declarator_place d) width p.after)) d in
       with_member h name_at p.made (name_in d) (member_declared h name_at j.made j.after)
 
-  -- constants of an enumeration, each with the value of the next one
-  pub enumerators_passed : Keep → Passed ℤ → Enumerators At → Passed ℤ
-  enumerators_passed h p NoEnumerators = p
-  enumerators_passed h p (MoreEnumerators e rest) = enumerators_passed h (one_enumerator_passed h p e) rest
-
-  -- one constant of an enumeration
-  pub one_enumerator_passed : Keep → Passed ℤ → Enumerator At → Passed ℤ
-  one_enumerator_passed h p (enumerator at name value) = enumerator_passed h p.made name value p.after
-
   -- what a declarator makes of a type, from its specifiers to its name
   pub declarator_passed : Keep → At → Passed DeclaredType → Declarator At → Passed DeclaredType
   declarator_passed h name_at p (Named name) = p
@@ -183,7 +190,7 @@ abbrev mutual
   declarator_passed h name_at p (Function at d parentheses all more) =
       let r : Passed PlainType = result_declared h at name_at p.made p.after in
       let q : Passed (List PlainParameter) = all_parameters_passed h (among_parameters (refusing h more subset.NoPrototype parentheses r.after)) parentheses all in
-      declarator_passed h name_at (function_declared r.after r.made q.made q.after) d
+      declarator_passed h name_at (function_declared r.made q.made q.after) d
 
   -- the parameters of a function: there are some, or the word `void` (C99 6.7.5.3p10, p14)
   pub all_parameters_passed : Keep → PlainStanding → At → Parameters At → Passed (List PlainParameter)
@@ -195,7 +202,8 @@ abbrev mutual
   pub only_parameter_passed : Keep → PlainStanding → Parameter At → Passed (List PlainParameter)
   only_parameter_passed h s (parameter at specifiers d) =
       let t : Passed PlainType = type_specified h specifiers (specifiers_passed h site_is.OfParameter none_allowed false false (passed None s) specifiers) in
-      with_only_parameter h at d t (declarator_passed h (place_or at (name_in d)) (based t.made t.after) d)
+      if is_no_parameter d t.made then passed [] t.after
+      else with_declared_parameter h 0 (Some []) at d (declarator_passed h (place_or at (name_in d)) (based t.made t.after) d)
 
   -- parameters after those before, the next one with its number
   pub parameters_passed : Keep → ℕ → Passed (List PlainParameter) → Parameters At → Passed (List PlainParameter)
@@ -212,3 +220,14 @@ abbrev mutual
 abbrev pub specified : Keep → Site → Allowed → Bool → PlainStanding → Specifiers At → Passed PlainType
 specified h site allowed alone s specifiers =
     type_specified h specifiers (specifiers_passed h site allowed alone false (passed None s) specifiers)
+
+-- a function with a result and these parameters, whose names end with its declarator
+abbrev pub function_passed : Keep → At → Option PlainType → PlainStanding → Parameters At → Passed DeclaredType
+function_passed h parentheses result s all =
+    let q : Passed (List PlainParameter) = all_parameters_passed h (among_parameters s) parentheses all in
+    function_declared result q.made q.after
+
+-- one parameter with the type of its specifiers
+abbrev pub typed_parameter_passed : Keep → ℕ → Option (List PlainParameter) → Passed PlainType → At → Declarator At → Passed (List PlainParameter)
+typed_parameter_passed h i before t at d =
+    with_declared_parameter h i before at d (declarator_passed h (place_or at (name_in d)) (based t.made t.after) d)

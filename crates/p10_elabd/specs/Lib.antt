@@ -12,4 +12,6 @@ pub mod StaticValues
 pub mod Initializers
 pub mod Laws
 pub mod Views
+pub mod ItemViews
 pub mod Targets
+pub mod private

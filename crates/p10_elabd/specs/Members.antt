@@ -1,11 +1,12 @@
 -- Members of structures and constants of enumerations (C99 6.7.2.1, 6.7.2.2), one at a time.
-use Rattle.std.specs.Prelude.{ℤ, pos, ◌+ℤ◌, Bool, true, false, if◌then◌else◌, List, [], ◌∷◌, ◌++◌, Option, Some, None, is_some}
+use Rattle.std.specs.Prelude.{ℤ, pos, ◌+ℤ◌, Bool, true, false, ◌||◌, if◌then◌else◌, List, [], ◌∷◌, ◌++◌, Option, Some, None, bytes_eq}
+use Rattle.p10_base.specs.Words.{Text}
 use Rattle.p10_base.specs.declared.at.At.{At}
 use Rattle.p10_base.specs.declared.codes.SubsetCode.TheVariants as subset
 use Rattle.p10_int.specs.declared.types.IntType.TheVariants.{Int}
 use Rattle.p10_int.specs.Types.{holds}
 use Rattle.p10_syn.specs.Trees.{Identifier, Optional, Absent, Present}
-use Rattle.p10_core.specs.Types.{PlainType, PlainMember, member_named}
+use Rattle.p10_core.specs.Types.{PlainType, PlainMember}
 use Rattle.p10_core.specs.Rows.{is_complete}
 use Rattle.p10_elabx.specs.First.{Keep}
 use Rattle.p10_elabx.specs.Scopes.{Meaning, number, unknown_name}
@@ -37,9 +38,14 @@ abbrev pub member_added : Option (List PlainMember) → Option (Identifier At) �
 member_added (Some members) (Some name) (Some t) = Some (members ++ record { name = name.name; type = t } ∷ [])
 member_added members name t = None
 
+-- whether one of the members has a name
+abbrev pub has_name : Text → List PlainMember → Bool
+has_name name [] = false
+has_name name (m ∷ rest) = bytes_eq m.name name || has_name name rest
+
 -- whether a member has this name already
 abbrev pub is_member : Option (List PlainMember) → Option (Identifier At) → Bool
-is_member (Some members) (Some name) = is_some (member_named name.name members)
+is_member (Some members) (Some name) = has_name name.name members
 is_member members name = false
 
 -- a member after others: its name is another one (C99 6.7p3)

@@ -1,5 +1,5 @@
 -- What declarators make of types (C99 6.7.5), and what may be declared with them.
-use Rattle.std.specs.Prelude.{Bool, true, false, if◌then◌else◌, List, Option, Some, None, Ok, drop, length}
+use Rattle.std.specs.Prelude.{option_map, Bool, true, false, if◌then◌else◌, List, Option, Some, None, Ok, drop}
 use Rattle.p10_base.specs.declared.at.At.{At}
 use Rattle.p10_base.specs.declared.codes.SubsetCode.TheVariants as subset
 use Rattle.p10_syn.specs.Trees.{Identifier, Qualifier, Expression, Declarator, Named, Unnamed, Pointer, Parenthesised, Array, Function}
@@ -7,7 +7,7 @@ use Rattle.p10_core.specs.Types.{PlainType, void, pointer, array, structure, Pla
 use Rattle.p10_core.specs.Rows.{is_void, is_complete}
 use Rattle.p10_core.specs.Typed.{PlainValue}
 use Rattle.p10_elabx.specs.First.{Keep, Ruled, ruled, nothing_said, on}
-use Rattle.p10_elabx.specs.Scopes.{Binding, entered, left}
+use Rattle.p10_elabx.specs.Scopes.{Binding, last_floor, entered, left}
 use Rattle.p10_elabx.specs.TypeNames.{Shape, a_type, an_open_array, a_function_type, has_const_word, other_word, array_of}
 use Rattle.p10_elabd.specs.Standing.{PlainStanding, Passed, passed, nothing_made, refusing, noted}
 use Rattle.p10_elabd.specs.Expressions.{value_found, for_expression}
@@ -121,11 +121,7 @@ array_declared h e element =
 
 -- an array without a length
 abbrev pub open_declared : Passed PlainType → Passed DeclaredType
-open_declared element = record { made = open_of element.made; after = element.after }
-  where
-    open_of : Option PlainType → Option DeclaredType
-    open_of None = None
-    open_of (Some t) = Some (of_open_array t)
+open_declared element = record { made = option_map of_open_array element.made; after = element.after }
 
 -- ## Functions
 
@@ -165,11 +161,11 @@ abbrev pub among_parameters : PlainStanding → PlainStanding
 among_parameters s = record s { scope = entered s.scope }
 
 -- a function with these parameters, whose names end with its declarator
-abbrev pub function_declared : PlainStanding → Option PlainType → Option (List PlainParameter) → PlainStanding → Passed DeclaredType
-function_declared before (Some result) (Some parameters) s = passed (of_function (record {
+abbrev pub function_declared : Option PlainType → Option (List PlainParameter) → PlainStanding → Passed DeclaredType
+function_declared (Some result) (Some parameters) s = passed (of_function (record {
   parameters = parameters;
   result = result;
-  names = drop (length before.scope.names) s.scope.names;
-  tags = drop (length before.scope.tags) s.scope.tags;
+  names = drop (last_floor s.scope.floors).0 s.scope.names;
+  tags = drop (last_floor s.scope.floors).1 s.scope.tags;
 })) (record s { scope = left s.scope })
-function_declared before result parameters s = nothing_made (record s { scope = left s.scope })
+function_declared result parameters s = nothing_made (record s { scope = left s.scope })

@@ -2,16 +2,22 @@
 use Rattle.std.specs.Prelude.{List, [], ◌∷◌, ◌++◌, Option, Some, None}
 use Rattle.p10_base.specs.Words.{Text}
 use Rattle.p10_base.specs.declared.at.At.{At}
+use Rattle.p10_syn.specs.declared.sign.Sign.{Sign}
 use Rattle.p10_syn.specs.declared.sign.Sign.TheVariants as sign
-use Rattle.p10_syn.specs.Trees.{Expression, expression, Name, Number, Character, Strings, Unary, Step, Binary, Assign, Conditional, Call, Index, Member, Arrow, Cast, SizeofExpression, SizeofType, Comma, Expressions, NoExpressions, MoreExpressions, Absent, Present, TypeName, type_name, Specifiers, NoSpecifiers, MoreSpecifiers, Specifier, Structure, Declarator, Named, Unnamed, Pointer, Parenthesised, Array, Function}
+use Rattle.p10_syn.specs.Trees.{Identifier, Expression, expression, Name, Number, Character, Strings, Unary, Step, Binary, Assign, Conditional, Call, Index, Member, Arrow, Cast, SizeofExpression, SizeofType, Comma, Expressions, NoExpressions, MoreExpressions, Absent, Present, TypeName, type_name, Specifiers, NoSpecifiers, MoreSpecifiers, Specifier, Structure, Declarator, Named, Unnamed, Pointer, Parenthesised, Array, Function}
 use Rattle.p10_core.specs.Types.{structure}
 use Rattle.p10_core.specs.Completing.{with_structure}
 use Rattle.std.specs.Prelude.{length, false}
 use Rattle.p10_elabx.specs.Scopes.{PlainScope, Meaning, tagged_type, tagged, declared}
 
--- the tag of a structure as a specifier without a body
+-- the tag after `struct`
+abbrev pub structure_tag : Sign → Option (Identifier At) → List Text
+structure_tag sign.Struct (Some tag) = tag.name ∷ []
+structure_tag word tag = []
+
+-- the tag of a structure as a specifier
 abbrev pub tag_of : Specifier At → List Text
-tag_of (Structure at sign.Struct (Some tag) _) = tag.name ∷ []
+tag_of (Structure at word tag _) = structure_tag word tag
 tag_of one = []
 
 -- the tags of structures among specifiers

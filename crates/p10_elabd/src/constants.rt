@@ -15,7 +15,8 @@ use p10_int::{IntType, holds};
 
 /// The value of a constant, which is one of `int` (C99 6.7.2.2p2).
 pub fn int_value(standing: &mut Standing<'_>, at: At, value: Option<i128>) -> Option<i128>
-    ensures { told result standing.new ≡ int_value only_first at value (plain_standing standing.old) }
+    ensures int { IfSome result (λ z. holds Int z ≡ true) }
+    ensures told { told result standing.new ≡ int_value only_first at value (plain_standing standing.old) }
 {
     match value {
         None => None,

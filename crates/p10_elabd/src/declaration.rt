@@ -1,16 +1,10 @@
 //! What declarators declare (C99 6.7.5).
 
 use p10_base::At;
+use p10_bindings::Bound;
 use p10_core::CType;
 use p10_elabx::Named;
 use p10_syn::Identifier;
-
-/// A name that is declared among parameters, and what it stands for.
-#[derive(Drop)]
-pub struct Bound<'s> {
-    pub name: &'s [u8],
-    pub what: Named,
-}
 
 /// A parameter.
 #[derive(Drop)]
@@ -25,8 +19,8 @@ pub struct DeclaredParameter<'s> {
 pub struct DeclaredFunction<'s> {
     pub parameters: Vec<DeclaredParameter<'s>>,
     pub result: CType,
-    pub names: Vec<Bound<'s>>,
-    pub tags: Vec<Bound<'s>>,
+    pub names: Vec<Bound<'s, Named>>,
+    pub tags: Vec<Bound<'s, Named>>,
 }
 
 /// What is declared.

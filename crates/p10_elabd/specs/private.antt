@@ -1,0 +1,2 @@
+-- What the proofs of this crate alone speak of.
+pub mod Heads

@@ -1,0 +1,129 @@
+//! Members of structures, one at a time (C99 6.7.2.1).
+
+ghost use Rattle.std.specs.Prelude.{◌≡◌, IfOk, map, option_map};
+ghost use Rattle.p10_syn.specs.Built.{identifier_of};
+ghost use Rattle.p10_core.specs.Types.{plain_type, plain_member};
+ghost use Rattle.p10_elabx.specs.First.{only_first};
+ghost use Rattle.p10_elabd.specs.Members.{member_type, member_declared, with_width, member_added, has_name, is_member, with_member};
+ghost use Rattle.p10_elabd.specs.Views.{plain_standing, plain_declared, plain_members, optional_boxed, told};
+
+use crate::declaration::Declared;
+use crate::expressions::constant_value;
+use crate::standing::Standing;
+use p10_base::{At, SubsetCode};
+use p10_core::{CType, Member};
+use p10_syn::{Expr, Identifier};
+use std::alloc::{AllocError, Global};
+
+/// The type of a member: it has a size, and is no function (C99 6.7.2.1p2).
+fn member_type<'s>(standing: &mut Standing<'s>, name_at: At, given: Declared<'s>) -> Option<CType>
+    ensures { told (option_map plain_type result) standing.new ≡ member_type only_first name_at (plain_declared given.entry) (plain_standing standing.old) }
+{
+    match given {
+        Declared::Plain(ty) => {
+            if standing.scope.types.is_complete(&ty) {
+                Some(ty)
+            } else {
+                standing.refuse(SubsetCode::IncompleteType, name_at);
+                None
+            }
+        }
+        Declared::OpenArray(_) | Declared::Function(_) => {
+            standing.refuse(SubsetCode::IncompleteType, name_at);
+            None
+        }
+    }
+}
+
+/// The type of a member that may be refused.
+pub fn member_declared<'s>(
+    standing: &mut Standing<'s>,
+    name_at: At,
+    given: Option<Declared<'s>>,
+) -> Option<CType>
+    ensures { told (option_map plain_type result) standing.new ≡ member_declared only_first name_at (option_map plain_declared given.entry) (plain_standing standing.old) }
+{
+    match given {
+        None => None,
+        Some(given) => member_type(standing, name_at, given),
+    }
+}
+
+/// A bit-field isn't in the subset; its width is judged all the same.
+pub fn judge_width<'s>(
+    alloc: Global,
+    standing: &mut Standing<'s>,
+    at: At,
+    width: &Option<Box<Expr<'s>>>,
+) -> Result<(), AllocError>
+    ensures { IfOk result (λ _. plain_standing standing.new ≡ with_width only_first at (optional_boxed width.now) (plain_standing standing.old)) }
+{
+    match width {
+        None => Ok(()),
+        Some(e) => {
+            standing.refuse(SubsetCode::UnionOrBitField, at);
+            constant_value(alloc, standing, e)?;
+            Ok(())
+        }
+    }
+}
+
+/// Whether one of the members has a name.
+fn has_name(name: &[u8], members: &[Member<'_>]) -> bool
+    ensures { result ≡ has_name name.now (map plain_member members.now) }
+{
+    for member in members {
+        if member.name == name {
+            return true;
+        }
+    }
+    false
+}
+
+/// Whether a member has this name already.
+fn is_member(members: &Option<Vec<Member<'_>>>, name: Option<Identifier<'_>>) -> bool
+    ensures { result ≡ is_member (option_map plain_members members.now) (option_map identifier_of name.entry) }
+{
+    match members {
+        None => false,
+        Some(members) => match name {
+            None => false,
+            Some(name) => has_name(name.text, members.as_slice()),
+        },
+    }
+}
+
+/// The members so far with one more.
+fn member_added<'s>(
+    members: Option<Vec<Member<'s>>>,
+    name: Option<Identifier<'s>>,
+    ty: Option<CType>,
+) -> Result<Option<Vec<Member<'s>>>, AllocError>
+    ensures { IfOk result (λ made. option_map plain_members made ≡ member_added (option_map plain_members members.entry) (option_map identifier_of name.entry) (option_map plain_type ty)) }
+{
+    match (members, name, ty) {
+        (Some(members), Some(name), Some(ty)) => {
+            let mut members = members;
+            members.push(Member {
+                name: name.text,
+                ty,
+            })?;
+            Ok(Some(members))
+        }
+        (_, _, _) => Ok(None),
+    }
+}
+
+/// A member after others: its name is another one (C99 6.7p3).
+pub fn with_member<'s>(
+    standing: &mut Standing<'s>,
+    name_at: At,
+    members: Option<Vec<Member<'s>>>,
+    name: Option<Identifier<'s>>,
+    ty: Option<CType>,
+) -> Result<Option<Vec<Member<'s>>>, AllocError>
+    ensures { IfOk result (λ made. told (option_map plain_members made) standing.new ≡ with_member only_first name_at (option_map plain_members members.entry) (option_map identifier_of name.entry) (told (option_map plain_type ty) standing.old)) }
+{
+    standing.refuse_where(is_member(&members, name), SubsetCode::DefinedTwice, name_at);
+    member_added(members, name, ty)
+}
