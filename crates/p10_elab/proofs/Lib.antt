@@ -17,7 +17,7 @@ mod Enumerated
 mod FirstNames
 mod ListRows
 mod MarkTurns
-mod Naming
+mod GrowingNames
 mod NumberMarks
 mod Numbered
 mod PieceRows

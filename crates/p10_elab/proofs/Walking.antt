@@ -19,7 +19,7 @@ use Rattle.p10_elabd.specs.declared.declaration.DeclaredParameter.{DeclaredParam
 use Rattle.p10_elabd.specs.Views.{plain_parameter}
 use Rattle.p10_elab.specs.Addresses.{LocalNames, with_others, taken_in_optional, taken_in_initial, Walk, taking, walked_parameter, with_parameters, walked_declarator, walked_declarators, walked_out, walked, walked_all}
 use Rattle.p10_elab.proofs.ListRows.{block_is}
-use Rattle.p10_elab.proofs.Naming.{forgotten, then_grows, statement_grows, statements_grow}
+use Rattle.p10_elab.proofs.GrowingNames.{forgotten, then_grows, statement_grows, statements_grow}
 
 -- ## Turns of loops
 
