@@ -19,7 +19,6 @@ pub mod Extending
 pub mod ListSteps
 pub mod ReadingSteps
 pub mod ExternalSteps
-pub mod TreeRows
 pub mod ParameterSteps
 pub mod Reading
 pub mod UnitSteps

@@ -12,7 +12,7 @@ use Rattle.p10_syn.specs.Trees.{Bare, Enumerators, MoreEnumerators, Members, Mor
 use Rattle.p10_syn.specs.Bare.{bare_specifier, bare_specifiers, bare_declarator}
 use Rattle.p10_syn.specs.Declaring.{after_specifiers, after_specifier, after_members, after_member, after_enumerators, after_enumerator, after_declarator, after_parameter, after_parameters}
 use Rattle.p10_syn.specs.Built.{declarator_of, structure_of, enumeration_of, specifiers_of, bare_specifier_of, bare_member_of, bare_enumerator_of, bare_declarator_of, bare_parameter_of}
-use Rattle.p10_parse.proofs.TreeRows.{specifiers_items, specifiers_row, members_items, enumerators_items}
+use Rattle.p10_make.proofs.Rows.{specifiers_items, specifiers_row, members_items, enumerators_items}
 use Rattle.p10_pexpr.proofs.Sizes.{specifiers_size, specifier_size, members_size, member_size}
 
 first_and_rest : {A : Type 0} (d x : A) (xs : List A) → 1 ≤ length xs → x ≡ get_or xs 0 d → xs ≡ x ∷ take (length xs - 1) (drop 1 xs)

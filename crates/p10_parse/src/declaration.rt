@@ -14,6 +14,7 @@ ghost use Rattle.p10_parse.specs.DeclarationReading.{braced_at, value_of, initia
 ghost use Rattle.p10_parse.specs.ExternalReading.{builders};
 
 use crate::initializer::initializer;
+use crate::stopping::stopped;
 use p10_pexpr::declarator::declarator;
 use p10_pexpr::specifier::specifiers;
 use p10_pexpr::{Cursor, Scope, Trouble};
@@ -32,8 +33,10 @@ pub fn declaration<'s>(
     ensures scope { IfOk result (λ d. scope.new ≡ after_declaration scope.old (bare_declaration_of d)) }
 {
     let specs = specifiers(alloc, budget, scope, Setting::Outside, cursor)?;
-    let all = declarators(alloc, budget, scope, specs.as_slice(), cursor)?;
-    Ok(p10_make::declaration(specs, all))
+    match declarators(alloc, budget, scope, specs.as_slice(), cursor) {
+        Ok(all) => Ok(p10_make::declaration(specs, all)),
+        Err(trouble) => stopped(specs, trouble),
+    }
 }
 
 /// Reads all declarators of a declaration after its specifiers, and the `;`.
@@ -57,7 +60,6 @@ fn declarators<'s>(
 }
 
 /// Reads further declarators after a first one, and the `;`.
-#[tactic(auto, using(crate::proofs::ListSteps::declarators_done, crate::proofs::ListSteps::declarators_open, crate::proofs::ListSteps::declarators_fail))]
 pub fn further<'s>(
     alloc: Global,
     budget: usize,
@@ -71,13 +73,35 @@ pub fn further<'s>(
     ensures scope { IfOk result (λ t. (names : Names) → scope.old ≡ after_declarator names (specifier_row (map bare_specifier_of specs.now)) (bare_init_declarator_of first.entry).declarator → scope.new ≡ after_init_declarators names (specifier_row (map bare_specifier_of specs.now)) (map bare_init_declarator_of t.items)) }
 {
     let mut all = Vec::new(alloc);
-    all.push(first)?;
+    if all.push(first).is_err() {
+        return stopped(all, Trouble::Memory);
+    }
+    match all_further(alloc, budget, scope, specs, &mut all, cursor) {
+        Ok(()) => Ok(all),
+        Err(trouble) => stopped(all, trouble),
+    }
+}
+
+/// Reads further declarators after those that were read, and the `;`.
+#[tactic(auto, using(crate::proofs::ListSteps::declarators_done, crate::proofs::ListSteps::declarators_open, crate::proofs::ListSteps::declarators_fail))]
+fn all_further<'s>(
+    alloc: Global,
+    budget: usize,
+    scope: &mut Scope<'s>,
+    specs: &[Spec<'s>],
+    all: &mut Vec<InitDeclarator<'s>>,
+    cursor: &mut Cursor<'_, 's>,
+) -> Result<(), Trouble>
+    ensures ok { OnOk result ((builders budget).declarators scope.old (specifier_row (map bare_specifier_of specs.now)) (map bare_init_declarator_of all.old.items) cursor.old ≡ Some (map bare_init_declarator_of all.new.items, cursor.new)) }
+    ensures refused { IsErrOf result Refused → (builders budget).declarators scope.old (specifier_row (map bare_specifier_of specs.now)) (map bare_init_declarator_of all.old.items) cursor.old ≡ None }
+    ensures scope { OnOk result ((names : Names) → scope.old ≡ after_init_declarators names (specifier_row (map bare_specifier_of specs.now)) (map bare_init_declarator_of all.old.items) → scope.new ≡ after_init_declarators names (specifier_row (map bare_specifier_of specs.now)) (map bare_init_declarator_of all.new.items)) }
+{
     let mut fuel = budget;
     while fuel > 0 {
         fuel -= 1;
         if !cursor.heads(Sign::Comma) {
             cursor.expect(Sign::Semicolon)?;
-            return Ok(all);
+            return Ok(());
         }
         cursor.advance();
         let next = init_declarator(alloc, fuel, scope, specs, cursor)?;
@@ -123,11 +147,15 @@ pub fn initial<'s>(
     ensures scope { OnOk result (scope.new ≡ after_declarator scope.old (specifier_row (map bare_specifier_of specs.now)) (bare_declarator_of declarator.entry)) }
     ensures same { IfOk result (λ d. (bare_init_declarator_of d).declarator ≡ bare_declarator_of declarator.entry) }
 {
-    scope.declare(specs, &declarator)?;
+    if scope.declare(specs, &declarator).is_err() {
+        return stopped(declarator, Trouble::Memory);
+    }
     if cursor.heads(Sign::Assign) {
         cursor.advance();
-        let init = initializer(alloc, budget, scope, cursor)?;
-        Ok(p10_make::init_declarator(declarator, Some(init)))
+        match initializer(alloc, budget, scope, cursor) {
+            Ok(init) => Ok(p10_make::init_declarator(declarator, Some(init))),
+            Err(trouble) => stopped(declarator, trouble),
+        }
     } else {
         Ok(p10_make::init_declarator(declarator, None))
     }

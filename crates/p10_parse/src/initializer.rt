@@ -9,6 +9,7 @@ ghost use Rattle.p10_parse.specs.private.Cut.{no_initializer, initializers_end};
 ghost use Rattle.p10_parse.specs.DeclarationReading.{braced_at, value_of};
 ghost use Rattle.p10_parse.specs.ExternalReading.{builders};
 
+use crate::stopping::stopped;
 use p10_pexpr::expression::expression;
 use p10_pexpr::{Cursor, Scope, Trouble};
 use p10_syn::{Init, Sign};
@@ -71,7 +72,6 @@ fn braced<'s>(
 
 /// Reads initialisers with commas between them, whether a comma stands after the last, and the `}`.
 #[cycle(initialising)]
-#[tactic(auto, using(crate::proofs::ListSteps::initializers_fail))]
 fn initializers<'s>(
     alloc: Global,
     budget: usize,
@@ -83,6 +83,26 @@ fn initializers<'s>(
     ensures scope { OnOk result (scope.new ≡ scope.old) }
 {
     let mut all = Vec::new(alloc);
+    match all_initializers(alloc, budget, scope, &mut all, cursor) {
+        Ok(ends_with_comma) => Ok((all, ends_with_comma)),
+        Err(trouble) => stopped(all, trouble),
+    }
+}
+
+/// Reads initialisers after those that were read, whether a comma stands after the last, and the `}`.
+#[cycle(initialising)]
+#[tactic(auto, using(crate::proofs::ListSteps::initializers_fail))]
+fn all_initializers<'s>(
+    alloc: Global,
+    budget: usize,
+    scope: &mut Scope<'s>,
+    all: &mut Vec<Init<'s>>,
+    cursor: &mut Cursor<'_, 's>,
+) -> Result<bool, Trouble>
+    ensures ok { IfOk result (λ comma. (builders budget).initializers scope.old (map bare_initializer_of all.old.items) cursor.old ≡ Some ((map bare_initializer_of all.new.items, comma), cursor.new)) }
+    ensures refused { IsErrOf result Refused → (builders budget).initializers scope.old (map bare_initializer_of all.old.items) cursor.old ≡ None }
+    ensures scope { OnOk result (scope.new ≡ scope.old) }
+{
     let mut fuel = budget;
     while fuel > 0 {
         fuel -= 1;
@@ -90,7 +110,7 @@ fn initializers<'s>(
         all.push(next)?;
         if ends_initializers(cursor) {
             let ends_with_comma = end_of_initializers(cursor)?;
-            return Ok((all, ends_with_comma));
+            return Ok(ends_with_comma);
         }
         cursor.advance();
     }

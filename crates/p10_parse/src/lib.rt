@@ -23,6 +23,7 @@ mod part;
 mod program;
 mod root;
 mod statement;
+mod stopping;
 mod way;
 
 pub use program::units;

@@ -14,6 +14,7 @@ ghost use Rattle.p10_parse.specs.ExternalReading.{builders, no_builders};
 ghost use Rattle.p10_parse.specs.StatementReading.{value_then as expression_then, optional_then as maybe_then, test_at, do_while_at, start_at, goto_at, return_at, evaluate_at};
 
 use crate::declaration::declaration;
+use crate::stopping::{stopped, stopped_after_two};
 use p10_pexpr::expression::expression;
 use p10_pexpr::{Cursor, Scope, Trouble, begins_specifiers};
 use p10_syn::{Expr, Sign, Stmt};
@@ -54,9 +55,13 @@ pub fn do_while<'s>(
     ensures refused { IsErrOf result Refused → do_while_at (readers budget) (builders budget) scope.old (bare_statement_of body.entry) cursor.old ≡ None }
     ensures scope { OnOk result (scope.new ≡ scope.old) }
 {
-    cursor.expect(Sign::While)?;
-    let test = test(alloc, budget, scope, cursor)?;
-    done_while(alloc, body, test, cursor)
+    if let Err(trouble) = cursor.expect(Sign::While) {
+        return stopped(body, trouble);
+    }
+    match test(alloc, budget, scope, cursor) {
+        Ok(test) => done_while(alloc, body, test, cursor),
+        Err(trouble) => stopped(body, trouble),
+    }
 }
 
 /// Reads the `;` of a `do`.
@@ -69,8 +74,10 @@ fn done_while<'s>(
     ensures ok { IfOk result (λ t. closed_by {A = Statement Bare} Semicolon (Do tt tt (bare_statement_of body.entry) (bare_of test.entry)) cursor.old ≡ Some (bare_statement_of t, cursor.new)) }
     ensures refused { IsErrOf result Refused → closed_by {A = Statement Bare} Semicolon (Do tt tt (bare_statement_of body.entry) (bare_of test.entry)) cursor.old ≡ None }
 {
-    cursor.expect(Sign::Semicolon)?;
-    Ok(p10_make::do_loop(alloc, body, test)?)
+    match cursor.expect(Sign::Semicolon) {
+        Ok(()) => Ok(p10_make::do_loop(alloc, body, test)?),
+        Err(trouble) => stopped_after_two(body, test, trouble),
+    }
 }
 
 /// Reads a `goto`.
@@ -164,8 +171,10 @@ pub fn value_then<'s>(
     ensures scope { OnOk result (scope.new ≡ scope.old) }
 {
     let value = expression(alloc, budget, scope, level, cursor)?;
-    cursor.expect(sign)?;
-    Ok(value)
+    match cursor.expect(sign) {
+        Ok(()) => Ok(value),
+        Err(trouble) => stopped(value, trouble),
+    }
 }
 
 /// Reads an expression that may be left out, and the sign after it.

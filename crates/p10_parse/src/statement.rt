@@ -14,6 +14,7 @@ use crate::declaration::declaration;
 use crate::part::{
     do_while, evaluate, give_back, go_on, goto, leave, optional_then, start, test, value_then,
 };
+use crate::stopping::{stopped, stopped_after_three, stopped_after_two};
 use crate::way::{Way, begins_declaration};
 use p10_pexpr::{Cursor, Scope, Trouble};
 use p10_syn::{Expr, Sign, Stmt};
@@ -121,8 +122,10 @@ fn if_then<'s>(
     ensures refused { IsErrOf result Refused → if_then_at (readers budget) (builders budget) scope.old (bare_of test.entry) cursor.old ≡ None }
     ensures scope { OnOk result (scope.new ≡ scope.old) }
 {
-    let then = statement(alloc, budget, scope, cursor)?;
-    if_else(alloc, budget, scope, test, then, cursor)
+    match statement(alloc, budget, scope, cursor) {
+        Ok(then) => if_else(alloc, budget, scope, test, then, cursor),
+        Err(trouble) => stopped(test, trouble),
+    }
 }
 
 /// Reads the `else` of an `if`, where one stands next.
@@ -141,8 +144,10 @@ fn if_else<'s>(
 {
     if cursor.heads(Sign::Else) {
         cursor.advance();
-        let other = statement(alloc, budget, scope, cursor)?;
-        Ok(p10_make::if_else(alloc, test, then, other)?)
+        match statement(alloc, budget, scope, cursor) {
+            Ok(other) => Ok(p10_make::if_else(alloc, test, then, other)?),
+            Err(trouble) => stopped_after_two(test, then, trouble),
+        }
     } else {
         Ok(p10_make::if_then(alloc, test, then)?)
     }
@@ -162,8 +167,10 @@ fn switch<'s>(
 {
     cursor.advance();
     let test = test(alloc, budget, scope, cursor)?;
-    let body = statement(alloc, budget, scope, cursor)?;
-    Ok(p10_make::switch(alloc, test, body)?)
+    match statement(alloc, budget, scope, cursor) {
+        Ok(body) => Ok(p10_make::switch(alloc, test, body)?),
+        Err(trouble) => stopped(test, trouble),
+    }
 }
 
 /// Reads a `while`.
@@ -180,8 +187,10 @@ fn while_loop<'s>(
 {
     cursor.advance();
     let test = test(alloc, budget, scope, cursor)?;
-    let body = statement(alloc, budget, scope, cursor)?;
-    Ok(p10_make::while_loop(alloc, test, body)?)
+    match statement(alloc, budget, scope, cursor) {
+        Ok(body) => Ok(p10_make::while_loop(alloc, test, body)?),
+        Err(trouble) => stopped(test, trouble),
+    }
 }
 
 /// Reads a `do`.
@@ -235,8 +244,10 @@ fn for_test<'s>(
     ensures refused { IsErrOf result Refused → for_test_at (readers budget) (builders budget) scope.old (bare_statement_of start.entry) cursor.old ≡ None }
     ensures scope { OnOk result (scope.new ≡ scope.old) }
 {
-    let test = optional_then(alloc, budget, scope, Sign::Semicolon, cursor)?;
-    for_step(alloc, budget, scope, start, test, cursor)
+    match optional_then(alloc, budget, scope, Sign::Semicolon, cursor) {
+        Ok(test) => for_step(alloc, budget, scope, start, test, cursor),
+        Err(trouble) => stopped(start, trouble),
+    }
 }
 
 /// Reads a `for` after its test.
@@ -253,9 +264,14 @@ fn for_step<'s>(
     ensures refused { IsErrOf result Refused → for_step_at (readers budget) (builders budget) scope.old (bare_statement_of start.entry) (bare_optional_of test.entry) cursor.old ≡ None }
     ensures scope { OnOk result (scope.new ≡ scope.old) }
 {
-    let step = optional_then(alloc, budget, scope, Sign::Close, cursor)?;
-    let body = statement(alloc, budget, scope, cursor)?;
-    Ok(p10_make::for_loop(alloc, start, test, step, body)?)
+    let step = match optional_then(alloc, budget, scope, Sign::Close, cursor) {
+        Ok(step) => step,
+        Err(trouble) => return stopped_after_two(start, test, trouble),
+    };
+    match statement(alloc, budget, scope, cursor) {
+        Ok(body) => Ok(p10_make::for_loop(alloc, start, test, step, body)?),
+        Err(trouble) => stopped_after_three(start, test, step, trouble),
+    }
 }
 
 /// Reads a `case` and its statement.
@@ -272,8 +288,10 @@ fn case<'s>(
 {
     cursor.advance();
     let value = value_then(alloc, budget, scope, 3, Sign::Colon, cursor)?;
-    let body = statement(alloc, budget, scope, cursor)?;
-    Ok(p10_make::case(alloc, value, body)?)
+    match statement(alloc, budget, scope, cursor) {
+        Ok(body) => Ok(p10_make::case(alloc, value, body)?),
+        Err(trouble) => stopped(value, trouble),
+    }
 }
 
 /// Reads a `default` and its statement.
@@ -330,7 +348,6 @@ fn labelled<'s>(
 
 /// Reads the items of a block, and the `}`. Their names are in scope up to it.
 #[cycle(stating)]
-#[tactic(auto, using(crate::proofs::ListSteps::items_stop, crate::proofs::ListSteps::items_fail))]
 pub fn items<'s>(
     alloc: Global,
     budget: usize,
@@ -341,14 +358,34 @@ pub fn items<'s>(
     ensures refused { IsErrOf result Refused → (builders budget).items scope.old [] cursor.old ≡ None }
     ensures scope { OnOk result (scope.new ≡ scope.old) }
 {
-    let count = scope.count();
     let mut all = Vec::new(alloc);
+    match all_items(alloc, budget, scope, &mut all, cursor) {
+        Ok(()) => Ok(all),
+        Err(trouble) => stopped(all, trouble),
+    }
+}
+
+/// Reads the items of a block after those that were read, and the `}`.
+#[cycle(stating)]
+#[tactic(auto, using(crate::proofs::ListSteps::items_stop, crate::proofs::ListSteps::items_fail))]
+fn all_items<'s>(
+    alloc: Global,
+    budget: usize,
+    scope: &mut Scope<'s>,
+    all: &mut Vec<Stmt<'s>>,
+    cursor: &mut Cursor<'_, 's>,
+) -> Result<(), Trouble>
+    ensures ok { OnOk result ((builders budget).items scope.old (map bare_statement_of all.old.items) cursor.old ≡ Some (map bare_statement_of all.new.items, cursor.new)) }
+    ensures refused { IsErrOf result Refused → (builders budget).items scope.old (map bare_statement_of all.old.items) cursor.old ≡ None }
+    ensures scope { OnOk result (scope.new ≡ scope.old) }
+{
+    let count = scope.count();
     let mut fuel = budget;
     while fuel > 0 {
         if cursor.heads(Sign::CloseBrace) {
             cursor.advance();
             scope.forget(count);
-            return Ok(all);
+            return Ok(());
         }
         fuel -= 1;
         let next = item(alloc, fuel, scope, cursor)?;

@@ -6,9 +6,9 @@ use Rattle.p10_syn.specs.Declaring.{after_external}
 use Rattle.p10_parse.proofs.ExternalSteps.{outer_scope}
 use Rattle.p10_parse.proofs.external.outer.Goals as goal
 
-pub returns-clause-scope : goal.returns-clause-scope
-returns-clause-scope c = λ names at.
+pub returns-in-Ok-further-clause-scope : goal.returns-in-Ok-further-clause-scope
+returns-in-Ok-further-clause-scope c = λ names at.
     outer_scope names _ _ _ (specifier_row (map bare_specifier_of c.args.specs.items)) (specifier_row (map bare_specifier_of c.as_slice.result.now)) (specifier_row (map bare_specifier_of c.as_slice-2.result.now))
-    (bare_declarator_of c.args.declarator) (bare_init_declarator_of c.in_ok-first.first).declarator (map bare_init_declarator_of c.in_ok-all.all.items)
-    (ap (λ ss. specifier_row (map bare_specifier_of ss)) c.as_slice.ensures.value) (ap (λ ss. specifier_row (map bare_specifier_of ss)) c.as_slice-2.ensures.value) at c.in_ok-first.ensures.scope c.in_ok-first.ensures.same c.in_ok-all.ensures.scope
+    (bare_declarator_of c.args.declarator) (bare_init_declarator_of c.in-Ok.first).declarator (map bare_init_declarator_of c.in-Ok-further.all.items)
+    (ap (λ ss. specifier_row (map bare_specifier_of ss)) c.as_slice.ensures.value) (ap (λ ss. specifier_row (map bare_specifier_of ss)) c.as_slice-2.ensures.value) at c.in-Ok.ensures.scope c.in-Ok.ensures.same c.in-Ok-further.ensures.scope
     ∙ ap (after_external names) (sym (c.outer.ensures ∙ ap (Outer tt) c.declaration.ensures))

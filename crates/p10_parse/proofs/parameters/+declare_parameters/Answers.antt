@@ -1,7 +1,7 @@
 use Rattle.std.proofs.Common.{rules, ◌≡◌}
 use Rattle.p10_syn.specs.declared.tree.Declarator.TheViews.{the_lemmas}
 use Rattle.p10_syn.specs.Built.{bare_declarator_of}
-use Rattle.p10_parse.proofs.TreeRows.{parameters_items}
+use Rattle.p10_make.proofs.Rows.{parameters_items}
 use Rattle.p10_parse.proofs.parameters.+declare_parameters.Goals as goal
 
 pub returns-then-is_only_name : goal.returns-then-is_only_name

@@ -4,8 +4,8 @@ use Rattle.p10_parse.proofs.Extending.{forgotten, kept_names, stated}
 use Rattle.p10_parse.proofs.ListSteps.{items_over, items_goes}
 use Rattle.p10_parse.proofs.statement.+stating.Goals as goal
 
-pub items-loop-fuel-preserved : goal.items-loop-fuel-preserved
-items-loop-fuel-preserved t c =
+pub all_items-loop-fuel-preserved : goal.all_items-loop-fuel-preserved
+all_items-loop-fuel-preserved t c =
     let kept = kept_names _ _ _ _ (bare_statement_of c.in_ok-next.next) c.in_ok-next.ensures.scope c.loop-fuel.invariant.room c.loop-fuel.invariant.start in
     record {
       left = omega (arith, c.loop-fuel.invariant.left);
@@ -14,11 +14,11 @@ items-loop-fuel-preserved t c =
       same = items_goes _ _ _ _ _ c.in_ok-next.next _ _ _ c.loop-fuel-test.true (sym c.if-heads.ensures) c.in_ok-next.ensures.ok c.in_ok-push.ensures.items c.in_ok-next.ensures.scope c.loop-fuel.invariant.same;
     }
 
-pub items-returns-clause-refused : goal.items-returns-clause-refused
-items-returns-clause-refused t c = λ refused. items_over _ _ _ _ _ (omega (arith, c.loop-fuel-test.false)) c.loop-fuel.invariant.same
+pub all_items-returns-clause-refused : goal.all_items-returns-clause-refused
+all_items-returns-clause-refused t c = λ refused. items_over _ _ _ _ _ (omega (arith, c.loop-fuel-test.false)) c.loop-fuel.invariant.same
 
-pub items-returns-then-heads-clause-scope : goal.items-returns-then-heads-clause-scope
-items-returns-then-heads-clause-scope t c = c.forget.ensures ∙ c.loop-fuel.invariant.start
+pub all_items-returns-then-heads-clause-scope : goal.all_items-returns-then-heads-clause-scope
+all_items-returns-then-heads-clause-scope t c = c.forget.ensures ∙ c.loop-fuel.invariant.start
 
 pub for_loop-returns-clause-scope : goal.for_loop-returns-clause-scope
 for_loop-returns-clause-scope t c = c.forget.ensures ∙ forgotten _ _ (bare_statement_of c.in_ok-start.start) _ c.count-count.ensures (c.in_ok-all.ensures.scope ∙ c.in_ok-start.ensures.scope)

@@ -12,7 +12,7 @@ abbrev pub decreases-statement_by : goal.decreases-statement_by
 decreases-statement_by l = 8 * l.budget + 4
 
 abbrev pub decreases-block : goal.decreases-block
-decreases-block l = 8 * l.budget + 1
+decreases-block l = 8 * l.budget + 2
 
 abbrev pub decreases-if_statement : goal.decreases-if_statement
 decreases-if_statement l = 8 * l.budget + 3
@@ -54,18 +54,21 @@ abbrev pub decreases-label : goal.decreases-label
 decreases-label l = 8 * l.budget + 2
 
 abbrev pub decreases-items : goal.decreases-items
-decreases-items l = 8 * l.budget
+decreases-items l = 8 * l.budget + 1
+
+abbrev pub decreases-all_items : goal.decreases-all_items
+decreases-all_items l = 8 * l.budget
 
 abbrev pub decreases-item : goal.decreases-item
 decreases-item l = 8 * l.budget + 1
 
-abbrev pub invariant-items-loop-fuel : goal.invariant-items-loop-fuel
-invariant-items-loop-fuel l = record {
+abbrev pub invariant-all_items-loop-fuel : goal.invariant-all_items-loop-fuel
+invariant-all_items-loop-fuel l = record {
   left : l.fuel ≤ l.budget;
   room : l.count ≤ length l.scope;
   start : take l.count l.scope ≡ l.fn.scope;
-  same : (builders l.fuel).items l.scope (map bare_statement_of l.all.items) l.cursor ≡ (builders l.budget).items l.fn.scope [] l.fn.cursor;
+  same : (builders l.fuel).items l.scope (map bare_statement_of l.all.items) l.cursor ≡ (builders l.budget).items l.fn.scope (map bare_statement_of l.fn.all.items) l.fn.cursor;
 }
 
-abbrev pub decreases-items-loop-fuel : goal.decreases-items-loop-fuel
-decreases-items-loop-fuel l = l.fuel
+abbrev pub decreases-all_items-loop-fuel : goal.decreases-all_items-loop-fuel
+decreases-all_items-loop-fuel l = l.fuel

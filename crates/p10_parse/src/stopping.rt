@@ -1,0 +1,30 @@
+//! How readers stop. What was read before is dropped here, once for all readers: a drop of a tree makes the proof of the
+//! function that it stands in long.
+
+ghost use Rattle.std.specs.Prelude.{◌≡◌, Err};
+
+/// The trouble, without the part that was read before it.
+pub fn stopped<T: Drop, U, E>(_part: T, trouble: E) -> Result<U, E>
+    ensures { result ≡ Err trouble }
+{
+    Err(trouble)
+}
+
+/// The trouble, without the two parts that were read before it.
+pub fn stopped_after_two<T: Drop, U: Drop, V, E>(_first: T, _second: U, trouble: E) -> Result<V, E>
+    ensures { result ≡ Err trouble }
+{
+    Err(trouble)
+}
+
+/// The trouble, without the three parts that were read before it.
+pub fn stopped_after_three<T: Drop, U: Drop, V, E>(
+    _first: T,
+    _second: U,
+    _third: U,
+    trouble: E,
+) -> Result<V, E>
+    ensures { result ≡ Err trouble }
+{
+    Err(trouble)
+}
