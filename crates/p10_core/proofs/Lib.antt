@@ -11,3 +11,4 @@ pub mod StandingFor
 pub mod StatementRows
 pub mod Tables
 pub mod TypeViews
+pub mod Walking

@@ -4,6 +4,7 @@ pub mod Sizes
 pub mod Typed
 pub mod Views
 pub mod Nodes
+pub mod Walks
 pub mod Rows
 pub mod Constants
 pub mod Addresses

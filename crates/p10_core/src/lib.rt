@@ -2,7 +2,7 @@
 //! conversions are known. Everything above speaks of these trees.
 //!
 //! Entry points: [`Program`] with its [`Func`]s, [`Global`]s and [`Types`]; [`Stmt`], [`Value`] and [`Place`], its trees,
-//! of which each node keeps where it stands and its type; [`size`], the size of a type.
+//! of which each node keeps where it stands and its type; [`Nodes`], the walk over their nodes; [`size`], the size of a type.
 //! Contracts see trees as plain ones, without boxes (`specs/Typed.antt`, `specs/Views.antt`: `plain_program`).
 //! Invariant: a program is *whole* (`specs/WholePrograms.antt`: `IsWholeProgram`): its types agree as the rows of the
 //! operators say (`specs/Rows.antt`), its numbers name what is there and in scope, and its sizes are those of its types.
@@ -19,6 +19,7 @@ mod make;
 mod make_initializers;
 mod make_statements;
 mod members;
+mod nodes;
 mod program;
 mod representing;
 mod sizes;
@@ -31,6 +32,7 @@ pub use c_type::{CType, TypeForm};
 pub use constants::{first_of_parts, fold, inconstant_part, is_null};
 pub use make_initializers::Heading;
 pub use make_statements::Clauses;
+pub use nodes::{Node, Nodes};
 pub use program::{Extent, Func, Global, Literal, Program, Variable};
 pub use sizes::size;
 pub use statements::{

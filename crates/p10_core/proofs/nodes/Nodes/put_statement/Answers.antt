@@ -1,0 +1,8 @@
+use Rattle.std.proofs.Common.{◌∙◌, ap}
+use Rattle.p10_core.specs.declared.nodes.Node.TheVariants.{Stmt}
+use Rattle.p10_core.specs.Walks.{nodes_ahead}
+use Rattle.p10_core.proofs.Walking.{ahead_last}
+use Rattle.p10_core.proofs.nodes.Nodes.put_statement.Goals as goal
+
+pub returns : goal.returns
+returns c = ap nodes_ahead c.in_ok-push.ensures.items ∙ ahead_last c.args.self.now.ahead.items (Stmt c.args.statement)
