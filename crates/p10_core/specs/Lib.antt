@@ -5,6 +5,7 @@ pub mod Typed
 pub mod Views
 pub mod Nodes
 pub mod Walks
+pub mod Uses
 pub mod Rows
 pub mod Constants
 pub mod Addresses

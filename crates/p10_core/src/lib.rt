@@ -27,6 +27,7 @@ mod statements;
 mod structures;
 mod table;
 mod typed;
+mod uses;
 
 pub use c_type::{CType, TypeForm};
 pub use constants::{first_of_parts, fold, inconstant_part, is_null};
@@ -42,3 +43,4 @@ pub use statements::{
 pub use structures::{Body, Member, Structure};
 pub use table::Types;
 pub use typed::{Library, LogicOp, Place, PlaceForm, Value, ValueForm};
+pub use uses::{FunctionUse, ObjectUse};

@@ -26,13 +26,20 @@ impl<'p> Nodes<'p> {
     ghost use Rattle.p10_core.specs.Views.{plain_value, plain_place, plain_values, plain_form, plain_place_form, plain_item, plain_written, plain_initializer, plain_statement, plain_statements, plain_statement_form};
     ghost use Rattle.p10_core.specs.Walks.{plain_node, nodes_ahead, left_in, WalksOn};
 
+    /// No nodes.
+    pub fn new(alloc: Global) -> Nodes<'p>
+        ensures { left_in result ≡ [] }
+    {
+        Nodes {
+            ahead: Vec::new(alloc),
+        }
+    }
+
     /// The nodes of statements, one after the other.
     pub fn of_statements(alloc: Global, all: &'p [Stmt]) -> Result<Nodes<'p>, AllocError>
         ensures { IfOk result (λ w. left_in w ≡ nodes_of_statements (plain_statements all.now)) }
     {
-        let mut nodes = Nodes {
-            ahead: Vec::new(alloc),
-        };
+        let mut nodes = Nodes::new(alloc);
         nodes.put_statements(all)?;
         Ok(nodes)
     }
@@ -41,9 +48,7 @@ impl<'p> Nodes<'p> {
     pub fn of_value(alloc: Global, value: &'p Value) -> Result<Nodes<'p>, AllocError>
         ensures { IfOk result (λ w. left_in w ≡ nodes_of_value (plain_value value.now)) }
     {
-        let mut nodes = Nodes {
-            ahead: Vec::new(alloc),
-        };
+        let mut nodes = Nodes::new(alloc);
         nodes.put_value(value)?;
         Ok(nodes)
     }
@@ -52,9 +57,7 @@ impl<'p> Nodes<'p> {
     pub fn of_initializer(alloc: Global, initial: &'p Initializer) -> Result<Nodes<'p>, AllocError>
         ensures { IfOk result (λ w. left_in w ≡ nodes_of_initializer (plain_initializer initial.now)) }
     {
-        let mut nodes = Nodes {
-            ahead: Vec::new(alloc),
-        };
+        let mut nodes = Nodes::new(alloc);
         nodes.put_initializer(initial)?;
         Ok(nodes)
     }
@@ -202,9 +205,9 @@ impl<'p> Nodes<'p> {
         self.put_statements(first)
     }
 
-    /// Puts the values of an initialiser ahead.
-    fn put_initializer(&mut self, initial: &'p Initializer) -> Result<(), AllocError>
-        ensures { IfOk result (λ _. nodes_ahead self.new.ahead.items ≡ nodes_of_initializer (plain_initializer initial.now) ++ nodes_ahead self.old.ahead.items) }
+    /// Puts the nodes of an initialiser before those that are left. Out of memory, nothing is said of what is left.
+    pub fn put_initializer(&mut self, initial: &'p Initializer) -> Result<(), AllocError>
+        ensures { IfOk result (λ _. left_in self.new ≡ nodes_of_initializer (plain_initializer initial.now) ++ left_in self.old) }
     {
         match initial {
             Initializer::Absent => Ok(()),
@@ -269,9 +272,9 @@ impl<'p> Nodes<'p> {
         Ok(())
     }
 
-    /// Puts statements ahead, the first one first.
-    fn put_statements(&mut self, all: &'p [Stmt]) -> Result<(), AllocError>
-        ensures { IfOk result (λ _. nodes_ahead self.new.ahead.items ≡ nodes_of_statements (plain_statements all.now) ++ nodes_ahead self.old.ahead.items) }
+    /// Puts the nodes of statements before those that are left, in text order. Out of memory, nothing is said of what is left.
+    pub fn put_statements(&mut self, all: &'p [Stmt]) -> Result<(), AllocError>
+        ensures { IfOk result (λ _. left_in self.new ≡ nodes_of_statements (plain_statements all.now) ++ left_in self.old) }
     {
         let mut left = all.len();
         while left > 0 {
