@@ -1,7 +1,9 @@
 mod Bodies
+mod BracedParts
 mod FirstScalars
 mod ItemRows
 pub mod Keeping
+mod SlotRows
 mod SpecifierTrees
 mod TagArms
 mod TagLists

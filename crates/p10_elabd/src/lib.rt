@@ -3,10 +3,10 @@
 //! Definitions with laws: `specified` and `declarator_passed` (`specs/Declaring.antt`) say which type is declared and what stands after
 //! it, `initialized` (`specs/Initializers.antt`) what an initialiser writes. Each notes the rows of the subset that hold on the way, all
 //! of them or the first alone (`specs/Standing.antt`).
-//! In code: [`Standing`], what stands round a declaration; [`expression_value`], an expression where a declaration or a statement
-//! stands; and a function for each part of specifiers, declarators and initialisers, on parts that are found already: words, tags,
-//! members, constants of enumerations, pointers, arrays, parameters, items, strings. Each notes the first row of the subset that holds.
-//! The walks over whole declarations and initialisers, which put these together, aren't here yet.
+//! In code: [`Standing`], what stands round a declaration; [`initialized`], the typed initialiser of an object; [`expression_value`],
+//! an expression where a declaration or a statement stands; and a function for each part of specifiers and declarators, on parts that
+//! are found already: words, tags, members, constants of enumerations, pointers, arrays, parameters. Each notes the first row of the
+//! subset that holds. The walk over whole declarations, which puts these together, isn't here yet.
 //! Linkage, storage and what declarations become in blocks are left to `p10_elab`.
 #![tactic(auto)]
 
@@ -20,6 +20,7 @@ mod enumerations;
 mod expressions;
 mod first_scalar;
 mod functions;
+mod initializers;
 mod items;
 mod known_tag;
 pub mod laws;
@@ -47,9 +48,8 @@ pub use declaration::{Declared, DeclaredFunction, DeclaredParameter};
 pub use enumerations::enumeration_passed;
 pub use expressions::{constant_value, declare_tags, expression_value};
 pub use functions::{parameter_declared, result_declared};
-pub use items::{
-    Part, braced_scalar, expression_item, item_added, no_surplus, surplus_item, text_item,
-};
+pub use initializers::initialized;
+pub use items::surplus_item;
 pub use known_tag::KnownTag;
 pub use lifetime::Lifetime;
 pub use members::{judge_width, member_declared, with_member};
@@ -57,12 +57,11 @@ pub use parameters::{function_declared, is_no_parameter, with_declared_parameter
 pub use pointers::{element_declared, pointer_declared};
 pub use shapes::{declares_function, is_plain_name, name_in, place_or};
 pub use site::{Allowed, Site, Storage};
-pub use slots::{Slots, place_after, scalar_count, slots_of, zero_item};
 pub use specifiers::{
     Manner, both_named, stored_by, tag_passed, type_specified, typedef_passed, word_passed,
 };
 pub use standing::Standing;
 pub use static_values::{constant_number, static_value};
-pub use strings::{Text, elements_given, holds_characters, is_zero_list, string_alone, string_by};
+pub use strings::elements_given;
 pub use structures::begin;
 pub use words::{is_storage, is_volatile, storage_of, word_row};
