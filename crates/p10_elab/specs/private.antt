@@ -10,6 +10,7 @@ pub mod Marking
 pub mod Meetings
 pub mod Numbering
 pub mod Parts
+pub mod Returning
 pub mod Sites
 pub mod Specifying
 pub mod Walking

@@ -7,13 +7,14 @@ ghost use Rattle.p10_elabx.specs.First.{only_first, lift, on};
 ghost use Rattle.p10_elabx.specs.Built.{ruled_value};
 ghost use Rattle.p10_elabd.specs.Standing.{noted};
 ghost use Rattle.p10_elabd.specs.Views.{plain_standing, told};
-ghost use Rattle.p10_elab.specs.Expressions.{tested};
+ghost use Rattle.p10_elab.specs.Expressions.{tested, switched};
 ghost use Rattle.p10_elab.specs.Statements.{returned};
 
 use p10_base::{At, SubsetCode};
-use p10_core::{CType, Value};
+use p10_core::{CType, TypeForm, Value};
 use p10_elabd::Standing;
-use p10_elabx::{Problem, fitted};
+use p10_elabx::{Problem, converted, fitted};
+use p10_int::promote;
 use std::alloc::{AllocError, Global};
 
 /// A condition is a scalar.
@@ -90,5 +91,39 @@ pub(crate) fn noted_value(
             standing.note(problem);
             None
         }
+    }
+}
+
+/// The value of a `switch` is an integer, which is promoted (C99 6.8.4.2p1, p5).
+fn switched(alloc: Global, v: Value) -> Result<Result<Value, Option<Problem>>, AllocError>
+    ensures { IfOk result (λ r. ruled_value r ≡ switched (plain_value v)) }
+{
+    match &v.ty.form {
+        TypeForm::Int(kind) => {
+            let ty = CType::integer(promote(*kind));
+            Ok(Ok(converted(alloc, v, ty)?))
+        }
+        TypeForm::Void | TypeForm::Pointer(_) | TypeForm::Array(_, _) | TypeForm::Struct(_) => Ok(
+            Err(Some(Problem {
+                code: SubsetCode::OperandTypes,
+                at: v.at,
+            })),
+        ),
+    }
+}
+
+/// The value of a `switch` that may be refused.
+pub(crate) fn switched_found(
+    alloc: Global,
+    found: Result<Value, Option<Problem>>,
+) -> Result<Result<Value, Option<Problem>>, AllocError>
+    ensures { IfOk result (λ r. lift (ruled_value r) ≡ on (lift (ruled_value found)) switched) }
+{
+    match found {
+        Ok(v) => {
+            let given = switched(alloc, v)?;
+            Ok(given)
+        }
+        Err(problem) => Ok(Err(problem)),
     }
 }

@@ -3,7 +3,7 @@
 use p10_base::{At, SubsetCode};
 use p10_core::{Global as Object, LoopHead, LoopKeyword, Variable};
 use p10_elabd::Standing;
-use std::alloc::AllocError;
+use std::alloc::{AllocError, Global};
 
 /// What a body has so far.
 #[derive(Drop)]
@@ -23,7 +23,7 @@ pub(crate) struct Local<'s> {
 impl<'s> Local<'s> {
     ghost use Rattle.std.specs.Prelude.{◌≡◌, IfOk};
     ghost use Rattle.p10_elabx.specs.First.{only_first};
-    ghost use Rattle.p10_elab.specs.Locals.{refusing_in, opened};
+    ghost use Rattle.p10_elab.specs.Locals.{refusing_in, opened, closed};
     ghost use Rattle.p10_elab.specs.Statements.{head_of, with_loop};
     ghost use Rattle.p10_elab.specs.LocalViews.{plain_local};
 
@@ -39,6 +39,16 @@ impl<'s> Local<'s> {
         ensures { IfOk result (λ done. plain_local self.new ≡ opened (plain_local self.old)) }
     {
         self.standing.scope.enter()
+    }
+
+    /// Closes a block.
+    pub(crate) fn close(&mut self, alloc: Global)
+        ensures { plain_local self.new ≡ closed (plain_local self.old) }
+    {
+        match self.standing.scope.close(alloc) {
+            Ok(_) => {}
+            Err(_) => {}
+        }
     }
 
     /// Begins the next loop of the function, at its keyword.
