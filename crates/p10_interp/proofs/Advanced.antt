@@ -8,6 +8,7 @@ use Rattle.p10_interp.specs.declared.work.Halt.{Halt}
 use Rattle.p10_interp.specs.declared.work.Halt.TheVariants.{Failed, Undefined, Spent, Memory}
 use Rattle.p10_interp.specs.declared.work.Flow.{Flow as Way}
 use Rattle.p10_interp.specs.declared.work.Pause.{Pause}
+use Rattle.p10_interp.specs.declared.work.Pause.TheVariants.{Over, Held}
 use Rattle.p10_interp.specs.declared.stacks.Stacks.{Stacks}
 use Rattle.p10_interp.specs.private.Tasks.{Task, Operand, Open, Left, Rig}
 use Rattle.p10_interp.specs.private.Views.{flow_of, tasks_in}
@@ -16,7 +17,7 @@ use Rattle.p10_interp.specs.private.Machines.{rig_of, Moves}
 use Rattle.p10_interp.specs.private.Resuming.{proceed}
 use Rattle.p10_interp.specs.private.Acts.{next_act}
 use Rattle.p10_interp.specs.private.Weights.{weights}
-use Rattle.p10_interp.specs.private.Arriving.{Arrives}
+use Rattle.p10_interp.specs.private.Arriving.{Arrives, Falls}
 use Rattle.p10_interp.proofs.Right.{next_right}
 use Rattle.p10_interp.proofs.Lighter.{IsLighter, next_light}
 
@@ -84,3 +85,18 @@ falls_by first most now left a left_now same few less all = by (eq-or-lt_of_le f
     by : (left_now ≡ left) ⊎ (left_now < left) → (left_now < a) ⊎ ((left_now ≡ a) × (now < first))
     by (inl e) = let l : now < most = less (omega (arith, e)) in inr (e ∙ same, omega (arith, l, all))
     by (inr l) = inl (omega (arith, l, same))
+
+-- ## One turn of the loop round it
+
+-- no more is left than at first
+pub never_more : (a most b now n : ℕ) → (b < a) ⊎ ((b ≡ a) × (now ≤ most)) → a ≤ n → b ≤ n
+never_more a most b now n (inl l) few = omega (arith, l, few)
+never_more a most b now n (inr h) few = let e : b ≡ a = h.0 in omega (arith, e, few)
+
+-- what falls after that falls from the first moment on
+pub falls_from : (pause : Pause) (a most b now c then : ℕ) → (b < a) ⊎ ((b ≡ a) × (now ≤ most)) → Falls pause b now c then → Falls pause a most c then
+falls_from (Over flow) a most b now c then h f = let few : b ≤ a = never_more a most b now a h (omega (arith)) in omega (arith, few, f)
+falls_from (Held flow) a most b now c then (inl l) (inl f) = inl (omega (arith, l, f))
+falls_from (Held flow) a most b now c then (inl l) (inr f) = let e : c ≡ b = f.0 in inl (omega (arith, l, e))
+falls_from (Held flow) a most b now c then (inr h) (inl f) = let e : b ≡ a = h.0 in inl (omega (arith, e, f))
+falls_from (Held flow) a most b now c then (inr h) (inr f) = let less : then < now = f.1 in let most_now : now ≤ most = h.1 in inr (f.0 ∙ h.0, omega (arith, less, most_now))

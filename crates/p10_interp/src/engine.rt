@@ -9,7 +9,7 @@ ghost use Rattle.p10_core.specs.WholePrograms.{AreWholeStructures};
 use crate::broken::Broken;
 use crate::holding::{is_full, is_starved};
 use crate::outside::Outside;
-use crate::running::advance;
+use crate::running::work_on;
 use crate::stacks::Stacks;
 use crate::trading::{broken_by, give_end_in, put_waiting, take_piece};
 use crate::work::{Flow, Pause};
@@ -148,7 +148,7 @@ impl<'p> Engine<'p> {
         ensures falls { IfOk result (λ pause. Falls pause self.old.outside.left (weights (tasks_in self.old.stacks.tasks)) self.new.outside.left (weights (tasks_in self.new.stacks.tasks))) }
         ensures quiet { IfErr result (λ e. e ≢ Broken.Read × e ≢ Broken.Write) }
     {
-        match advance(p, flow, &mut self.stacks, &mut self.outside) {
+        match work_on(p, flow, &mut self.stacks, &mut self.outside) {
             Ok(pause) => Ok(pause),
             Err(halt) => Err(broken_by(halt)),
         }

@@ -40,6 +40,35 @@ pub fn run<'p>(
     }
 }
 
+/// Acts until all work is done, or the outside is wanted before the next act.
+pub fn work_on<'p>(
+    p: &'p Program<'p>,
+    flow: Flow,
+    stacks: &mut Stacks<'p>,
+    outside: &mut Outside,
+) -> Result<Pause, Halt>
+    requires structures { AreWholeStructures (plain_types p.now.types) }
+    ensures comes { (io : Around) (n : ℕ) → outside.old.left ≤ n → Arrives (plain_program p.now) n (proceed (plain_program p.now) n (rig_of (flow_of flow) stacks.old) (state_of outside.old io)) result stacks.new (state_of outside.new io) }
+    ensures falls { IfOk result (λ pause. Falls pause outside.old.left (weights (tasks_in stacks.old.tasks)) outside.new.left (weights (tasks_in stacks.new.tasks))) }
+{
+    let mut flow = flow;
+    'stretches: loop {
+        let left = outside.left;
+        match advance(p, flow, stacks, outside) {
+            Ok(pause) => match pause {
+                Pause::Over(end) => return Ok(Pause::Over(end)),
+                Pause::Held(next) => {
+                    if left <= outside.left || is_held(stacks, outside) {
+                        return Ok(Pause::Held(next));
+                    }
+                    flow = next;
+                }
+            },
+            Err(halt) => return Err(halt),
+        }
+    }
+}
+
 /// Acts until all work is done, or a step was taken, or the outside is wanted before the next act.
 pub fn advance<'p>(
     p: &'p Program<'p>,
