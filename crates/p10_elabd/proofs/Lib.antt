@@ -1,8 +1,10 @@
 mod Bodies
 mod BracedParts
+mod DeclaratorArms
 mod FirstScalars
 mod ItemRows
 pub mod Keeping
+mod ParameterArms
 mod SlotRows
 mod SpecifierTrees
 mod TagArms

@@ -3,10 +3,11 @@
 //! Definitions with laws: `specified` and `declarator_passed` (`specs/Declaring.antt`) say which type is declared and what stands after
 //! it, `initialized` (`specs/Initializers.antt`) what an initialiser writes. Each notes the rows of the subset that hold on the way, all
 //! of them or the first alone (`specs/Standing.antt`).
-//! In code: [`Standing`], what stands round a declaration; [`initialized`], the typed initialiser of an object; [`expression_value`],
-//! an expression where a declaration or a statement stands; and a function for each part of specifiers and declarators, on parts that
-//! are found already: words, tags, members, constants of enumerations, pointers, arrays, parameters. Each notes the first row of the
-//! subset that holds. The walk over whole declarations, which puts these together, isn't here yet.
+//! In code: [`Standing`], what stands round a declaration; [`specified`], the type of specifiers with what they declare on the way;
+//! [`declarator_passed`], what a declarator makes of it; [`initialized`], the typed initialiser of an object; [`expression_value`], an
+//! expression where a declaration or a statement stands. Each notes the first row of the subset that holds, and goes on after it.
+//! In the scope of `int n;` the declaration `struct s { int a; int a; } x[n];` notes S26 at the second `a`, and not S21 at `n`, which
+//! comes later.
 //! Linkage, storage and what declarations become in blocks are left to `p10_elab`.
 #![tactic(auto)]
 
@@ -39,29 +40,23 @@ mod structures;
 mod tagged;
 mod tags;
 mod target;
+mod walk;
 mod words;
 
-pub use arrays::{array_declared, open_declared};
-pub use bases::{as_named, based, based_on, next_number, none_allowed, structure_ended};
+pub use bases::{based, based_on, none_allowed};
 pub use constants::{enumerator_meaning, int_value, value_after};
 pub use declaration::{Declared, DeclaredFunction, DeclaredParameter};
-pub use enumerations::enumeration_passed;
 pub use expressions::{constant_value, declare_tags, expression_value};
 pub use functions::{parameter_declared, result_declared};
 pub use initializers::initialized;
 pub use items::surplus_item;
 pub use known_tag::KnownTag;
 pub use lifetime::Lifetime;
-pub use members::{judge_width, member_declared, with_member};
-pub use parameters::{function_declared, is_no_parameter, with_declared_parameter};
 pub use pointers::{element_declared, pointer_declared};
 pub use shapes::{declares_function, is_plain_name, name_in, place_or};
 pub use site::{Allowed, Site, Storage};
-pub use specifiers::{
-    Manner, both_named, stored_by, tag_passed, type_specified, typedef_passed, word_passed,
-};
 pub use standing::Standing;
 pub use static_values::{constant_number, static_value};
 pub use strings::elements_given;
-pub use structures::begin;
+pub use walk::{declarator_passed, specified};
 pub use words::{is_storage, is_volatile, storage_of, word_row};
