@@ -2,6 +2,7 @@
 use Rattle.std.proofs.Common.{◌≡◌, ℕ, zero, suc, ◌+◌, ◌<◌, nat_eq, Bool, true, false, ◌&&◌, if◌then◌else◌, List, [], ◌∷◌, map, length, Option, Some, None, option_map, slice_get, slice_index_or, slice_set, ◌-◌, is_some, bytes_eq, refl, sym, ◌∙◌, ap, arith, inl, inr}
 use Rattle.std.proofs.lemmas.Bool.Decides.{eqb_tells}
 use Rattle.std.specs.Bool.{beq}
+use Rattle.std.specs.Option.{unwrap_or}
 use Rattle.p10_base.specs.Words.{Text}
 use Rattle.p10_core.specs.Types.{PlainType, void, integer, pointer, array, structure, PlainMember, PlainBody, PlainStructure, body_of, representative_in, representative_of}
 use Rattle.p10_core.specs.Rows.{same_integer}
@@ -9,7 +10,7 @@ use Rattle.p10_core.specs.Representing.{representatives, represented}
 use Rattle.p10_elab.specs.Uniting.{same_tags, tagged_alike, standing_for, stands_for_both, and_then, members_united, bodies_united, types_united, united_within}
 use Rattle.p10_elab.specs.declared.meeting.Meeting.{Meeting}
 use Rattle.p10_elab.specs.declared.meeting.Meeting.TheVariants.{Never, Always, Where}
-use Rattle.p10_elab.specs.private.Meetings.{meeting_of, met, number_or, slice_or, swapped}
+use Rattle.p10_elab.specs.private.Meetings.{meeting_of, met, slice_or, swapped}
 
 -- ## Types that meet
 
@@ -51,7 +52,7 @@ types_met unite (structure c m) (structure d n) ss = unless_met (beq c d) unite 
 
 -- ## What stands for structures
 
-stands_in : (ss : List PlainStructure) (numbers : List ℕ) (n place : ℕ) → length numbers ≡ length ss → representative_in n (slice_get (represented ss numbers) place) ≡ number_or n (slice_get numbers place)
+stands_in : (ss : List PlainStructure) (numbers : List ℕ) (n place : ℕ) → length numbers ≡ length ss → representative_in n (slice_get (represented ss numbers) place) ≡ unwrap_or (slice_get numbers place) n
 stands_in [] [] n place h = refl
 stands_in [] (m ∷ numbers) n place h = absurd (omega (arith, h))
 stands_in (s ∷ ss) [] n place h = absurd (omega (arith, h))

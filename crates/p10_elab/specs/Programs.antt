@@ -1,6 +1,7 @@
 -- The typed program of trees, or the first row of the subset that holds in them, or limit M8.
 use Rattle.std.specs.Prelude.{ℕ, zero, suc, ◌+◌, nat_eq, nat_le, nat_lt, Bool, false, not, ◌||◌, if◌then◌else◌, List, [], ◌∷◌, ◌++◌, map, length, sum, Option, Some, None}
 use Rattle.std.specs.List.{position_from}
+use Rattle.std.specs.Option.{unwrap_or}
 use Rattle.p10_base.specs.declared.at.At.{At}
 use Rattle.p10_base.specs.declared.span.Span.{Span}
 use Rattle.p10_base.specs.declared.codes.SubsetCode.TheVariants as subset
@@ -101,11 +102,6 @@ abbrev pub after_place : Option ℕ → Option ℕ
 after_place None = None
 after_place (Some n) = Some (n + 1)
 
--- the number of `main`; 0 where there is none
-abbrev pub number_or : Option ℕ → ℕ
-number_or None = 0
-number_or (Some n) = n
-
 -- the program of what is known
 abbrev pub program_of : Heads → PlainStanding → Known → PlainProgram
 program_of heads s k =
@@ -116,7 +112,7 @@ program_of heads s k =
       objects = objects;
       functions = k.functions;
       literals = literals_among (nodes_of_functions k.functions ++ nodes_of_objects objects);
-      main = number_or main;
+      main = unwrap_or main 0;
       mark = pragma_in InitDone main k.functions;
       task = after_place (pragma_in TaskLoop main k.functions);
     }

@@ -1,6 +1,7 @@
 -- Where two types that have to be one meet in structures.
 use Rattle.std.specs.Prelude.{ℕ, nat_eq, Bool, true, false, ◌&&◌, if◌then◌else◌, List, slice_get, Option, Some, None}
 use Rattle.std.specs.Bool.{beq}
+use Rattle.std.specs.Option.{unwrap_or}
 use Rattle.p10_core.specs.Types.{PlainType, void, integer, pointer, array, structure, PlainStructure, representative_of}
 use Rattle.p10_core.specs.Rows.{same_integer}
 use Rattle.p10_elab.specs.declared.meeting.Meeting.{Meeting}
@@ -26,14 +27,9 @@ abbrev pub given : {A : Type 0} → Bool → A → Option A
 given true a = Some a
 given false a = None
 
--- the number that is there, or another one where there is none
-abbrev pub number_or : ℕ → Option ℕ → ℕ
-number_or n None = n
-number_or n (Some m) = m
-
 -- the number at a place, or the place itself where there is none
 abbrev pub slice_or : List ℕ → ℕ → ℕ
-slice_or numbers place = number_or place (slice_get numbers place)
+slice_or numbers place = unwrap_or (slice_get numbers place) place
 
 -- the number that stands where a new one comes to stand for an old one
 abbrev pub swapped : ℕ → ℕ → ℕ → ℕ
