@@ -56,7 +56,7 @@ pub fn first_of_parts(a: Option<At>, b: Option<At>) -> Option<At>
 }
 
 /// The integer type that a type is; `int` for another.
-fn integer_of(t: &CType) -> IntType
+pub fn integer_of(t: &CType) -> IntType
     ensures { result ≡ integer_of (plain_type t.now) }
 {
     match &t.form {

@@ -30,7 +30,7 @@ mod typed;
 mod uses;
 
 pub use c_type::{CType, TypeForm};
-pub use constants::{first_of_parts, fold, inconstant_part, is_null};
+pub use constants::{first_of_parts, fold, inconstant_part, integer_of, is_null};
 pub use make_initializers::Heading;
 pub use make_statements::Clauses;
 pub use nodes::{Node, Nodes};

@@ -11,7 +11,7 @@ use Rattle.p10_core.specs.Rows.{is_complete, is_void}
 use Rattle.p10_core.specs.Typed.{PlainInitializer, PlainVariable, PlainFunction, PlainObject, statements_of_list, PlainStatement}
 use Rattle.p10_elabx.specs.declared.problem.Problem.{Problem}
 use Rattle.p10_elabx.specs.First.{Keep}
-use Rattle.p10_elabx.specs.Scopes.{Meaning, local, object, callable, unknown_name, PlainScope, entered, left, Binding}
+use Rattle.p10_elabx.specs.Scopes.{Meaning, local, object, callable, unknown_name, PlainScope, entered, left, without_names, Binding}
 use Rattle.p10_elabx.specs.TypeNames.{declarator_place}
 use Rattle.p10_elabd.specs.Standing.{PlainStanding, Passed, refusing}
 use Rattle.p10_elabd.specs.Words.{storage_of}
@@ -343,7 +343,7 @@ known_after_all h heads k (e ∷ rest) = known_after_all h heads (known_after h 
 -- a root begins with no names
 abbrev pub root_begun : Known → Known
 root_begun k = record k {
-  standing = record k.standing { scope = record { structures = k.standing.scope.structures; names = []; tags = []; floors = [] } };
+  standing = record k.standing { scope = without_names k.standing.scope };
   sightings = [];
 }
 

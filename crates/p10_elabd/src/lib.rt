@@ -46,7 +46,7 @@ mod words;
 pub use bases::{based, based_on, none_allowed};
 pub use constants::{enumerator_meaning, int_value, value_after};
 pub use declaration::{Declared, DeclaredFunction, DeclaredParameter};
-pub use expressions::{constant_value, declare_tags, expression_value};
+pub use expressions::{constant_value, declare_tags, expression_value, noted};
 pub use functions::{parameter_declared, result_declared};
 pub use initializers::initialized;
 pub use items::surplus_item;

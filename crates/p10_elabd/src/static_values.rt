@@ -1,6 +1,7 @@
 //! Constants: those of integer types, and those that initialise objects of static lifetime (C99 6.6p6 to p9, 6.7.8p4).
 
-ghost use Rattle.std.specs.Prelude.{◌≡◌};
+ghost use Rattle.std.specs.Prelude.{◌≡◌, IfOk};
+ghost use Rattle.p10_core.specs.Constants.{IsSmall};
 ghost use Rattle.p10_core.specs.Views.{plain_value, plain_place};
 ghost use Rattle.p10_elabx.specs.Built.{ruled_value};
 ghost use Rattle.p10_elabd.specs.Expressions.{folded_number, constant_number};
@@ -16,7 +17,9 @@ use p10_int::BinOp;
 
 /// What an integer constant expression gives, or the part that stops.
 fn folded_number(found: Result<i128, At>) -> Result<i128, Option<Problem>>
-    ensures { result ≡ folded_number found }
+    requires small { IfOk found IsSmall }
+    ensures value { result ≡ folded_number found }
+    ensures small { IfOk result IsSmall }
 {
     match found {
         Ok(number) => Ok(number),
@@ -29,7 +32,8 @@ fn folded_number(found: Result<i128, At>) -> Result<i128, Option<Problem>>
 
 /// What an integer constant expression gives (C99 6.6p6): a part of another form is refused, then one that stops.
 pub fn constant_number(v: &Value) -> Result<i128, Option<Problem>>
-    ensures { result ≡ constant_number (plain_value v.now) }
+    ensures value { result ≡ constant_number (plain_value v.now) }
+    ensures small { IfOk result IsSmall }
 {
     match inconstant_part(v) {
         Some(at) => Err(Some(Problem {

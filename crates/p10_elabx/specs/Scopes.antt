@@ -77,6 +77,10 @@ left s = record s {
   floors = take (length s.floors - 1) s.floors;
 }
 
+-- all names and tags are forgotten, and the structures stay: each root begins with no names (C99 6.2.1p4)
+abbrev pub without_names : PlainScope → PlainScope
+without_names s = record { structures = s.structures; names = []; tags = []; floors = [] }
+
 -- a name is declared in the innermost block
 abbrev pub declared : PlainScope → Text → Meaning → PlainScope
 declared s name what =

@@ -64,6 +64,7 @@ pub use problem::Problem;
 pub use scope::Scope;
 pub use shape::{Made, Shape};
 pub use signs::{assignment_of, step_of};
+pub use sizes::known_size;
 pub use targets::{by_sign, step_judged};
 pub use type_names::{specified_type, specifiers_at, specifiers_judged, typedef_rule};
 pub use values::{any_value, as_value, converted};

@@ -18,11 +18,11 @@ pub struct Scope<'s> {
     floors: Vec<(usize, usize)>,
 }
 
-#[tactic(auto, using(crate::proofs::Bound::found_is, crate::proofs::Bound::as_many, crate::proofs::Bound::kept_are, crate::proofs::Bound::one_more))]
+#[tactic(auto, using(crate::proofs::Bound::found_is, crate::proofs::Bound::as_many, crate::proofs::Bound::one_more))]
 impl<'s> Scope<'s> {
-    ghost use Rattle.std.specs.Prelude.{◌≡◌, ◌<◌, length, option_map, option_copied, OnOk, OnErr};
+    ghost use Rattle.std.specs.Prelude.{◌≡◌, option_map, option_copied, OnOk, OnErr};
     ghost use Rattle.p10_elabx.specs.Innermost.{hidden};
-    ghost use Rattle.p10_elabx.specs.Scopes.{empty_scope, entered, left, declared, named, tagged};
+    ghost use Rattle.p10_elabx.specs.Scopes.{empty_scope, entered, declared, named, tagged};
     ghost use Rattle.p10_elabx.specs.Views.{meaning_of};
     ghost use Rattle.p10_elabx.specs.PlainScopes.{plain_scope};
 
@@ -46,17 +46,6 @@ impl<'s> Scope<'s> {
         let floor = (self.names.count(), self.tags.count());
         self.floors.push(floor)?;
         Ok(())
-    }
-
-    /// Closes the innermost of at least two blocks, with all that was declared in it.
-    pub fn leave(&mut self)
-        requires { 0 < length (plain_scope self.old).floors }
-        ensures { plain_scope self.new ≡ left (plain_scope self.old) }
-    {
-        if let Some((names, tags)) = self.floors.pop() {
-            self.names.keep(names);
-            self.tags.keep(tags);
-        }
     }
 
     /// Declares a name in the innermost block. Out of memory, nothing is changed.
@@ -96,9 +85,9 @@ impl<'s> Scope<'s> {
 
 #[tactic(auto, using(crate::proofs::Innermost::found_here, crate::proofs::Innermost::rest_are, crate::proofs::Bound::kept_are))]
 impl<'s> Scope<'s> {
-    ghost use Rattle.std.specs.Prelude.{◌≡◌, ◌<◌, drop, length, option_map, option_copied, IfOk};
+    ghost use Rattle.std.specs.Prelude.{◌≡◌, drop, option_map, option_copied, IfOk};
     ghost use Rattle.p10_bindings.specs.Taken.{names_of};
-    ghost use Rattle.p10_elabx.specs.Scopes.{last_floor, left};
+    ghost use Rattle.p10_elabx.specs.Scopes.{last_floor, left, without_names};
     ghost use Rattle.p10_elabx.specs.Innermost.{named_here, tagged_here, is_outermost};
     ghost use Rattle.p10_elabx.specs.Views.{meaning_of, bindings_of};
     ghost use Rattle.p10_elabx.specs.PlainScopes.{plain_scope};
@@ -127,6 +116,25 @@ impl<'s> Scope<'s> {
             Some(_) => false,
             None => true,
         }
+    }
+
+    /// Closes the innermost block, with all that was declared in it. Where no block is open inside the outermost one, all names go.
+    pub fn leave(&mut self)
+        ensures { plain_scope self.new ≡ left (plain_scope self.old) }
+    {
+        let (names, tags) = self.floor();
+        self.floors.pop();
+        self.names.keep(names);
+        self.tags.keep(tags);
+    }
+
+    /// Forgets all names and tags, as the next root begins. The types stay.
+    pub fn forget_names(&mut self)
+        ensures { plain_scope self.new ≡ without_names (plain_scope self.old) }
+    {
+        self.names.keep(0);
+        self.tags.keep(0);
+        self.floors.clear();
     }
 
     /// Closes the innermost block, and gives what was declared in it. Out of memory that is forgotten.
