@@ -7,7 +7,7 @@ use Rattle.std.proofs.lemmas.List.{append-nil}
 use Rattle.p10_elabx.specs.declared.problem.Problem.{Problem}
 use Rattle.p10_elabx.specs.First.{IsFirst, least, every}
 use Rattle.p10_elabx.proofs.Firsts.{kept_lift, kept_pair}
-use Rattle.p10_elab.specs.Roots.{roots_of}
+use Rattle.p10_heads.specs.Roots.{roots_of}
 use Rattle.p10_elab.specs.Programs.{Elaborated, program, too_large, first_of, unless_problem, roots_elaborated, standing_of, whole_of, is_too_large}
 use Rattle.p10_elab.specs.Laws.{TheFirstIsAnswered, undefined_in, main_problems, IsAccepted, IsTooLarge, AnswersHaveCauses}
 

@@ -6,8 +6,8 @@ use Rattle.p10_elabx.specs.Calls.{argument_judged, with_argument, call_judged, o
 use Rattle.p10_elabx.specs.Judging.{unary_judged, address_judged, values_judged, truth_judged, conditional_judged, index_judged, member_judged, arrow_judged, size_judged, type_size_judged, cast_judged, target_judged, assignment_judged, with_read, update_judged, step_judged, nested, comma_judged, one_element, counted_elements, two_sizes, other_allocation}
 use Rattle.p10_elabx.specs.Operands.{any_value, as_value}
 use Rattle.p10_elabx.specs.TypeNames.{specifiers_judged, pointer_judged, array_judged, open_array_judged}
-use Rattle.p10_elab.specs.Between.{taken_together}
-use Rattle.p10_elab.specs.LocalDeclarations.{declared_locally}
+use Rattle.p10_linkage.specs.Between.{taken_together}
+use Rattle.p10_elabs.specs.LocalDeclarations.{declared_locally}
 use Rattle.p10_elab.specs.Outer.{declared_outside, defined_outside}
 use Rattle.p10_elab.specs.Programs.{known_of}
 use Rattle.p10_int.specs.Conversion.{reduced}

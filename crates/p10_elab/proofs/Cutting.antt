@@ -2,7 +2,7 @@
 use Rattle.std.proofs.Common.{◌≡◌, true, if◌then◌else◌, List, [], ◌∷◌, ◌++◌, refl, ◌∙◌, ap}
 use Rattle.p10_base.specs.declared.at.At.{At}
 use Rattle.p10_syn.specs.Trees.{External}
-use Rattle.p10_elab.specs.Roots.{root_follows, with_first, roots_of}
+use Rattle.p10_heads.specs.Roots.{root_follows, with_first, roots_of}
 use Rattle.p10_elab.specs.Laws.{AreInside, AreRoots, all_of, RootsAreFound}
 
 one_found : (e : External At) (rest after : List (External At)) → AreInside rest → root_follows after ≡ true → roots_of (e ∷ (rest ++ after)) ≡ (e ∷ rest) ∷ roots_of after

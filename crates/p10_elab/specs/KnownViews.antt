@@ -3,7 +3,7 @@ use Rattle.std.specs.Prelude.{map}
 use Rattle.p10_core.specs.Views.{plain_function, plain_object}
 use Rattle.p10_elabd.specs.Views.{plain_standing}
 use Rattle.p10_elab.specs.declared.known.Known.{Known}
-use Rattle.p10_elab.specs.LinkedLists.{linked_in}
+use Rattle.p10_linkage.specs.LinkedLists.{linked_in}
 use Rattle.p10_elab.specs.SightingViews.{sightings_in}
 use Rattle.p10_elab.specs.OuterViews.{plain_outer_object}
 use Rattle.p10_elab.specs.Outer.{Known as PlainKnown}

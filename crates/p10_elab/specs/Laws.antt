@@ -5,8 +5,8 @@ use Rattle.p10_syn.specs.Trees.{External}
 use Rattle.p10_core.specs.Typed.{PlainProgram}
 use Rattle.p10_elabx.specs.declared.problem.Problem.{Problem}
 use Rattle.p10_elabx.specs.First.{IsFirst, every}
-use Rattle.p10_elab.specs.Heads.{heads_of_roots}
-use Rattle.p10_elab.specs.Roots.{begins_root, roots_of}
+use Rattle.p10_heads.specs.Heads.{heads_of_roots}
+use Rattle.p10_heads.specs.Roots.{begins_root, roots_of}
 use Rattle.p10_elab.specs.Programs.{Elaborated, program, refusal, too_large, unless_problem, elaborated, known_of, standing_of, whole_of, nodes_of_program, undefined_among, main_among, missing_main, calls_of_main, is_too_large}
 
 -- of problems the first is answered: it is one of them, and none is before it

@@ -1,26 +1,8 @@
 -- The definitions that the contracts of this crate cite.
-pub mod Heads
-pub mod HeadViews
-pub mod PlainHeads
-pub mod Roots
-pub mod Addresses
-pub mod Locals
-pub mod LocalDeclarations
-pub mod Expressions
-pub mod Marks
-pub mod Statements
-pub mod LocalViews
-pub mod FrameViews
-pub mod Linkage
-pub mod LinkedViews
-pub mod LinkedLists
 pub mod Outer
 pub mod OuterViews
 pub mod SightingViews
 pub mod KnownViews
-pub mod Uniting
-pub mod Between
 pub mod Programs
 pub mod Laws
 pub mod Examples
-pub mod private

@@ -22,14 +22,14 @@ use Rattle.p10_elabd.specs.Blocks.{with_name}
 use Rattle.p10_elabd.specs.Shapes.{PlainParameter, FunctionType, DeclaredType, of_type, of_open_array, of_function, name_in, declares_function}
 use Rattle.p10_elabd.specs.Declaring.{specified, declarator_passed, based}
 use Rattle.p10_elabd.specs.declared.lifetime.Lifetime.TheVariants as life_is
-use Rattle.p10_elab.specs.Heads.{Heads, Head, number_in}
-use Rattle.p10_elab.specs.Addresses.{addresses_taken, constants_of}
-use Rattle.p10_elab.specs.Locals.{Frame, Local, specified_in, makes_sensors, no_initializer, unknown_in, typedef_passed, filled_array, brackets_of, initialized_by}
-use Rattle.p10_elab.specs.LocalDeclarations.{is_frame_variable, is_typedef}
+use Rattle.p10_heads.specs.Heads.{Heads, Head, number_in}
+use Rattle.p10_elabs.specs.Addresses.{addresses_taken, constants_of}
+use Rattle.p10_elabs.specs.Locals.{Frame, Local, specified_in, makes_sensors, no_initializer, unknown_in, typedef_passed, filled_array, brackets_of, initialized_by}
+use Rattle.p10_elabs.specs.LocalDeclarations.{is_frame_variable, is_typedef}
 use Rattle.p10_elabd.specs.Initializers.{elements_given}
-use Rattle.p10_elab.specs.Linkage.{is_function, LinkedType, a_function, an_object, unknown_function, unknown_object, Linked, last_linked, internal_by, linked_noted, is_static, is_main, is_main_name, main_problem}
-use Rattle.p10_elab.specs.Marks.{marks_noted}
-use Rattle.p10_elab.specs.Statements.{in_nothing, Block', no_items_yet, items_done}
+use Rattle.p10_linkage.specs.Linkage.{is_function, LinkedType, a_function, an_object, unknown_function, unknown_object, Linked, last_linked, internal_by, linked_noted, is_static, is_main, is_main_name, main_problem}
+use Rattle.p10_elabs.specs.Marks.{marks_noted}
+use Rattle.p10_elabs.specs.Statements.{in_nothing, Block', no_items_yet, items_done}
 
 -- ## What is known of the program
 

@@ -19,11 +19,11 @@ use Rattle.p10_core.specs.WholePrograms.{frame_bytes, is_mark}
 use Rattle.p10_elabx.specs.declared.problem.Problem.{Problem}
 use Rattle.p10_elabx.specs.First.{Keep, every, least}
 use Rattle.p10_elabd.specs.Standing.{PlainStanding}
-use Rattle.p10_elab.specs.Heads.{Heads, heads_of_roots}
-use Rattle.p10_elab.specs.Roots.{roots_of}
-use Rattle.p10_elab.specs.Linkage.{is_main_name}
+use Rattle.p10_heads.specs.Heads.{Heads, heads_of_roots}
+use Rattle.p10_heads.specs.Roots.{roots_of}
+use Rattle.p10_linkage.specs.Linkage.{is_main_name}
 use Rattle.p10_elab.specs.Outer.{Defined, Known, nothing_known, roots_passed}
-use Rattle.p10_elab.specs.Between.{taken_together}
+use Rattle.p10_linkage.specs.Between.{taken_together}
 
 -- ## The program
 

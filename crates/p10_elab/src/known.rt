@@ -3,15 +3,12 @@
 ghost use Rattle.std.specs.Prelude.{◌≡◌, ◌++◌, IfOk};
 ghost use Rattle.p10_elabx.specs.First.{only_first, problems};
 ghost use Rattle.p10_elabd.specs.Blocks.{is_taken};
-ghost use Rattle.p10_elab.specs.Heads.{Heads};
-ghost use Rattle.p10_elab.specs.LinkedViews.{plain_kind, linked_of_name};
+ghost use Rattle.p10_heads.specs.Heads.{Heads};
+ghost use Rattle.p10_linkage.specs.LinkedViews.{plain_kind, linked_of_name};
 ghost use Rattle.p10_elab.specs.SightingViews.{sightings_in};
 ghost use Rattle.p10_elab.specs.Outer.{linked_number, is_object, sighted_where, with_linked, nothing_known};
 ghost use Rattle.p10_elab.specs.KnownViews.{plain_known};
 
-use crate::linkage::{is_main, main_problem};
-use crate::linked::{LinkedKind, LinkedName};
-use crate::linked_names::LinkedNames;
 use crate::linking::is_refused;
 use crate::naming::named_by;
 use crate::outer_object::{OuterObject, Sighting};
@@ -20,6 +17,7 @@ use p10_base::SubsetCode;
 use p10_core::{Extent, Func, Global as StaticObject};
 use p10_elabd::Standing;
 use p10_elabx::Problem;
+use p10_linkage::{LinkedKind, LinkedName, LinkedNames, is_main, main_problem};
 use std::alloc::{AllocError, Global};
 
 /// What is known after some declarations and functions of the roots.

@@ -4,15 +4,13 @@ ghost use Rattle.std.specs.Prelude.{◌≡◌, ◌&&◌, None};
 ghost use Rattle.p10_syn.specs.Built.{identifier_of};
 ghost use Rattle.p10_elabd.specs.Standing.{PlainStanding};
 ghost use Rattle.p10_elabd.specs.Blocks.{is_taken};
-ghost use Rattle.p10_elab.specs.Linkage.{last_linked, is_defined, is_refused};
-ghost use Rattle.p10_elab.specs.LinkedViews.{plain_kind, linked_of_name};
-ghost use Rattle.p10_elab.specs.LinkedLists.{linked_in};
+ghost use Rattle.p10_linkage.specs.Linkage.{last_linked, is_defined, is_refused};
+ghost use Rattle.p10_linkage.specs.LinkedViews.{plain_kind, linked_of_name};
+ghost use Rattle.p10_linkage.specs.LinkedLists.{linked_in};
 ghost use Rattle.p10_elab.specs.Outer.{Known, linked_of};
 
-use crate::linkage::{differs, internal_by};
-use crate::linked::{LinkedKind, LinkedName};
-use crate::linked_names::LinkedNames;
 use p10_elabd::Storage;
+use p10_linkage::{LinkedKind, LinkedName, LinkedNames, differs, internal_by};
 use p10_syn::Identifier;
 
 /// What a declaration says beside its name and type.

@@ -4,13 +4,13 @@ ghost use Rattle.std.specs.Prelude.{◌≡◌, map, IfOk};
 ghost use Rattle.p10_core.specs.Types.{plain_type};
 ghost use Rattle.p10_elabx.specs.Scopes.{callable};
 ghost use Rattle.p10_elabx.specs.Views.{meaning_of};
-ghost use Rattle.p10_elab.specs.LinkedViews.{plain_kind};
+ghost use Rattle.p10_linkage.specs.LinkedViews.{plain_kind};
 ghost use Rattle.p10_elab.specs.Outer.{meaning_by};
 
-use crate::linked::LinkedKind;
 use p10_base::ListBuf;
 use p10_core::CType;
 use p10_elabx::Named;
+use p10_linkage::LinkedKind;
 use std::alloc::{AllocError, Global};
 
 /// What a declared name stands for, by the number of its function or object.

@@ -6,8 +6,8 @@ use Rattle.p10_elabx.specs.First.{only_first}
 use Rattle.p10_elabd.specs.Standing.{refusing}
 use Rattle.p10_elabd.specs.Blocks.{with_name}
 use Rattle.p10_elabd.specs.Views.{plain_standing}
-use Rattle.p10_elab.specs.Linkage.{Linked, linked_noted, main_problem}
-use Rattle.p10_elab.specs.LinkedViews.{linked_of_name}
+use Rattle.p10_linkage.specs.Linkage.{Linked, linked_noted, main_problem}
+use Rattle.p10_linkage.specs.LinkedViews.{linked_of_name}
 use Rattle.p10_elab.specs.Outer.{Known, meaning_by, linked_meaning, sighted_where}
 use Rattle.p10_elab.specs.KnownViews.{plain_known}
 use Rattle.p10_elab.proofs.known.add_linked.Goals as goal

@@ -1,7 +1,7 @@
 use Rattle.std.proofs.Common.{◌||◌, option_map, option_copied, sym, ◌∙◌, ap}
-use Rattle.p10_elab.specs.Linkage.{is_refused}
-use Rattle.p10_elab.specs.LinkedViews.{linked_of_name}
-use Rattle.p10_elab.specs.LinkedLists.{linked_in}
+use Rattle.p10_linkage.specs.Linkage.{is_refused}
+use Rattle.p10_linkage.specs.LinkedViews.{linked_of_name}
+use Rattle.p10_linkage.specs.LinkedLists.{linked_in}
 use Rattle.p10_elab.proofs.linking.is_refused.Goals as goal
 
 pub returns-in-Some : goal.returns-in-Some

@@ -1,6 +1,6 @@
 use Rattle.std.proofs.Common.{◌≡◌, None, sym, ◌∙◌, ap}
-use Rattle.p10_elab.specs.Linkage.{last_linked, internal_by}
-use Rattle.p10_elab.specs.LinkedViews.{plain_kind}
+use Rattle.p10_linkage.specs.Linkage.{last_linked, internal_by}
+use Rattle.p10_linkage.specs.LinkedViews.{plain_kind}
 use Rattle.p10_elab.proofs.linking.linked_of.Goals as goal
 
 pub returns : goal.returns

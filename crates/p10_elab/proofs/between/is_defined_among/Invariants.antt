@@ -1,9 +1,0 @@
-use Rattle.std.proofs.Common.{◌≡◌, map, drop}
-use Rattle.p10_elab.specs.HeadViews.{plain_head}
-use Rattle.p10_elab.specs.Between.{is_defined_before}
-use Rattle.p10_elab.specs.private.Grouping.{rows_at}
-use Rattle.p10_elab.proofs.between.is_defined_among.Given as goal
-
-abbrev pub invariant-loop-place : goal.invariant-loop-place
-invariant-loop-place l = is_defined_before (rows_at (drop l.place-index l.before) (map plain_head l.heads)) (plain_head l.head)
-    ≡ is_defined_before (rows_at l.before (map plain_head l.heads)) (plain_head l.head)

@@ -1,8 +1,0 @@
-use Rattle.std.proofs.Common.{◌≡◌, map}
-use Rattle.p10_bindings.specs.Bound.{bound_in}
-use Rattle.p10_elab.specs.HeadViews.{plain_head}
-use Rattle.p10_elab.specs.private.Numbering.{tables_upto}
-use Rattle.p10_elab.proofs.numbers.own_tables.Given as goal
-
-abbrev pub invariant-loop-root : goal.invariant-loop-root
-invariant-loop-root l = map bound_in l.tables.items ≡ tables_upto l.root (map plain_head l.heads)

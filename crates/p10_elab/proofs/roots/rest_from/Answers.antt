@@ -1,5 +1,0 @@
-use Rattle.p10_elab.proofs.CutRoots.{rest_is}
-use Rattle.p10_elab.proofs.roots.rest_from.Goals as goal
-
-pub returns : goal.returns
-returns c = rest_is c.args.place c.args.units.now

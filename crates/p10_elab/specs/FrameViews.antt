@@ -1,9 +1,0 @@
--- What doesn't change in a function, as the code keeps it.
-use Rattle.p10_core.specs.Types.{plain_type}
-use Rattle.p10_elab.specs.declared.frame.Frame.{Frame as CodeFrame}
-use Rattle.p10_elab.specs.Locals.{Frame}
-use Rattle.p10_elab.specs.PlainHeads.{plain_heads}
-
--- what doesn't change in a function
-abbrev pub plain_frame : CodeFrame → Frame
-plain_frame f = record { heads = plain_heads f.heads.now; taken = f.taken.list.items; number = f.number; result = plain_type f.result }

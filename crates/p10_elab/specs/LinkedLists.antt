@@ -1,9 +1,0 @@
--- Declarations with linkage in order, as the code keeps them.
-use Rattle.std.specs.Prelude.{List, map}
-use Rattle.p10_elab.specs.declared.linked_names.LinkedNames.{LinkedNames}
-use Rattle.p10_elab.specs.Linkage.{Linked}
-use Rattle.p10_elab.specs.LinkedViews.{linked_of_name}
-
--- the declarations, in order
-abbrev pub linked_in : LinkedNames → List Linked
-linked_in n = map linked_of_name n.rows.items

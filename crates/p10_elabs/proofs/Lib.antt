@@ -1,0 +1,9 @@
+mod Enumerated
+mod GrowingNames
+mod MarkTurns
+mod NumberMarks
+mod PieceRows
+mod Specified
+mod Takings
+mod TreeNodes
+mod Walking

@@ -1,0 +1,10 @@
+-- The definitions that the contracts of this crate cite.
+pub mod Addresses
+pub mod Locals
+pub mod LocalDeclarations
+pub mod Expressions
+pub mod Marks
+pub mod Statements
+pub mod LocalViews
+pub mod FrameViews
+pub mod private

@@ -1,0 +1,192 @@
+-- What is known while the body of a function is elaborated, and what a declaration in a block adds to it (C99 6.7, 6.8.2).
+use Rattle.std.specs.Prelude.{ℕ, ◌*◌, nat_le, Bool, true, false, not, ◌&&◌, ◌||◌, if◌then◌else◌, List, [], ◌∷◌, length, Option, Some, None}
+use Rattle.p10_base.specs.declared.at.At.{At}
+use Rattle.p10_base.specs.declared.codes.SubsetCode.{SubsetCode}
+use Rattle.p10_base.specs.declared.codes.SubsetCode.TheVariants as subset
+use Rattle.p10_syn.specs.Trees.{Identifier, Declarator, Pointer, Parenthesised, Array, Function, Specifiers, NoSpecifiers, MoreSpecifiers, Keyword, Structure, Initializer, InitDeclarator, Declaration}
+use Rattle.p10_core.specs.Types.{PlainType, array}
+use Rattle.p10_core.specs.Sizes.{size_of}
+use Rattle.p10_core.specs.Rows.{is_integer, is_complete}
+use Rattle.p10_core.specs.Typed.{PlainInitializer, not_initialized, PlainVariable, PlainObject}
+use Rattle.p10_core.specs.WholePrograms.{most_bytes}
+use Rattle.p10_elabx.specs.First.{Keep}
+use Rattle.p10_elabx.specs.Scopes.{named_type, unknown_name, entered, left}
+use Rattle.p10_elabx.specs.TypeNames.{declarator_place}
+use Rattle.p10_elabd.specs.Standing.{PlainStanding, Passed, passed, nothing_made, refusing}
+use Rattle.p10_elabd.specs.Words.{storage_of, has_word, is_volatile, is_other_word}
+use Rattle.p10_elabd.specs.declared.site.Site.{Site}
+use Rattle.p10_elabd.specs.declared.site.Storage.{Storage}
+use Rattle.p10_elabd.specs.declared.site.Storage.TheVariants as storage_is
+use Rattle.p10_elabd.specs.declared.site.Allowed.{Allowed}
+use Rattle.p10_elabd.specs.Blocks.{declaring}
+use Rattle.p10_elabd.specs.Shapes.{DeclaredType, of_type, of_open_array, of_function, declares_function, is_plain_name}
+use Rattle.p10_elabd.specs.Declaring.{specified}
+use Rattle.p10_elabd.specs.Initializers.{initialized, elements_given, surplus_item}
+use Rattle.p10_elabd.specs.declared.lifetime.Lifetime.{Lifetime}
+use Rattle.p10_heads.specs.Heads.{Heads}
+
+-- ## What is known
+
+-- what doesn't change in a function: what the roots define; the variables whose addresses are taken; its number; the type of its
+-- result
+pub record Frame : Type 0 where
+  pub heads : Heads
+  pub taken : List ℕ
+  pub number : ℕ
+  pub result : PlainType
+
+-- what a body has so far: what stands where the next statement does; how many variables there were; the variables and the static
+-- objects with their numbers, of which none was refused; how many loops there were
+pub record Local : Type 0 where
+  pub standing : PlainStanding
+  pub count : ℕ
+  pub variables : List PlainVariable
+  pub objects : List (ℕ × PlainObject)
+  pub loops : ℕ
+
+-- what a part of a body makes, if none of it is refused, and what the body has then
+pub record Done (A : Type 0) : Type 0 where
+  pub made : Option A
+  pub after : Local
+
+-- what is declared in a part of a body is done for the body
+abbrev pub with_standing : Local → PlainStanding → Local
+with_standing l s = record l { standing = s }
+
+-- a part that stands in the body
+abbrev pub done_in : {A : Type 0} → Local → Passed A → Done A
+done_in l p = record { made = p.made; after = with_standing l p.after }
+
+-- a row that holds at a tree, where a condition is met
+abbrev pub refusing_in : Keep → Bool → SubsetCode → At → Local → Local
+refusing_in h holds code at l = with_standing l (refusing h holds code at l.standing)
+
+-- a block is opened
+abbrev pub opened : Local → Local
+opened l = with_standing l (record l.standing { scope = entered l.standing.scope })
+
+-- a block is closed
+abbrev pub closed : Local → Local
+closed l = with_standing l (record l.standing { scope = left l.standing.scope })
+
+-- ## What declarators allow
+
+-- whether each declarator passes a test, and there is one
+abbrev pub are_all : (InitDeclarator At → Bool) → List (InitDeclarator At) → Bool
+are_all test [] = false
+are_all test (d ∷ []) = test d
+are_all test (d ∷ rest) = test d && are_all test rest
+
+-- whether storage gives a static lifetime to objects
+abbrev pub is_lasting : Bool → Storage → Bool
+is_lasting outside storage_is.Static = true
+is_lasting outside storage_is.Extern = outside
+is_lasting outside storage_is.Unnamed = outside
+is_lasting outside storage_is.Typedef = false
+
+-- whether a specifier names a type that is no integer type, whatever its parts are
+abbrev pub names_other : Specifiers At → Bool
+names_other NoSpecifiers = false
+names_other (MoreSpecifiers (Keyword at word) rest) = is_other_word word || names_other rest
+names_other (MoreSpecifiers (Structure at word tag _) rest) = true
+names_other (MoreSpecifiers one rest) = names_other rest
+
+-- whether the type that specifiers name is an integer type; where it is refused, by their forms alone
+abbrev pub names_integer : Option PlainType → Specifiers At → Bool
+names_integer (Some t) _ = is_integer t
+names_integer None specifiers = not (names_other specifiers)
+
+-- whether a declaration declares sensors alone: each declarator is an object of integer type and of static lifetime
+abbrev pub declares_sensors : Bool → Option PlainType → Declaration At → Bool
+declares_sensors outside t d =
+    is_lasting outside (storage_of d.specifiers) && (names_integer t d.specifiers && are_all (λ i. is_plain_name i.declarator) d.declarators)
+
+-- `volatile` on anything but sensors (C99 6.7.3), at the word
+abbrev pub volatile_noted : Keep → Bool → Specifiers At → PlainStanding → PlainStanding
+volatile_noted h may NoSpecifiers s = s
+volatile_noted h may (MoreSpecifiers (Keyword at word) rest) s =
+    volatile_noted h may rest (refusing h (is_volatile word && not may) subset.BadSpecifier at s)
+volatile_noted h may (MoreSpecifiers one rest) s = volatile_noted h may rest s
+
+-- what the declarators of a declaration allow among its specifiers: `inline` where each declares a function that is `static`; whether
+-- `volatile` may stand is known once the type is
+abbrev pub allowed_by : Declaration At → Allowed
+allowed_by d = record { inline = is_static (storage_of d.specifiers) && are_all (λ i. declares_function i.declarator) d.declarators; volatile = true }
+  where
+    is_static : Storage → Bool
+    is_static storage_is.Static = true
+    is_static s = false
+
+-- whether specifiers are the only one of a declaration that declares nothing else
+abbrev pub is_alone : Declaration At → Bool
+is_alone d = one_of d.specifiers && none_of d.declarators
+  where
+    one_of : Specifiers At → Bool
+    one_of (MoreSpecifiers one NoSpecifiers) = true
+    one_of _ = false
+
+    none_of : List (InitDeclarator At) → Bool
+    none_of [] = true
+    none_of ds = false
+
+-- the type that the specifiers of a declaration name
+abbrev pub specified_in : Keep → Bool → Site → PlainStanding → Declaration At → Passed PlainType
+specified_in h outside site s d = sensors_noted (specified h site (allowed_by d) (is_alone d) s d.specifiers)
+  where
+    sensors_noted : Passed PlainType → Passed PlainType
+    sensors_noted t = record { made = t.made; after = volatile_noted h (declares_sensors outside t.made d) d.specifiers t.after }
+
+-- ## One declarator
+
+-- whether the objects of a declaration are sensors
+abbrev pub makes_sensors : Declaration At → Bool
+makes_sensors d = has_word is_volatile d.specifiers
+
+-- an initialiser where none may stand
+abbrev pub no_initializer : Keep → Option (Initializer At) → PlainStanding → PlainStanding
+no_initializer h None s = s
+no_initializer h (Some i) s = (surplus_item h s i).after
+
+-- a name that stands for something unknown, since its declaration is refused
+abbrev pub unknown_in : Keep → Identifier At → PlainStanding → PlainStanding
+unknown_in h name s = declaring h name unknown_name s
+
+-- a typedef: of a function it isn't in the subset
+abbrev pub typedef_passed : Keep → Identifier At → Declarator At → Option DeclaredType → PlainStanding → PlainStanding
+typedef_passed h name d None s = unknown_in h name s
+typedef_passed h name d (Some (of_type t)) s = declaring h name (named_type t) s
+typedef_passed h name d (Some (of_open_array t)) s = unknown_in h name (refusing h true subset.IncompleteType name.place s)
+typedef_passed h name d (Some (of_function f)) s = unknown_in h name (refusing h true subset.BadSpecifier (declarator_place d) s)
+
+-- an array of as many elements as an initialiser gives; that it is too large is refused at its brackets
+abbrev pub filled_array : Keep → At → PlainType → Initializer At → Option ℕ → PlainStanding → Passed PlainType
+filled_array h brackets t i None s = nothing_made (surplus_item h s i).after
+filled_array h brackets t i (Some n) s =
+    if fits_type (n * size_of s.scope.structures t) then passed (array false t n) s else nothing_made (refusing h true subset.BadLength brackets s)
+  where
+    fits_type : ℕ → Bool
+    fits_type bytes = nat_le bytes most_bytes
+
+-- the type of an object: it has a size; the length of an array may come from its initialiser (C99 6.7p7, 6.7.8p22)
+abbrev pub object_type : Keep → At → At → DeclaredType → Option (Initializer At) → PlainStanding → Passed PlainType
+object_type h name_at brackets (of_type t) i s =
+    if is_complete s.scope.structures t then passed t s else nothing_made (refusing h true subset.IncompleteType name_at s)
+object_type h name_at brackets (of_open_array t) None s = nothing_made (refusing h true subset.IncompleteType name_at s)
+object_type h name_at brackets (of_open_array t) (Some i) s = filled_array h brackets t i (elements_given t i) s
+object_type h name_at brackets (of_function f) i s = nothing_made s
+
+-- the brackets of an array whose length is lacking: those next to its name
+abbrev pub brackets_of : Declarator At → At
+brackets_of d = from_declarator (declarator_place d) d
+  where
+    from_declarator : At → Declarator At → At
+    from_declarator at (Array place d brackets length) = from_declarator brackets d
+    from_declarator at (Parenthesised place d) = from_declarator at d
+    from_declarator at (Function place d parentheses _ _) = from_declarator at d
+    from_declarator at (Pointer place qualifiers d) = from_declarator at d
+    from_declarator at d = at
+
+-- an initialiser, if one is written, for an object of a type
+abbrev pub initialized_by : Keep → Lifetime → PlainType → Option (Initializer At) → PlainStanding → Passed PlainInitializer
+initialized_by h life t None s = passed not_initialized s
+initialized_by h life t (Some i) s = initialized h life t s i

@@ -1,0 +1,11 @@
+use Rattle.std.proofs.Common.{map, ap}
+use Rattle.p10_syn.specs.BuiltStatements.{init_declarator_of}
+use Rattle.p10_heads.specs.Heads.{block_heads}
+use Rattle.p10_heads.proofs.ListRows.{cut_list, more_put}
+use Rattle.p10_heads.proofs.statics.put_statics.Goals as goal
+
+pub loop-d-preserved : goal.loop-d-preserved
+loop-d-preserved c =
+    more_put _ _ _ _ _ _ c.in_ok-put_static.ensures
+    (ap (λ xs. block_heads c.args.root (map init_declarator_of xs)) (cut_list c.args.all.now c.loop-d.d-index c.d-item.result c.loop-d-test.true c.d-item.is))
+    c.loop-d.invariant

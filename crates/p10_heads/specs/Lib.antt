@@ -1,0 +1,6 @@
+-- The definitions that the contracts of this crate cite.
+pub mod Heads
+pub mod HeadViews
+pub mod PlainHeads
+pub mod Roots
+pub mod private

@@ -1,0 +1,7 @@
+-- The definitions that the contracts of this crate cite.
+pub mod Linkage
+pub mod LinkedViews
+pub mod LinkedLists
+pub mod Uniting
+pub mod Between
+pub mod private

@@ -1,0 +1,5 @@
+-- What the private functions of this crate rest on.
+pub mod Agreeing
+pub mod Grouping
+pub mod Lookups
+pub mod Meetings
