@@ -1,9 +1,12 @@
+mod CaseSteps
 mod Enumerated
+mod FormParts
 mod GrowingNames
 mod MarkTurns
 mod NumberMarks
-mod PieceRows
+pub mod PieceRows
 mod Specified
+mod StatementParts
 mod Takings
 mod TreeNodes
 mod Walking

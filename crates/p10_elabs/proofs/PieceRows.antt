@@ -7,12 +7,12 @@ use Rattle.p10_core.specs.declared.statements.LoopHead.{LoopHead}
 use Rattle.p10_core.specs.declared.statements.Stmt.{Stmt}
 use Rattle.p10_core.specs.declared.typed.Value.{Value}
 use Rattle.p10_core.specs.declared.statements.Label.{Label}
-use Rattle.p10_core.specs.Typed.{PlainStatement, statement, if_then, if_else, loop, switch, more_statements, no_statements, statements_of_list}
+use Rattle.p10_core.specs.Typed.{PlainValue, PlainStatement, statement, if_then, if_else, loop, switch, more_statements, no_statements, statements_of_list}
 use Rattle.p10_core.specs.Views.{plain_value, plain_statement, plain_statements}
 use Rattle.p10_elabs.specs.Expressions.{statement_added}
 use Rattle.p10_elabs.specs.Locals.{Local}
 use Rattle.p10_elabs.specs.LocalViews.{plain_items, plain_cases}
-use Rattle.p10_elabs.specs.Statements.{if_of, if_else_of, tested_loop, switch_of}
+use Rattle.p10_elabs.specs.Statements.{if_of, if_else_of, loop_of, tested_loop, switch_of}
 use Rattle.p10_elabs.specs.private.Parts.{both}
 use Rattle.p10_heads.proofs.ListRows.{mapped_more}
 
@@ -65,6 +65,40 @@ pub loop_lacks : (at : At) (head : LoopHead) (a : Option Value) (b : Option Stmt
 loop_lacks at head (Some x) (Some y) is = absurd cc
 loop_lacks at head (Some x) None is = refl
 loop_lacks at head None b is = refl
+
+-- a loop of its parts
+abbrev loop_with : At → LoopHead → ((List PlainStatement × Option PlainValue) × List PlainStatement) × PlainStatement → Option PlainStatement
+loop_with at head p = Some (statement at (loop head (statements_of_list p.0.0.0) p.0.0.1 (statements_of_list p.0.1) p.1))
+
+-- parts of a loop, as the definitions see them
+abbrev loop_parts : ((Vec Stmt Global × Option Value) × Vec Stmt Global) × Stmt → ((List PlainStatement × Option PlainValue) × List PlainStatement) × PlainStatement
+loop_parts p = (((map plain_statement p.0.0.0.items, option_map plain_value p.0.0.1), map plain_statement p.0.1.items), plain_statement p.1)
+
+-- a loop of parts that are found
+pub clauses_made : (at : At) (head : LoopHead) (a : Option (Vec Stmt Global)) (t : Option (Option Value)) (c : Option (Vec Stmt Global)) (b : Option Stmt)
+    (first : Vec Stmt Global) (test : Option Value) (third : Vec Stmt Global) (s : Stmt) (made : PlainStatement) →
+    ◌≡◌ {A = Option (((Vec Stmt Global × Option Value) × Vec Stmt Global) × Stmt)} (Some (((first, test), third), s)) (both (both (both a t) c) b) →
+    made ≡ statement at (loop head (plain_statements first.items) (option_map plain_value test) (plain_statements third.items) (plain_statement s)) →
+    Some made ≡ loop_of at head (plain_items a) (option_map (λ o. option_map plain_value o) t) (plain_items c) (option_map plain_statement b)
+clauses_made at head (Some x) (Some y) (Some z) (Some w) first test third s made is e =
+    let one : ◌≡◌ {A = ((Vec Stmt Global × Option Value) × Vec Stmt Global) × Stmt} (((first, test), third), s) (((x, y), z), w) = cc in
+    ap Some e
+    ∙ ap (λ xs. Some (statement at (loop head xs (option_map plain_value test) (plain_statements third.items) (plain_statement s)))) (listed first.items)
+    ∙ ap (λ xs. Some (statement at (loop head (statements_of_list (map plain_statement first.items)) (option_map plain_value test) xs (plain_statement s)))) (listed third.items)
+    ∙ ap (λ (p : ((Vec Stmt Global × Option Value) × Vec Stmt Global) × Stmt). loop_with at head (loop_parts p)) one
+clauses_made at head (Some x) (Some y) (Some z) None first test third s made is e = absurd cc
+clauses_made at head (Some x) (Some y) None b first test third s made is e = absurd cc
+clauses_made at head (Some x) None c b first test third s made is e = absurd cc
+clauses_made at head None t c b first test third s made is e = absurd cc
+
+pub clauses_lack : (at : At) (head : LoopHead) (a : Option (Vec Stmt Global)) (t : Option (Option Value)) (c : Option (Vec Stmt Global)) (b : Option Stmt) →
+    None ≡ both (both (both a t) c) b →
+    None ≡ loop_of at head (plain_items a) (option_map (λ o. option_map plain_value o) t) (plain_items c) (option_map plain_statement b)
+clauses_lack at head (Some x) (Some y) (Some z) (Some w) is = absurd cc
+clauses_lack at head (Some x) (Some y) (Some z) None is = refl
+clauses_lack at head (Some x) (Some y) None b is = refl
+clauses_lack at head (Some x) None c b is = refl
+clauses_lack at head None t c b is = refl
 
 -- ## Items
 

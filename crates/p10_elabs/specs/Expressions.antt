@@ -3,7 +3,7 @@ use Rattle.std.specs.Prelude.{zero, false, if◌then◌else◌, List, [], ◌∷
 use Rattle.p10_base.specs.declared.at.At.{At}
 use Rattle.p10_base.specs.declared.codes.SubsetCode.TheVariants as subset
 use Rattle.p10_int.specs.Types.{promoted}
-use Rattle.p10_syn.specs.Trees.{Expression, expression, Name, Step, Assign, Call, Comma, Expressions, NoExpressions, MoreExpressions, Optional, Absent, Present}
+use Rattle.p10_syn.specs.Trees.{Identifier, Expression, expression, Step, Assign, Call, Comma, Expressions, NoExpressions, MoreExpressions, Optional, Absent, Present}
 use Rattle.p10_core.specs.declared.typed.Library.TheVariants.{Assert}
 use Rattle.p10_core.specs.Types.{integer}
 use Rattle.p10_core.specs.Rows.{is_scalar, is_integer}
@@ -12,8 +12,8 @@ use Rattle.p10_core.specs.Typed.{PlainValue, value, built_in, no_values, more_va
 use Rattle.p10_elabx.specs.First.{Keep, Found, Ruled, refused, nothing_said, Judged, on}
 use Rattle.p10_elabx.specs.Scopes.{PlainScope, named}
 use Rattle.p10_elabx.specs.Operands.{PlainOperand, a_value, any_value, as_value, converted}
-use Rattle.p10_elabx.specs.Calls.{Callee, callee_of, wants_of, wanted_of, no_arguments, call_judged, is_assert, operand_call}
-use Rattle.p10_elabx.specs.Judging.{judge, judge_arguments, count_of, by_sign, step_judged, target_judged, assignment_of, step_of, place_of, may_be_place}
+use Rattle.p10_elabx.specs.Calls.{of_library, callee_of, wants_of, wanted_of, no_arguments, call_judged, is_assert}
+use Rattle.p10_elabx.specs.Judging.{judge, judge_arguments, count_of, called_name, by_sign, step_judged, target_judged, assignment_of, step_of, place_of, may_be_place}
 use Rattle.p10_elabd.specs.Standing.{PlainStanding, noted}
 use Rattle.p10_elabd.specs.Expressions.{for_expression, value_found}
 use Rattle.p10_elabs.specs.Locals.{Local, Done, done_in}
@@ -29,9 +29,21 @@ assertion o = nothing_said
 abbrev pub evaluated : Keep → PlainScope → Judged PlainOperand → Found PlainStatementForm
 evaluated h s j = on (any_value s.structures j).found (λ v. Ok (evaluate v))
 
--- a call as a whole statement: `assert` may stand there
-abbrev pub called : Keep → PlainScope → At → Callee → Judged PlainOperand → Found PlainStatementForm
-called h s at callee j = if is_assert callee then on j.found assertion else evaluated h s (operand_call h at callee j)
+-- where the name of `assert` stands, if it is called
+abbrev pub assert_called : PlainScope → Option (Identifier At) → Option At
+assert_called s None = None
+assert_called s (Some x) = if is_assert (callee_of (named s x.name) x.name) then Some x.place else None
+
+-- a call of `assert` as a whole statement
+abbrev pub assert_found : Keep → PlainScope → At → At → Expressions At → Found PlainStatementForm
+assert_found h s at name_at all =
+    on (call_judged h at name_at (of_library Assert) (count_of all) (judge_arguments h s (wanted_of (wants_of (of_library Assert)) (count_of all)) 0 no_arguments all)).found
+    assertion
+
+-- a call as a whole statement: `assert` may stand there; what another one gives is a value
+abbrev pub call_found : Keep → PlainScope → At → Expressions At → Found PlainStatementForm → Option At → Found PlainStatementForm
+call_found h s at all other None = other
+call_found h s at all other (Some name_at) = assert_found h s at name_at all
 
 -- what a whole expression becomes: an assignment or a step, `assert`, or a value; parentheses change nothing
 abbrev pub form_found : Keep → PlainScope → Expression At → Found PlainStatementForm
@@ -39,9 +51,8 @@ form_found h s (expression at n (Assign word a b)) =
     (by_sign h s.structures at (assignment_of word) (target_judged h s.structures (place_of a) (may_be_place a) (judge h s a)) (as_value s.structures (judge h s b))).found
 form_found h s (expression at n (Step side word e)) =
     (step_judged s.structures at (step_of word) (target_judged h s.structures (place_of e) (may_be_place e) (judge h s e))).found
-form_found h s (expression at n (Call (expression place m (Name x)) all)) =
-    let callee : Callee = callee_of (named s x.name) x.name in
-    called h s at callee (call_judged h at x.place callee (count_of all) (judge_arguments h s (wanted_of (wants_of callee) (count_of all)) 0 no_arguments all))
+form_found h s (expression at n (Call f all)) =
+    call_found h s at all (evaluated h s (judge h s (expression at n (Call f all)))) (assert_called s (called_name f))
 form_found h s e = evaluated h s (judge h s e)
 
 -- a form as a statement at a tree
@@ -63,17 +74,21 @@ abbrev pub statement_added : Option (List PlainStatement) → Option PlainStatem
 statement_added (Some ss) (Some s) = Some (ss ++ s ∷ [])
 statement_added ss s = None
 
+-- a piece of a clause after those before
+abbrev pub piece_done : Keep → Done (List PlainStatement) → Expression At → Done (List PlainStatement)
+piece_done h d e =
+    let one : Done PlainStatement = expression_statement h d.after (place_of e) e in
+    record { made = statement_added d.made one.made; after = one.after }
+
 -- the pieces of a clause are statements of their own, each at its expression
 abbrev pub pieces_done : Keep → Done (List PlainStatement) → Expressions At → Done (List PlainStatement)
 pieces_done h d NoExpressions = d
-pieces_done h d (MoreExpressions e rest) =
-    let one : Done PlainStatement = expression_statement h d.after (place_of e) e in
-    pieces_done h (record { made = statement_added d.made one.made; after = one.after }) rest
+pieces_done h d (MoreExpressions e rest) = pieces_done h (piece_done h d e) rest
 
 -- the first or third clause of a `for`: the operands of a comma that isn't in parentheses are its pieces
 abbrev pub clause_done : Keep → Local → Expression At → Done (List PlainStatement)
 clause_done h l (expression at zero (Comma all)) = pieces_done h (record { made = Some []; after = l }) all
-clause_done h l e = pieces_done h (record { made = Some []; after = l }) (MoreExpressions e NoExpressions)
+clause_done h l e = piece_done h (record { made = Some []; after = l }) e
 
 -- a clause that may be left out
 abbrev pub optional_clause : Keep → Local → Optional At → Done (List PlainStatement)

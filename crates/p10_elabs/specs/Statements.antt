@@ -1,5 +1,5 @@
 -- Statements (C99 6.8): what they become, and where labels, jumps and pragmas may stand.
-use Rattle.std.specs.Prelude.{ℕ, ◌+◌, ℤ, Bool, true, false, ◌||◌, if◌then◌else◌, List, [], ◌∷◌, ◌++◌, map, length, Option, Some, None, Ok}
+use Rattle.std.specs.Prelude.{ℕ, ◌+◌, ℤ, Bool, true, false, ◌&&◌, ◌||◌, if◌then◌else◌, List, [], ◌∷◌, ◌++◌, map, length, Option, Some, None, Ok}
 use Rattle.std.specs.Ordering.{int_eq}
 use Rattle.p10_base.specs.declared.at.At.{At}
 use Rattle.p10_base.specs.declared.codes.SubsetCode.TheVariants as subset
@@ -87,12 +87,26 @@ head_of word keyword l = record { number = l.loops; keyword = word; span = keywo
 abbrev pub with_loop : Local → Local
 with_loop l = record l { loops = l.loops + 1 }
 
+-- whether nothing is written before the `;`
+abbrev pub is_empty : Statement At → Bool
+is_empty (Empty at) = true
+is_empty s = false
+
+-- whether an expression is left out
+abbrev pub is_absent : Optional At → Bool
+is_absent Absent = true
+is_absent (Present e) = false
+
+-- a `for` with nothing in its parentheses may be the task loop
+abbrev pub for_kind : Statement At → Optional At → Optional At → Kind
+for_kind start test step = if is_empty start && (is_absent test && is_absent step) then item.Task else item.Other
+
 -- what a statement that isn't a declaration is among the items of a body
 abbrev pub kind_of : Keep → Local → Statement At → Kind
 kind_of h l (Pragma at text) = item.Mark (mark_of text) at
 kind_of h l (Return at k e) = item.Return
 kind_of h l (While at k e body) = test_kind (test_done h (opened (with_loop l)) e).made
-kind_of h l (For at k (Empty place) Absent Absent body) = item.Task
+kind_of h l (For at k start test step body) = for_kind start test step
 kind_of h l other = item.Other
 
 -- statements in braces
@@ -176,10 +190,14 @@ case_noted h at n k (Some z) l =
     if is_labelled z k.cases then record k { cases = None; after = refusing_in h true subset.BadJump at l }
     else record k { cases = label_added k.cases z n; after = l }
 
--- the value of a `case`, converted to the type of the `switch` (C99 6.8.4.2p5)
+-- a number in the type of the `switch`, where that is known (C99 6.8.4.2p5)
+abbrev pub number_for : Option PlainValue → Ruled ℤ → Ruled ℤ
+number_for None found = found
+number_for (Some on) found = ruled found (λ z. Ok (converted_to (integer_of (type_of on)) z))
+
+-- the value of a `case`
 abbrev pub case_value : Option PlainValue → PlainValue → Ruled ℤ
-case_value None v = constant_number v
-case_value (Some on) v = ruled (constant_number v) (λ z. Ok (converted_to (integer_of (type_of on)) z))
+case_value on v = number_for on (constant_number v)
 
 -- a `case` before an item
 abbrev pub case_done : Keep → At → ℕ → Option PlainValue → Labelled → Expression At → Labelled

@@ -1,8 +1,13 @@
 -- What the private functions of this crate rest on.
+pub mod Cases
+pub mod Clauses
+pub mod Forming
 pub mod Labels
 pub mod Marked
 pub mod Marking
 pub mod Parts
 pub mod Returning
 pub mod Specifying
+pub mod StepViews
+pub mod Steps
 pub mod Walking

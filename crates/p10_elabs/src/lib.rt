@@ -9,10 +9,14 @@
 #![tactic(auto)]
 
 mod both;
+mod cases;
+mod clauses;
 mod conditions;
 mod constants;
 mod expressions;
+mod forms;
 mod frame;
+mod items;
 mod kind;
 mod labels;
 mod local;
@@ -23,6 +27,7 @@ mod pieces;
 mod returns;
 mod round;
 mod specifiers;
+mod switches;
 mod taken;
 mod taken_set;
 mod walk;

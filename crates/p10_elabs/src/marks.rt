@@ -1,6 +1,6 @@
 //! The pragmas of p10 in the body of `main`: where each may stand.
 
-ghost use Rattle.std.specs.Prelude.{◌≡◌, ◌||◌, true, false, option_map, option_copied};
+ghost use Rattle.std.specs.Prelude.{◌≡◌, ◌||◌, true, false, option_map};
 ghost use Rattle.p10_core.specs.Constants.{IsSmall};
 ghost use Rattle.p10_core.specs.Views.{plain_value};
 ghost use Rattle.p10_core.specs.WholePrograms.{gives_other_than_zero, is_true_test};
@@ -43,8 +43,8 @@ fn is_true_test(v: &Value) -> bool
 }
 
 /// What a `while` is by its condition, which may be refused.
-pub(crate) fn test_kind(test: Option<&Value>) -> Kind
-    ensures { result ≡ test_kind (option_map plain_value (option_copied test.entry)) }
+pub(crate) fn test_kind(test: &Option<Value>) -> Kind
+    ensures { result ≡ test_kind (option_map plain_value test.now) }
 {
     match test {
         Some(v) => {

@@ -7,7 +7,7 @@ ghost use Rattle.p10_elabx.specs.First.{only_first};
 ghost use Rattle.p10_elabs.specs.Expressions.{statement_added};
 ghost use Rattle.p10_elabs.specs.Locals.{Local as PlainLocal};
 ghost use Rattle.p10_elabs.specs.LocalViews.{done_as, plain_local, plain_items, plain_labelled};
-ghost use Rattle.p10_elabs.specs.Statements.{block_of, if_of, if_else_of, tested_loop, jump, pragma_done, switch_of};
+ghost use Rattle.p10_elabs.specs.Statements.{block_of, if_of, if_else_of, loop_of, tested_loop, jump, pragma_done, switch_of};
 ghost use Rattle.p10_elabs.specs.private.Labels.{labelled_where};
 
 use crate::both::{both, kept};
@@ -61,6 +61,34 @@ pub(crate) fn if_else_of(
         Some((most, otherwise)) => {
             let (test, then) = most;
             let made = Stmt::if_else(alloc, at, test, then, otherwise)?;
+            Ok(Some(made))
+        }
+        None => Ok(None),
+    }
+}
+
+/// The clauses of a `for` that aren't refused: its first one, its test and its third one.
+pub(crate) type FoundClauses = (Option<Vec<Stmt>>, Option<Option<Value>>, Option<Vec<Stmt>>);
+
+/// A loop.
+pub(crate) fn loop_of(
+    alloc: Global,
+    at: At,
+    head: LoopHead,
+    clauses: FoundClauses,
+    body: Option<Stmt>,
+) -> Result<Option<Stmt>, AllocError>
+    ensures { IfOk result (λ made. option_map plain_statement made ≡ loop_of at head (plain_items clauses.0) (option_map (λ o. option_map plain_value o) clauses.1) (plain_items clauses.2) (option_map plain_statement body)) }
+{
+    let (first, test, third) = clauses;
+    let start = both(first, test);
+    let most = both(start, third);
+    match both(most, body) {
+        Some((most, body)) => {
+            let (start, third) = most;
+            let (first, test) = start;
+            let clauses = Clauses { first, test, third };
+            let made = Stmt::loops(alloc, at, head, clauses, body)?;
             Ok(Some(made))
         }
         None => Ok(None),

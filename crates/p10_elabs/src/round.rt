@@ -14,7 +14,7 @@ impl Round {
     ghost use Rattle.p10_elabs.specs.Statements.{in_nothing, inside, inside_loop, inside_switch, among_labels};
 
     /// Nothing stands round it.
-    pub(crate) fn nothing() -> Round
+    pub fn nothing() -> Round
         ensures { result ≡ in_nothing }
     {
         Round {
