@@ -1,8 +1,8 @@
 use Rattle.std.proofs.Common.{map, ap}
 use Rattle.p10_syn.specs.BuiltStatements.{external_of}
-use Rattle.p10_elab.specs.Heads.{outlines}
-use Rattle.p10_elab.proofs.ListRows.{cut_list, more_put}
-use Rattle.p10_elab.proofs.outlines.outlines.Goals as goal
+use Rattle.p10_heads.specs.Heads.{outlines}
+use Rattle.p10_heads.proofs.ListRows.{cut_list, more_put}
+use Rattle.p10_heads.proofs.outlines.outlines.Goals as goal
 
 pub loop-unit-preserved : goal.loop-unit-preserved
 loop-unit-preserved c =

@@ -1,8 +1,8 @@
 use Rattle.std.proofs.Common.{map, ap}
 use Rattle.p10_syn.specs.BuiltStatements.{init_declarator_of}
-use Rattle.p10_elab.specs.Heads.{outlines_of}
-use Rattle.p10_elab.proofs.ListRows.{cut_list, more_put}
-use Rattle.p10_elab.proofs.outlines.put_outlines.Goals as goal
+use Rattle.p10_heads.specs.Heads.{outlines_of}
+use Rattle.p10_heads.proofs.ListRows.{cut_list, more_put}
+use Rattle.p10_heads.proofs.outlines.put_outlines.Goals as goal
 
 pub loop-d-preserved : goal.loop-d-preserved
 loop-d-preserved c =

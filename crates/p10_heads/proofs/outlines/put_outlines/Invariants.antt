@@ -1,8 +1,8 @@
 use Rattle.std.proofs.Common.{◌≡◌, ◌++◌, map, drop}
-use Rattle.p10_elab.specs.HeadViews.{plain_outline}
+use Rattle.p10_heads.specs.HeadViews.{plain_outline}
 use Rattle.p10_syn.specs.BuiltStatements.{init_declarator_of}
-use Rattle.p10_elab.specs.Heads.{outlines_of}
-use Rattle.p10_elab.proofs.outlines.put_outlines.Given as goal
+use Rattle.p10_heads.specs.Heads.{outlines_of}
+use Rattle.p10_heads.proofs.outlines.put_outlines.Given as goal
 
 abbrev pub invariant-loop-d : goal.invariant-loop-d
 invariant-loop-d l =
