@@ -1,0 +1,4 @@
+pub mod Fits
+mod Merges
+mod Places
+mod PragmaRows

@@ -1,0 +1,4 @@
+-- What the private functions of this crate rest on.
+pub mod Marked
+pub mod Merging
+pub mod Placing
