@@ -2,6 +2,9 @@
 pub mod ProgramNodes
 pub mod Literals
 pub mod Pragmas
+pub mod FirstProblems
+pub mod Undefined
+pub mod Mains
 pub mod Numbered
 pub mod Limits
 pub mod private

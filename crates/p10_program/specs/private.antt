@@ -2,3 +2,4 @@
 pub mod Marked
 pub mod Merging
 pub mod Placing
+pub mod Using
