@@ -1,5 +1,5 @@
 -- What tests show, alone and together.
-use Rattle.std.proofs.Common.{◌≡◌, Bool, true, false, ◌&&◌, refl, sym, ◌∙◌}
+use Rattle.std.proofs.Common.{◌≡◌, Bool, true, false, ◌&&◌, ◌||◌, refl, sym, ◌∙◌}
 use Rattle.p10_whole.specs.private.Shows.{Shows}
 
 -- a claim, where its test is true
@@ -19,6 +19,11 @@ pub both_true : (a b : Bool) → (a && b) ≡ true → (a ≡ true) × (b ≡ tr
 both_true true b e = (refl, e)
 both_true false b e = cc
 
+-- one of two tests is true where they are true together
+pub either_true : {P : Type 0} (a b : Bool) → (a || b) ≡ true → (a ≡ true → P) → (b ≡ true → P) → P
+either_true true b e f g = f refl
+either_true false b e f g = g e
+
 -- two tests show both claims
 pub shows_both : {P Q : Type 0} {a b : Bool} → Shows a P → Shows b Q → Shows (a && b) (P × Q)
 shows_both {a = a} {b = b} h k = record { shows = λ e. let t = both_true a b e in (h.shows t.0, k.shows t.1) }
@@ -34,3 +39,7 @@ shows_on h f = record { shows = λ e. f (h.shows e) }
 -- a test that answers as a test of the definitions shows that it is true
 pub shows_test : {b : Bool} (x : Bool) → b ≡ x → Shows b (x ≡ true)
 shows_test x e = record { shows = λ h. sym e ∙ h }
+
+-- either of two tests shows a claim
+pub shows_either : {P : Type 0} {a b : Bool} → Shows a P → Shows b P → Shows (a || b) P
+shows_either {a = a} {b = b} h k = record { shows = λ e. either_true a b e h.shows k.shows }

@@ -1,3 +1,6 @@
 -- What only the clauses of private functions cite.
+pub mod Agreeing
+pub mod Places
+pub mod Scalars
 pub mod Shows
 pub mod Surroundings

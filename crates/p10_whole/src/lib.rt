@@ -7,6 +7,16 @@
 #![tactic(auto)]
 
 mod around;
+mod calls;
+mod conversions;
 mod initializers;
+mod items;
+mod library;
+mod listed;
+mod named;
+mod operators;
+mod reads;
+mod scalars;
+mod shapes;
 mod types;
 mod values;
