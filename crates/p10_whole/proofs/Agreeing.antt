@@ -1,6 +1,6 @@
 -- The types of operators agree with their rows, by tests.
-use Rattle.std.specs.Prelude.{◌≡◌, Bool, true, false, not, ◌&&◌, ◌||◌, Option, Some, None, is_some, List, if◌then◌else◌, refl}
-use Rattle.std.proofs.Common.{ap, sym, ◌∙◌, subst}
+use Rattle.std.specs.Prelude.{◌≡◌, Bool, true, false, ◌&&◌, ◌||◌, Option, Some, None, is_some, List, refl}
+use Rattle.std.proofs.Common.{ap, sym, ◌∙◌}
 use Rattle.p10_int.specs.declared.types.IntType.{IntType}
 use Rattle.p10_int.specs.declared.types.IntType.TheVariants.{Int, Long}
 use Rattle.p10_int.specs.declared.operators.BinOp.{BinOp}
@@ -9,7 +9,7 @@ use Rattle.p10_int.specs.declared.operators.UnOp.{UnOp}
 use Rattle.p10_int.specs.declared.operators.UnOp.TheVariants.{Plus, Neg, Not, Com}
 use Rattle.p10_int.specs.Types.{promoted, usual_of}
 use Rattle.p10_core.specs.Types.{PlainType, integer, pointer, PlainStructure}
-use Rattle.p10_core.specs.Rows.{same, same_integer, is_complete, Row, row, row_where, usual_row, compared_row, binary_row, conditional_row, unary_row, UnaryRow, int_type}
+use Rattle.p10_core.specs.Rows.{same, same_integer, is_complete, Row, row, row_where, usual_row, compared_row, binary_row, conditional_row, unary_row, int_type}
 use Rattle.p10_core.specs.Whole.{Surroundings, UnaryAgrees, BinaryAgrees, ConditionalAgrees}
 use Rattle.p10_whole.specs.private.Agreeing.{integer_kind, target_type, is_kind, are_usual, are_compared, are_shifted, is_moved, is_difference, are_pointers, are_chosen, is_binary, is_conditional, is_promoted, is_unary}
 use Rattle.p10_whole.specs.private.Shows.{Shows}

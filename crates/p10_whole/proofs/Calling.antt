@@ -1,12 +1,12 @@
 -- Calls, by tests.
-use Rattle.std.specs.Prelude.{◌≡◌, ℕ, zero, suc, ◌+◌, ◌<◌, ◌≤◌, nat_eq, Bool, true, false, not, ◌&&◌, Option, Some, None, option_map, slice_get, List, [], ◌∷◌, length, map, take, drop, if◌then◌else◌, refl}
+use Rattle.std.specs.Prelude.{◌≡◌, ℕ, zero, suc, ◌+◌, ◌<◌, ◌≤◌, nat_eq, Bool, true, false, ◌&&◌, Option, Some, None, option_map, slice_get, List, [], ◌∷◌, length, map, take, drop, if◌then◌else◌, refl}
 use Rattle.std.proofs.Common.{ap, sym, ◌∙◌, get_or, drop-cons, add-one, subst, arith}
 use Rattle.std.proofs.lemmas.List.{drop_all}
 use Rattle.p10_core.specs.declared.typed.Value.{Value}
 use Rattle.p10_core.specs.declared.program.Variable.{Variable}
 use Rattle.p10_core.specs.Types.{PlainType, plain_type, bare, unqualified}
-use Rattle.p10_core.specs.Typed.{PlainValue, PlainValues, no_values, more_values, type_of, PlainFunction, PlainVariable}
-use Rattle.p10_core.specs.Views.{plain_program, plain_value, plain_values, plain_variable}
+use Rattle.p10_core.specs.Typed.{PlainValues, PlainFunction, PlainVariable}
+use Rattle.p10_core.specs.Views.{plain_program, plain_values, plain_variable}
 use Rattle.p10_core.specs.Whole.{Surroundings, ArgumentsFit, Calls}
 use Rattle.p10_core.specs.WholePrograms.{seen_function, parameter_types}
 use Rattle.p10_whole.specs.declared.around.Around.{Around}

@@ -1,6 +1,6 @@
 -- Conversions and casts, by tests.
 use Rattle.std.specs.Prelude.{◌≡◌, Bool, true, false, ◌&&◌, ◌||◌, Option, Some, None, refl}
-use Rattle.std.proofs.Common.{ap, sym, ◌∙◌, subst}
+use Rattle.std.proofs.Common.{sym, ◌∙◌, subst}
 use Rattle.p10_int.specs.declared.types.IntType.{IntType}
 use Rattle.p10_core.specs.declared.typed.Library.{Library}
 use Rattle.p10_core.specs.declared.typed.Library.TheVariants.{Assert, CAssert, Getchar, Putchar, Malloc, Calloc, Free}

@@ -1,5 +1,5 @@
 -- Initialisers, by tests.
-use Rattle.std.specs.Prelude.{◌≡◌, ℕ, nat_eq, Bool, true, false, not, ◌&&◌, Option, Some, None, List, refl}
+use Rattle.std.specs.Prelude.{◌≡◌, ℕ, nat_eq, Bool, true, false, not, ◌&&◌, Some, List, refl}
 use Rattle.std.proofs.Common.{ap, sym, ◌∙◌}
 use Rattle.std.proofs.lemmas.Bool.{eqb-true}
 use Rattle.p10_core.specs.Types.{PlainType, void, integer, pointer, array, structure, unqualified}

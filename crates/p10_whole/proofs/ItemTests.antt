@@ -1,13 +1,13 @@
 -- Items of initialisers, by tests.
-use Rattle.std.specs.Prelude.{◌≡◌, ℕ, zero, suc, ◌+◌, ◌-◌, ◌<◌, ◌≤◌, nat_lt, Bool, true, false, ◌&&◌, List, [], ◌∷◌, Option, Some, None, All, length, map, take, slice_get, refl}
-use Rattle.std.proofs.Common.{ap, sym, ◌∙◌, get_or, drop, drop-cons, add-one, subst, arith, ◌⊎◌, inl, inr, Fits, w8}
+use Rattle.std.specs.Prelude.{◌≡◌, ℕ, zero, suc, ◌+◌, ◌<◌, ◌≤◌, nat_lt, Bool, ◌&&◌, List, [], ◌∷◌, Some, All, length, map, slice_get, refl}
+use Rattle.std.proofs.Common.{ap, sym, ◌∙◌, get_or, drop, drop-cons, add-one, subst, arith, ◌⊎◌, inl, inr}
 use Rattle.std.proofs.lemmas.List.{get_or-take, get_or-drop, length-take, length-drop, drop_all}
 use Rattle.std.proofs.lemmas.Option.{slice_get_within, get_or_from_slice_get}
 use Rattle.p10_int.specs.declared.types.IntType.TheVariants.{Bool as Truth, Char, SChar, UChar, Short, UShort, Int, UInt, Long, ULong, LLong, ULLong}
 use Rattle.p10_core.specs.declared.statements.Item.{Item}
 use Rattle.p10_core.specs.Types.{PlainType, void, integer, pointer, array, structure, bare, unqualified, PlainStructure}
 use Rattle.p10_core.specs.Sizes.{scalars_of}
-use Rattle.p10_core.specs.Typed.{PlainValue, type_of, PlainItem}
+use Rattle.p10_core.specs.Typed.{PlainValue, type_of}
 use Rattle.p10_core.specs.Views.{plain_item}
 use Rattle.p10_core.specs.Whole.{Surroundings, IsWholeValue}
 use Rattle.p10_core.specs.WholePrograms.{AreWholeItems, IsWholeWritten, IsScalarValue, IsScalarText, width_of_written, is_character}

@@ -1,5 +1,5 @@
 -- String literals that are listed, by tests.
-use Rattle.std.specs.Prelude.{◌≡◌, ℕ, ◌<◌, nat_eq, Bool, true, false, not, ◌&&◌, Option, Some, slice_get, List, length, All, Contains, map, bytes_eq, refl}
+use Rattle.std.specs.Prelude.{◌≡◌, ℕ, ◌<◌, nat_eq, Bool, true, false, not, ◌&&◌, Some, slice_get, List, length, All, Contains, map, refl}
 use Rattle.std.proofs.Common.{ap, sym, ◌∙◌, get_or, arith, Fits, w8}
 use Rattle.std.proofs.lemmas.Bool.{eqb-true}
 use Rattle.std.proofs.lemmas.Option.{slice_get-get_or, slice_get_within, get_or_from_slice_get}

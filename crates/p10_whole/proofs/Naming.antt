@@ -1,5 +1,5 @@
 -- What numbers name, by what is found.
-use Rattle.std.specs.Prelude.{◌≡◌, ℕ, Bool, true, false, ◌&&◌, Option, Some, None, option_map, slice_get, List, map, if◌then◌else◌, refl}
+use Rattle.std.specs.Prelude.{◌≡◌, ℕ, Bool, true, false, ◌&&◌, Option, Some, None, option_map, slice_get, map, if◌then◌else◌, refl}
 use Rattle.std.proofs.Common.{ap, sym, ◌∙◌}
 use Rattle.p10_int.specs.declared.types.IntType.{IntType}
 use Rattle.p10_core.specs.Types.{PlainType, PlainMember, integer, pointer, structure, qualified, bare, members_of}

@@ -1,5 +1,5 @@
 -- What is read from places, by tests.
-use Rattle.std.specs.Prelude.{◌≡◌, ℕ, List, [], Bool, true, false, not, ◌&&◌, Option, Some, None, option_map, slice_get, map, if◌then◌else◌, refl}
+use Rattle.std.specs.Prelude.{◌≡◌, ℕ, [], Bool, true, false, not, ◌&&◌, Option, Some, None, option_map, slice_get, map, if◌then◌else◌, refl}
 use Rattle.std.proofs.Common.{ap, sym, ◌∙◌}
 use Rattle.p10_core.specs.Types.{PlainType, pointer, array, unqualified}
 use Rattle.p10_core.specs.Typed.{PlainPlace, PlainPlaceForm, variable, global, literal, index, member, dereference, place_type, PlainVariable, PlainObject}

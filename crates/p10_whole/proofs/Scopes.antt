@@ -1,9 +1,8 @@
 -- Variables in scope.
 use Rattle.std.specs.Prelude.{◌≡◌, ℕ, zero, suc, ◌+◌, ◌<◌, ◌≤◌, nat_eq, nat_lt, Bool, true, false, ◌||◌, List, [], ◌∷◌, length, Result, Ok, Err, is_ok, IfOk, refl}
-use Rattle.std.proofs.Common.{ap, sym, ◌∙◌, get_or, arith}
+use Rattle.std.proofs.Common.{sym, get_or, arith}
 use Rattle.std.proofs.lemmas.Bool.{eq-eqb, eqb-false, ltb-true}
 use Rattle.std.specs.Ordering.{nat_cmp}
-use Rattle.std.specs.declared.cmp.Ordering.{Ordering}
 use Rattle.std.specs.declared.cmp.Ordering.TheVariants.{Equal}
 use Rattle.std.specs.List.{HoldsAt}
 use Rattle.std.specs.List.Sorted.{IsSearchInRange}

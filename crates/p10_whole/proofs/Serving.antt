@@ -1,21 +1,20 @@
 -- Calls of library functions, by tests.
-use Rattle.std.specs.Prelude.{◌≡◌, ℕ, zero, suc, ◌<◌, nat_eq, Bool, true, false, not, ◌&&◌, ◌||◌, Option, Some, None, is_some, List, [], ◌∷◌, length, refl}
+use Rattle.std.specs.Prelude.{◌≡◌, ℕ, suc, nat_eq, Bool, true, false, not, ◌&&◌, Option, Some, None, is_some, List, [], ◌∷◌, length, refl}
 use Rattle.std.proofs.Common.{ap, sym, ◌∙◌, get_or, arith}
 use Rattle.std.proofs.Math.Dec.{eqb-suc-zero}
-use Rattle.p10_int.specs.declared.types.IntType.{IntType}
 use Rattle.p10_int.specs.declared.types.IntType.TheVariants.{Int, ULong}
 use Rattle.p10_core.specs.declared.typed.Library.{Library}
 use Rattle.p10_core.specs.declared.typed.Library.TheVariants.{Assert, CAssert, Getchar, Putchar, Malloc, Calloc, Free}
 use Rattle.p10_core.specs.declared.typed.Value.{Value}
-use Rattle.p10_core.specs.Types.{PlainType, PlainStructure, plain_type, integer, pointer, void}
+use Rattle.p10_core.specs.Types.{PlainType, PlainStructure, plain_type}
 use Rattle.p10_core.specs.Typed.{PlainValues, no_values, more_values, type_of}
 use Rattle.p10_core.specs.Views.{plain_values}
-use Rattle.p10_core.specs.Rows.{is_scalar, is_void, mark_of, int_type, is_complete}
+use Rattle.p10_core.specs.Rows.{is_scalar, is_void, mark_of}
 use Rattle.p10_core.specs.Whole.{Surroundings, CallsLibrary, Allocates, CountsElements}
 use Rattle.p10_whole.specs.private.Agreeing.{integer_kind, target_type, is_kind}
-use Rattle.p10_whole.specs.private.Places.{only_type, has_none, is_kind_at, is_scalar_at, is_pointer_at, is_sized, counts, is_library}
+use Rattle.p10_whole.specs.private.Places.{only_type, has_none, is_pointer_at, is_sized, counts, is_library}
 use Rattle.p10_whole.specs.private.Shows.{Shows}
-use Rattle.p10_whole.proofs.Showing.{both_true, either_true}
+use Rattle.p10_whole.proofs.Showing.{both_true}
 use Rattle.p10_whole.proofs.TypeShapes.{target_is, kind_of_test, void_by_tests, pointer_there}
 
 pub only_one : (vs : List Value) (d : Value) → length vs ≡ 1 → Some (plain_type (get_or vs 0 d).ty) ≡ only_type (plain_values vs)

@@ -3,7 +3,7 @@ use Rattle.std.specs.Prelude.{◌≡◌, Bool, true, false, not, ◌&&◌, Optio
 use Rattle.std.proofs.Common.{ap, sym, ◌∙◌}
 use Rattle.p10_int.specs.declared.types.IntType.{IntType}
 use Rattle.p10_core.specs.Types.{PlainType, void, integer, pointer, array, structure}
-use Rattle.p10_core.specs.Rows.{same, same_integer, is_void, mark_of}
+use Rattle.p10_core.specs.Rows.{is_void, mark_of}
 use Rattle.p10_whole.specs.private.Agreeing.{integer_kind, target_type, is_kind, is_target}
 use Rattle.p10_whole.specs.private.Shows.{Shows}
 use Rattle.p10_whole.proofs.Showing.{both_true}

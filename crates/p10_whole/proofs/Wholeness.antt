@@ -1,14 +1,14 @@
 -- Values and places are whole, by the tests of their parts.
-use Rattle.std.specs.Prelude.{◌≡◌, ℕ, ℤ, suc, ◌+◌, ◌<◌, ◌≤◌, Bool, true, false, ◌&&◌, List, [], ◌∷◌, length, refl}
-use Rattle.std.proofs.Common.{ap, sym, ◌∙◌, get_or, drop, drop-cons, add-one, subst, arith}
+use Rattle.std.specs.Prelude.{◌≡◌, ℕ, suc, ◌+◌, ◌<◌, ◌≤◌, Bool, true, ◌&&◌, List, ◌∷◌, length}
+use Rattle.std.proofs.Common.{ap, sym, ◌∙◌, get_or, drop, drop-cons, add-one, subst}
 use Rattle.std.proofs.lemmas.List.{drop_all}
 use Rattle.p10_core.specs.declared.typed.Value.{Value}
-use Rattle.p10_core.specs.Types.{PlainType, integer}
-use Rattle.p10_core.specs.Typed.{PlainValue, value, PlainForm, logic, conditional, binary, PlainPlace, place, PlainPlaceForm, index, type_of}
+use Rattle.p10_core.specs.Types.{PlainType}
+use Rattle.p10_core.specs.Typed.{PlainValue, PlainForm, logic, conditional, PlainPlaceForm, type_of}
 use Rattle.p10_core.specs.declared.typed.LogicOp.{LogicOp}
 use Rattle.p10_core.specs.Views.{plain_value, plain_values}
 use Rattle.p10_core.specs.Rows.{is_scalar, int_type}
-use Rattle.p10_core.specs.Whole.{Surroundings, ConditionalAgrees, IsWholeValue, IsWholeForm, IsWholePlace, IsWholePlaceForm, AreWholeValues}
+use Rattle.p10_core.specs.Whole.{Surroundings, ConditionalAgrees, IsWholeValue, IsWholeForm, IsWholePlaceForm, AreWholeValues}
 use Rattle.p10_whole.specs.private.Shows.{Shows}
 use Rattle.p10_whole.proofs.Showing.{both_true}
 

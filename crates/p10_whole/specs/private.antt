@@ -4,3 +4,4 @@ pub mod Places
 pub mod Scalars
 pub mod Shows
 pub mod Surroundings
+pub mod Targets

@@ -10,6 +10,7 @@ ghost use Rattle.p10_whole.specs.private.Agreeing.{structure_number};
 ghost use Rattle.p10_whole.specs.private.Shows.{Shows};
 ghost use Rattle.p10_whole.specs.private.Surroundings.{surroundings_in};
 
+use crate::addresses::is_static_value;
 use crate::around::Around;
 use crate::items::are_whole_items;
 use crate::types::is_unqualified_of;
@@ -107,9 +108,9 @@ fn is_static_written(written: &Written) -> bool
 }
 
 /// Whether a value is a constant that may initialise a scalar of static lifetime.
-#[tactic(auto, using(crate::proofs::Showing::shows_none))]
+#[tactic(auto, using(crate::proofs::Showing::shows_test))]
 fn is_static(v: &Value) -> bool
     ensures { Shows result (is_static_value (plain_value v.now) ≡ true) }
 {
-    false
+    is_static_value(v)
 }

@@ -6,6 +6,7 @@
 //! Invariant: a test looks at each node of a tree once, and takes no memory but for the numbers of the variables in scope.
 #![tactic(auto)]
 
+mod addresses;
 mod around;
 mod calls;
 mod conversions;

@@ -5,7 +5,7 @@ use Rattle.p10_int.specs.declared.types.IntType.TheVariants.{Int, ULong}
 use Rattle.p10_core.specs.declared.typed.Library.{Library}
 use Rattle.p10_core.specs.declared.typed.Library.TheVariants.{Assert, CAssert, Getchar, Putchar, Malloc, Calloc, Free}
 use Rattle.p10_core.specs.Types.{PlainType, PlainStructure}
-use Rattle.p10_core.specs.Typed.{PlainValue, PlainForm, constant, read, sense, address, decay, convert, cast, unary, binary, logic, conditional, call, built_in, PlainPlaceForm, variable, global, literal, index, member, dereference, PlainValues, no_values, more_values, type_of}
+use Rattle.p10_core.specs.Typed.{PlainForm, constant, read, sense, address, decay, convert, cast, unary, binary, logic, conditional, call, built_in, PlainPlaceForm, variable, global, literal, index, member, dereference, PlainValues, no_values, more_values, type_of}
 use Rattle.p10_core.specs.Rows.{is_scalar, is_void, is_complete, mark_of}
 use Rattle.p10_whole.specs.private.Agreeing.{integer_kind, target_type, is_kind}
 

@@ -1,6 +1,5 @@
 use Rattle.p10_core.specs.Types.{plain_type}
 use Rattle.p10_core.specs.Views.{plain_types}
-use Rattle.p10_whole.specs.private.Shows.{Shows}
 use Rattle.p10_whole.proofs.ItemTests.{text_is}
 use Rattle.p10_whole.proofs.Listing.{small_bytes}
 use Rattle.p10_whole.proofs.items.is_scalar_text.Goals as goal

@@ -1,9 +1,8 @@
-use Rattle.std.proofs.Common.{◌≡◌, ◌&&◌, not, ◌∙◌, ap, sym, subst}
-use Rattle.p10_core.specs.declared.typed.Library.{Library}
+use Rattle.std.proofs.Common.{◌∙◌, ap}
 use Rattle.p10_core.specs.Types.{plain_type}
 use Rattle.p10_core.specs.Views.{plain_types, plain_values}
 use Rattle.p10_core.proofs.TypeViews.{mark_of_plain}
-use Rattle.p10_whole.specs.private.Places.{is_library, is_pointer_at}
+use Rattle.p10_whole.specs.private.Places.{is_pointer_at}
 use Rattle.p10_whole.proofs.Serving.{free_is}
 use Rattle.p10_whole.proofs.library.is_library.Goals as goal
 

@@ -1,4 +1,4 @@
-use Rattle.std.proofs.Common.{◌≡◌, ℕ, List, Bool, ap, sym, ◌∙◌, subst}
+use Rattle.std.proofs.Common.{List, subst}
 use Rattle.std.specs.Prelude.{Contains, map}
 use Rattle.p10_core.specs.declared.program.Literal.{Literal}
 use Rattle.p10_core.specs.Types.{plain_type}

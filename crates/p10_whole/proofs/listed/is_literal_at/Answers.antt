@@ -1,6 +1,5 @@
 use Rattle.std.proofs.Common.{ap, sym, ◌∙◌, option_map, option_copied}
 use Rattle.p10_core.specs.Views.{plain_literal}
-use Rattle.p10_whole.specs.private.Shows.{Shows}
 use Rattle.p10_whole.proofs.Listing.{literal_at_shown}
 use Rattle.p10_whole.proofs.listed.is_literal_at.Goals as goal
 

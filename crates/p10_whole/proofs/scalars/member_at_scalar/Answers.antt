@@ -1,6 +1,6 @@
 use Rattle.std.proofs.Common.{◌+◌, ◌-◌, ◌∙◌, ap, drop, subst, sym, ◌<◌, ◌≤◌, ℕ}
 use Rattle.std.specs.Prelude.{map, slice_get}
-use Rattle.p10_core.specs.Types.{plain_type, plain_member}
+use Rattle.p10_core.specs.Types.{plain_member}
 use Rattle.p10_core.specs.Sizes.{layout_of, scalars_of_members}
 use Rattle.p10_core.specs.Views.{plain_types}
 use Rattle.p10_whole.proofs.ScalarPlaces.{member_object, member_here, member_past}
