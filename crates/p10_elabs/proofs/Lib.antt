@@ -1,4 +1,7 @@
+mod DeclaratorRows
+mod DeclaredObjects
 mod Enumerated
+mod FilledArrays
 mod GrowingNames
 mod MarkTurns
 mod NumberMarks

@@ -6,5 +6,6 @@ pub mod Expressions
 pub mod Marks
 pub mod Statements
 pub mod LocalViews
+pub mod ItemViews
 pub mod FrameViews
 pub mod private

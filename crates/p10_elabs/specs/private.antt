@@ -1,4 +1,5 @@
 -- What the private functions of this crate rest on.
+pub mod Declarators
 pub mod Labels
 pub mod Marked
 pub mod Marking
