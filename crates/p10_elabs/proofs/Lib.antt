@@ -1,5 +1,8 @@
 mod CaseSteps
+mod DeclaratorRows
+mod DeclaredObjects
 mod Enumerated
+mod FilledArrays
 mod FormParts
 mod GrowingNames
 mod MarkTurns

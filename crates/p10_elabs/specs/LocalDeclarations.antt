@@ -2,11 +2,11 @@
 use Rattle.std.specs.Prelude.{ℕ, ◌+◌, Bool, true, false, not, ◌&&◌, if◌then◌else◌, List, [], ◌∷◌, ◌++◌, Option, Some, None}
 use Rattle.p10_base.specs.declared.at.At.{At}
 use Rattle.p10_base.specs.declared.codes.SubsetCode.TheVariants as subset
-use Rattle.p10_syn.specs.Trees.{Identifier, Initializer, InitDeclarator, Declaration}
+use Rattle.p10_syn.specs.Trees.{Identifier, Declarator, Initializer, InitDeclarator, Declaration}
 use Rattle.p10_core.specs.Types.{PlainType}
 use Rattle.p10_core.specs.Sizes.{size_of}
 use Rattle.p10_core.specs.Rows.{is_scalar}
-use Rattle.p10_core.specs.Typed.{PlainStatement, statement, declare, declare_static, PlainInitializer}
+use Rattle.p10_core.specs.Typed.{PlainStatement, statement, declare, declare_static, PlainInitializer, PlainVariable, PlainObject}
 use Rattle.p10_core.specs.WholePrograms.{is_among}
 use Rattle.p10_elabx.specs.First.{Keep}
 use Rattle.p10_elabx.specs.Scopes.{local, object}
@@ -38,19 +38,24 @@ pub record Declaring : Type 0 where
 abbrev pub is_frame_variable : Frame → ℕ → PlainType → Bool
 is_frame_variable f n t = is_scalar t && not (is_among n f.taken)
 
+-- one variable more
+abbrev pub one_more : Local → Local
+one_more l = record l { count = l.count + 1 }
+
+-- a variable is put down
+abbrev pub with_listed : PlainVariable → Local → Local
+with_listed v l = record l { variables = l.variables ++ v ∷ [] }
+
 -- a variable that is declared
 abbrev pub with_variable : Keep → Frame → Identifier At → PlainType → Local → Local
-with_variable h f name t l = record l {
-  standing = declaring h name (local l.count t (is_frame_variable f l.count t)) l.standing;
-  count = l.count + 1;
-  variables = l.variables ++ record {
-    name = name.name;
-    type = t;
-    bytes = size_of l.standing.scope.structures t;
-    frame = is_frame_variable f l.count t;
-    span = name.place.span;
-  } ∷ [];
-}
+with_variable h f name t l =
+    with_standing (with_listed (record {
+      name = name.name;
+      type = t;
+      bytes = size_of l.standing.scope.structures t;
+      frame = is_frame_variable f l.count t;
+      span = name.place.span;
+    }) (one_more l)) (declaring h name (local l.count t (is_frame_variable f l.count t)) l.standing)
 
 -- the item of a variable with its initialiser
 abbrev pub variable_item : At → ℕ → Option PlainInitializer → Option PlainStatement
@@ -66,36 +71,36 @@ variable_of_type h f at name t i l =
 
 -- a variable whose type is refused has a number all the same
 abbrev pub refused_variable : Keep → Identifier At → Local → Declaring
-refused_variable h name l = record { items = None ∷ []; after = record l { standing = unknown_in h name l.standing; count = l.count + 1 } }
+refused_variable h name l = record { items = None ∷ []; after = with_standing (one_more l) (unknown_in h name l.standing) }
+
+-- a variable, where its type isn't refused
+abbrev pub variable_where : Keep → Frame → At → Identifier At → Option (Initializer At) → Option PlainType → Local → Declaring
+variable_where h f at name i None l = refused_variable h name l
+variable_where h f at name i (Some t) l = variable_of_type h f at name t i l
 
 -- a variable whose type may be refused
 abbrev pub variable_passed : Keep → Frame → At → Identifier At → Option (Initializer At) → Local → Passed PlainType → Declaring
-variable_passed h f at name i l t = by_type t.made (with_standing l t.after)
-  where
-    by_type : Option PlainType → Local → Declaring
-    by_type None l = refused_variable h name l
-    by_type (Some t) l = variable_of_type h f at name t i l
+variable_passed h f at name i l t = variable_where h f at name i t.made (with_standing l t.after)
 
 -- ## Objects of static lifetime
+
+-- an object is put down with its number
+abbrev pub with_numbered : ℕ → PlainObject → Local → Local
+with_numbered n o l = record l { objects = l.objects ++ (n, o) ∷ [] }
 
 -- an object that is declared, with its initialiser
 abbrev pub with_object : Frame → ℕ → Identifier At → PlainType → Bool → Option PlainInitializer → Local → Local
 with_object f n name t sensor None l = l
-with_object f n name t sensor (Some i) l = record l {
-  objects = l.objects ++ (
-    n,
-    record {
-      name = name.name;
-      type = t;
-      bytes = size_of l.standing.scope.structures t;
-      span = name.place.span;
-      initializer = i;
-      owner = Some f.number;
-      sensor = sensor;
-      visible = [];
-    },
-  ) ∷ [];
-}
+with_object f n name t sensor (Some i) l = with_numbered n (record {
+  name = name.name;
+  type = t;
+  bytes = size_of l.standing.scope.structures t;
+  span = name.place.span;
+  initializer = i;
+  owner = Some f.number;
+  sensor = sensor;
+  visible = [];
+}) l
 
 -- the item of an object
 abbrev pub object_item : At → ℕ → Option PlainInitializer → Option PlainStatement
@@ -110,13 +115,14 @@ object_of_type h f at name t sensor i l =
     let p : Passed PlainInitializer = initialized_by h life_is.Static t i m.standing in
     record { items = object_item at n p.made ∷ []; after = with_object f n name t sensor p.made (with_standing m p.after) }
 
+-- an object, where its type isn't refused
+abbrev pub object_where : Keep → Frame → At → Identifier At → Bool → Option (Initializer At) → Option PlainType → Local → Declaring
+object_where h f at name sensor i None l = record { items = None ∷ []; after = with_standing l (unknown_in h name l.standing) }
+object_where h f at name sensor i (Some t) l = object_of_type h f at name t sensor i l
+
 -- an object whose type may be refused
 abbrev pub object_passed : Keep → Frame → At → Identifier At → Bool → Option (Initializer At) → Local → Passed PlainType → Declaring
-object_passed h f at name sensor i l t = by_type t.made (with_standing l t.after)
-  where
-    by_type : Option PlainType → Local → Declaring
-    by_type None l = record { items = None ∷ []; after = with_standing l (unknown_in h name l.standing) }
-    by_type (Some t) l = object_of_type h f at name t sensor i l
+object_passed h f at name sensor i l t = object_where h f at name sensor i t.made (with_standing l t.after)
 
 -- ## Declarators
 
@@ -134,10 +140,13 @@ abbrev pub prototype_passed : Keep → Identifier At → InitDeclarator At → L
 prototype_passed h name d l =
     no_items (with_standing l (no_initializer h d.initial (unknown_in h name (refusing h true subset.BadSpecifier (declarator_place d.declarator) l.standing))))
 
+-- a typedef in a block
+abbrev pub typedef_done : Keep → Identifier At → InitDeclarator At → Option DeclaredType → Local → Local
+typedef_done h name d j l = with_standing l (no_initializer h d.initial (typedef_passed h name d.declarator j l.standing))
+
 -- a declarator in a block by its storage: a typedef, a static object, a variable; what `extern` declares is refused with that word
 abbrev pub by_storage : Keep → Frame → At → Storage → Bool → Identifier At → InitDeclarator At → Local → Option DeclaredType → Declaring
-by_storage h f at storage_is.Typedef sensor name d l j =
-    no_items (with_standing l (no_initializer h d.initial (typedef_passed h name d.declarator j l.standing)))
+by_storage h f at storage_is.Typedef sensor name d l j = no_items (typedef_done h name d j l)
 by_storage h f at storage_is.Static sensor name d l j =
     object_passed h f at name sensor d.initial l (declared_object h name.place (brackets_of d.declarator) j d.initial l.standing)
 by_storage h f at storage_is.Unnamed sensor name d l j =
@@ -149,13 +158,16 @@ abbrev pub is_typedef : Storage → Bool
 is_typedef storage_is.Typedef = true
 is_typedef s = false
 
+-- whether a declarator is that of a prototype
+abbrev pub is_prototype : Storage → Declarator At → Bool
+is_prototype s d = declares_function d && not (is_typedef s)
+
 -- a declarator in a block with its name
 abbrev pub local_named : Keep → Frame → At → Storage → Bool → Option PlainType → Local → InitDeclarator At → Option (Identifier At) → Declaring
 local_named h f at s sensor t l d None = no_items l
 local_named h f at s sensor t l d (Some name) =
     let j : Passed DeclaredType = declarator_passed h name.place (based t l.standing) d.declarator in
-    if declares_function d.declarator && not (is_typedef s) then prototype_passed h name d (with_standing l j.after)
-    else by_storage h f at s sensor name d (with_standing l j.after) j.made
+    if is_prototype s d.declarator then prototype_passed h name d (with_standing l j.after) else by_storage h f at s sensor name d (with_standing l j.after) j.made
 
 -- declarators in a block, one after the other
 abbrev pub local_declarators : Keep → Frame → At → Storage → Bool → Option PlainType → Declaring → List (InitDeclarator At) → Declaring

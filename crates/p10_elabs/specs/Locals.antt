@@ -117,24 +117,32 @@ allowed_by d = record { inline = is_static (storage_of d.specifiers) && are_all 
     is_static storage_is.Static = true
     is_static s = false
 
+-- whether there are no specifiers
+abbrev pub are_none : Specifiers At → Bool
+are_none NoSpecifiers = true
+are_none (MoreSpecifiers one rest) = false
+
+-- whether there is one specifier
+abbrev pub is_one : Specifiers At → Bool
+is_one NoSpecifiers = false
+is_one (MoreSpecifiers one rest) = are_none rest
+
+-- whether there are no declarators
+abbrev pub is_none : List (InitDeclarator At) → Bool
+is_none [] = true
+is_none ds = false
+
 -- whether specifiers are the only one of a declaration that declares nothing else
 abbrev pub is_alone : Declaration At → Bool
-is_alone d = one_of d.specifiers && none_of d.declarators
-  where
-    one_of : Specifiers At → Bool
-    one_of (MoreSpecifiers one NoSpecifiers) = true
-    one_of _ = false
+is_alone d = is_one d.specifiers && is_none d.declarators
 
-    none_of : List (InitDeclarator At) → Bool
-    none_of [] = true
-    none_of ds = false
+-- `volatile` on anything but sensors, once the type is known that the specifiers name
+abbrev pub sensors_noted : Keep → Bool → Declaration At → Passed PlainType → Passed PlainType
+sensors_noted h outside d t = record { made = t.made; after = volatile_noted h (declares_sensors outside t.made d) d.specifiers t.after }
 
 -- the type that the specifiers of a declaration name
 abbrev pub specified_in : Keep → Bool → Site → PlainStanding → Declaration At → Passed PlainType
-specified_in h outside site s d = sensors_noted (specified h site (allowed_by d) (is_alone d) s d.specifiers)
-  where
-    sensors_noted : Passed PlainType → Passed PlainType
-    sensors_noted t = record { made = t.made; after = volatile_noted h (declares_sensors outside t.made d) d.specifiers t.after }
+specified_in h outside site s d = sensors_noted h outside d (specified h site (allowed_by d) (is_alone d) s d.specifiers)
 
 -- ## One declarator
 
@@ -158,14 +166,15 @@ typedef_passed h name d (Some (of_type t)) s = declaring h name (named_type t) s
 typedef_passed h name d (Some (of_open_array t)) s = unknown_in h name (refusing h true subset.IncompleteType name.place s)
 typedef_passed h name d (Some (of_function f)) s = unknown_in h name (refusing h true subset.BadSpecifier (declarator_place d) s)
 
--- an array of as many elements as an initialiser gives; that it is too large is refused at its brackets
+-- an array of so many elements; that it is too large is refused at its brackets
+abbrev pub counted_array : Keep → At → PlainType → ℕ → PlainStanding → Passed PlainType
+counted_array h brackets t n s =
+    if nat_le (n * size_of s.scope.structures t) most_bytes then passed (array false t n) s else nothing_made (refusing h true subset.BadLength brackets s)
+
+-- an array of as many elements as an initialiser gives
 abbrev pub filled_array : Keep → At → PlainType → Initializer At → Option ℕ → PlainStanding → Passed PlainType
 filled_array h brackets t i None s = nothing_made (surplus_item h s i).after
-filled_array h brackets t i (Some n) s =
-    if fits_type (n * size_of s.scope.structures t) then passed (array false t n) s else nothing_made (refusing h true subset.BadLength brackets s)
-  where
-    fits_type : ℕ → Bool
-    fits_type bytes = nat_le bytes most_bytes
+filled_array h brackets t i (Some n) s = counted_array h brackets t n s
 
 -- the type of an object: it has a size; the length of an array may come from its initialiser (C99 6.7p7, 6.7.8p22)
 abbrev pub object_type : Keep → At → At → DeclaredType → Option (Initializer At) → PlainStanding → Passed PlainType
@@ -175,16 +184,17 @@ object_type h name_at brackets (of_open_array t) None s = nothing_made (refusing
 object_type h name_at brackets (of_open_array t) (Some i) s = filled_array h brackets t i (elements_given t i) s
 object_type h name_at brackets (of_function f) i s = nothing_made s
 
+-- the brackets next to the name of a declarator of an array; where it is of none, the place that is given
+abbrev pub brackets_from : At → Declarator At → At
+brackets_from at (Array place d brackets length) = brackets_from brackets d
+brackets_from at (Parenthesised place d) = brackets_from at d
+brackets_from at (Function place d parentheses _ _) = brackets_from at d
+brackets_from at (Pointer place qualifiers d) = brackets_from at d
+brackets_from at d = at
+
 -- the brackets of an array whose length is lacking: those next to its name
 abbrev pub brackets_of : Declarator At → At
-brackets_of d = from_declarator (declarator_place d) d
-  where
-    from_declarator : At → Declarator At → At
-    from_declarator at (Array place d brackets length) = from_declarator brackets d
-    from_declarator at (Parenthesised place d) = from_declarator at d
-    from_declarator at (Function place d parentheses _ _) = from_declarator at d
-    from_declarator at (Pointer place qualifiers d) = from_declarator at d
-    from_declarator at d = at
+brackets_of d = brackets_from (declarator_place d) d
 
 -- an initialiser, if one is written, for an object of a type
 abbrev pub initialized_by : Keep → Lifetime → PlainType → Option (Initializer At) → PlainStanding → Passed PlainInitializer

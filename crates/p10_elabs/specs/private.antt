@@ -1,6 +1,7 @@
 -- What the private functions of this crate rest on.
 pub mod Cases
 pub mod Clauses
+pub mod Declarators
 pub mod Forming
 pub mod Labels
 pub mod Marked

@@ -2,10 +2,11 @@
 //! (C99 6.7, 6.8).
 //!
 //! Entry points: [`addresses_taken`], the variables of a function that are no frame variables, found by a walk before its body;
-//! [`marks_noted`], the rows on the pragmas of `main`; [`Local`], what is known in a function after some statements.
+//! [`marks_noted`], the rows on the pragmas of `main`; [`Local`], what is known in a function after some statements;
+//! [`specified_in`], [`object_type`] and [`initialized_by`], the parts of a declaration that are alike in blocks and outside of functions.
 //! The walk over statements isn't here yet.
-//! Definitions: `items_done` (`specs/Statements.antt`), `declared_into` (`specs/LocalDeclarations.antt`), `addresses_taken`
-//! (`specs/Addresses.antt`), `marks_noted` (`specs/Marks.antt`).
+//! Definitions: `items_done` (`specs/Statements.antt`), `declared_locally` (`specs/LocalDeclarations.antt`), `specified_in`
+//! (`specs/Locals.antt`), `addresses_taken` (`specs/Addresses.antt`), `marks_noted` (`specs/Marks.antt`).
 #![tactic(auto)]
 
 mod both;
@@ -13,6 +14,7 @@ mod cases;
 mod clauses;
 mod conditions;
 mod constants;
+mod declarations;
 mod expressions;
 mod forms;
 mod frame;
@@ -30,13 +32,19 @@ mod specifiers;
 mod switches;
 mod taken;
 mod taken_set;
+mod variables;
 mod walk;
 
 pub use constants::constants_of;
 pub use frame::Frame;
 pub use kind::Kind;
 pub use local::Local;
+pub use locals::{
+    bytes_of, filled_array, initialized_by, no_initializer, object_type, specified_in,
+    typedef_passed, unknown_in,
+};
 pub use marks::marks_noted;
 pub use round::Round;
+pub use specifiers::{brackets_of, is_typedef, makes_sensors};
 pub use taken_set::TakenSet;
 pub use walk::addresses_taken;

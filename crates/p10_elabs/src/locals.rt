@@ -1,20 +1,45 @@
 //! What a declaration adds where it stands, in blocks and outside of functions (C99 6.7).
 
 ghost use Rattle.std.specs.Prelude.{◌≡◌, IfOk, option_map};
+ghost use Rattle.p10_core.specs.Sizes.{size_of};
+ghost use Rattle.p10_core.specs.Types.{plain_type};
+ghost use Rattle.p10_core.specs.Views.{plain_types, plain_initializer};
 ghost use Rattle.p10_syn.specs.Built.{identifier_of, declarator_of};
-ghost use Rattle.p10_syn.specs.BuiltStatements.{initial_of};
+ghost use Rattle.p10_syn.specs.BuiltStatements.{initial_of, initializer_of, declaration_of};
 ghost use Rattle.p10_elabx.specs.First.{only_first};
-ghost use Rattle.p10_elabd.specs.Views.{plain_standing, plain_declared};
-ghost use Rattle.p10_elabs.specs.Locals.{no_initializer, unknown_in, typedef_passed};
+ghost use Rattle.p10_elabd.specs.Initializers.{elements_given};
+ghost use Rattle.p10_elabd.specs.Views.{plain_standing, plain_declared, told};
+ghost use Rattle.p10_elabs.specs.Locals.{specified_in, no_initializer, unknown_in, typedef_passed, counted_array, filled_array, object_type, initialized_by};
+ghost use Rattle.p10_elabs.specs.LocalDeclarations.{declared_object};
 
-use p10_base::SubsetCode;
-use p10_elabd::{Declared, Standing, surplus_item};
-use p10_elabx::{Named, declarator_place};
-use p10_syn::{Declarator, Identifier, Init};
+use crate::specifiers::{allowed_by, declares_sensors, is_alone, volatile_noted};
+use p10_base::{At, SubsetCode};
+use p10_core::{CType, Initializer, Types};
+use p10_elabd::{
+    Declared, Lifetime, Site, Standing, elements_given, initialized, specified, surplus_item,
+};
+use p10_elabx::{Named, declarator_place, known_size};
+use p10_syn::{Decl, Declarator, Identifier, Init};
 use std::alloc::{AllocError, Global};
 
+/// The type that the specifiers of a declaration name, where they name one; `outside` says that it stands outside of functions.
+pub fn specified_in<'s>(
+    alloc: Global,
+    standing: &mut Standing<'s>,
+    outside: bool,
+    site: Site,
+    d: &Decl<'s>,
+) -> Result<Option<CType>, AllocError>
+    ensures { IfOk result (λ made. told (option_map plain_type made) standing.new ≡ specified_in only_first outside site (plain_standing standing.old) (declaration_of d.now)) }
+{
+    let ty = specified(alloc, standing, site, allowed_by(d), is_alone(d), &d.specs)?;
+    let may = declares_sensors(outside, ty.as_ref(), d);
+    volatile_noted(may, &d.specs, standing);
+    Ok(ty)
+}
+
 /// Notes an initialiser where none may stand.
-pub(crate) fn no_initializer<'s>(
+pub fn no_initializer<'s>(
     alloc: Global,
     standing: &mut Standing<'s>,
     initial: &Option<Init<'s>>,
@@ -31,18 +56,15 @@ pub(crate) fn no_initializer<'s>(
 }
 
 /// Lets a name stand for something unknown, since its declaration is refused.
-pub(crate) fn unknown_in<'s>(
-    standing: &mut Standing<'s>,
-    name: Identifier<'s>,
-) -> Result<(), AllocError>
+pub fn unknown_in<'s>(standing: &mut Standing<'s>, name: Identifier<'s>) -> Result<(), AllocError>
     ensures { IfOk result (λ _. plain_standing standing.new ≡ unknown_in only_first (identifier_of name.entry) (plain_standing standing.old)) }
 {
     standing.declare(name, Named::Unknown)?;
     Ok(())
 }
 
-/// Declares a typedef: of a function it isn't in the subset.
-pub(crate) fn typedef_passed<'s>(
+/// Declares a typedef (C99 6.7.7): of a function it isn't in the subset.
+pub fn typedef_passed<'s>(
     standing: &mut Standing<'s>,
     name: Identifier<'s>,
     d: &Declarator<'s>,
@@ -68,6 +90,139 @@ pub(crate) fn typedef_passed<'s>(
             standing.refuse(SubsetCode::BadSpecifier, declarator_place(d));
             unknown_in(standing, name)?;
             Ok(())
+        }
+    }
+}
+
+/// The size of a type in bytes (C99 6.5.3.4). Where it isn't known, or is more than a type may have, out of memory.
+pub fn bytes_of(types: &Types<'_>, ty: &CType) -> Result<u64, AllocError>
+    ensures { IfOk result (λ n. n ≡ size_of (plain_types types.now) (plain_type ty.now)) }
+{
+    types.are_whole();
+    match known_size(types, ty) {
+        Some(bytes) => Ok(bytes),
+        None => Err(AllocError),
+    }
+}
+
+/// An array of so many elements; that it is too large is refused at its brackets.
+fn counted_array(
+    alloc: Global,
+    standing: &mut Standing<'_>,
+    brackets: At,
+    element: CType,
+    count: u64,
+) -> Result<Option<CType>, AllocError>
+    ensures { IfOk result (λ made. told (option_map plain_type made) standing.new ≡ counted_array only_first brackets (plain_type element) count (plain_standing standing.old)) }
+{
+    standing.scope.types.are_whole();
+    let size = known_size(&standing.scope.types, &element);
+    let known = size.is_some();
+    if !known {
+        return Err(AllocError);
+    }
+    let array = CType::array(alloc, element, count)?;
+    match known_size(&standing.scope.types, &array) {
+        Some(_) => Ok(Some(array)),
+        None => {
+            standing.refuse(SubsetCode::BadLength, brackets);
+            Ok(None)
+        }
+    }
+}
+
+/// An array of as many elements as an initialiser gives (C99 6.7.8p22); that it is too large is refused at its brackets.
+pub fn filled_array<'s>(
+    alloc: Global,
+    standing: &mut Standing<'s>,
+    brackets: At,
+    element: CType,
+    i: &Init<'s>,
+) -> Result<Option<CType>, AllocError>
+    ensures { IfOk result (λ made. told (option_map plain_type made) standing.new ≡ filled_array only_first brackets (plain_type element) (initializer_of i.now) (elements_given (plain_type element) (initializer_of i.now)) (plain_standing standing.old)) }
+{
+    match elements_given(alloc, &element, i)? {
+        None => {
+            surplus_item(alloc, standing, i)?;
+            Ok(None)
+        }
+        Some(count) => {
+            let made = counted_array(alloc, standing, brackets, element, count)?;
+            Ok(made)
+        }
+    }
+}
+
+/// The type of an object: it has a size; the length of an array may come from its initialiser (C99 6.7p7, 6.7.8p22). Where its name
+/// and its brackets stand are given.
+pub fn object_type<'s>(
+    alloc: Global,
+    standing: &mut Standing<'s>,
+    name_at: At,
+    brackets: At,
+    declared: Declared<'s>,
+    initial: &Option<Init<'s>>,
+) -> Result<Option<CType>, AllocError>
+    ensures { IfOk result (λ made. told (option_map plain_type made) standing.new ≡ object_type only_first name_at brackets (plain_declared declared.entry) (initial_of initial.now) (plain_standing standing.old)) }
+{
+    match declared {
+        Declared::Plain(ty) => {
+            if standing.scope.types.is_complete(&ty) {
+                Ok(Some(ty))
+            } else {
+                standing.refuse(SubsetCode::IncompleteType, name_at);
+                Ok(None)
+            }
+        }
+        Declared::OpenArray(element) => match initial {
+            None => {
+                standing.refuse(SubsetCode::IncompleteType, name_at);
+                Ok(None)
+            }
+            Some(i) => {
+                let made = filled_array(alloc, standing, brackets, element, i)?;
+                Ok(made)
+            }
+        },
+        Declared::Function(_) => Ok(None),
+    }
+}
+
+/// The type of an object that may be refused.
+pub(crate) fn declared_object<'s>(
+    alloc: Global,
+    standing: &mut Standing<'s>,
+    name_at: At,
+    brackets: At,
+    declared: Option<Declared<'s>>,
+    initial: &Option<Init<'s>>,
+) -> Result<Option<CType>, AllocError>
+    ensures { IfOk result (λ made. told (option_map plain_type made) standing.new ≡ declared_object only_first name_at brackets (option_map plain_declared declared.entry) (initial_of initial.now) (plain_standing standing.old)) }
+{
+    match declared {
+        None => Ok(None),
+        Some(declared) => {
+            let made = object_type(alloc, standing, name_at, brackets, declared, initial)?;
+            Ok(made)
+        }
+    }
+}
+
+/// What an object of a type and a lifetime is initialised with, if an initialiser is written (C99 6.7.8).
+pub fn initialized_by<'s>(
+    alloc: Global,
+    standing: &mut Standing<'s>,
+    life: Lifetime,
+    ty: &CType,
+    initial: &Option<Init<'s>>,
+) -> Result<Option<Initializer>, AllocError>
+    ensures { IfOk result (λ made. told (option_map plain_initializer made) standing.new ≡ initialized_by only_first life (plain_type ty.now) (initial_of initial.now) (plain_standing standing.old)) }
+{
+    match initial {
+        None => Ok(Some(Initializer::Absent)),
+        Some(i) => {
+            let made = initialized(alloc, standing, life, ty, i)?;
+            Ok(made)
         }
     }
 }

@@ -3,22 +3,23 @@
 ghost use Rattle.std.specs.Prelude.{◌≡◌, map, option_map, option_copied};
 ghost use Rattle.p10_core.specs.Types.{plain_type};
 ghost use Rattle.p10_syn.specs.Trees.{specifier_row};
-ghost use Rattle.p10_syn.specs.Built.{specifier_of};
+ghost use Rattle.p10_syn.specs.Built.{specifier_of, declarator_of};
 ghost use Rattle.p10_syn.specs.BuiltStatements.{init_declarator_of, declaration_of};
 ghost use Rattle.p10_elabx.specs.First.{only_first};
 ghost use Rattle.p10_elabd.specs.Words.{is_volatile, is_other_word, has_word};
 ghost use Rattle.p10_elabd.specs.Views.{plain_standing};
-ghost use Rattle.p10_elabs.specs.Locals.{is_lasting, names_other, names_integer, declares_sensors, volatile_noted, allowed_by, makes_sensors};
+ghost use Rattle.p10_elabs.specs.Locals.{is_lasting, names_other, names_integer, declares_sensors, volatile_noted, allowed_by, makes_sensors, are_none, is_one, is_none, is_alone, brackets_from, brackets_of};
 ghost use Rattle.p10_elabs.specs.LocalDeclarations.{is_typedef};
 ghost use Rattle.p10_elabs.specs.private.Specifying.{passes_declarator, all_pass, are_so, names_other_one, has_volatile, volatile_one};
 
-use p10_base::SubsetCode;
+use p10_base::{At, SubsetCode};
 use p10_core::CType;
 use p10_elabd::{
     Allowed, Standing, Storage, declares_function, is_plain_name, is_volatile, storage_of,
 };
+use p10_elabx::declarator_place;
 use p10_heads::is_static;
-use p10_syn::{Decl, InitDeclarator, Sign, Spec};
+use p10_syn::{Decl, Declarator, InitDeclarator, Sign, Spec};
 
 /// What is asked of declarators.
 #[derive(Clone, Copy, Debug, PartialEq, Eq)]
@@ -75,7 +76,7 @@ fn is_lasting(outside: bool, storage: Storage) -> bool
 }
 
 /// Whether storage is that of a typedef.
-pub(crate) fn is_typedef(storage: Storage) -> bool
+pub fn is_typedef(storage: Storage) -> bool
     ensures { result ≡ is_typedef storage }
 {
     matches!(storage, Storage::Typedef)
@@ -165,7 +166,7 @@ fn has_volatile(spec: &Spec<'_>) -> bool
 
 /// Whether the objects of a declaration are sensors.
 #[tactic(auto, using(crate::proofs::Specified::volatile_first))]
-pub(crate) fn makes_sensors(d: &Decl<'_>) -> bool
+pub fn makes_sensors(d: &Decl<'_>) -> bool
     ensures { result ≡ makes_sensors (declaration_of d.now) }
 {
     let mut rest = d.specs.as_slice();
@@ -201,4 +202,62 @@ pub(crate) fn volatile_noted(may: bool, specs: &[Spec<'_>], standing: &mut Stand
     for spec in specs {
         note_volatile(may, spec, standing);
     }
+}
+
+/// Whether there are no specifiers.
+fn are_none(specs: &[Spec<'_>]) -> bool
+    ensures { result ≡ are_none (specifier_row (map specifier_of specs.now)) }
+{
+    match specs.first() {
+        None => true,
+        Some(_) => false,
+    }
+}
+
+/// Whether there is one specifier.
+fn is_one(specs: &[Spec<'_>]) -> bool
+    ensures { result ≡ is_one (specifier_row (map specifier_of specs.now)) }
+{
+    match specs.split_first() {
+        None => false,
+        Some((_, rest)) => are_none(rest),
+    }
+}
+
+/// Whether there are no declarators.
+fn is_none(all: &[InitDeclarator<'_>]) -> bool
+    ensures { result ≡ is_none (map init_declarator_of all.now) }
+{
+    match all {
+        [] => true,
+        [_, ..] => false,
+    }
+}
+
+/// Whether specifiers are the only one of a declaration that declares nothing else.
+pub(crate) fn is_alone(d: &Decl<'_>) -> bool
+    ensures { result ≡ is_alone (declaration_of d.now) }
+{
+    is_one(&d.specs) && is_none(&d.declarators)
+}
+
+/// Where the brackets next to the name of a declarator of an array stand; where it is of none, the place that is given.
+fn brackets_from(at: At, d: &Declarator<'_>) -> At
+    ensures { result ≡ brackets_from at (declarator_of d.now) }
+{
+    match d {
+        Declarator::Array(_, inner, brackets, _) => brackets_from(*brackets, inner),
+        Declarator::Parenthesised(_, inner) => brackets_from(at, inner),
+        Declarator::Function(_, inner, _, _, _) => brackets_from(at, inner),
+        Declarator::Pointer(_, _, inner) => brackets_from(at, inner),
+        Declarator::Named(_) | Declarator::Unnamed(_) => at,
+    }
+}
+
+/// Where the brackets of an array stand whose length is lacking: those next to its name. Where the declarator is of no array, it is
+/// where the declarator stands.
+pub fn brackets_of(d: &Declarator<'_>) -> At
+    ensures { result ≡ brackets_of (declarator_of d.now) }
+{
+    brackets_from(declarator_place(d), d)
 }

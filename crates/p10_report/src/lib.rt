@@ -10,7 +10,6 @@
 
 ghost use Rattle.std.specs.Prelude.{◌≤◌, OnErr, OnOk};
 ghost use Rattle.std.specs.Io.KnownBytes.{Appends};
-ghost use Rattle.p10_base.specs.Gathered.{LiesIn};
 ghost use Rattle.p10_world.specs.Faults.{Rose};
 ghost use Rattle.p10_base.specs.Codes.{IsCode};
 ghost use Rattle.p10_report.specs.Lines.{accepted_line, failing_line, limit_line, refusal_line};
@@ -26,8 +25,8 @@ mod pieces;
 #[cfg(test)]
 mod tests;
 
-/// Writes the line of a refused source, `FILE:LINE:COLUMN: refused CODE: TEXT`. The place of the refusal
-/// `r` lies in the sources `s`, and its code is X1 to X6, D1 to D8, G1, or S0 to S30.
+/// Writes the line of a refused source, `FILE:LINE:COLUMN: refused CODE: TEXT`, with the place of the refusal `r` in the
+/// sources `s`. Its code is X1 to X6, D1 to D8, G1, or S0 to S30.
 ///
 /// The sink took the whole line at `Ok`.
 ///
@@ -35,8 +34,7 @@ mod tests;
 ///
 /// A fault only where the sink's count of faults rose; it then took a front of the line.
 pub fn put_refusal<O: Sink>(out: &mut O, s: &Sources, r: &Refusal) -> Result<(), SinkFault>
-    requires place { LiesIn s.now r.now.span }
-    requires code { IsCode r.now.family r.now.number }
+    requires { IsCode r.now.family r.now.number }
     ensures ok { OnOk result (Appends (O.taken out.old) (O.taken out.new) (refusal_line s.now r.now)) }
     ensures stopped { OnErr result (StopsWithin (O.taken out.old) (O.taken out.new) (refusal_line s.now r.now)) }
     ensures failed { OnErr result (Rose (O.faults out.old) (O.faults out.new)) }
@@ -80,7 +78,6 @@ pub fn put_failing<O: Sink>(
     condition: u8,
     at: Span,
 ) -> Result<(), SinkFault>
-    requires { LiesIn s.now at }
     ensures ok { OnOk result (Appends (O.taken out.old) (O.taken out.new) (failing_line s.now condition at)) }
     ensures stopped { OnErr result (StopsWithin (O.taken out.old) (O.taken out.new) (failing_line s.now condition at)) }
     ensures failed { OnErr result (Rose (O.faults out.old) (O.faults out.new)) }

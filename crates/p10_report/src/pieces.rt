@@ -1,8 +1,9 @@
 //! The pieces of which lines are made, each with what the sink has taken when its write stops.
 
-ghost use Rattle.std.specs.Prelude.{◌≤◌, OnErr, OnOk};
+ghost use Rattle.std.specs.Prelude.{◌≡◌, ◌≤◌, OnErr, OnOk};
 ghost use Rattle.std.specs.Io.KnownBytes.{Appends};
-ghost use Rattle.p10_base.specs.Gathered.{LiesIn};
+ghost use Rattle.p10_base.specs.Gathered.{name_of, text_of};
+ghost use Rattle.p10_base.specs.Places.{column_of, line_of};
 ghost use Rattle.p10_world.specs.Faults.{Rose};
 ghost use Rattle.p10_base.specs.Codes.{IsCode};
 ghost use Rattle.p10_report.specs.Lines.{at_part, depths_part, labelled, place_text, reason_part, refused_part};
@@ -33,18 +34,44 @@ pub fn put_labelled<O: Sink>(out: &mut O, label: &[u8], number: u64) -> Result<(
     put_bytes(out, Buffer::new().format(number).as_bytes())
 }
 
-/// Writes a place as `FILE:LINE:COLUMN`.
+/// Writes a place as `FILE:LINE:COLUMN`. Past the end of a file it is that end, and where there is no such file the beginning
+/// of one without a name.
 pub fn put_place<O: Sink>(out: &mut O, s: &Sources, at: Span) -> Result<(), SinkFault>
-    requires { LiesIn s.now at }
     ensures ok { OnOk result (Appends (O.taken out.old) (O.taken out.new) (place_text s.now at)) }
     ensures stopped { OnErr result (StopsWithin (O.taken out.old) (O.taken out.new) (place_text s.now at)) }
     ensures failed { OnErr result (Rose (O.faults out.old) (O.faults out.new)) }
     ensures count { O.faults out.old ≤ O.faults out.new }
 {
-    let (line, column) = s.line_col(at);
-    put_bytes(out, s.name(at.file).as_bytes())?;
+    let (line, column) = line_col(s, at);
+    put_bytes(out, file_name(s, at.file).as_bytes())?;
     put_labelled(out, b":", line)?;
     put_labelled(out, b":", column)
+}
+
+/// The name of a file; there is none where the number is no file's.
+fn file_name(s: &Sources, file: u32) -> &str
+    ensures { result.now ≡ name_of s.now file }
+{
+    if file < s.count() { s.name(file) } else { "" }
+}
+
+/// The line and the column of a place, both from 1.
+fn line_col(s: &Sources, at: Span) -> (u64, u64)
+    ensures line { result.0 ≡ line_of (text_of s.now at.file) at.start }
+    ensures column { result.1 ≡ column_of (text_of s.now at.file) at.start }
+{
+    if at.file >= s.count() {
+        return (1, 1);
+    }
+    let length = s.text(at.file).len();
+    if at.start as usize <= length {
+        return s.line_col(at);
+    }
+    s.line_col(Span {
+        file: at.file,
+        start: length as u32,
+        end: at.end,
+    })
 }
 
 /// Writes which refusal it is, by its code.
@@ -85,7 +112,6 @@ pub fn put_depths<O: Sink>(out: &mut O, b: &Bounds) -> Result<(), SinkFault>
 
 /// Writes a place behind a blank, and ends the line.
 pub fn put_at<O: Sink>(out: &mut O, s: &Sources, at: Span) -> Result<(), SinkFault>
-    requires { LiesIn s.now at }
     ensures ok { OnOk result (Appends (O.taken out.old) (O.taken out.new) (at_part s.now at)) }
     ensures stopped { OnErr result (StopsWithin (O.taken out.old) (O.taken out.new) (at_part s.now at)) }
     ensures failed { OnErr result (Rose (O.faults out.old) (O.faults out.new)) }

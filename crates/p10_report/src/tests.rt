@@ -28,7 +28,7 @@ struct Row {
     line: &'static str,
 }
 
-const ROWS: [Row; 3] = [
+const ROWS: [Row; 4] = [
     Row {
         name: "w.c",
         text: "int main(void) { return 0; } /*",
@@ -53,6 +53,15 @@ const ROWS: [Row; 3] = [
         start: 0,
         line: "a.c:1:1: refused S0: not built yet\n",
     },
+    // Past the end of a text, the place is its end.
+    Row {
+        name: "b.c",
+        text: "int\nx",
+        family: Family::S,
+        number: 28,
+        start: 9,
+        line: "b.c:2:2: refused S28: main missing, of another form, or used\n",
+    },
 ];
 
 #[test]
@@ -71,8 +80,6 @@ fn refusals(rt: HostRuntime) -> Result<(), Fail> {
             number: row.number,
             span,
         };
-        assert!(rt; sources.count() == 1);
-        assert!(rt; row.start as usize <= sources.text(0).len());
         put_refusal(&mut out, &sources, &refusal)?;
         assert!(rt; out.taken() == row.line.as_bytes());
     }
@@ -150,7 +157,6 @@ fn all_codes_have_their_texts(rt: HostRuntime) -> Result<(), Fail> {
         start: 0,
         end: 0,
     };
-    assert!(rt; sources.count() == 1);
     let mut out = MemSink::new(alloc, 4_000, None)?;
     for family in [Family::X, Family::D, Family::G, Family::S] {
         for number in 0..=255u8 {
@@ -191,8 +197,6 @@ fn answers(rt: HostRuntime) -> Result<(), Fail> {
         start: 4,
         end: 8,
     };
-    assert!(rt; sources.count() == 1);
-    assert!(rt; sources.text(0).len() >= 4);
     let mut out = MemSink::new(alloc, 100, None)?;
     put_failing(&mut out, &sources, 11, at)?;
     put_limit(&mut out, Limit { number: 5 })?;

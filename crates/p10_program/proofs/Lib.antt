@@ -1,0 +1,5 @@
+pub mod Fits
+mod FirstUses
+mod Merges
+mod Places
+mod PragmaRows

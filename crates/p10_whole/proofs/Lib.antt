@@ -1,0 +1,17 @@
+pub mod Agreeing
+pub mod Calling
+pub mod Converting
+pub mod Initializing
+pub mod ItemTests
+pub mod Listing
+pub mod Naming
+pub mod Reading
+pub mod SameTypes
+pub mod ScalarPlaces
+pub mod Scopes
+pub mod Serving
+pub mod Showing
+pub mod StaticItems
+pub mod TypeShapes
+pub mod Wholeness
+pub mod WholeTypes

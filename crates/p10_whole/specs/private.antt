@@ -1,0 +1,7 @@
+-- What only the clauses of private functions cite.
+pub mod Agreeing
+pub mod Places
+pub mod Scalars
+pub mod Shows
+pub mod Surroundings
+pub mod Targets

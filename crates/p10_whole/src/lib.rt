@@ -1,0 +1,23 @@
+//! Whether a typed program is whole: what the machine that runs it, and all that reads it, may rely on.
+//!
+//! Entry point: `is_whole`, true only of a whole program (`IsWholeProgram` of `p10_core`): its types agree as the rows of the
+//! operators say, its numbers name what is there and in scope, its initialisers fit their objects, and its sizes are right.
+//! Each test is true only where the record that it is for holds, and each program that elaboration gives passes them all.
+//! Invariant: a test looks at each node of a tree once, and takes no memory but for the numbers of the variables in scope.
+#![tactic(auto)]
+
+mod addresses;
+mod around;
+mod calls;
+mod conversions;
+mod initializers;
+mod items;
+mod library;
+mod listed;
+mod named;
+mod operators;
+mod reads;
+mod scalars;
+mod shapes;
+mod types;
+mod values;
