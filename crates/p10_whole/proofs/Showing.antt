@@ -28,18 +28,6 @@ either_true false b e f g = g e
 pub shows_both : {P Q : Type 0} {a b : Bool} → Shows a P → Shows b Q → Shows (a && b) (P × Q)
 shows_both {a = a} {b = b} h k = record { shows = λ e. let t = both_true a b e in (h.shows t.0, k.shows t.1) }
 
--- three tests
-pub shows_three : {P Q R : Type 0} {a b c : Bool} → Shows a P → Shows b Q → Shows c R → Shows (a && (b && c)) (P × Q × R)
-shows_three {a = a} {b = b} {c = c} h k l = record { shows = λ e. let t = both_true a (b && c) e in let u = both_true b c t.1 in (h.shows t.0, k.shows u.0, l.shows u.1) }
-
--- what follows from a claim is shown too
-pub shows_on : {P Q : Type 0} {b : Bool} → Shows b P → (P → Q) → Shows b Q
-shows_on h f = record { shows = λ e. f (h.shows e) }
-
 -- a test that answers as a test of the definitions shows that it is true
 pub shows_test : {b : Bool} (x : Bool) → b ≡ x → Shows b (x ≡ true)
 shows_test x e = record { shows = λ h. sym e ∙ h }
-
--- either of two tests shows a claim
-pub shows_either : {P : Type 0} {a b : Bool} → Shows a P → Shows b P → Shows (a || b) P
-shows_either {a = a} {b = b} h k = record { shows = λ e. either_true a b e h.shows k.shows }

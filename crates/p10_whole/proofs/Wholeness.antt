@@ -27,11 +27,6 @@ shows_two_one {a = a} {b = b} {c = c} h k l = record {
   shows = λ e. let t = both_true (a && b) c e in let u = both_true a b t.0 in (h.shows u.0, k.shows u.1, l.shows t.1);
 }
 
-pub scalars_shown : (s t u : PlainType) (a b c : Bool) → Shows a (s ≡ int_type) → b ≡ is_scalar t → c ≡ is_scalar u → Shows (a && (b && c)) ((s ≡ int_type) × (is_scalar t ≡ true) × (is_scalar u ≡ true))
-scalars_shown s t u a b c h e f = record {
-  shows = λ k. let x = both_true a (b && c) k in let y = both_true b c x.1 in (h.shows x.0, sym e ∙ y.0, sym f ∙ y.1);
-}
-
 pub logic_shown : (c : Surroundings) (t : PlainType) (op : LogicOp) (v w : PlainValue) (a b d : Bool) → Shows a (IsWholeValue c v) → Shows b (IsWholeValue c w) →
     Shows d ((t ≡ int_type) × (is_scalar (type_of v) ≡ true) × (is_scalar (type_of w) ≡ true)) → Shows ((a && b) && d) (IsWholeForm c t (logic op v w))
 logic_shown c t op v w a b d h k l = record {
