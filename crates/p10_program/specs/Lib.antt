@@ -5,6 +5,7 @@ pub mod Pragmas
 pub mod FirstProblems
 pub mod Undefined
 pub mod Mains
+pub mod Assembly
 pub mod Numbered
 pub mod Limits
 pub mod private

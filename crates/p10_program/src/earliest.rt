@@ -15,7 +15,7 @@ pub(crate) fn first_with(found: Option<Problem>, next: Option<Problem>) -> Optio
 
 /// The first of problems, if there is any.
 #[tactic(auto, using(crate::proofs::FirstUses::first_with_next))]
-pub fn first_problem(problems: &[Problem]) -> Option<Problem>
+pub(crate) fn first_problem(problems: &[Problem]) -> Option<Problem>
     ensures { result ≡ first_with None problems.now }
 {
     let mut found = None;

@@ -10,10 +10,10 @@ use std::alloc::{AllocError, Global};
 
 /// The nodes of functions and then of the initialisers of objects, in order. It takes memory linear in how many statements and items
 /// stand outermost in them.
-pub fn nodes_of_program<'p>(
+pub fn nodes_of_program<'p, 's>(
     alloc: Global,
-    functions: &'p [Func<'p>],
-    objects: &'p [StaticObject<'p>],
+    functions: &'p [Func<'s>],
+    objects: &'p [StaticObject<'s>],
 ) -> Result<Nodes<'p>, AllocError>
     ensures { IfOk result (λ w. left_in w ≡ nodes_of_functions (map plain_function functions.now) ++ nodes_of_objects (map plain_object objects.now)) }
 {
@@ -24,7 +24,7 @@ pub fn nodes_of_program<'p>(
 }
 
 /// Puts the nodes of functions before those that are left.
-fn put_functions<'p>(nodes: &mut Nodes<'p>, functions: &'p [Func<'p>]) -> Result<(), AllocError>
+fn put_functions<'p, 's>(nodes: &mut Nodes<'p>, functions: &'p [Func<'s>]) -> Result<(), AllocError>
     ensures { IfOk result (λ _. left_in nodes.new ≡ nodes_of_functions (map plain_function functions.now) ++ left_in nodes.old) }
 {
     let mut left = functions.len();
@@ -36,7 +36,10 @@ fn put_functions<'p>(nodes: &mut Nodes<'p>, functions: &'p [Func<'p>]) -> Result
 }
 
 /// Puts the nodes of the initialisers of objects before those that are left.
-fn put_objects<'p>(nodes: &mut Nodes<'p>, objects: &'p [StaticObject<'p>]) -> Result<(), AllocError>
+fn put_objects<'p, 's>(
+    nodes: &mut Nodes<'p>,
+    objects: &'p [StaticObject<'s>],
+) -> Result<(), AllocError>
     ensures { IfOk result (λ _. left_in nodes.new ≡ nodes_of_objects (map plain_object objects.now) ++ left_in nodes.old) }
 {
     let mut left = objects.len();
