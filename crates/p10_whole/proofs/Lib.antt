@@ -15,3 +15,12 @@ pub mod StaticItems
 pub mod TypeShapes
 pub mod Wholeness
 pub mod WholeTypes
+pub mod Assembling
+pub mod Each
+pub mod Labelling
+pub mod Mains
+pub mod Numbers
+pub mod Openings
+pub mod Ordering
+pub mod Passing
+pub mod Updating

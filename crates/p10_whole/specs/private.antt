@@ -5,3 +5,8 @@ pub mod Scalars
 pub mod Shows
 pub mod Surroundings
 pub mod Targets
+pub mod Headings
+pub mod Labels
+pub mod Orders
+pub mod Regions
+pub mod Updates

@@ -8,16 +8,30 @@
 
 mod addresses;
 mod around;
+mod assignments;
 mod calls;
+mod clauses;
+mod context;
 mod conversions;
+mod functions;
 mod initializers;
 mod items;
 mod library;
 mod listed;
+mod main_function;
 mod named;
+mod objects;
 mod operators;
+mod order;
+mod parts;
 mod reads;
 mod scalars;
 mod shapes;
+mod simple;
+mod statements;
+mod switches;
 mod types;
 mod values;
+mod whole;
+
+pub use whole::is_whole;
