@@ -1,11 +1,10 @@
 -- Functions, objects and programs are whole where their parts are.
-use Rattle.std.proofs.Common.{◌≡◌, ℕ, zero, suc, ◌+◌, ◌-◌, ◌<◌, ◌≤◌, Bool, true, false, not, ◌&&◌, ◌||◌, List, [], ◌∷◌, map, length, take, drop, Option, Some, None, slice_get, refl, ap, sym, ◌∙◌, subst, arith, ◌⊎◌, inl, inr, get_or, below_more}
+use Rattle.std.proofs.Common.{◌≡◌, ℕ, ◌+◌, ◌<◌, ◌≤◌, Bool, true, false, not, ◌&&◌, ◌||◌, List, [], map, length, take, Some, slice_get, refl, ap, sym, ◌∙◌, subst, arith, ◌⊎◌, inl, inr, get_or, below_more}
 use Rattle.std.proofs.lemmas.Option.{slice_get_within}
 use Rattle.std.specs.List.{All}
 use Rattle.std.specs.Prelude.{IfSome, sum}
 use Rattle.std.proofs.lemmas.List.Elements.{All-map}
 use Rattle.p10_base.specs.declared.report.TheConstants.Limit.{MOST_OBJECT_BYTES, MOST_STATIC_BYTES}
-use Rattle.p10_core.specs.declared.program.Extent.{Extent}
 use Rattle.p10_core.specs.declared.program.Func.{Func}
 use Rattle.p10_core.specs.declared.program.Global.{Global}
 use Rattle.p10_core.specs.declared.program.Literal.{Literal}
@@ -13,12 +12,11 @@ use Rattle.p10_core.specs.declared.program.Program.{Program}
 use Rattle.p10_core.specs.declared.program.Variable.{Variable}
 use Rattle.p10_core.specs.declared.statements.Stmt.{Stmt}
 use Rattle.p10_core.specs.Types.{PlainType, PlainStructure}
-use Rattle.p10_core.specs.Sizes.{size_of}
 use Rattle.p10_core.specs.Typed.{PlainVariable, PlainFunction, PlainObject, PlainProgram}
 use Rattle.p10_core.specs.Rows.{is_scalar, is_void, is_integer}
 use Rattle.p10_core.specs.Views.{plain_program, plain_types, plain_function, plain_literal, plain_object, plain_variable, plain_statements}
 use Rattle.p10_core.specs.Whole.{Surroundings}
-use Rattle.p10_core.specs.WholePrograms.{AreRising, AreWholeStructures, HasMain, IsExtent, IsObjectType, IsResult, IsStaticInitializer, IsWholeFunction, IsWholeInitializer, IsWholeObject, IsWholeProgram, IsWholeType, IsWholeVariable, AreWholeStatements, region_of, surroundings_of, parameter_types, frame_bytes}
+use Rattle.p10_core.specs.WholePrograms.{AreRising, AreWholeStructures, HasMain, IsExtent, IsResult, IsStaticInitializer, IsWholeFunction, IsWholeInitializer, IsWholeObject, IsWholeProgram, IsWholeType, IsWholeVariable, AreWholeStatements, region_of, surroundings_of}
 use Rattle.p10_whole.specs.declared.context.Context.{Context}
 use Rattle.p10_whole.specs.private.Headings.{HasSize, HasWholeHeading}
 use Rattle.p10_whole.specs.private.Orders.{InOrder}

@@ -1,5 +1,5 @@
 -- Labels that are whole.
-use Rattle.std.proofs.Common.{◌≡◌, ℕ, zero, suc, ◌+◌, ◌<◌, ◌≤◌, ℤ, Bool, true, false, not, ◌&&◌, ◌||◌, List, [], ◌∷◌, ◌++◌, map, length, take, drop, Option, Some, None, option_map, get_or, refl, ap, sym, ◌∙◌, subst, arith, ◌⊎◌, inl, inr, drop-cons, add-one, slice_index_or}
+use Rattle.std.proofs.Common.{◌≡◌, ℕ, zero, suc, ◌+◌, ◌<◌, ◌≤◌, ℤ, Bool, true, false, not, ◌&&◌, ◌||◌, List, [], ◌∷◌, ◌++◌, length, take, drop, Some, None, get_or, refl, ap, sym, ◌∙◌, subst, arith, ◌⊎◌, inl, inr, drop-cons, add-one, slice_index_or}
 use Rattle.std.specs.List.{All, Contains}
 use Rattle.std.specs.Ordering.{int_eq}
 use Rattle.std.proofs.lemmas.Bool.Decides.{Decides-int_eq}
@@ -8,7 +8,7 @@ use Rattle.p10_int.specs.declared.types.IntType.{IntType}
 use Rattle.p10_int.specs.Types.{InRange, promoted}
 use Rattle.p10_core.specs.declared.statements.Label.{Label}
 use Rattle.p10_core.specs.Types.{integer}
-use Rattle.p10_core.specs.Typed.{PlainValue, type_of, PlainLabels, PlainStatement, statement, block, statements_list}
+use Rattle.p10_core.specs.Typed.{PlainValue, type_of, PlainLabels, PlainStatement, statement, block}
 use Rattle.p10_core.specs.Whole.{Surroundings, IsWholeValue}
 use Rattle.p10_core.specs.WholePrograms.{AreCases, Switches, is_block, is_declaration, switch_items}
 use Rattle.p10_whole.specs.private.Labels.{AreLabels, AreLabelsIn, block_items, values_on, has_value}

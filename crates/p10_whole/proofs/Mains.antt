@@ -1,18 +1,16 @@
 -- `main` with its pragmas.
-use Rattle.std.proofs.Common.{◌≡◌, ℕ, zero, suc, ◌+◌, ◌-◌, ◌<◌, ◌≤◌, Bool, true, false, not, ◌&&◌, ◌++◌, List, [], ◌∷◌, map, length, drop, Option, Some, None, option_map, is_some, slice_get, refl, ap, sym, ◌∙◌, subst, arith, nat_eq}
+use Rattle.std.proofs.Common.{◌≡◌, ℕ, ◌+◌, ◌-◌, ◌<◌, Bool, true, false, not, ◌&&◌, ◌++◌, List, [], ◌∷◌, map, length, drop, Option, Some, None, is_some, slice_get, refl, ap, sym, ◌∙◌, subst, nat_eq}
 use Rattle.std.specs.Prelude.{IfSome}
 use Rattle.std.proofs.Math.Dec.{eqb-suc-zero}
 use Rattle.p10_base.specs.declared.at.At.{At}
 use Rattle.p10_core.specs.declared.program.Func.{Func}
 use Rattle.p10_core.specs.declared.statements.LoopHead.{LoopHead}
-use Rattle.p10_core.specs.declared.program.Program.{Program}
-use Rattle.p10_core.specs.declared.statements.MarkKind.{MarkKind}
 use Rattle.p10_core.specs.declared.statements.MarkKind.TheVariants.{InitDone, TaskLoop}
 use Rattle.p10_core.specs.declared.statements.Stmt.{Stmt}
 use Rattle.p10_core.specs.Typed.{PlainFunction, PlainProgram, PlainValue, PlainStatement, statement, loop}
 use Rattle.p10_core.specs.Rows.{int_type}
-use Rattle.p10_core.specs.Views.{plain_program, plain_function, plain_statement, plain_statements}
-use Rattle.p10_core.specs.WholePrograms.{HasMain, IsInitDone, IsMain, IsMaybeReturn, IsTask, is_for, is_marked, is_true_test, is_while, main_items, mark_list, marks_of, may_be_task}
+use Rattle.p10_core.specs.Views.{plain_function, plain_statement, plain_statements}
+use Rattle.p10_core.specs.WholePrograms.{HasMain, IsInitDone, IsMain, IsMaybeReturn, IsTask, is_for, is_marked, is_true_test, is_while, main_items, mark_list, may_be_task}
 use Rattle.p10_whole.specs.private.Orders.{InOrder, marks_by}
 use Rattle.p10_whole.specs.private.Shows.{Shows}
 use Rattle.p10_whole.proofs.Openings.{statements_listed}

@@ -1,10 +1,10 @@
 -- Statements that pass a test one after the other, and statements as a list.
-use Rattle.std.proofs.Common.{◌≡◌, ℕ, zero, suc, ◌+◌, ◌<◌, ◌≤◌, Bool, true, List, [], ◌∷◌, map, length, drop, get_or, Option, Some, refl, ap, sym, ◌∙◌, subst, arith}
+use Rattle.std.proofs.Common.{◌≡◌, ℕ, ◌+◌, ◌<◌, ◌≤◌, Bool, true, List, [], ◌∷◌, map, length, drop, get_or, Some, refl, ap, sym, ◌∙◌, subst}
 use Rattle.p10_base.specs.declared.at.At.{At}
 use Rattle.p10_core.specs.declared.statements.Stmt.{Stmt}
 use Rattle.p10_core.specs.declared.statements.StmtForm.{StmtForm}
 use Rattle.p10_core.specs.declared.statements.StmtForm.TheVariants.{Block}
-use Rattle.p10_core.specs.Typed.{PlainStatement, statement, PlainStatements, no_statements, more_statements, statements_list}
+use Rattle.p10_core.specs.Typed.{PlainStatement, statement, PlainStatements, no_statements, statements_list}
 use Rattle.p10_core.specs.Views.{plain_statement, plain_statements, plain_statement_form}
 use Rattle.p10_core.specs.WholePrograms.{AllOf}
 use Rattle.p10_core.proofs.StatementRows.{plain_block}

@@ -1,5 +1,5 @@
 -- What comes next after what was passed.
-use Rattle.std.proofs.Common.{◌≡◌, ℕ, suc, ◌+◌, ◌-◌, ◌≤◌, Bool, true, false, not, ◌&&◌, List, [], ◌∷◌, ◌++◌, map, length, if◌then◌else◌, refl, ap, sym, ◌∙◌, subst, arith, append_assoc, ◌<◌, drop, get_or, nat_eq, Option, Some, None, option_map, rules}
+use Rattle.std.proofs.Common.{◌≡◌, ℕ, suc, ◌+◌, ◌≤◌, Bool, true, false, not, ◌&&◌, List, [], ◌∷◌, ◌++◌, map, length, refl, ap, sym, ◌∙◌, subst, arith, append_assoc, ◌<◌, drop, get_or, nat_eq, Option, Some, None, option_map, rules}
 use Rattle.std.proofs.lemmas.Bool.{eqb-true}
 use Rattle.p10_base.specs.declared.at.At.{At}
 use Rattle.p10_core.specs.declared.statements.LoopHead.{LoopHead}

@@ -18,7 +18,7 @@ use Rattle.p10_whole.specs.declared.context.Context.{Context}
 use Rattle.p10_whole.specs.private.Shows.{Shows}
 use Rattle.p10_whole.proofs.Each.{drop_end}
 use Rattle.p10_whole.proofs.Showing.{both_true}
-use Rattle.p10_whole.specs.private.Surroundings.{scope_on, scope_of}
+use Rattle.p10_whole.specs.private.Surroundings.{scope_on}
 use Rattle.p10_whole.specs.private.Regions.{region_in, declared_by, declared_here, all_declared_here, PassesForm, PassesStatement, PassesStatements, PassesPart, PassesBranch, IsSimple}
 
 no_more : {X : Type 0} → (xs : List X) → xs ++ [] ≡ xs

@@ -1,5 +1,5 @@
 -- The labels of a `switch`.
-use Rattle.std.specs.Prelude.{◌≡◌, ◌<◌, ℤ, Bool, true, false, ◌||◌, List, [], ◌∷◌, All, Option, Some, None, IfSome, length}
+use Rattle.std.specs.Prelude.{◌≡◌, ◌<◌, ℤ, Bool, false, ◌||◌, List, [], ◌∷◌, All, Option, Some, None, IfSome, length}
 use Rattle.std.specs.Ordering.{int_eq}
 use Rattle.p10_int.specs.declared.types.IntType.{IntType}
 use Rattle.p10_core.specs.declared.statements.Label.{Label}

@@ -1,8 +1,8 @@
 -- What stands round a statement of the code, and what the tests of statements show.
-use Rattle.std.specs.Prelude.{◌≡◌, ℕ, Bool, true, false, List, [], ◌∷◌, ◌++◌, Option, Some, None}
+use Rattle.std.specs.Prelude.{◌≡◌, ℕ, false, List, [], ◌∷◌, ◌++◌, Option, Some, None}
 use Rattle.p10_core.specs.Views.{plain_program, plain_function}
-use Rattle.p10_core.specs.Typed.{PlainValue, PlainStatement, statement, PlainStatementForm, declare, PlainStatements, no_statements, more_statements}
-use Rattle.p10_core.specs.WholePrograms.{Region, around, after_all, is_declaration, IsMaybeTest, IsWholeStatement, IsWholeStatementForm, AreWholeStatements}
+use Rattle.p10_core.specs.Typed.{PlainStatement, statement, PlainStatementForm, declare, PlainStatements, no_statements, more_statements}
+use Rattle.p10_core.specs.WholePrograms.{Region, is_declaration, IsWholeStatement, IsWholeStatementForm, AreWholeStatements}
 use Rattle.p10_whole.specs.declared.context.Context.{Context}
 use Rattle.p10_whole.specs.private.Surroundings.{scope_of}
 

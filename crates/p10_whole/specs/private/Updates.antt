@@ -1,5 +1,5 @@
 -- What the test of an update's types shows.
-use Rattle.std.specs.Prelude.{◌≡◌, Bool, true, false, List, Some}
+use Rattle.std.specs.Prelude.{◌≡◌, true, false, List, Some}
 use Rattle.p10_int.specs.declared.operators.BinOp.{BinOp}
 use Rattle.p10_int.specs.declared.types.IntType.{IntType}
 use Rattle.p10_int.specs.Types.{usual_of}

@@ -1,4 +1,4 @@
-use Rattle.std.proofs.Common.{◌||◌, drop}
+use Rattle.std.proofs.Common.{drop}
 use Rattle.p10_core.specs.Views.{plain_statements}
 use Rattle.p10_core.specs.WholePrograms.{AllOf, is_expression}
 use Rattle.p10_whole.proofs.clauses.are_expressions.Given as goal

@@ -1,5 +1,4 @@
-use Rattle.std.proofs.Common.{◌∙◌, ap, subst, take, arith, ◌≤◌, length, List}
-use Rattle.p10_core.specs.declared.program.Variable.{Variable}
+use Rattle.std.proofs.Common.{arith, ◌≤◌, length}
 use Rattle.p10_whole.proofs.Assembling.{heading_is}
 use Rattle.p10_whole.proofs.functions.has_whole_heading.Goals as goal
 

@@ -1,4 +1,4 @@
-use Rattle.std.proofs.Common.{◌∙◌, ◌+◌, ap, sym, map, drop, List, option_map, option_copied, arith}
+use Rattle.std.proofs.Common.{◌∙◌, ◌+◌, ap, map, List, option_map, option_copied, arith}
 use Rattle.p10_core.specs.declared.statements.Stmt.{Stmt}
 use Rattle.p10_core.specs.Views.{plain_statement}
 use Rattle.p10_whole.proofs.Each.{map_drop}

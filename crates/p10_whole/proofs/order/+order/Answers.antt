@@ -1,5 +1,4 @@
-use Rattle.std.proofs.Common.{◌≡◌, ◌∙◌, true, ap, sym, rules, option_map}
-use Rattle.p10_core.specs.declared.statements.Stmt.{Stmt}
+use Rattle.std.proofs.Common.{◌≡◌, ◌∙◌, true, sym, rules, option_map}
 use Rattle.p10_core.specs.declared.statements.StmtForm.TheViews.{the_lemmas}
 use Rattle.p10_core.specs.Typed.{loop}
 use Rattle.p10_core.specs.Views.{plain_statement, plain_statements, plain_statement_form, plain_value}

@@ -1,12 +1,11 @@
 use Rattle.std.proofs.Common.{◌≡◌, ◌∙◌, true, false, ap, sym, rules, option_map}
-use Rattle.p10_base.specs.declared.span.Span.{Span}
 use Rattle.p10_core.specs.declared.statements.Stmt.{Stmt}
 use Rattle.p10_core.specs.declared.statements.StmtForm.TheViews.{the_lemmas}
 use Rattle.p10_core.specs.Typed.{block, switch, loop}
 use Rattle.p10_core.specs.WholePrograms.{is_declaration}
 use Rattle.p10_core.specs.Views.{plain_statement, plain_statements, plain_statement_form, plain_value, plain_labels}
 use Rattle.p10_core.proofs.StatementRows.{plain_block, statements_row-items}
-use Rattle.p10_whole.proofs.Passing.{next_passes, end_passes, form_ok, by_simple, part_ok, by_block, if_is, switch_ok, any_span, by_loop}
+use Rattle.p10_whole.proofs.Passing.{next_passes, end_passes, form_ok, part_ok, by_block, if_is, switch_ok, any_span, by_loop}
 use Rattle.p10_whole.proofs.statements.+statements.Goals as goal
 
 pub are_whole_statements-loop-s-preserved : goal.are_whole_statements-loop-s-preserved

@@ -1,5 +1,4 @@
 use Rattle.std.proofs.Common.{◌≡◌, ◌∙◌, true, false, ap, sym, rules}
-use Rattle.p10_core.specs.declared.statements.Label.{Label}
 use Rattle.p10_whole.specs.private.Labels.{has_value}
 use Rattle.p10_whole.proofs.Labelling.{next_case, not_before, cases_end}
 use Rattle.p10_whole.proofs.switches.are_cases.Goals as goal
