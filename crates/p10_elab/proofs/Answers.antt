@@ -5,10 +5,12 @@ use Rattle.p10_syn.specs.Trees.{External}
 use Rattle.p10_core.specs.Typed.{PlainProgram}
 use Rattle.std.proofs.lemmas.List.{append-nil}
 use Rattle.p10_elabx.specs.declared.problem.Problem.{Problem}
-use Rattle.p10_elabx.specs.First.{IsFirst, least, every}
+use Rattle.p10_elabx.specs.First.{Keep, IsFirst, least}
 use Rattle.p10_elabx.proofs.Firsts.{kept_lift, kept_pair}
 use Rattle.p10_heads.specs.Roots.{roots_of}
-use Rattle.p10_elab.specs.Programs.{Elaborated, program, too_large, first_of, unless_problem, roots_elaborated, standing_of, whole_of, is_too_large}
+use Rattle.p10_program.specs.FirstProblems.{first_of}
+use Rattle.p10_program.specs.Limits.{is_too_large}
+use Rattle.p10_elab.specs.Programs.{Elaborated, program, too_large, unless_problem, roots_elaborated, standing_of, whole_of}
 use Rattle.p10_elab.specs.Laws.{TheFirstIsAnswered, undefined_in, main_problems, IsAccepted, IsTooLarge, AnswersHaveCauses}
 
 alone : (r : Problem) → IsFirst r (r ∷ [])
@@ -47,27 +49,27 @@ unsized : (b : Bool) (p : PlainProgram) → (if b then too_large else program p)
 unsized true p e = refl
 unsized false p e = absurd cc
 
-accepted : (roots : List (List (External At))) (p : PlainProgram) → roots_elaborated roots ≡ program p → IsAccepted roots p
-accepted roots p e =
-    let a = program_only (standing_of every roots).problems _ p e in
-    let b = program_only (undefined_in roots) _ p a.1 in
-    let c = program_only (main_problems roots) _ p b.1 in
-    let d = sized (is_too_large (whole_of roots)) (whole_of roots) p c.1 in
+accepted : (h : Keep) (roots : List (List (External At))) (p : PlainProgram) → roots_elaborated h roots ≡ program p → IsAccepted h roots p
+accepted h roots p e =
+    let a = program_only (standing_of h roots).problems _ p e in
+    let b = program_only (undefined_in h roots) _ p a.1 in
+    let c = program_only (main_problems h roots) _ p b.1 in
+    let d = sized (is_too_large (whole_of h roots)) (whole_of h roots) p c.1 in
     record {
       no_row = record { rows = a.0; names = b.0; main = c.0 };
       sizes = sym (ap is_too_large d.1) ∙ d.0;
       is = d.1;
     }
 
-limited : (roots : List (List (External At))) → roots_elaborated roots ≡ too_large → IsTooLarge roots
-limited roots e =
-    let a = limit_only (standing_of every roots).problems _ e in
-    let b = limit_only (undefined_in roots) _ a.1 in
-    let c = limit_only (main_problems roots) _ b.1 in
+limited : (h : Keep) (roots : List (List (External At))) → roots_elaborated h roots ≡ too_large → IsTooLarge h roots
+limited h roots e =
+    let a = limit_only (standing_of h roots).problems _ e in
+    let b = limit_only (undefined_in h roots) _ a.1 in
+    let c = limit_only (main_problems h roots) _ b.1 in
     record {
       no_row = record { rows = a.0; names = b.0; main = c.0 };
-      sizes = unsized (is_too_large (whole_of roots)) (whole_of roots) c.1;
+      sizes = unsized (is_too_large (whole_of h roots)) (whole_of h roots) c.1;
     }
 
 pub answers_have_causes : AnswersHaveCauses
-answers_have_causes = record { accepted = λ all p e. accepted (roots_of all) p e; limited = λ all e. limited (roots_of all) e }
+answers_have_causes = record { accepted = λ h all p e. accepted h (roots_of all) p e; limited = λ h all e. limited h (roots_of all) e }

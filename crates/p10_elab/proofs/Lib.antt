@@ -1,5 +1,6 @@
 pub mod Answers
 pub mod Computed
-pub mod Fits
 pub mod Flags
 mod Cutting
+mod NumberedObjects
+mod Stages

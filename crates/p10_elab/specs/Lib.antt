@@ -4,5 +4,6 @@ pub mod OuterViews
 pub mod SightingViews
 pub mod KnownViews
 pub mod Programs
+pub mod Answers
 pub mod Laws
 pub mod Examples
