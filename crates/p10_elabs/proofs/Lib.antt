@@ -5,11 +5,15 @@ mod Enumerated
 mod FilledArrays
 mod FormParts
 mod GrowingNames
+mod ItemSteps
 mod MarkTurns
 mod NumberMarks
 pub mod PieceRows
 mod Specified
+mod StartParts
+mod StatementArms
 mod StatementParts
+mod SwitchParts
 mod Takings
 mod TreeNodes
 mod Walking

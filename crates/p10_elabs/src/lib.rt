@@ -1,10 +1,10 @@
 //! Statements and the declarations in blocks: what they come to in a function, and the first row of the subset that holds in them
 //! (C99 6.7, 6.8).
 //!
-//! Entry points: [`addresses_taken`], the variables of a function that are no frame variables, found by a walk before its body;
-//! [`marks_noted`], the rows on the pragmas of `main`; [`Local`], what is known in a function after some statements;
-//! [`specified_in`], [`object_type`] and [`initialized_by`], the parts of a declaration that are alike in blocks and outside of functions.
-//! The walk over statements isn't here yet.
+//! Entry points: [`items_done`], what the items of a block come to: the walk over statements; [`addresses_taken`], the variables of a
+//! function that are no frame variables, found by a walk before its body; [`marks_noted`], the rows on the pragmas of `main`;
+//! [`Local`], what is known in a function after some statements; [`specified_in`], [`object_type`] and [`initialized_by`], the parts
+//! of a declaration that are alike in blocks and outside of functions.
 //! Definitions: `items_done` (`specs/Statements.antt`), `declared_locally` (`specs/LocalDeclarations.antt`), `specified_in`
 //! (`specs/Locals.antt`), `addresses_taken` (`specs/Addresses.antt`), `marks_noted` (`specs/Marks.antt`).
 #![tactic(auto)]
@@ -29,6 +29,8 @@ mod pieces;
 mod returns;
 mod round;
 mod specifiers;
+mod starts;
+mod statement;
 mod switches;
 mod taken;
 mod taken_set;
@@ -37,6 +39,7 @@ mod walk;
 
 pub use constants::constants_of;
 pub use frame::Frame;
+pub use items::{Items, no_items};
 pub use kind::Kind;
 pub use local::Local;
 pub use locals::{
@@ -46,5 +49,6 @@ pub use locals::{
 pub use marks::marks_noted;
 pub use round::Round;
 pub use specifiers::{brackets_of, is_typedef, makes_sensors};
+pub use statement::items_done;
 pub use taken_set::TakenSet;
 pub use walk::addresses_taken;
