@@ -7,3 +7,4 @@ pub mod Programs
 pub mod Answers
 pub mod Laws
 pub mod Examples
+pub mod private

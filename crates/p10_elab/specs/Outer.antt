@@ -129,20 +129,21 @@ abbrev pub is_written : Option (Initializer At) → Bool
 is_written None = false
 is_written (Some i) = true
 
+-- whether an object outside of functions is defined at a word
+abbrev pub is_defined_at : ℕ → List Head → Bool
+is_defined_at first [] = false
+is_defined_at first (f ∷ rest) = (nat_eq f.at.first first && not f.in_block) || is_defined_at first rest
+
 -- whether a declaration is the one that defines its object: it has an initialiser, or it is where the object is defined for the time
 -- being
-abbrev pub is_site : Heads → ℕ → Identifier At → Bool
-is_site heads root name = stands_in heads.objects
-  where
-    stands_in : List Head → Bool
-    stands_in [] = false
-    stands_in (f ∷ rest) = (nat_eq f.at.first name.place.first && not f.in_block) || stands_in rest
+abbrev pub is_site : Heads → Identifier At → Bool
+is_site heads name = is_defined_at name.place.first heads.objects
 
 -- an object with its initialiser
 abbrev pub with_defined : Heads → Linked → Identifier At → PlainType → Option PlainInitializer → Known → Known
 with_defined heads l name t None k = k
 with_defined heads l name t (Some i) k =
-    if is_site heads k.root name
+    if is_site heads name
     then record k { objects = k.objects ++ record { number = number_in heads.objects l.root l.internal l.name; name = name; type = t; initializer = i; sensor = l.sensor } ∷ [] }
     else k
 

@@ -1,7 +1,7 @@
 //! What is known of the program after some declarations and functions of the roots.
 
-ghost use Rattle.std.specs.Prelude.{◌≡◌, ◌++◌, IfOk};
-ghost use Rattle.p10_elabx.specs.First.{only_first, problems};
+ghost use Rattle.std.specs.Prelude.{◌≡◌, IfOk};
+ghost use Rattle.p10_elabx.specs.First.{only_first};
 ghost use Rattle.p10_elabd.specs.Blocks.{is_taken};
 ghost use Rattle.p10_heads.specs.Heads.{Heads};
 ghost use Rattle.p10_linkage.specs.LinkedViews.{plain_kind, linked_of_name};
@@ -10,6 +10,7 @@ ghost use Rattle.p10_elab.specs.Outer.{linked_number, is_object, sighted_where, 
 ghost use Rattle.p10_elab.specs.KnownViews.{plain_known};
 
 use crate::linking::is_refused;
+use crate::mains::push_problem;
 use crate::naming::named_by;
 use crate::outer_object::{OuterObject, Sighting};
 use crate::sightings::Sightings;
@@ -84,16 +85,6 @@ pub fn add_linked<'s>(
     Ok(())
 }
 
-/// Puts a problem after others, if there is one.
-fn push_problem(mains: &mut Vec<Problem>, problem: Option<Problem>) -> Result<(), AllocError>
-    ensures { IfOk result (λ _. mains.new.items ≡ mains.old.items ++ problems problem) }
-{
-    if let Some(problem) = problem {
-        mains.push(problem)?;
-    }
-    Ok(())
-}
-
 /// Whether an object of a known type is declared.
 fn is_object(kind: &LinkedKind) -> bool
     ensures { result ≡ is_object (plain_kind kind.now) }
@@ -119,7 +110,7 @@ fn sight_where(
 }
 
 /// A count as a number; there is none where it is over 2^32 - 1.
-fn number_of(count: usize) -> Result<u32, AllocError>
+pub(crate) fn number_of(count: usize) -> Result<u32, AllocError>
     ensures { IfOk result (λ n. n ≡ count) }
 {
     if count > 4_294_967_295 {

@@ -21,7 +21,11 @@ use std::alloc::Global;
 
 /// What comes of all that is known of the roots, where so many objects are defined: the first row that holds in their declarations,
 /// else what comes of their program.
-pub fn settle<'s>(alloc: Global, count: usize, known: Known<'s>) -> Result<Program<'s>, ElabFault>
+pub(crate) fn settle<'s>(
+    alloc: Global,
+    count: usize,
+    known: Known<'s>,
+) -> Result<Program<'s>, ElabFault>
     ensures { IsElaborated (settled count (plain_known known.entry).standing (plain_known known.entry)) result }
 {
     match known.standing.problem {

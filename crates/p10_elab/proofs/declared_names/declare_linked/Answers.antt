@@ -1,0 +1,6 @@
+use Rattle.std.proofs.Common.{sym}
+use Rattle.p10_heads.specs.PlainHeads.{plain_heads}
+use Rattle.p10_elab.proofs.declared_names.declare_linked.Goals as goal
+
+pub returns : goal.returns
+returns c = c.in_ok-add_linked.ensures (plain_heads c.args.setting.now.heads.now) (sym c.linked_number-number.ensures) (sym c.is_taken-taken.ensures)
