@@ -15,7 +15,7 @@ use Rattle.p10_meaning.specs.declared.pointers.Cell.{Cell}
 use Rattle.p10_meaning.specs.Objects.{Object, Origin, find, put, closed, all_closed, opened_with}
 use Rattle.p10_meaning.specs.Scalars.{unset_cells}
 use Rattle.p10_meaning.specs.Values.{Held, holds, stands, absent}
-use Rattle.p10_meaning.specs.Sound.{most_elements, Kind, Leads, FitsPointer, Fits, MaybeFits, AllFit, ObjectFits, Above, AllObjects, SoundParts, VariableFits, FrameFits, Grows, kind_scalars}
+use Rattle.p10_meaning.specs.Sound.{Kind, Leads, FitsPointer, Fits, MaybeFits, AllFit, ObjectFits, Above, AllObjects, SoundParts, VariableFits, FrameFits, Grows, kind_scalars, IsSmall}
 
 -- ## Objects are only added
 
@@ -178,11 +178,11 @@ pub sound_with : (p : PlainProgram) (ks : List Kind) (xs ys : List Object) (n : 
 sound_with p ks xs ys n input sensors s f = record { count = s.count; sizes = s.sizes; statics = s.statics; literals = s.literals; all = f; input_bytes = s.input_bytes; sensor_values = s.sensor_values }
 
 -- one more object, with scalars that fit
-pub sound_push : (p : PlainProgram) (ks : List Kind) (xs : List Object) (n : ℕ) (input : List ℕ) (sensors : List ℤ) (k : Kind) (origin : Origin) (cells : List Cell) → SoundParts p ks xs n input sensors → length (kind_scalars p k) ≤ most_elements →
+pub sound_push : (p : PlainProgram) (ks : List Kind) (xs : List Object) (n : ℕ) (input : List ℕ) (sensors : List ℤ) (k : Kind) (origin : Origin) (cells : List Cell) → SoundParts p ks xs n input sensors → IsSmall p k →
     AllFit p (ks ++ k ∷ []) (kind_scalars p k) cells → SoundParts p (ks ++ k ∷ []) (opened_with xs n origin cells) (suc n) input sensors
 sound_push p ks xs n input sensors k origin cells s few f = record {
   count = let c : length ks ≡ n = s.count in length-append ks (k ∷ []) ∙ omega (arith, c);
-  sizes = λ o j e. get_of_push ks k o j e (λ e. s.sizes o j e) (λ e. subst (λ k. length (kind_scalars p k) ≤ most_elements) e few);
+  sizes = λ o j e. get_of_push ks k o j e (λ e. s.sizes o j e) (λ e. subst (λ k. IsSmall p k) e few);
   statics = λ i object e. get_grown ks (ks ++ k ∷ []) i _ (grown ks k) (s.statics i object e);
   literals = λ i l e. get_grown ks (ks ++ k ∷ []) (length p.objects + i) _ (grown ks k) (s.literals i l e);
   all = objects_push p ks (ks ++ k ∷ []) xs _ s.all (grown ks k) (let c : length ks ≡ n = s.count in omega (arith, c))

@@ -215,6 +215,11 @@ map_get f [] i x e = absurd (none-some _ e)
 map_get f (y ∷ xs) zero x e = ap (λ x. Some (f x)) (same_Some _ _ e)
 map_get f (y ∷ xs) (suc i) x e = map_get f xs i x e
 
+pub all_at : {A : Type 0} (P : A → Type 0) (xs : List A) (i : ℕ) (x : A) → All P xs → slice_get xs i ≡ Some x → P x
+all_at P [] i x f e = absurd (none-some _ e)
+all_at P (y ∷ xs) zero x f e = subst P (same_Some _ _ e) (All-head P y xs f)
+all_at P (y ∷ xs) (suc i) x f e = all_at P xs i x (All-tail P y xs f) e
+
 pub record HasMapped {A B : Type 0} (f : A → B) (xs : List A) (i : ℕ) (y : B) : Type 0 where
   pub one : A
   pub there : slice_get xs i ≡ Some one
@@ -225,7 +230,7 @@ map_back f [] i y e = absurd (none-some _ e)
 map_back f (x ∷ xs) zero y e = record { one = x; there = refl; is = same_Some _ _ e }
 map_back f (x ∷ xs) (suc i) y e = let h : HasMapped f xs i y = map_back f xs i y e in record { one = h.one; there = h.there; is = h.is }
 
-body_of_member : {P : Type 0} (o : Option PlainBody) (m : ℕ) (x : PlainMember) → slice_get (members_in o) m ≡ Some x → ((b : PlainBody) → o ≡ Some b → P) → P
+pub body_of_member : {P : Type 0} (o : Option PlainBody) (m : ℕ) (x : PlainMember) → slice_get (members_in o) m ≡ Some x → ((b : PlainBody) → o ≡ Some b → P) → P
 body_of_member None m x e go = absurd (none-some _ e)
 body_of_member (Some b) m x e go = go b refl
 

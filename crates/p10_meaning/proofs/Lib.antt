@@ -11,6 +11,7 @@ pub mod Fitting
 pub mod StayApart
 pub mod Moves
 pub mod LaidOut
+pub mod ShortArrays
 pub mod SoundScalars
 pub mod SoundUpdates
 pub mod Keeping

@@ -120,12 +120,12 @@ cell_fits p out ks w t Null s f scalar = tt
 cell_fits p out ks w t (To o a n) s f scalar =
     on_weaker (λ (c : Cell). MaybeFits p ks (bare p.structures t) c.value) (λ (c : Cell). MaybeFits p ks t c.value) (cell_at w.objects (To o a n)) (λ c h. maybe_same p ks (bare p.structures t) t c.value (out.bare_again t) h)
     (cell_typed p ks w.objects o a n f.kind (bare p.structures t) s.all f.opened
-    (on_weaker _ _ (scalar_at a n) (λ j h. h.1) (scalar_place p out f.kind a n t (numbered (s.sizes o f.kind f.opened)) f.leads scalar)))
+    (on_weaker _ _ (scalar_at a n) (λ j h. h.1) (scalar_place p out f.kind a n t (numbered (s.sizes o f.kind f.opened).scalars) f.leads scalar)))
 
 pub write_fits : (p : PlainProgram) → IsLaidOut p → (ks : List Kind) (w : State) (t : PlainType) (q : Ptr) (c : Cell) → Sound p ks w → FitsPointer p ks t q → is_scalar t ≡ true → MaybeFits p ks t c.value → OnOk (AllObjects p ks) (write_at w.objects q c)
 write_fits p out ks w t Null c s f scalar g = tt
 write_fits p out ks w t (To o a n) c s f scalar g =
-    write_typed p ks w.objects o a n f.kind (bare p.structures t) c s.all f.opened (scalar_place p out f.kind a n t (numbered (s.sizes o f.kind f.opened)) f.leads scalar)
+    write_typed p ks w.objects o a n f.kind (bare p.structures t) c s.all f.opened (scalar_place p out f.kind a n t (numbered (s.sizes o f.kind f.opened).scalars) f.leads scalar)
     (maybe_same p ks t (bare p.structures t) c.value (sym (out.bare_again t)) g)
 
 -- scalar i of an element, by a window of its own
@@ -145,7 +145,7 @@ part_fits p out ks w t Null i s so f there = tt
 part_fits p out ks w t (To o a n) i s so f there =
     on_then (λ (q : Ptr). OnOk (λ (c : Cell). MaybeFits p ks s c.value) (cell_at w.objects q)) (λ (c : Cell). MaybeFits p ks s c.value) (inner w.objects (To o a n) i 1 1) _
     (on_then (λ _. Unit {0}) (λ (q : Ptr). OnOk (λ (c : Cell). MaybeFits p ks s c.value) (cell_at w.objects q)) (alive w.objects o) _ (any_ok (alive w.objects o)) (λ _ _.
-    cell_typed p ks w.objects o (window_in a n i 1 1) 0 f.kind s so.all f.opened (on_weaker _ _ (scalar_at (window_in a n i 1 1) 0) (λ j h. h.1) (part_place p out f.kind a n i t s (numbered (so.sizes o f.kind f.opened)) f.leads there))))
+    cell_typed p ks w.objects o (window_in a n i 1 1) 0 f.kind s so.all f.opened (on_weaker _ _ (scalar_at (window_in a n i 1 1) 0) (λ j h. h.1) (part_place p out f.kind a n i t s (numbered (so.sizes o f.kind f.opened).scalars) f.leads there))))
     (λ q h. h)
 
 pub write_part_fits : (p : PlainProgram) → IsLaidOut p → (ks : List Kind) (w : State) (t : PlainType) (q : Ptr) (i : ℕ) (s : PlainType) (c : Cell) → Sound p ks w → FitsPointer p ks t q → slice_get (scalars p t) i ≡ Some s → MaybeFits p ks s c.value →
@@ -154,7 +154,7 @@ write_part_fits p out ks w t Null i s c so f there g = tt
 write_part_fits p out ks w t (To o a n) i s c so f there g =
     on_then (λ (q : Ptr). OnOk (AllObjects p ks) (write_at w.objects q c)) (AllObjects p ks) (inner w.objects (To o a n) i 1 1) _
     (on_then (λ _. Unit {0}) (λ (q : Ptr). OnOk (AllObjects p ks) (write_at w.objects q c)) (alive w.objects o) _ (any_ok (alive w.objects o)) (λ _ _.
-    write_typed p ks w.objects o (window_in a n i 1 1) 0 f.kind s c so.all f.opened (part_place p out f.kind a n i t s (numbered (so.sizes o f.kind f.opened)) f.leads there) g))
+    write_typed p ks w.objects o (window_in a n i 1 1) 0 f.kind s c so.all f.opened (part_place p out f.kind a n i t s (numbered (so.sizes o f.kind f.opened).scalars) f.leads there) g))
     (λ q h. h)
 
 -- ## Pointers

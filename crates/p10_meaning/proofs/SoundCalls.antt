@@ -6,10 +6,11 @@ use Rattle.std.proofs.lemmas.Option.{same_Some, none-some}
 use Rattle.std.proofs.lemmas.List.Elements.{All-head, All-tail}
 use Rattle.std.proofs.lemmas.List.Sums.{sum-map, sum_by-cons}
 use Rattle.p10_core.specs.Types.{PlainType, bare}
-use Rattle.p10_core.specs.Sizes.{size_of, layout_of, repeated, scalars_of}
+use Rattle.p10_core.specs.Sizes.{size_of, layout_of}
 use Rattle.p10_core.specs.Rows.{is_scalar}
 use Rattle.p10_core.specs.Laws.{LiesLike}
 use Rattle.p10_core.specs.Typed.{PlainVariable, PlainFunction, PlainProgram}
+use Rattle.p10_core.proofs.ScalarCounts.{scalars_have_bytes}
 use Rattle.p10_core.specs.WholePrograms.{frame_bytes, parameter_types, numbers_from, IsObjectType, IsWholeVariable, IsWholeFunction, IsWholeProgram}
 use Rattle.p10_meaning.specs.declared.pointers.Scalar.{Scalar}
 use Rattle.p10_meaning.specs.Pointers.{holding}
@@ -18,25 +19,26 @@ use Rattle.p10_meaning.specs.States.{State}
 use Rattle.p10_meaning.specs.Values.{Calls, holds, stands, scalars, open_object}
 use Rattle.p10_meaning.specs.Statements.{Flow, normal, broken, continued, returned, execute_from}
 use Rattle.p10_meaning.specs.Calling.{Depth, deeper, raised, Entered, with_variable, entered, given, leave_call, setting_of, enter_call, call_at}
-use Rattle.p10_meaning.specs.Sound.{most_elements, own, ArraysAreSmall, Kind, single_of, Fits, MaybeFits, AllFit, kind_scalars, Sound, FrameFits, Grows, Keeps, ScalarsFit, KeepSound, FlowFits, DoneFits, CallsKeepSound, StatementsKeepSound, ValuesKeepSound}
-use Rattle.p10_meaning.proofs.Geometry.{IsPart, IsLaid, walk_laid, own_laid, IsLaidOut}
-use Rattle.p10_meaning.proofs.LaidOut.{laid_out, lies_bare, repeated_few, scalars_few}
+use Rattle.p10_meaning.specs.Sound.{most_elements, ArraysAreSmall, Kind, IsSmall, single_of, Fits, MaybeFits, AllFit, kind_scalars, Sound, FrameFits, Grows, Keeps, ScalarsFit, KeepSound, FlowFits, DoneFits, CallsKeepSound, StatementsKeepSound, ValuesKeepSound}
+use Rattle.p10_meaning.proofs.Geometry.{IsLaidOut}
+use Rattle.p10_meaning.proofs.LaidOut.{laid_out, object_bare, lies_bare, repeated_few, scalars_few, all_at}
+use Rattle.p10_meaning.proofs.ShortArrays.{short_size, small_object}
 use Rattle.p10_meaning.proofs.Fitting.{grows_same, grows_trans, grown, get_last, get_grown, fits_grown, sound_with, sound_push, all_closed_fits, fits_same}
 use Rattle.p10_meaning.proofs.Moves.{scalars_are}
 use Rattle.p10_meaning.proofs.Keeping.{keeps_from, kept, ended, keeps_step, keeps_then}
-use Rattle.p10_meaning.proofs.SoundParts.{all_at}
 use Rattle.p10_meaning.proofs.SoundValues.{evaluate_keeps}
 use Rattle.p10_meaning.proofs.SoundStatements.{AreFew, seen, seen_by, execute_keeps, from_keeps}
 
 -- ## Sizes
 
--- an object of few bytes has few scalars
-pub few_scalars : (p : PlainProgram) → IsWholeProgram p → (t : PlainType) → IsObjectType p.structures t → size_of p.structures t ≤ 1048576 → length (kind_scalars p (single_of p t)) ≤ most_elements
-few_scalars p whole t object small =
+-- an object of few bytes is small
+pub small_variable : (p : PlainProgram) → IsWholeProgram p → (t : PlainType) → IsObjectType p.structures t → size_of p.structures t ≤ 1048576 → IsSmall p (single_of p t)
+small_variable p whole t object small =
     let same : LiesLike (layout_of p.structures (bare p.structures t)) (layout_of p.structures t) = lies_bare p.structures whole.structures t object in
     let a : length (kind_scalars p (single_of p t)) ≤ 1 * size_of p.structures (bare p.structures t) = repeated_few 1 (size_of p.structures (bare p.structures t)) (scalars p t) (scalars_few p.structures (bare p.structures t)) in
     let b : size_of p.structures (bare p.structures t) ≡ size_of p.structures t = same.same_bytes in
-    bounded _ _ _ a b small
+    let low : 1 ≤ size_of p.structures (bare p.structures t) = (scalars_have_bytes p.structures whole.structures (bare p.structures t) (object_bare p.structures whole.structures t object)).0 in
+    small_object p whole.structures (single_of p t) (short_size p.structures (bare p.structures t) low (subst (λ m. m ≤ 1048576) (sym b) small)) (omega arith) (bounded _ _ _ a b small)
   where
     bounded : (l m k : ℕ) → l ≤ 1 * m → m ≡ k → k ≤ 1048576 → l ≤ most_elements
     bounded l m k a b c = omega (arith, a, b, c)
@@ -56,7 +58,7 @@ bytes_among (u ∷ vs) (suc i) v e =
 pub few_variables : (p : PlainProgram) → IsWholeProgram p → (number : ℕ) (f : PlainFunction) → IsWholeFunction p number f → AreFew p f.variables
 few_variables p whole number f i = record {
   few = λ n v e. let w : IsWholeVariable p.structures v = all_at (IsWholeVariable p.structures) f.variables n v i.variables e in
-      few_scalars p whole v.type w.object (bounded v.bytes (size_of p.structures v.type) (frame_bytes f) w.bytes_are (bytes_among f.variables n v e) i.small);
+      small_variable p whole v.type w.object (bounded v.bytes (size_of p.structures v.type) (frame_bytes f) w.bytes_are (bytes_among f.variables n v e) i.small);
   object = λ n v e. (all_at (IsWholeVariable p.structures) f.variables n v i.variables e).object;
 }
   where
@@ -88,7 +90,7 @@ no_arguments p [] w ks so = record { kinds = ks; grows = grows_same ks; sound = 
 no_arguments p (v ∷ vs) w ks so = let h : EntryFits p ks vs (entered vs [] w) = no_arguments p vs w ks so in record { kinds = h.kinds; grows = h.grows; sound = h.sound; frame = (tt, h.frame) }
 
 -- one more object for a parameter
-object_entered : (p : PlainProgram) → IsLaidOut p → (v : PlainVariable) (vs : List PlainVariable) (x : Scalar) (xs : List Scalar) (w : State) (ks : List Kind) → is_scalar v.type ≡ true → length (kind_scalars p (single_of p v.type)) ≤ most_elements → Fits p ks v.type x → Sound p ks w →
+object_entered : (p : PlainProgram) → IsLaidOut p → (v : PlainVariable) (vs : List PlainVariable) (x : Scalar) (xs : List Scalar) (w : State) (ks : List Kind) → is_scalar v.type ≡ true → IsSmall p (single_of p v.type) → Fits p ks v.type x → Sound p ks w →
     (Sound p (ks ++ single_of p v.type ∷ []) (open_object declared (holding x ∷ []) w) → EntryFits p (ks ++ single_of p v.type ∷ []) vs (entered vs xs (open_object declared (holding x ∷ []) w))) →
     EntryFits p ks (v ∷ vs) (with_variable (stands w.opened) (w.opened ∷ (entered vs xs (open_object declared (holding x ∷ []) w)).frame.opened) (entered vs xs (open_object declared (holding x ∷ []) w)))
 object_entered p out v vs x xs w ks scalar few fx so go =
@@ -163,18 +165,5 @@ values_keep p whole n depth number f there scope v i held w ks so h =
 
 -- ## Arrays
 
-repeated_least : (n : ℕ) (xs : List PlainType) → 1 ≤ length xs → n ≤ length (repeated n xs)
-repeated_least zero xs l = omega arith
-repeated_least (suc n) xs l =
-    let h : n ≤ length (repeated n xs) = repeated_least n xs l in
-    let e : length (xs ++ repeated n xs) ≡ length xs + length (repeated n xs) = length-append xs (repeated n xs) in omega (arith, h, e, l)
-
 pub arrays_small : ArraysAreSmall
-arrays_small p whole ks w so o k there v leads inside stride =
-    let few : length (kind_scalars p k) ≤ most_elements = so.sizes o k there in
-    let laid : IsLaid p (kind_scalars p k) v = walk_laid p (laid_out p whole) (kind_scalars p k) (omega (arith, few)) leads.path (own p k) v leads.leads (own_laid p k) in
-    let part : IsPart (kind_scalars p k) v.window.start (repeated v.window.count (scalars_of p.structures v.elem)) = laid.part inside in
-    let l : v.window.count ≤ length (repeated v.window.count (scalars_of p.structures v.elem)) = repeated_least v.window.count (scalars_of p.structures v.elem) (subst (λ m. 1 ≤ m) laid.stride stride) in
-    let all : length (kind_scalars p k) ≡ length part.front + length (repeated v.window.count (scalars_of p.structures v.elem) ++ part.back) = ap length part.is ∙ length-append part.front _ in
-    let some : length (repeated v.window.count (scalars_of p.structures v.elem) ++ part.back) ≡ length (repeated v.window.count (scalars_of p.structures v.elem)) + length part.back = length-append (repeated v.window.count (scalars_of p.structures v.elem)) part.back in
-    omega (arith, few, l, all, some)
+arrays_small p whole ks w so o k there v leads = (so.sizes o k there).arrays v leads

@@ -23,17 +23,18 @@ use Rattle.p10_meaning.specs.Scalars.{zero_cells}
 use Rattle.p10_meaning.specs.Values.{Calls, scalars, evaluate}
 use Rattle.p10_meaning.specs.Statements.{listed_scalars}
 use Rattle.p10_meaning.specs.Opening.{static_objects, literal_objects, opening_with, constant_setting, constant_state, constant_scalar, constant_scalars, listed_cells, initial_cells}
-use Rattle.p10_meaning.specs.Sound.{most_elements, Kind, single_of, Fits, AllFit, kind_scalars, Above, AllObjects, text_type, Sound, Grows, Keeps, KeepSound, AreSeen, opening_kinds, OpeningIsSound}
+use Rattle.p10_meaning.specs.Sound.{most_elements, Kind, IsSmall, single_of, Fits, AllFit, kind_scalars, Above, AllObjects, text_type, Sound, Grows, Keeps, KeepSound, AreSeen, opening_kinds, OpeningIsSound}
 use Rattle.p10_meaning.proofs.Geometry.{IsLaidOut, scalars_array, scalars_integer}
-use Rattle.p10_meaning.proofs.LaidOut.{laid_out, lies_bare, array_bytes, repeated_few, scalars_few, AreScalar, scalars_scalar, HasMapped, map_get, map_back}
+use Rattle.p10_meaning.proofs.LaidOut.{laid_out, lies_bare, array_bytes, repeated_few, scalars_few, AreScalar, scalars_scalar, HasMapped, map_get, map_back, all_at}
+use Rattle.p10_meaning.proofs.ShortArrays.{small_object}
 use Rattle.p10_meaning.proofs.Fitting.{get_before, fits_same, bare_unqualified}
 use Rattle.p10_meaning.proofs.Moves.{scalars_are}
 use Rattle.p10_meaning.proofs.Keeping.{ended}
 use Rattle.p10_meaning.proofs.SoundScalars.{zero_fits}
-use Rattle.p10_meaning.proofs.SoundParts.{all_at, zeros_fit}
+use Rattle.p10_meaning.proofs.SoundParts.{zeros_fit}
 use Rattle.p10_meaning.proofs.SoundValues.{evaluate_keeps}
 use Rattle.p10_meaning.proofs.SoundStatements.{AreFew, ItemsFit, listed_fits, listed_keeps}
-use Rattle.p10_meaning.proofs.SoundCalls.{few_scalars}
+use Rattle.p10_meaning.proofs.SoundCalls.{small_variable}
 use Rattle.p10_meaning.proofs.Quiet.{Opens, OpensBy, evaluate_opens, static_quiet, listed_opens}
 
 -- ## Lists
@@ -81,28 +82,28 @@ char_bytes : (p : PlainProgram) → size_of p.structures (integer false Char) �
 unfolding layout_of
 char_bytes p = refl
 
-text_few : (p : PlainProgram) (n : ℕ) → n ≤ 1048576 → length (kind_scalars p (single_of p (text_type n))) ≤ most_elements
-text_few p n l =
+text_small : (p : PlainProgram) → IsWholeProgram p → (n : ℕ) → n ≤ 1048576 → IsSmall p (single_of p (text_type n))
+text_small p whole n l =
     let a : length (kind_scalars p (single_of p (text_type n))) ≤ 1 * size_of p.structures (text_type n) = repeated_few 1 (size_of p.structures (text_type n)) (scalars p (text_type n)) (scalars_few p.structures (text_type n)) in
     let b : size_of p.structures (text_type n) ≡ n * 1 = array_bytes p.structures false (integer false Char) n ∙ ap (λ m. n * m) (char_bytes p) in
-    bounded _ _ n a b l
+    small_object p whole.structures (single_of p (text_type n)) (omega (arith, l), tt) (omega arith) (bounded _ _ n a b l)
   where
     bounded : (x m n : ℕ) → x ≤ 1 * m → m ≡ n * 1 → n ≤ 1048576 → x ≤ most_elements
     bounded x m n a b l = omega (arith, a, b, l)
 
-object_few : (p : PlainProgram) → IsWholeProgram p → (o : PlainObject) → IsWholeObject p o → length (kind_scalars p (single_of p o.type)) ≤ most_elements
-object_few p whole o i = few_scalars p whole o.type i.object (bounded o.bytes (size_of p.structures o.type) i.bytes_are i.small)
+object_small : (p : PlainProgram) → IsWholeProgram p → (o : PlainObject) → IsWholeObject p o → IsSmall p (single_of p o.type)
+object_small p whole o i = small_variable p whole o.type i.object (bounded o.bytes (size_of p.structures o.type) i.bytes_are i.small)
   where
     bounded : (b s : ℕ) → b ≡ s → b ≤ 1048576 → s ≤ 1048576
     bounded b s e l = omega (arith, e, l)
 
-kinds_few : (p : PlainProgram) → IsWholeProgram p → (o : ℕ) (k : Kind) → slice_get (opening_kinds p) o ≡ Some k → length (kind_scalars p k) ≤ most_elements
-kinds_few p whole o k e =
+kinds_small : (p : PlainProgram) → IsWholeProgram p → (o : ℕ) (k : Kind) → slice_get (opening_kinds p) o ≡ Some k → IsSmall p k
+kinds_small p whole o k e =
     either_get (map (λ (object : PlainObject). single_of p object.type) p.objects) (map (λ (l : PlainLiteral). single_of p (text_type (length l.bytes))) p.literals) o k e
     (λ e. let h : HasMapped (λ (object : PlainObject). single_of p object.type) p.objects o k = map_back (λ (object : PlainObject). single_of p object.type) p.objects o k e in
-    subst (λ k. length (kind_scalars p k) ≤ most_elements) h.is (object_few p whole h.one (all_at (IsWholeObject p) p.objects o h.one whole.objects h.there)))
+    subst (λ k. IsSmall p k) h.is (object_small p whole h.one (all_at (IsWholeObject p) p.objects o h.one whole.objects h.there)))
     (λ j e. let h : HasMapped (λ (l : PlainLiteral). single_of p (text_type (length l.bytes))) p.literals j k = map_back (λ (l : PlainLiteral). single_of p (text_type (length l.bytes))) p.literals j k e in
-    subst (λ k. length (kind_scalars p k) ≤ most_elements) h.is (text_few p (length h.one.bytes) (all_at (λ (l : PlainLiteral). length l.bytes ≤ 1048576) p.literals j h.one whole.literals_small h.there)))
+    subst (λ k. IsSmall p k) h.is (text_small p whole (length h.one.bytes) (all_at (λ (l : PlainLiteral). length l.bytes ≤ 1048576) p.literals j h.one whole.literals_small h.there)))
 
 -- ## The objects
 
@@ -184,7 +185,7 @@ opened_sound p whole cells c world i left = record {
   count = length-append (map (λ (object : PlainObject). single_of p object.type) p.objects) (map (λ (l : PlainLiteral). single_of p (text_type (length l.bytes))) p.literals) ∙
       (ap (λ n. n + length (map (λ (l : PlainLiteral). single_of p (text_type (length l.bytes))) p.literals)) (mapped_length (λ (object : PlainObject). single_of p object.type) p.objects) ∙
       ap (λ n. length p.objects + n) (mapped_length (λ (l : PlainLiteral). single_of p (text_type (length l.bytes))) p.literals));
-  sizes = kinds_few p whole;
+  sizes = kinds_small p whole;
   statics = static_kind p;
   literals = literal_kind p;
   all = statics_fit p (opening_kinds p) cells 0 p.objects (literal_objects (length p.objects) p.literals) c whole.objects

@@ -2,7 +2,7 @@
 use Rattle.std.proofs.Common.{◌≡◌, ℕ, zero, suc, ◌+◌, ◌*◌, ◌<◌, ◌≤◌, ltb, leb, eqb, ◌&&◌, Bool, true, false, List, [], ◌∷◌, ◌++◌, length, refl, sym, ◌∙◌, ap, subst, arith, Option, Some, None, slice_get, ℤ, pos, negsuc}
 use Rattle.std.specs.List.{All, Contains, slice_index_or}
 use Rattle.std.specs.Option.{option_map}
-use Rattle.std.proofs.lemmas.Bool.{cond_both, leb-true, eqb-true, eq-eqb}
+use Rattle.std.proofs.lemmas.Bool.{cond_both, ltb-true, leb-true, eqb-true, eq-eqb}
 use Rattle.std.proofs.lemmas.Option.{same_Some, none-some}
 use Rattle.std.proofs.lemmas.Int.{ints}
 use Rattle.std.proofs.lemmas.List.Elements.{All-head, All-tail}
@@ -16,7 +16,7 @@ use Rattle.p10_core.specs.Sizes.{repeated}
 use Rattle.p10_core.specs.Rows.{is_scalar, is_integer, int_type}
 use Rattle.p10_core.specs.Typed.{PlainVariable, PlainObject, PlainLiteral, PlainProgram}
 use Rattle.p10_core.specs.Whole.{SeenObject}
-use Rattle.p10_core.specs.WholePrograms.{seen_object, AreRising, IsWholeObject, IsWholeProgram}
+use Rattle.p10_core.specs.WholePrograms.{AreWholeStructures, seen_object, AreRising, IsWholeObject, IsWholeProgram}
 use Rattle.p10_meaning.specs.declared.pointers.Ptr.{Ptr}
 use Rattle.p10_meaning.specs.declared.pointers.Ptr.TheVariants.{Null}
 use Rattle.p10_meaning.specs.declared.pointers.Scalar.{Scalar}
@@ -27,9 +27,10 @@ use Rattle.p10_meaning.specs.Objects.{Object, Origin, allocated, on_ok, cell_at,
 use Rattle.p10_meaning.specs.States.{IsSensorValue, State, AssertionFailed, gives, ends, or_undefined}
 use Rattle.p10_meaning.specs.Scalars.{is_true, converted_to, unset_cells, zero_cells}
 use Rattle.p10_meaning.specs.Values.{Held, holds, stands, absent, scalars, width, size, open_object, Target, Variable, Sensor, Element, variable_target, global_target, literal_number, literal_target, held_cell, sensed_from, sensed, read_target, asserted, next_byte, put_byte, is_denied, granted, requested}
-use Rattle.p10_meaning.specs.Sound.{most_elements, Kind, single_of, FitsPointer, Fits, MaybeFits, AllFit, kind_scalars, AllObjects, text_type, SoundParts, Sound, VariableFits, FrameFits, Keeps}
+use Rattle.p10_meaning.specs.Sound.{most_elements, Kind, IsSmall, single_of, FitsPointer, Fits, MaybeFits, AllFit, kind_scalars, AllObjects, text_type, SoundParts, Sound, VariableFits, FrameFits, Keeps}
 use Rattle.p10_meaning.proofs.Geometry.{IsLaidOut}
-use Rattle.p10_meaning.proofs.LaidOut.{repeated_few, scalars_few, AreScalar, scalar_repeated, scalars_scalar}
+use Rattle.p10_meaning.proofs.LaidOut.{repeated_few, scalars_few, AreScalar, scalar_repeated, scalars_scalar, all_at}
+use Rattle.p10_meaning.proofs.ShortArrays.{few_elements, short_size, small_object}
 use Rattle.p10_meaning.proofs.Fitting.{grown, get_last, frame_get, sound_with, sound_push, all_unset, maybe_same}
 use Rattle.p10_meaning.proofs.Moves.{OnOk, on_then, cell_fits, release_fits}
 use Rattle.p10_meaning.proofs.SoundScalars.{zero_fits}
@@ -84,10 +85,6 @@ integer_alike p (structure c m) (pointer d t) e h = absurd cc
 integer_alike p (structure c m) (array d t n) e h = absurd cc
 integer_alike p (structure c m) (structure d n) e h = absurd cc
 
-pub all_at : {A : Type 0} (P : A → Type 0) (xs : List A) (i : ℕ) (x : A) → All P xs → slice_get xs i ≡ Some x → P x
-all_at P [] i x f e = absurd (none-some _ e)
-all_at P (y ∷ xs) zero x f e = subst P (same_Some _ _ e) (All-head P y xs f)
-all_at P (y ∷ xs) (suc i) x f e = all_at P xs i x (All-tail P y xs f) e
 
 pub global_fits : (p : PlainProgram) → IsWholeProgram p → (variables : List PlainVariable) (ks : List Kind) (w : State) (n : ℕ) (t : PlainType) (seen : SeenObject) (o : Option PlainObject) → slice_get p.objects n ≡ o → option_map seen_object o ≡ Some seen →
     bare p.structures t ≡ bare p.structures seen.type → Sound p ks w → OnOk (TargetFits p variables t ks) (global_target n (width p t) o)
@@ -244,36 +241,46 @@ pub zero_fill : (p : PlainProgram) → IsFill p zero_cells
 zero_fill p = record { fits = λ ks ts f. zeros_fit p ks ts f }
 
 -- one more object of a kind, and the pointer to its first element
-pub opened_keeps : {A : Type 0} (p : PlainProgram) (ks : List Kind) (P : List Kind → A → Type 0) (k : Kind) (origin : Origin) (cells : List Cell) (a : A) (w : State) → Sound p ks w → length (kind_scalars p k) ≤ most_elements → AllFit p (ks ++ k ∷ []) (kind_scalars p k) cells →
+pub opened_keeps : {A : Type 0} (p : PlainProgram) (ks : List Kind) (P : List Kind → A → Type 0) (k : Kind) (origin : Origin) (cells : List Cell) (a : A) (w : State) → Sound p ks w → IsSmall p k → AllFit p (ks ++ k ∷ []) (kind_scalars p k) cells →
     (slice_get (ks ++ k ∷ []) w.opened ≡ Some k → P (ks ++ k ∷ []) a) → Keeps p ks P (gives a (open_object origin cells w))
-opened_keeps p ks P k origin cells a w s few fits value = record {
+opened_keeps p ks P k origin cells a w s small fits value = record {
   kinds = ks ++ k ∷ [];
   grows = grown ks k;
-  sound = sound_push p ks w.objects w.opened w.input w.sensors k origin cells s few fits;
+  sound = sound_push p ks w.objects w.opened w.input w.sensors k origin cells s small fits;
   value = value (subst (λ m. slice_get (ks ++ k ∷ []) m ≡ Some k) s.count (get_last ks k));
 }
 
-granted_keeps : (p : PlainProgram) (ks : List Kind) (t : PlainType) (n : ℕ) (fill : List PlainType → List Cell) (w : State) → IsFill p fill → length (repeated n (scalars p t)) ≤ most_elements → Sound p ks w →
+granted_keeps : (p : PlainProgram) (ks : List Kind) (t : PlainType) (n : ℕ) (fill : List PlainType → List Cell) (w : State) → IsFill p fill → IsSmall p (record { elem = bare p.structures t; count = n }) → Sound p ks w →
     Keeps p ks (λ ks. MaybeFits p ks (pointer false t)) (granted (width p t) n (fill (repeated n (scalars p t))) w)
-granted_keeps p ks t n fill w is few s =
+granted_keeps p ks t n fill w is small s =
     let k : Kind = record { elem = bare p.structures t; count = n } in
     keeps_if p ks (λ ks. MaybeFits p ks (pointer false t)) (is_denied w.denied w.requests) _ _
     (λ e. kept p ks (λ ks. MaybeFits p ks (pointer false t)) (Some (Pointer Null)) w s tt)
-    (λ e. opened_keeps p ks (λ ks. MaybeFits p ks (pointer false t)) k allocated (fill (repeated n (scalars p t))) (Some (Pointer (first_of w.opened (width p t) n))) w s few
+    (λ e. opened_keeps p ks (λ ks. MaybeFits p ks (pointer false t)) k allocated (fill (repeated n (scalars p t))) (Some (Pointer (first_of w.opened (width p t) n))) w s small
     (is.fits (ks ++ k ∷ []) (repeated n (scalars p t)) (scalar_repeated n (scalars p t) (scalars_scalar p.structures (bare p.structures t))))
     (λ e. record { kind = k; opened = e; leads = record { path = []; leads = refl }; position = omega arith }))
 
-small : (m b : ℕ) → m ≤ b → b ≤ 1048576 → m ≤ most_elements
-small m b l c = omega (arith, l, c)
+at_most_bytes : (m b : ℕ) → m ≤ b → b ≤ 1048576 → m ≤ most_elements
+at_most_bytes m b l c = omega (arith, l, c)
 
 both_true : (a b : Bool) → (a && b) ≡ true → (a ≡ true) × (b ≡ true)
 both_true true b e = (refl, e)
 both_true false b e = absurd cc
 
-pub requested_keeps : (p : PlainProgram) (ks : List Kind) (t : PlainType) (n : ℕ) (fill : List PlainType → List Cell) (w : State) → IsFill p fill → Sound p ks w → Keeps p ks (λ ks. MaybeFits p ks (pointer false t)) (requested p t n fill w)
-requested_keeps p ks t n fill w is s = keeps_if p ks (λ ks. MaybeFits p ks (pointer false t)) (ltb 0 (n * size p t) && leb (n * size p t) 1048576) _ _
+above_zero : (n : ℕ) → 0 < n → 1 ≤ n
+above_zero n l = omega (arith, l)
+
+-- an object that a request opens is small
+requested_small : (p : PlainProgram) → AreWholeStructures p.structures → (t : PlainType) (n : ℕ) → 1 ≤ n * size p t → n * size p t ≤ 1048576 → IsSmall p (record { elem = bare p.structures t; count = n })
+requested_small p whole t n some most =
+    let few : (n ≤ 1048576) × (1 ≤ size p t) × (size p t ≤ 1048576) = few_elements n (size p t) some most in
+    small_object p whole (record { elem = bare p.structures t; count = n }) (short_size p.structures (bare p.structures t) few.1 few.2) (at_most_bytes n 1048576 few.0 (omega arith))
+    (at_most_bytes _ (n * size p t) (repeated_few n (size p t) (scalars p t) (scalars_few p.structures (bare p.structures t))) most)
+
+pub requested_keeps : (p : PlainProgram) → AreWholeStructures p.structures → (ks : List Kind) (t : PlainType) (n : ℕ) (fill : List PlainType → List Cell) (w : State) → IsFill p fill → Sound p ks w → Keeps p ks (λ ks. MaybeFits p ks (pointer false t)) (requested p t n fill w)
+requested_keeps p whole ks t n fill w is s = keeps_if p ks (λ ks. MaybeFits p ks (pointer false t)) (ltb 0 (n * size p t) && leb (n * size p t) 1048576) _ _
     (λ e. granted_keeps p ks t n fill (record w { requests = suc w.requests }) is
-    (small _ (n * size p t) (repeated_few n (size p t) (scalars p t) (scalars_few p.structures (bare p.structures t))) (leb-true (n * size p t) 1048576 (both_true (ltb 0 (n * size p t)) (leb (n * size p t) 1048576) e).1)) s)
+    (requested_small p whole t n (above_zero (n * size p t) (ltb-true 0 (n * size p t) (both_true (ltb 0 (n * size p t)) (leb (n * size p t) 1048576) e).0)) (leb-true (n * size p t) 1048576 (both_true (ltb 0 (n * size p t)) (leb (n * size p t) 1048576) e).1)) s)
     (λ e. kept p ks (λ ks. MaybeFits p ks (pointer false t)) (Some (Pointer Null)) w s tt)
 
 pub free_keeps : (p : PlainProgram) (ks : List Kind) (t : PlainType) (span : Span) (q : Ptr) (w : State) → Sound p ks w → Keeps p ks (λ ks. MaybeFits p ks t) (or_undefined (release w.objects q) span w (λ objects. gives None (record w { objects = objects })))

@@ -23,7 +23,7 @@ use Rattle.p10_meaning.specs.States.{State, Progress}
 use Rattle.p10_meaning.specs.Scalars.{number_of, is_true, converted_to, operated, unset_cells}
 use Rattle.p10_meaning.specs.Values.{Calls, Setting, holds, stands, scalars, width, open_object, Target, Variable, Sensor, Element, pointer_to, read_target, asserted, evaluate, discard, locate}
 use Rattle.p10_meaning.specs.Statements.{Frame, Flow, normal, broken, continued, returned, Done, goes, go_on, holding_at, in_block, write_target, part_of, write_part, copy_scalars, text_scalars, written_scalars, listed_scalars, listed_scalar, fill, initialize, declare_variable, test, next_turn, turns, loop_by, before_third, labelled, from_label, after_switch, execute, execute_form, execute_from, enter, enter_form, round, looped}
-use Rattle.p10_meaning.specs.Sound.{most_elements, Kind, single_of, FitsPointer, Fits, MaybeFits, AllFit, kind_scalars, AllObjects, Sound, FrameFits, Grows, Keeps, KeepSound, AreSeen, FlowFits, DoneFits}
+use Rattle.p10_meaning.specs.Sound.{Kind, IsSmall, single_of, FitsPointer, Fits, MaybeFits, AllFit, kind_scalars, AllObjects, Sound, FrameFits, Grows, Keeps, KeepSound, AreSeen, FlowFits, DoneFits}
 use Rattle.p10_meaning.proofs.Geometry.{IsLaidOut}
 use Rattle.p10_meaning.proofs.LaidOut.{lies_bare, AreScalar, scalars_scalar}
 use Rattle.p10_meaning.proofs.Fitting.{grown, get_last, fits_grown, frame_grown, frame_set, sound_with, sound_push, all_unset, all_closed_fits, fits_same, maybe_same, bare_unqualified}
@@ -38,7 +38,7 @@ use Rattle.p10_meaning.proofs.SoundValues.{pointer_to_fits, target_grown, evalua
 
 -- the declarations of a function's variables fit
 pub record AreFew (p : PlainProgram) (variables : List PlainVariable) : Type 0 where
-  pub few : (n : ℕ) (v : PlainVariable) → slice_get variables n ≡ Some v → length (kind_scalars p (single_of p v.type)) ≤ most_elements
+  pub few : (n : ℕ) (v : PlainVariable) → slice_get variables n ≡ Some v → IsSmall p (single_of p v.type)
   pub object : (n : ℕ) (v : PlainVariable) → slice_get variables n ≡ Some v → IsObjectType p.structures v.type
 
 -- ## Regions

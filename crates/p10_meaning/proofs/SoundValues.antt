@@ -171,8 +171,8 @@ module _ (p : PlainProgram) (out : IsLaidOut p) (whole : IsWholeProgram p) (call
   library_keeps t Putchar span (more_values v no_values) xs w ks i fits so = subst (λ t. Keeps p ks (λ ks. MaybeFits p ks t) (library p Putchar span t xs w)) (sym i.0) (put_keeps p ks (number_of (first_argument xs)) w so)
   library_keeps t CAssert span (more_values v no_values) xs w ks i fits so = subst (λ t. Keeps p ks (λ ks. MaybeFits p ks t) (library p CAssert span t xs w)) (sym i.0) (kept p ks (λ ks. MaybeFits p ks int_type) (Some (truth_value (is_true (first_argument xs)))) w so (truth_fits p ks (is_true (first_argument xs))))
   library_keeps t Free span (more_values v no_values) xs w ks i fits so = free_keeps p ks t span (pointer_of (first_argument xs)) (counted w) so
-  library_keeps t Malloc span vs xs w ks i fits so = subst (λ t. Keeps p ks (λ ks. MaybeFits p ks t) (library p Malloc span t xs w)) (sym i.type_is) (requested_keeps p ks i.element (elements xs) unset_cells (counted w) (unset_fill p) so)
-  library_keeps t Calloc span vs xs w ks i fits so = subst (λ t. Keeps p ks (λ ks. MaybeFits p ks t) (library p Calloc span t xs w)) (sym i.type_is) (requested_keeps p ks i.element (elements xs) zero_cells (counted w) (zero_fill p) so)
+  library_keeps t Malloc span vs xs w ks i fits so = subst (λ t. Keeps p ks (λ ks. MaybeFits p ks t) (library p Malloc span t xs w)) (sym i.type_is) (requested_keeps p whole.structures ks i.element (elements xs) unset_cells (counted w) (unset_fill p) so)
+  library_keeps t Calloc span vs xs w ks i fits so = subst (λ t. Keeps p ks (λ ks. MaybeFits p ks t) (library p Calloc span t xs w)) (sym i.type_is) (requested_keeps p whole.structures ks i.element (elements xs) zero_cells (counted w) (zero_fill p) so)
   library_keeps t Assert span no_values xs w ks i fits so = absurd i
   library_keeps t Assert span (more_values v vs) xs w ks i fits so = absurd i
   library_keeps t Getchar span (more_values v vs) xs w ks i fits so = absurd i

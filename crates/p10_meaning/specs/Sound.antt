@@ -122,6 +122,15 @@ AllFit p ks (t ∷ types) [] = ⊥
 abbrev pub kind_scalars : PlainProgram → Kind → List PlainType
 kind_scalars p k = repeated k.count (scalars_of p.structures k.elem)
 
+-- no object has over 2^40 scalars, and no array in one over 2^40 elements
+abbrev pub most_elements : ℕ
+most_elements = 1099511627776
+
+-- an object is small: neither its scalars nor the elements of an array to which a path leads are more than that
+pub record IsSmall (p : PlainProgram) (k : Kind) : Type 0 where
+  pub scalars : length (kind_scalars p k) ≤ most_elements
+  pub arrays : (v : View) → Leads p k v → v.window.count ≤ most_elements
+
 -- a live object was opened as something, and its scalars have the types of that
 pub record ObjectFits (p : PlainProgram) (ks : List Kind) (x : Object) : Type 0 where
   pub kind : Kind
@@ -142,15 +151,12 @@ AllObjects p ks (x ∷ xs) = (ObjectFits p ks x × Above x.number xs) × AllObje
 abbrev pub text_type : ℕ → PlainType
 text_type n = array false (integer false Char) n
 
--- no object has over 2^40 scalars, so no array in it has more elements
-abbrev pub most_elements : ℕ
-most_elements = 1099511627776
-
--- what has to hold of the parts of a state where `ks` are the kinds of all objects that were opened: the objects of static
--- lifetime and the string literals were opened first, as what they are; every live object fits; input and sensors are a world's
+-- what has to hold of the parts of a state where `ks` are the kinds of all objects that were opened: all are small; the objects of
+-- static lifetime and the string literals were opened first, as what they are; every live object fits; input and sensors are a
+-- world's
 pub record SoundParts (p : PlainProgram) (ks : List Kind) (objects : List Object) (opened : ℕ) (input : List ℕ) (sensors : List ℤ) : Type 0 where
   pub count : length ks ≡ opened
-  pub sizes : (o : ℕ) (k : Kind) → slice_get ks o ≡ Some k → length (kind_scalars p k) ≤ most_elements
+  pub sizes : (o : ℕ) (k : Kind) → slice_get ks o ≡ Some k → IsSmall p k
   pub statics : (n : ℕ) (object : PlainObject) → slice_get p.objects n ≡ Some object → slice_get ks n ≡ Some (single_of p object.type)
   pub literals : (n : ℕ) (l : PlainLiteral) → slice_get p.literals n ≡ Some l → slice_get ks (length p.objects + n) ≡ Some (single_of p (text_type (length l.bytes)))
   pub all : AllObjects p ks objects
@@ -257,8 +263,8 @@ opening_kinds p = map (λ (object : PlainObject). single_of p object.type) p.obj
 abbrev pub OpeningIsSound : Type 0
 OpeningIsSound = (p : PlainProgram) → IsWholeProgram p → (world : World) → IsWorld world → (left : ℕ) → Sound p (opening_kinds p) (opening p world left)
 
--- in a sound state no array in an object has over 2^40 elements, where an element has a scalar
+-- in a sound state no array in an object has over 2^40 elements
 abbrev pub ArraysAreSmall : Type 0
 ArraysAreSmall =
-    (p : PlainProgram) → IsWholeProgram p → (ks : List Kind) (w : State) → Sound p ks w → (o : ℕ) (k : Kind) → slice_get ks o ≡ Some k → (v : View) → Leads p k v → v.window.inside ≡ true → 1 ≤ v.window.stride →
+    (p : PlainProgram) → IsWholeProgram p → (ks : List Kind) (w : State) → Sound p ks w → (o : ℕ) (k : Kind) → slice_get ks o ≡ Some k → (v : View) → Leads p k v →
     v.window.count ≤ most_elements
