@@ -20,4 +20,5 @@ pub mod SoundValues
 pub mod SoundStatements
 pub mod SoundCalls
 pub mod Quiet
+pub mod Staying
 pub mod SoundOpening

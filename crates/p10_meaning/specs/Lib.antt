@@ -10,6 +10,7 @@ pub mod Opening
 pub mod Runs
 pub mod Sound
 pub mod Apart
+pub mod Variables
 pub mod Laws
 pub mod Examples
 pub mod Costs

@@ -3,6 +3,7 @@
 ghost use Rattle.p10_meaning.specs.Laws.{CallsHaveNoBound, StatementsHaveNoBound, LoopsHaveNoBound, ValuesHaveNoBound, RunsNeedNoMore};
 ghost use Rattle.p10_meaning.specs.Sound.{CallsKeepSound, StatementsKeepSound, ValuesKeepSound, OpeningIsSound, ArraysAreSmall};
 ghost use Rattle.p10_meaning.specs.Apart.{WritesChangeOne, ClosingEndsOne, OpeningAddsOne};
+ghost use Rattle.p10_meaning.specs.Variables.{VariablesStay, ValuesLeaveFrames};
 ghost use Rattle.p10_meaning.specs.Costs.{StepsAreCounted};
 ghost use Rattle.p10_meaning.specs.Stopping.{RunsStop};
 ghost use Rattle.p10_meaning.specs.Tasks.{RunsGive};
@@ -41,6 +42,13 @@ pub fn objects_stay_apart()
     ensures writes { WritesChangeOne }
     ensures closing { ClosingEndsOne }
     ensures opening { OpeningAddsOne }
+{}
+
+/// No call changes a frame variable of its caller: whatever calls come to, a statement leaves each variable as it is that it
+/// neither assigns nor declares, and an expression statement leaves the whole frame.
+pub fn variables_stay()
+    ensures statements { VariablesStay }
+    ensures values { ValuesLeaveFrames }
 {}
 
 /// What each row of the table of steps costs, at a small program: with a step fewer its run ends for want of steps.
