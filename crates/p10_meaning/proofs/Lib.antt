@@ -22,3 +22,4 @@ pub mod SoundCalls
 pub mod Quiet
 pub mod Staying
 pub mod SoundOpening
+pub mod SoundRuns

@@ -85,7 +85,7 @@ types_of m vs = map (λ (v : PlainVariable). v.type) (take m vs)
 fewer : (p : PlainProgram) (v : PlainVariable) (vs : List PlainVariable) → AreFew p (v ∷ vs) → AreFew p vs
 fewer p v vs few = record { few = λ n u e. few.few (suc n) u e; object = λ n u e. few.object (suc n) u e }
 
-no_arguments : (p : PlainProgram) (vs : List PlainVariable) (w : State) (ks : List Kind) → Sound p ks w → EntryFits p ks vs (entered vs [] w)
+pub no_arguments : (p : PlainProgram) (vs : List PlainVariable) (w : State) (ks : List Kind) → Sound p ks w → EntryFits p ks vs (entered vs [] w)
 no_arguments p [] w ks so = record { kinds = ks; grows = grows_same ks; sound = so; frame = tt }
 no_arguments p (v ∷ vs) w ks so = let h : EntryFits p ks vs (entered vs [] w) = no_arguments p vs w ks so in record { kinds = h.kinds; grows = h.grows; sound = h.sound; frame = (tt, h.frame) }
 

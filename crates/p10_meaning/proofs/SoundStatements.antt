@@ -43,11 +43,11 @@ pub record AreFew (p : PlainProgram) (variables : List PlainVariable) : Type 0 w
 
 -- ## Regions
 
-abbrev scope_after : PlainStatement → List ℕ → List ℕ
+abbrev pub scope_after : PlainStatement → List ℕ → List ℕ
 scope_after (statement at (declare n i)) scope = n ∷ scope
 scope_after s scope = scope
 
-abbrev scope_after_all : PlainStatements → List ℕ → List ℕ
+abbrev pub scope_after_all : PlainStatements → List ℕ → List ℕ
 scope_after_all no_statements scope = scope
 scope_after_all (more_statements s rest) scope = scope_after_all rest (scope_after s scope)
 
@@ -162,10 +162,10 @@ module _ (p : PlainProgram) (out : IsLaidOut p) (whole : IsWholeProgram p) (call
   place_keeps : (scope : List ℕ) (q : PlainPlace) → IsWholePlace (c scope) q → (frame : Frame) (w : State) (ks : List Kind) → Sound p ks w → FrameAt ks frame → Keeps p ks (TargetFits p f.variables (place_type q)) (locate s frame.held q w)
   place_keeps scope q i frame w ks so h = locate_keeps p out whole calls meaning n f.variables (seen_by scope) (seen scope) frame.held q i w ks so h
 
-  goes_keeps : (frame : Frame) (w : State) (ks : List Kind) → Sound p ks w → FrameAt ks frame → Keeps p ks Fine (goes frame w)
+  pub goes_keeps : (frame : Frame) (w : State) (ks : List Kind) → Sound p ks w → FrameAt ks frame → Keeps p ks Fine (goes frame w)
   goes_keeps frame w ks so h = kept p ks Fine _ w so (record { frame = h; flow = tt })
 
-  go_keeps : (rest : Frame → State → Progress Done) → RunKeeps rest → (d : Done) (w : State) (ks : List Kind) → Sound p ks w → Fine ks d → Keeps p ks Fine (go_on d.flow d.frame w rest)
+  pub go_keeps : (rest : Frame → State → Progress Done) → RunKeeps rest → (d : Done) (w : State) (ks : List Kind) → Sound p ks w → Fine ks d → Keeps p ks Fine (go_on d.flow d.frame w rest)
   go_keeps rest k d w ks so h = case d.flow h.flow
     where
       case : (flow : Flow) → FlowFits p f.result ks flow → Keeps p ks Fine (go_on flow d.frame w rest)
@@ -309,7 +309,7 @@ module _ (p : PlainProgram) (out : IsLaidOut p) (whole : IsWholeProgram p) (call
 
   -- ## Loops
 
-  test_keeps : (scope : List ℕ) (tested : Option PlainValue) → IsMaybeTest (c scope) tested → TestKeeps (test s tested)
+  pub test_keeps : (scope : List ℕ) (tested : Option PlainValue) → IsMaybeTest (c scope) tested → TestKeeps (test s tested)
   test_keeps scope None i frame w ks so h = keeps_step p ks (λ ks b. Unit {0}) w _ so (λ left. kept p ks (λ ks b. Unit {0}) true (record w { left = left }) so tt)
   test_keeps scope (Some v) i frame w ks so h =
       keeps_then p ks (λ ks. Fits p ks (type_of v)) (λ ks b. Unit {0}) (evaluate s frame.held v w) _ (value_keeps scope v i.whole frame w ks so h) (λ x w js so g fx. kept p js (λ ks b. Unit {0}) (is_true x) w so tt)
@@ -363,7 +363,7 @@ module _ (p : PlainProgram) (out : IsLaidOut p) (whole : IsWholeProgram p) (call
   abbrev here : List ℕ → Bool → Bool → Region
   here scope in_loop in_switch = record { program = p; number = number; function = f; scope = scope; in_loop = in_loop; in_switch = in_switch }
 
-  after_is : (x : PlainStatement) (scope : List ℕ) (l b : Bool) → after (here scope l b) x ≡ here (scope_after x scope) l b
+  pub after_is : (x : PlainStatement) (scope : List ℕ) (l b : Bool) → after (here scope l b) x ≡ here (scope_after x scope) l b
   after_is (statement at (declare k i)) scope l b = refl
   after_is (statement at (set q v)) scope l b = refl
   after_is (statement at (update kind op t q v)) scope l b = refl
@@ -382,7 +382,7 @@ module _ (p : PlainProgram) (out : IsLaidOut p) (whole : IsWholeProgram p) (call
   after_is (statement at empty) scope l b = refl
   after_is (statement at (mark kind)) scope l b = refl
 
-  after_all_is : (xs : PlainStatements) (scope : List ℕ) (l b : Bool) → after_all (here scope l b) xs ≡ here (scope_after_all xs scope) l b
+  pub after_all_is : (xs : PlainStatements) (scope : List ℕ) (l b : Bool) → after_all (here scope l b) xs ≡ here (scope_after_all xs scope) l b
   after_all_is no_statements scope l b = refl
   after_all_is (more_statements x rest) scope l b = ap (λ r. after_all r rest) (after_is x scope l b) ∙ after_all_is rest (scope_after x scope) l b
 

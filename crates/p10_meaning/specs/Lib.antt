@@ -9,6 +9,7 @@ pub mod Calling
 pub mod Opening
 pub mod Runs
 pub mod Sound
+pub mod SoundRuns
 pub mod Apart
 pub mod Variables
 pub mod Laws

@@ -2,6 +2,7 @@
 
 ghost use Rattle.p10_meaning.specs.Laws.{CallsHaveNoBound, StatementsHaveNoBound, LoopsHaveNoBound, ValuesHaveNoBound, RunsNeedNoMore};
 ghost use Rattle.p10_meaning.specs.Sound.{CallsKeepSound, StatementsKeepSound, ValuesKeepSound, OpeningIsSound, ArraysAreSmall};
+ghost use Rattle.p10_meaning.specs.SoundRuns.{FirstPartsKeepSound, TurnsKeepSound, RunsStaySound};
 ghost use Rattle.p10_meaning.specs.Apart.{WritesChangeOne, ClosingEndsOne, OpeningAddsOne};
 ghost use Rattle.p10_meaning.specs.Variables.{VariablesStay, ValuesLeaveFrames};
 ghost use Rattle.p10_meaning.specs.Costs.{StepsAreCounted};
@@ -34,6 +35,14 @@ pub fn sound_states_stay_sound()
     ensures statements { StatementsKeepSound }
     ensures values { ValuesKeepSound }
     ensures arrays { ArraysAreSmall }
+{}
+
+/// Whole runs keep sound states: the part of `main` before its task loop does, each turn of the loop does, and wherever a run comes
+/// to the loop its state is sound and the frame of `main` fits it.
+pub fn runs_stay_sound()
+    ensures first { FirstPartsKeepSound }
+    ensures turns { TurnsKeepSound }
+    ensures runs { RunsStaySound }
 {}
 
 /// A write changes the scalar at its pointer and no other. In a sound state an object that is closed is dead, one that is
