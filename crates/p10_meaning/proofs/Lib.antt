@@ -1,4 +1,5 @@
 pub mod Computed
+pub mod OtherRuns
 pub mod Following
 pub mod Agreeing
 pub mod AgreeingValues

@@ -4,11 +4,11 @@ use Rattle.std.proofs.lemmas.Option.{same_Some, none-some}
 use Rattle.p10_core.specs.Types.{PlainType, void, integer, pointer, array, structure, bare, PlainMember, PlainStructure, members_in, members_of, body_of}
 use Rattle.p10_core.specs.Sizes.{size_of}
 use Rattle.p10_core.specs.Typed.{PlainProgram}
-use Rattle.p10_core.specs.WholePrograms.{most_bytes, IsWholeType, IsObjectType, IsWholeMember, AreWholeStructures, IsWholeProgram}
+use Rattle.p10_core.specs.WholePrograms.{most_bytes, IsWholeType, IsWholeMember, AreWholeStructures}
 use Rattle.p10_core.proofs.ScalarCounts.{arrays_are_short}
 use Rattle.p10_meaning.specs.declared.pointers.Window.{Window}
 use Rattle.p10_meaning.specs.Values.{scalars_before}
-use Rattle.p10_meaning.specs.Sound.{most_elements, Kind, View, own, Step, into, to_member, view_of_row, view_of_entry, view_of_member, stepped, walk, Leads, kind_scalars, IsSmall}
+use Rattle.p10_meaning.specs.Sound.{most_elements, Kind, View, own, Step, into, to_member, view_of_row, view_of_entry, view_of_member, stepped, walk, kind_scalars, IsSmall}
 use Rattle.p10_meaning.proofs.Geometry.{when_some, then_some}
 use Rattle.p10_meaning.proofs.LaidOut.{object_bare, array_bytes, all_at, body_of_member}
 

@@ -1,6 +1,6 @@
 -- The parts of values keep sound states: places, reads, library functions.
 use Rattle.std.proofs.Common.{◌≡◌, ℕ, zero, suc, ◌+◌, ◌*◌, ◌<◌, ◌≤◌, ltb, leb, eqb, ◌&&◌, Bool, true, false, List, [], ◌∷◌, ◌++◌, length, refl, sym, ◌∙◌, ap, subst, arith, Option, Some, None, slice_get, ℤ, pos, negsuc}
-use Rattle.std.specs.List.{All, Contains, slice_index_or}
+use Rattle.std.specs.List.{Contains, slice_index_or}
 use Rattle.std.specs.Option.{option_map}
 use Rattle.std.proofs.lemmas.Bool.{cond_both, ltb-true, leb-true, eqb-true, eq-eqb}
 use Rattle.std.proofs.lemmas.Option.{same_Some, none-some}
@@ -84,7 +84,6 @@ integer_alike p (structure c m) (void d) e h = absurd cc
 integer_alike p (structure c m) (pointer d t) e h = absurd cc
 integer_alike p (structure c m) (array d t n) e h = absurd cc
 integer_alike p (structure c m) (structure d n) e h = absurd cc
-
 
 pub global_fits : (p : PlainProgram) → IsWholeProgram p → (variables : List PlainVariable) (ks : List Kind) (w : State) (n : ℕ) (t : PlainType) (seen : SeenObject) (o : Option PlainObject) → slice_get p.objects n ≡ o → option_map seen_object o ≡ Some seen →
     bare p.structures t ≡ bare p.structures seen.type → Sound p ks w → OnOk (TargetFits p variables t ks) (global_target n (width p t) o)

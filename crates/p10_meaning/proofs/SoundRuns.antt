@@ -1,17 +1,15 @@
 -- Whole runs keep sound states: up to the task loop, and in each of its turns.
-use Rattle.std.proofs.Common.{◌≡◌, ℕ, zero, suc, Bool, true, false, List, [], ◌∷◌, refl, sym, ap, subst, Option, Some, None, slice_get, take}
-use Rattle.std.specs.Prelude.{◌⊎◌}
+use Rattle.std.proofs.Common.{◌≡◌, ℕ, zero, suc, true, false, List, [], refl, subst, Option, Some, None, slice_get, take}
 use Rattle.std.proofs.lemmas.Option.{same_Some, none-some}
-use Rattle.p10_core.specs.Typed.{PlainValue, PlainStatement, statement, PlainStatementForm, set, update, copy, evaluate as expression, asserts, declare, declare_static, block, if_then, if_else, loop, switch, break, continue, return, empty, mark, PlainStatements, no_statements, more_statements, statements_list, statements_of_list, PlainFunction, PlainProgram}
+use Rattle.p10_core.specs.Typed.{PlainValue, PlainStatement, statement, set, update, copy, evaluate as expression, asserts, declare, declare_static, block, if_then, if_else, loop, switch, break, continue, return, empty, mark, PlainStatements, no_statements, more_statements, statements_list, statements_of_list, PlainFunction, PlainProgram}
 use Rattle.p10_core.specs.WholePrograms.{Region, around, after, after_all, IsMaybeTest, IsWholeStatement, AreWholeStatements, IsWholeFunction, IsWholeProgram, numbers_from}
-use Rattle.p10_meaning.specs.declared.world.World.{World}
-use Rattle.p10_meaning.specs.States.{IsWorld, State, Progress, gives, ends, step}
-use Rattle.p10_meaning.specs.Statements.{Frame, Done, broken, goes, execute_from}
+use Rattle.p10_meaning.specs.States.{State, Progress, gives, step}
+use Rattle.p10_meaning.specs.Statements.{Frame, broken, goes, execute_from}
 use Rattle.p10_meaning.specs.Calling.{Depth, no_depth, deeper, raised, Entered, entered, setting_of, call_at}
 use Rattle.p10_meaning.specs.Opening.{opening}
 use Rattle.p10_meaning.specs.Runs.{Task, task_in, task_test, task_turn, before_task}
-use Rattle.p10_meaning.specs.Sound.{Kind, Sound, FrameFits, Grows, Keeps, Kept, DoneFits, region_at, opening_kinds}
-use Rattle.p10_meaning.specs.SoundRuns.{main_setting, HasTask, FirstPartsKeepSound, TurnsKeepSound, ComesToLoop, at_first, again, StandsSound, RunsStaySound}
+use Rattle.p10_meaning.specs.Sound.{Kind, Sound, FrameFits, Keeps, Kept, DoneFits, region_at, opening_kinds}
+use Rattle.p10_meaning.specs.SoundRuns.{FirstPartsKeepSound, TurnsKeepSound, at_first, again, StandsSound, RunsStaySound}
 use Rattle.p10_meaning.proofs.Fitting.{grows_trans, frame_grown}
 use Rattle.p10_meaning.proofs.LaidOut.{laid_out}
 use Rattle.p10_meaning.proofs.Keeping.{keeps_from, kept, keeps_step, keeps_then, keeps_if}

@@ -1,5 +1,5 @@
 -- Variables that a statement neither assigns nor declares stay, by induction on statements.
-use Rattle.std.proofs.Common.{◌≡◌, ℕ, zero, suc, eqb, cond, Bool, true, false, List, [], ◌∷◌, refl, ◌∙◌, ap, Option, Some, None, slice_get, Result, Ok, Err}
+use Rattle.std.proofs.Common.{◌≡◌, ℕ, zero, suc, cond, Bool, true, false, List, [], ◌∷◌, refl, ◌∙◌, ap, Option, Some, None, slice_get, Result, Ok, Err}
 use Rattle.std.specs.Prelude.{slice_set, ◌||◌}
 use Rattle.std.proofs.lemmas.Bool.{eqb-false}
 use Rattle.p10_base.specs.declared.span.Span.{Span}
@@ -9,7 +9,7 @@ use Rattle.p10_core.specs.declared.statements.LoopKeyword.{LoopKeyword}
 use Rattle.p10_core.specs.declared.statements.LoopKeyword.TheVariants.{While, Do, For}
 use Rattle.p10_core.specs.declared.statements.MarkKind.TheVariants.{InitDone, TaskLoop}
 use Rattle.p10_core.specs.Types.{PlainType, bare}
-use Rattle.p10_core.specs.Typed.{PlainValue, PlainPlace, place, variable, global, literal, index, member, dereference, place_at, place_type, PlainInitializer, not_initialized, single, copied, listed, PlainStatement, statement, PlainStatementForm, set, update, copy, evaluate as expression, asserts, declare, declare_static, block, if_then, if_else, loop, switch, break, continue, return, empty, mark, PlainStatements, no_statements, more_statements, PlainVariable, PlainObject}
+use Rattle.p10_core.specs.Typed.{PlainPlace, place, variable, global, literal, index, member, dereference, place_at, place_type, PlainInitializer, not_initialized, single, copied, listed, PlainStatement, statement, PlainStatementForm, set, update, copy, evaluate as expression, asserts, declare, declare_static, block, if_then, if_else, loop, switch, break, continue, return, empty, mark, PlainStatements, no_statements, more_statements, PlainVariable, PlainObject}
 use Rattle.p10_meaning.specs.declared.pointers.Ptr.{Ptr}
 use Rattle.p10_meaning.specs.declared.pointers.Scalar.{Scalar}
 use Rattle.p10_meaning.specs.declared.pointers.Cell.{Cell}
@@ -18,7 +18,7 @@ use Rattle.p10_meaning.specs.Objects.{declared, reach, shift, inner, write_at}
 use Rattle.p10_meaning.specs.States.{State, Progress, gives, ends, step_at, step, and_then, or_undefined}
 use Rattle.p10_meaning.specs.Scalars.{number_of, pointer_of, is_true, converted_to, operated, unset_cells}
 use Rattle.p10_meaning.specs.Values.{Setting, Held, holds, stands, absent, scalars, width, open_object, Target, Variable, Sensor, Element, variable_target, global_target, literal_target, pointer_to, scalars_before, read_target, asserted, evaluate, discard, locate}
-use Rattle.p10_meaning.specs.Statements.{Frame, Flow, normal, broken, continued, returned, Done, goes, go_on, holding_at, in_block, write_target, part_of, write_part, copy_scalars, listed_scalars, listed_scalar, fill, initialize, declare_variable, test, next_turn, turns, loop_by, before_third, labelled, from_label, after_switch, execute, execute_form, execute_from, enter, enter_form, round, looped}
+use Rattle.p10_meaning.specs.Statements.{Frame, Flow, normal, broken, continued, returned, Done, go_on, holding_at, in_block, write_target, part_of, write_part, copy_scalars, listed_scalars, listed_scalar, fill, initialize, declare_variable, test, next_turn, turns, loop_by, before_third, labelled, from_label, after_switch, execute, execute_form, execute_from, enter, enter_form, round, looped}
 use Rattle.p10_meaning.specs.Variables.{is_variable_place, may_change, form_may_change, any_may_change, OnGiven, VariablesStay, ValuesLeaveFrames}
 
 -- ## Rules

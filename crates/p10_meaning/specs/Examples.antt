@@ -132,7 +132,7 @@ program_of functions variables body = record (main_of variables body) {
 
 -- ## What is said of runs
 
--- `main` takes just n steps, and returns z: with one step fewer the run ends for want of steps
+-- `main` takes just n + 1 steps, and returns z: with one step fewer, n, the run ends for want of steps
 pub record ReturnsAfter (p : PlainProgram) (n : ℕ) (z : ℤ) : Type 0 where
   pub enough : (run_of p no_world (n + 1) 0 0).outcome ≡ Returned z
   pub fewer : (run_of p no_world n 0 0).outcome ≡ Ended StepsSpent

@@ -18,3 +18,6 @@ pub mod Costs
 pub mod Stopping
 pub mod Tasks
 pub mod Edges
+pub mod OtherCosts
+pub mod OtherStops
+pub mod Turns

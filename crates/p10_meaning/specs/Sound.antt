@@ -1,5 +1,5 @@
 -- Sound states: each value is one of its type, and each pointer points where a path through its object's type leads.
-use Rattle.std.specs.Prelude.{◌≡◌, ℕ, ◌+◌, ◌<◌, ◌≤◌, leb, if◌then◌else◌, Bool, true, false, List, [], ◌∷◌, ◌++◌, length, map, slice_get, ℤ, Option, Some, None}
+use Rattle.std.specs.Prelude.{◌≡◌, ℕ, ◌+◌, ◌<◌, ◌≤◌, leb, if◌then◌else◌, Bool, false, List, [], ◌∷◌, ◌++◌, length, map, slice_get, ℤ, Option, Some, None}
 use Rattle.std.specs.List.{All}
 use Rattle.p10_int.specs.declared.types.IntType.TheVariants.{Char}
 use Rattle.p10_int.specs.Types.{InRange}

@@ -3,9 +3,9 @@ use Rattle.std.specs.Prelude.{◌≡◌, ℕ, ◌⊎◌, List, Some, slice_get}
 use Rattle.p10_core.specs.Typed.{statements_list, PlainFunction, PlainProgram}
 use Rattle.p10_core.specs.WholePrograms.{IsWholeProgram}
 use Rattle.p10_meaning.specs.declared.world.World.{World}
-use Rattle.p10_meaning.specs.States.{IsWorld, State, Progress, gives}
+use Rattle.p10_meaning.specs.States.{IsWorld, State, gives}
 use Rattle.p10_meaning.specs.Values.{Setting}
-use Rattle.p10_meaning.specs.Statements.{Frame, Flow, normal, continued, Done}
+use Rattle.p10_meaning.specs.Statements.{Frame, normal, continued, Done}
 use Rattle.p10_meaning.specs.Calling.{no_depth, deeper, setting_of, call_at}
 use Rattle.p10_meaning.specs.Opening.{opening}
 use Rattle.p10_meaning.specs.Runs.{Task, task_in, task_turn, before_task}

@@ -6,8 +6,11 @@ ghost use Rattle.p10_meaning.specs.SoundRuns.{FirstPartsKeepSound, TurnsKeepSoun
 ghost use Rattle.p10_meaning.specs.Apart.{WritesChangeOne, ClosingEndsOne, OpeningAddsOne};
 ghost use Rattle.p10_meaning.specs.Variables.{VariablesStay, ValuesLeaveFrames};
 ghost use Rattle.p10_meaning.specs.Costs.{StepsAreCounted};
+ghost use Rattle.p10_meaning.specs.OtherCosts.{OtherStepsAreCounted};
 ghost use Rattle.p10_meaning.specs.Stopping.{RunsStop};
+ghost use Rattle.p10_meaning.specs.OtherStops.{OthersStopToo};
 ghost use Rattle.p10_meaning.specs.Tasks.{RunsGive};
+ghost use Rattle.p10_meaning.specs.Turns.{TurnsGive};
 ghost use Rattle.p10_meaning.specs.Edges.{EdgesAreSettled};
 
 /// What comes of a call, a statement, a loop or a value doesn't depend on the bound of the recursion, as long as that is no
@@ -60,19 +63,22 @@ pub fn variables_stay()
     ensures values { ValuesLeaveFrames }
 {}
 
-/// What each row of the table of steps costs, at a small program: with a step fewer its run ends for want of steps.
+/// What each row of the table of steps costs, at small programs: with a step fewer its run ends for want of steps.
 pub fn steps_are_counted()
-    ensures { StepsAreCounted }
+    ensures rows { StepsAreCounted }
+    ensures others { OtherStepsAreCounted }
 {}
 
-/// Each of U1 to U12 at a small program, at the tree where it belongs, and which of several is tested first.
+/// Each of U1 to U12 at small programs, at the tree where it belongs, and which of several is tested first.
 pub fn runs_stop()
-    ensures { RunsStop }
+    ensures each { RunsStop }
+    ensures others { OthersStopToo }
 {}
 
-/// Whole runs of small programs: nested calls, worlds, marks and task loops.
+/// Whole runs of small programs: nested calls, worlds, marks and task loops, and how turns go on and end.
 pub fn runs_give()
-    ensures { RunsGive }
+    ensures runs { RunsGive }
+    ensures turns { TurnsGive }
 {}
 
 /// Edges that this profile settles: what is unset when, which part comes first, which pointers are equal, what a world gives, and
