@@ -32,9 +32,18 @@ pub fn apply_unary(op: UnOp, t: &CType, x: Scalar, span: Span) -> Result<Scalar,
     }
 }
 
-/// A unary operator on a number. An operand that isn't a value of its type has no answer but want of memory; whole programs
-/// have none.
+/// A unary operator on a number. `!` takes a number of any type, since its own type is that of its answer (C99 6.5.3.3p5).
 fn operate_number(op: UnOp, t: IntType, a: i128, span: Span) -> Result<i128, Halt>
+    ensures { Finds (operate_unary op t a) span result }
+{
+    match op {
+        UnOp::Not => Ok(i128::from(a == 0)),
+        UnOp::Plus | UnOp::Neg | UnOp::Com => calculate_one(op, t, a, span),
+    }
+}
+
+/// A unary operator on a number of its type. Any other operand has no answer but want of memory; whole programs have none.
+fn calculate_one(op: UnOp, t: IntType, a: i128, span: Span) -> Result<i128, Halt>
     ensures { Finds (operate_unary op t a) span result }
 {
     if !p10_int::holds(t, a) {
@@ -146,19 +155,24 @@ fn is_less(store: &Store, left: Ptr, right: Ptr, span: Span) -> Result<bool, Hal
     }
 }
 
-/// Whether the operands are values of the operator's type, as in every whole program.
-fn are_operands(op: BinOp, t: IntType, a: i128, b: i128) -> bool
-    ensures { IsTrue result → InRange t a × IsRightOperand op t b }
+/// A binary operator on numbers (C99 6.5.5 to 6.5.12). A comparison takes numbers of any type, since its own type is that of its
+/// answer (C99 6.5.8p6, 6.5.9p3).
+fn operate_numbers(op: BinOp, t: IntType, a: i128, b: i128, span: Span) -> Result<i128, Halt>
+    ensures { Finds (operate op t a b) span result }
 {
     match op {
-        BinOp::Shl | BinOp::Shr => p10_int::holds(t, a),
-        _ => p10_int::holds(t, a) && p10_int::holds(t, b),
+        BinOp::Lt => Ok(i128::from(a < b)),
+        BinOp::Gt => Ok(i128::from(a > b)),
+        BinOp::Le => Ok(i128::from(a <= b)),
+        BinOp::Ge => Ok(i128::from(a >= b)),
+        BinOp::Eq => Ok(i128::from(a == b)),
+        BinOp::Ne => Ok(i128::from(a != b)),
+        _ => calculate(op, t, a, b, span),
     }
 }
 
-/// A binary operator on numbers (C99 6.5.5 to 6.5.12). Operands that aren't values of its type have no answer but want of
-/// memory; whole programs have none.
-fn operate_numbers(op: BinOp, t: IntType, a: i128, b: i128, span: Span) -> Result<i128, Halt>
+/// A binary operator on numbers of its type. Any other operands have no answer but want of memory; whole programs have none.
+fn calculate(op: BinOp, t: IntType, a: i128, b: i128, span: Span) -> Result<i128, Halt>
     ensures { Finds (operate op t a b) span result }
 {
     if !are_operands(op, t, a, b) {
@@ -167,6 +181,16 @@ fn operate_numbers(op: BinOp, t: IntType, a: i128, b: i128, span: Span) -> Resul
     match p10_int::apply(op, t, a, b) {
         Ok(number) => Ok(number),
         Err(stop) => Err(Halt::Undefined(stop, span)),
+    }
+}
+
+/// Whether the operands are values of the operator's type, but for the count of a shift.
+fn are_operands(op: BinOp, t: IntType, a: i128, b: i128) -> bool
+    ensures { IsTrue result → InRange t a × IsRightOperand op t b }
+{
+    match op {
+        BinOp::Shl | BinOp::Shr => p10_int::holds(t, a),
+        _ => p10_int::holds(t, a) && p10_int::holds(t, b),
     }
 }
 
