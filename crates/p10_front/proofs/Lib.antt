@@ -1,3 +1,5 @@
 -- Lemmas of this crate.
+pub mod Elaborating
 pub mod Once
 pub mod Parsing
+pub mod Settling

@@ -8,13 +8,47 @@ use Rattle.p10_base.specs.Gathered.{Gathered}
 use Rattle.p10_base.specs.Words.{PlainWord}
 use Rattle.p10_syn.specs.Spells.{Spells}
 use Rattle.p10_syn.specs.Trees.{External}
+use Rattle.p10_core.specs.Typed.{PlainProgram}
+use Rattle.p10_elabx.specs.declared.problem.Problem.{Problem}
+use Rattle.p10_elab.specs.Answers.{refusal_of}
+use Rattle.p10_elab.specs.Programs.{Elaborated, elaborated, program as the_program, refusal as the_problem, too_large}
 use Rattle.p10_expand.specs.Plain.{PlainExpansion, ExpandsTo, ExpandsToOnce}
 use Rattle.p10_pexpr.specs.declared.fault.ParseFault.{ParseFault}
 use Rattle.p10_pexpr.specs.declared.fault.ParseFault.TheVariants.{Refused, Over, Memory}
 use Rattle.p10_parse.specs.Units.{AllFit, FirstFault}
 use Rattle.p10_parse.specs.Laws.{UnitsAreOne, SpelledHaveNoFault, FaultsAreOne}
-use Rattle.p10_front.specs.Readings.{PlainReading, refused_reading, Parses, unexpanded, nested_over, unspelled, spelled, Reads, expanded_over, expanded}
+use Rattle.p10_front.specs.Readings.{PlainReading, refused_reading, untyped_reading, typed_reading, Elaborates, untyped, oversized, typed, Parses, unexpanded, nested_over, unspelled, spelled, Reads, expanded_over, expanded}
 use Rattle.p10_front.specs.Laws.{ReadsOnce}
+
+-- ## What trees are read as
+
+same_problem : (e : Elaborated) (p q : Problem) → e ≡ the_problem p → e ≡ the_problem q → p ≡ q
+same_problem e p q this that = cc
+
+same_program : (e : Elaborated) (p q : PlainProgram) → e ≡ the_program p → e ≡ the_program q → p ≡ q
+same_program e p q this that = cc
+
+problem_or_limit : (e : Elaborated) (p : Problem) → e ≡ the_problem p → e ≡ too_large → ⊥
+problem_or_limit e p this that = cc
+
+program_or_limit : (e : Elaborated) (p : PlainProgram) → e ≡ the_program p → e ≡ too_large → ⊥
+program_or_limit e p this that = cc
+
+program_or_problem : (e : Elaborated) (p : PlainProgram) (q : Problem) → e ≡ the_program p → e ≡ the_problem q → ⊥
+program_or_problem e p q this that = cc
+
+elaborates_once : (e : PlainExpansion) (trees : List (External At)) (this that : Result PlainReading Limit) → Elaborates e trees this → Elaborates e trees that → this ≡ that
+elaborates_once e trees this that (untyped p is a) (untyped q is' b) =
+    a ∙ ap (λ (x : Problem). Ok (untyped_reading e trees (refusal_of x))) (same_problem (elaborated trees) p q is is') ∙ sym b
+elaborates_once e trees this that (untyped p is a) (oversized is' b) = absurd (problem_or_limit (elaborated trees) p is is')
+elaborates_once e trees this that (untyped p is a) (typed q is' b) = absurd (program_or_problem (elaborated trees) q p is' is)
+elaborates_once e trees this that (oversized is a) (untyped q is' b) = absurd (problem_or_limit (elaborated trees) q is' is)
+elaborates_once e trees this that (oversized is a) (oversized is' b) = a ∙ sym b
+elaborates_once e trees this that (oversized is a) (typed q is' b) = absurd (program_or_limit (elaborated trees) q is' is)
+elaborates_once e trees this that (typed p is a) (untyped q is' b) = absurd (program_or_problem (elaborated trees) p q is is')
+elaborates_once e trees this that (typed p is a) (oversized is' b) = absurd (program_or_limit (elaborated trees) p is is')
+elaborates_once e trees this that (typed p is a) (typed q is' b) =
+    a ∙ ap (λ (x : PlainProgram). Ok (typed_reading e trees x)) (same_program (elaborated trees) p q is is') ∙ sym b
 
 -- where expansion and the grammar give one answer each
 module _ (once : ExpandsToOnce) (one_list : UnitsAreOne) (no_fault : SpelledHaveNoFault) (one_fault : FaultsAreOne) where
@@ -69,7 +103,7 @@ module _ (once : ExpandsToOnce) (one_list : UnitsAreOne) (no_fault : SpelledHave
   parses_once e this that (spelled trees none fit spell is) (nested_over k none' fault is') = absurd (spelled_and_over e.roots trees k fit spell fault)
   parses_once e this that (spelled trees none fit spell is) (unspelled q none' fault is') = absurd (spelled_and_refused e.roots trees q fit spell fault)
   parses_once e this that (spelled trees none fit spell is) (spelled others none' fit' spell' is') =
-      is ∙ ap (λ (ts : List (External At)). Ok (record { expansion = e; units = Some ts; refusal = None })) (one_list e.roots trees others spell spell') ∙ sym is'
+      elaborates_once e trees this that is (subst (λ (ts : List (External At)). Elaborates e ts that) (sym (one_list e.roots trees others spell spell')) is')
 
   -- ## What files are read as
 

@@ -1,24 +1,49 @@
--- What the files of a program are read as: their words, and the trees that spell them (C99 5.1.1.2p1, phases 3 to 7).
+-- What the files of a program are read as: their words, the trees that spell them, and the program that these are (C99 5.1.1.2p1,
+-- phases 3 to 7).
 use Rattle.std.specs.Prelude.{◌≡◌, List, Option, Some, None, Result, Ok, Err}
 use Rattle.p10_base.specs.declared.at.At.{At}
 use Rattle.p10_base.specs.declared.report.Limit.{Limit}
 use Rattle.p10_base.specs.declared.report.Refusal.{Refusal}
+use Rattle.p10_base.specs.declared.report.TheConstants.Limit.{OBJECT_BYTES}
 use Rattle.p10_base.specs.Gathered.{Gathered}
 use Rattle.p10_syn.specs.Spells.{Spells}
 use Rattle.p10_syn.specs.Trees.{External}
 use Rattle.p10_expand.specs.Plain.{PlainExpansion, ExpandsTo}
 use Rattle.p10_pexpr.specs.declared.fault.ParseFault.TheVariants.{Refused, Over}
 use Rattle.p10_parse.specs.Units.{AllFit, FirstFault}
+use Rattle.p10_core.specs.Typed.{PlainProgram}
+use Rattle.p10_elabx.specs.declared.problem.Problem.{Problem}
+use Rattle.p10_elab.specs.Answers.{refusal_of}
+use Rattle.p10_elab.specs.Programs.{elaborated, program as the_program, refusal as the_problem, too_large}
 
--- what files expand to; the trees of their declarations and functions, unless they are refused; and the first refusal
+-- what files expand to; the trees of their declarations and functions, unless directives, macros or the grammar refuse them; the typed
+-- program, unless they are refused; and the first refusal
 pub record PlainReading : Type 0 where
   pub expansion : PlainExpansion
   pub units : Option (List (External At))
+  pub program : Option PlainProgram
   pub refusal : Option Refusal
 
--- what an expansion is read as, where it is refused
+-- what an expansion is read as that is refused, or whose words no trees spell
 abbrev pub refused_reading : PlainExpansion → Refusal → PlainReading
-refused_reading expansion refusal = record { expansion = expansion; units = None; refusal = Some refusal }
+refused_reading expansion refusal = record { expansion = expansion; units = None; program = None; refusal = Some refusal }
+
+-- what trees are read as that are no program of the subset
+abbrev pub untyped_reading : PlainExpansion → List (External At) → Refusal → PlainReading
+untyped_reading expansion trees refusal = record { expansion = expansion; units = Some trees; program = None; refusal = Some refusal }
+
+-- what trees are read as that are a program
+abbrev pub typed_reading : PlainExpansion → List (External At) → PlainProgram → PlainReading
+typed_reading expansion trees program = record { expansion = expansion; units = Some trees; program = Some program; refusal = None }
+
+-- what the trees of expanded words are read as, or the limit that their program passes before a refusal
+pub data Elaborates (expansion : PlainExpansion) (trees : List (External At)) (answer : Result PlainReading Limit) : Type 0 where
+  -- rows of the subset hold in the trees, and this is the first: S1 to S30
+  untyped : (problem : Problem) → elaborated trees ≡ the_problem problem → answer ≡ Ok (untyped_reading expansion trees (refusal_of problem)) → Elaborates expansion trees answer
+  -- something of their program is too large: M8
+  oversized : elaborated trees ≡ too_large → answer ≡ Err OBJECT_BYTES → Elaborates expansion trees answer
+  -- they are a typed program
+  typed : (program : PlainProgram) → elaborated trees ≡ the_program program → answer ≡ Ok (typed_reading expansion trees program) → Elaborates expansion trees answer
 
 -- what expanded words are read as, or the limit that they pass before a refusal
 pub data Parses (expansion : PlainExpansion) (answer : Result PlainReading Limit) : Type 0 where
@@ -28,8 +53,8 @@ pub data Parses (expansion : PlainExpansion) (answer : Result PlainReading Limit
   nested_over : (limit : Limit) → expansion.refusal ≡ None → FirstFault expansion.roots (Over limit) → answer ≡ Err limit → Parses expansion answer
   -- no trees spell the words of a root: G1
   unspelled : (refusal : Refusal) → expansion.refusal ≡ None → FirstFault expansion.roots (Refused refusal) → answer ≡ Ok (refused_reading expansion refusal) → Parses expansion answer
-  -- trees spell the words of all roots
-  spelled : (trees : List (External At)) → expansion.refusal ≡ None → AllFit expansion.roots → Spells expansion.roots trees → answer ≡ Ok (record { expansion = expansion; units = Some trees; refusal = None }) → Parses expansion answer
+  -- trees spell the words of all roots, and what these are is read
+  spelled : (trees : List (External At)) → expansion.refusal ≡ None → AllFit expansion.roots → Spells expansion.roots trees → Elaborates expansion trees answer → Parses expansion answer
 
 -- what files are read as, or the limit that they pass before a refusal
 pub data Reads (g : Gathered) (answer : Result PlainReading Limit) : Type 0 where
@@ -38,10 +63,11 @@ pub data Reads (g : Gathered) (answer : Result PlainReading Limit) : Type 0 wher
   -- they expand, and what they expand to is read
   expanded : (expansion : PlainExpansion) → ExpandsTo g (Ok expansion) → Parses expansion answer → Reads g answer
 
--- files are read as this, and nothing refuses them
-pub record AreReadAs (g : Gathered) (reading : PlainReading) : Type 0 where
+-- files are read as this, nothing refuses them, and this is their program
+pub record AreReadAs (g : Gathered) (reading : PlainReading) (program : PlainProgram) : Type 0 where
   pub reads : Reads g (Ok reading)
   pub unrefused : reading.refusal ≡ None
+  pub is : reading.program ≡ Some program
 
 -- files are refused, and this is the first refusal
 pub record AreRefused (g : Gathered) (refusal : Refusal) : Type 0 where

@@ -1,2 +1,3 @@
 -- The definitions that only clauses of private functions cite.
 pub mod Parsing
+pub mod Typing

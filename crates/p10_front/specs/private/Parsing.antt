@@ -28,7 +28,7 @@ IsUnparsed expanded Memory = Unit {0}
 
 -- what is answered where words have no trees
 abbrev pub reading_without : Expanded → ParseFault → Result Reading FrontFault
-reading_without expanded (parsing.Refused refusal) = Ok (record { expanded = expanded; units = None; refusal = Some refusal })
+reading_without expanded (parsing.Refused refusal) = Ok (record { expanded = expanded; units = None; program = None; refusal = Some refusal })
 reading_without expanded (parsing.Over limit) = Err (Over limit)
 reading_without expanded parsing.Memory = Err Memory
 
