@@ -2,3 +2,4 @@
 pub mod Lines
 pub mod Stops
 pub mod Messages
+pub mod Endings

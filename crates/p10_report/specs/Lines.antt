@@ -1,5 +1,6 @@
 -- The lines that tell what was found in the sources.
-use Rattle.std.specs.Prelude.{ℕ, List, codes, decimal}
+use Rattle.std.specs.Prelude.{ℕ, ℤ, List, codes, decimal}
+use Rattle.std.specs.Fmt.{signed_decimal}
 use Rattle.p10_base.specs.Gathered.{Gathered, name_of, text_of}
 use Rattle.p10_base.specs.Places.{column_of, line_of}
 use Rattle.p10_base.specs.declared.report.Bounds.{Bounds}
@@ -13,6 +14,10 @@ use Rattle.p10_report.specs.Stops.{◌then◌}
 -- a number in decimal behind the text that says which it is
 unfoldable pub labelled : List ℕ → ℕ → List ℕ
 labelled label number = label then decimal number
+
+-- a number in decimal, with `-` before it where it is negative, behind the text that says which it is
+unfoldable pub labelled_signed : List ℕ → ℤ → List ℕ
+labelled_signed label number = label then signed_decimal number
 
 -- a place as FILE:LINE:COLUMN
 unfoldable pub place_text : Gathered → Span → List ℕ
@@ -33,13 +38,13 @@ reason_part family number = codes ": " then code_text family number then codes "
 unfoldable pub refusal_line : Gathered → Refusal → List ℕ
 refusal_line g r = place_text g r.span then refused_part r.family r.number then reason_part r.family r.number
 
--- the greatest depths of an accepted program, which end its line
-unfoldable pub depths_part : Bounds → List ℕ
-depths_part b = labelled (codes " calls ") b.calls then labelled (codes " bytes ") b.bytes then codes "\n"
+-- the greatest depths in calls and in bytes, which end a line
+unfoldable pub depths_part : ℕ → ℕ → List ℕ
+depths_part calls bytes = labelled (codes " calls ") calls then labelled (codes " bytes ") bytes then codes "\n"
 
 -- the line of an accepted program: accepted: prefix P turn K calls C bytes B
 unfoldable pub accepted_line : Bounds → List ℕ
-accepted_line b = labelled (codes "accepted: prefix ") b.prefix then labelled (codes " turn ") b.turn then depths_part b
+accepted_line b = labelled (codes "accepted: prefix ") b.prefix then labelled (codes " turn ") b.turn then depths_part b.calls b.bytes
 
 -- a place behind a blank, which ends a line
 unfoldable pub at_part : Gathered → Span → List ℕ

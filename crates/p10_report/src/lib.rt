@@ -2,6 +2,7 @@
 //!
 //! Entry points, each of which writes one line to a sink, without memory: [`put_refusal`],
 //! [`put_accepted`], [`put_failing`] and [`put_limit`] tell what was found in the sources and the certificate;
+//! [`put_returned`], [`put_turns`], [`put_assertion_failed`], [`put_undefined`] and [`put_steps_spent`] how a run has ended;
 //! [`put_usage`], [`put_absent`], [`put_bad_certificate`], [`put_read_fault`] and [`put_out_of_memory`] tell
 //! why there is nothing to tell of them. Invariant: what a sink took of a line is always the line's front, and all of
 //! it at `Ok`. A line is written in several pieces, so the `wrote` of a fault counts bytes of the last
@@ -15,11 +16,13 @@ ghost use Rattle.p10_base.specs.Codes.{IsCode};
 ghost use Rattle.p10_report.specs.Lines.{accepted_line, failing_line, limit_line, refusal_line};
 ghost use Rattle.p10_report.specs.Stops.{StopsWithin};
 
+pub use endings::{put_assertion_failed, put_returned, put_steps_spent, put_turns, put_undefined};
 pub use messages::{put_absent, put_bad_certificate, put_out_of_memory, put_read_fault, put_usage};
 use p10_base::{Bounds, Limit, Refusal, Sources, Span};
 use p10_world::{Sink, SinkFault};
 use pieces::{put_at, put_bytes, put_depths, put_labelled, put_place, put_reason, put_refused};
 
+mod endings;
 mod messages;
 mod pieces;
 #[cfg(test)]
@@ -59,9 +62,9 @@ pub fn put_accepted<O: Sink>(out: &mut O, b: &Bounds) -> Result<(), SinkFault>
     ensures failed { OnErr result (Rose (O.faults out.old) (O.faults out.new)) }
     ensures count { O.faults out.old ≤ O.faults out.new }
 {
-    put_labelled(out, b"accepted: prefix ", b.prefix)?;
-    put_labelled(out, b" turn ", b.turn)?;
-    put_depths(out, b)
+    put_labelled(out, b"accepted: prefix ", u128::from(b.prefix))?;
+    put_labelled(out, b" turn ", u128::from(b.turn))?;
+    put_depths(out, b.calls, u128::from(b.bytes))
 }
 
 /// Writes the line of a condition of the certificate that does not hold,
@@ -83,7 +86,7 @@ pub fn put_failing<O: Sink>(
     ensures failed { OnErr result (Rose (O.faults out.old) (O.faults out.new)) }
     ensures count { O.faults out.old ≤ O.faults out.new }
 {
-    put_labelled(out, b"refused: K", u64::from(condition))?;
+    put_labelled(out, b"refused: K", u128::from(condition))?;
     put_at(out, s, at)
 }
 
@@ -100,6 +103,6 @@ pub fn put_limit<O: Sink>(out: &mut O, limit: Limit) -> Result<(), SinkFault>
     ensures failed { OnErr result (Rose (O.faults out.old) (O.faults out.new)) }
     ensures count { O.faults out.old ≤ O.faults out.new }
 {
-    put_labelled(out, b"p10: limit M", u64::from(limit.number))?;
+    put_labelled(out, b"p10: limit M", u128::from(limit.number))?;
     put_bytes(out, b"\n")
 }

@@ -57,7 +57,7 @@ pub fn put_bad_certificate<O: Sink>(out: &mut O, line: u64) -> Result<(), SinkFa
     ensures failed { OnErr result (Rose (O.faults out.old) (O.faults out.new)) }
     ensures count { O.faults out.old ≤ O.faults out.new }
 {
-    put_labelled(out, refused_at(), line)?;
+    put_labelled(out, refused_at(), u128::from(line))?;
     put_bytes(out, b"\n")
 }
 

@@ -6,11 +6,12 @@ ghost use Rattle.p10_base.specs.Gathered.{name_of, text_of};
 ghost use Rattle.p10_base.specs.Places.{column_of, line_of};
 ghost use Rattle.p10_world.specs.Faults.{Rose};
 ghost use Rattle.p10_base.specs.Codes.{IsCode};
-ghost use Rattle.p10_report.specs.Lines.{at_part, depths_part, labelled, place_text, reason_part, refused_part};
+ghost use Rattle.p10_report.specs.Lines.{at_part, depths_part, labelled, labelled_signed, place_text, reason_part, refused_part};
+ghost use Rattle.p10_report.specs.Endings.{placed_part};
 ghost use Rattle.p10_report.specs.Stops.{StopsWithin};
 
 use itoa::Buffer;
-use p10_base::{Bounds, Refusal, Sources, Span};
+use p10_base::{Refusal, Sources, Span};
 use p10_world::{Sink, SinkFault};
 
 /// Writes bytes.
@@ -24,9 +25,20 @@ pub fn put_bytes<O: Sink>(out: &mut O, bytes: &[u8]) -> Result<(), SinkFault>
 }
 
 /// Writes a number in decimal behind the text that says which it is.
-pub fn put_labelled<O: Sink>(out: &mut O, label: &[u8], number: u64) -> Result<(), SinkFault>
+pub fn put_labelled<O: Sink>(out: &mut O, label: &[u8], number: u128) -> Result<(), SinkFault>
     ensures ok { OnOk result (Appends (O.taken out.old) (O.taken out.new) (labelled label.now number)) }
     ensures stopped { OnErr result (StopsWithin (O.taken out.old) (O.taken out.new) (labelled label.now number)) }
+    ensures failed { OnErr result (Rose (O.faults out.old) (O.faults out.new)) }
+    ensures count { O.faults out.old ≤ O.faults out.new }
+{
+    put_bytes(out, label)?;
+    put_bytes(out, Buffer::new().format(number).as_bytes())
+}
+
+/// Writes a number in decimal, with `-` before it where it is negative, behind the text that says which it is.
+pub fn put_signed<O: Sink>(out: &mut O, label: &[u8], number: i128) -> Result<(), SinkFault>
+    ensures ok { OnOk result (Appends (O.taken out.old) (O.taken out.new) (labelled_signed label.now number)) }
+    ensures stopped { OnErr result (StopsWithin (O.taken out.old) (O.taken out.new) (labelled_signed label.now number)) }
     ensures failed { OnErr result (Rose (O.faults out.old) (O.faults out.new)) }
     ensures count { O.faults out.old ≤ O.faults out.new }
 {
@@ -44,8 +56,8 @@ pub fn put_place<O: Sink>(out: &mut O, s: &Sources, at: Span) -> Result<(), Sink
 {
     let (line, column) = line_col(s, at);
     put_bytes(out, file_name(s, at.file).as_bytes())?;
-    put_labelled(out, b":", line)?;
-    put_labelled(out, b":", column)
+    put_labelled(out, b":", u128::from(line))?;
+    put_labelled(out, b":", u128::from(column))
 }
 
 /// The name of a file; there is none where the number is no file's.
@@ -82,7 +94,7 @@ pub fn put_refused<O: Sink>(out: &mut O, r: &Refusal) -> Result<(), SinkFault>
     ensures count { O.faults out.old ≤ O.faults out.new }
 {
     put_bytes(out, b": refused ")?;
-    put_labelled(out, r.family.letter().as_bytes(), u64::from(r.number))
+    put_labelled(out, r.family.letter().as_bytes(), u128::from(r.number))
 }
 
 /// Writes why a source is refused, by the code's text, and ends the line.
@@ -98,15 +110,15 @@ pub fn put_reason<O: Sink>(out: &mut O, r: &Refusal) -> Result<(), SinkFault>
     put_bytes(out, b"\n")
 }
 
-/// Writes the greatest depths of an accepted program, and ends the line.
-pub fn put_depths<O: Sink>(out: &mut O, b: &Bounds) -> Result<(), SinkFault>
-    ensures ok { OnOk result (Appends (O.taken out.old) (O.taken out.new) (depths_part b.now)) }
-    ensures stopped { OnErr result (StopsWithin (O.taken out.old) (O.taken out.new) (depths_part b.now)) }
+/// Writes the greatest depths in calls and in bytes, and ends the line.
+pub fn put_depths<O: Sink>(out: &mut O, calls: u64, bytes: u128) -> Result<(), SinkFault>
+    ensures ok { OnOk result (Appends (O.taken out.old) (O.taken out.new) (depths_part calls bytes)) }
+    ensures stopped { OnErr result (StopsWithin (O.taken out.old) (O.taken out.new) (depths_part calls bytes)) }
     ensures failed { OnErr result (Rose (O.faults out.old) (O.faults out.new)) }
     ensures count { O.faults out.old ≤ O.faults out.new }
 {
-    put_labelled(out, b" calls ", b.calls)?;
-    put_labelled(out, b" bytes ", b.bytes)?;
+    put_labelled(out, b" calls ", u128::from(calls))?;
+    put_labelled(out, b" bytes ", bytes)?;
     put_bytes(out, b"\n")
 }
 
@@ -120,4 +132,15 @@ pub fn put_at<O: Sink>(out: &mut O, s: &Sources, at: Span) -> Result<(), SinkFau
     put_bytes(out, b" ")?;
     put_place(out, s, at)?;
     put_bytes(out, b"\n")
+}
+
+/// Writes the place of a run's end, and ends the line.
+pub fn put_placed<O: Sink>(out: &mut O, s: &Sources, at: Span) -> Result<(), SinkFault>
+    ensures ok { OnOk result (Appends (O.taken out.old) (O.taken out.new) (placed_part s.now at)) }
+    ensures stopped { OnErr result (StopsWithin (O.taken out.old) (O.taken out.new) (placed_part s.now at)) }
+    ensures failed { OnErr result (Rose (O.faults out.old) (O.faults out.new)) }
+    ensures count { O.faults out.old ≤ O.faults out.new }
+{
+    put_bytes(out, b" at")?;
+    put_at(out, s, at)
 }
