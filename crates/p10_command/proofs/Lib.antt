@@ -1,0 +1,4 @@
+-- The lemmas of this crate, by subject.
+pub mod Stopped
+pub mod Answered
+pub mod Once

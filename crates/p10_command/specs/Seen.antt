@@ -1,0 +1,15 @@
+-- What a command sees of the outside.
+use Rattle.std.specs.Prelude.{ℕ, List, Option}
+use Rattle.p10_world.specs.Files.{Named}
+
+-- what is seen of the files: those that are held, where they are told, and the counts of faults before and after
+pub record Seen : Type 0 where
+  pub held : Option (List Named)
+  pub faults_before : ℕ
+  pub faults_after : ℕ
+
+-- what is seen of the input: the bytes that were left at first, where they are told, and the counts of faults before and after
+pub record SeenInput : Type 0 where
+  pub left : Option (List ℕ)
+  pub faults_before : ℕ
+  pub faults_after : ℕ

@@ -1,0 +1,28 @@
+-- What the outputs of a command take.
+use Rattle.std.specs.Prelude.{◌≡◌, ℕ, List, Option}
+use Rattle.std.specs.Io.KnownBytes.{Appends}
+use Rattle.p10_world.specs.Sink.{TakesFront}
+use Rattle.p10_command.specs.Saying.{Saying}
+
+-- both outputs took all of their texts
+pub record BothTake (out_old out_new err_old err_new : Option (List ℕ)) (out err : List ℕ) : Type 0 where
+  pub on_out : Appends out_old out_new out
+  pub on_err : Appends err_old err_new err
+
+-- each output took a prefix of its text
+pub record BothTakeFronts (out_old out_new err_old err_new : Option (List ℕ)) (out err : List ℕ) : Type 0 where
+  pub on_out : TakesFront out_old out_new out
+  pub on_err : TakesFront err_old err_new err
+
+-- the status and both texts of something that may be said were given, and nothing else
+pub record Told (may_be_said : Saying → Type 0) (out_old out_new err_old err_new : Option (List ℕ)) (status : ℕ) : Type 0 where
+  pub saying : Saying
+  pub may : may_be_said saying
+  pub status_is : status ≡ saying.status
+  pub taken : BothTake out_old out_new err_old err_new saying.out saying.err
+
+-- each output has taken a prefix of something that may be said
+pub record Stopped (may_be_said : Saying → Type 0) (out_old out_new err_old err_new : Option (List ℕ)) : Type 0 where
+  pub saying : Saying
+  pub may : may_be_said saying
+  pub taken : BothTakeFronts out_old out_new err_old err_new saying.out saying.err
