@@ -31,6 +31,7 @@ pub mod Statics
 pub mod ConstantValues
 pub mod GivenConstants
 pub mod Starting
+pub mod WholeWorlds
 pub mod Ordered
 pub mod Served
 pub mod ListedStatements

@@ -2,4 +2,5 @@
 pub mod Stages
 pub mod Resting
 pub mod Machines
+pub mod States
 pub mod private

@@ -58,6 +58,7 @@ mod settling;
 mod stacks;
 mod standing;
 mod statements;
+mod states;
 mod steps;
 mod tasks;
 mod trading;
@@ -69,3 +70,4 @@ mod work;
 
 pub use ended::{Ended, RunFault};
 pub use machine::Machine;
+pub use states::{State, start};
