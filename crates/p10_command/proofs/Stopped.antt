@@ -3,7 +3,6 @@ use Rattle.std.proofs.Common.{◌≡◌, ℕ, List, sym, subst, Option, Result, 
 use Rattle.p10_base.specs.Codes.{IsCode}
 use Rattle.p10_base.specs.declared.report.Family.{Family}
 use Rattle.p10_base.specs.declared.report.Refusal.{Refusal}
-use Rattle.p10_base.specs.Gathered.{Gathered}
 use Rattle.p10_base.specs.Words.{Text}
 use Rattle.p10_world.specs.Files.{Named}
 use Rattle.p10_lex.specs.declared.fault.LexFault.TheVariants.{Refused}
@@ -11,7 +10,7 @@ use Rattle.p10_lex.specs.Lexes.{Answers as LexAnswers}
 use Rattle.p10_lex.proofs.Codes.{refused_code}
 use Rattle.p10_expand.specs.declared.fault.GatherFault.{GatherFault}
 use Rattle.p10_expand.specs.declared.fault.GatherFault.TheVariants as fault
-use Rattle.p10_expand.specs.Gathering.{Setting, Gathers, FailsBy, IsFault}
+use Rattle.p10_expand.specs.Gathering.{Setting, IsFault}
 use Rattle.p10_expand.specs.Setting.{setting}
 use Rattle.p10_expand.proofs.RootCount.{absent_below}
 use Rattle.p10_command.specs.declared.gathering.GatheredRoots.{GatheredRoots}
@@ -42,7 +41,3 @@ pub roots_stopped : (held : Option (List Named)) (roots directories named_roots 
 roots_stopped held roots directories named_roots named_directories f r same_roots same_directories is fails =
     subst (λ (r : Result GatheredRoots Trouble). IfOk r (AreGathered (setting held roots directories))) (sym is)
     (stopped_by (setting held roots directories) f (with_names held roots directories named_roots named_directories (λ s. IsFault s f) same_roots same_directories fails))
-
-pub roots_gathered : (held : Option (List Named)) (roots directories named_roots named_directories : List Text) (g : Gathered) → named_roots ≡ roots → named_directories ≡ directories → Gathers (setting held named_roots named_directories) g → Gathers (setting held roots directories) g
-roots_gathered held roots directories named_roots named_directories g same_roots same_directories gathers =
-    with_names held roots directories named_roots named_directories (λ s. Gathers s g) same_roots same_directories gathers
