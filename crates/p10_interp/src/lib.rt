@@ -1,9 +1,10 @@
 //! The machine that runs a typed program, with a work stack of its own: no call of the program takes native stack.
 //!
-//! Entry point: [`Machine`]. [`Machine::run_main`] runs `main` up to its task loop or to its end, and [`Machine::turn`] one turn of
-//! the loop after the other; each answers an [`Ended`]. Contracts see a machine between its calls as a state of the
-//! meaning (`specs/Resting.antt`), and what a call comes to as a part of a whole run (`specs/Stages.antt`), whatever the source
-//! has left. The law [`laws::runs_come_in_stages`] joins the parts.
+//! Entry points: [`start`], the state before `main` is entered, and [`Machine`], which begins there. [`Machine::run_main`] runs
+//! `main` up to its task loop or to its end, and [`Machine::turn`] one turn of the loop after the other; each answers an
+//! [`Ended`]. Contracts see a machine between its calls as a state of the meaning (`specs/Resting.antt`), and what a call comes
+//! to as a part of a whole run (`specs/Stages.antt`), whatever the source has left. The law [`laws::runs_come_in_stages`] joins
+//! the parts.
 //! Inside, contracts see the work that is left as a list of tasks (`specs/private/Tasks.antt`), what it comes to in terms of the
 //! meaning (`specs/private/Resuming.antt`), and one act as a function on plain lists (`specs/private/Acts.antt`). Each act leaves
 //! what the tasks come to as it was (`proofs/Right.antt`), and takes a step or leaves less to be done (`proofs/Lighter.antt`).

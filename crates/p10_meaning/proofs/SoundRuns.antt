@@ -9,7 +9,7 @@ use Rattle.p10_meaning.specs.Calling.{Depth, no_depth, deeper, raised, Entered, 
 use Rattle.p10_meaning.specs.Opening.{opening}
 use Rattle.p10_meaning.specs.Runs.{Task, task_in, task_test, task_turn, before_task}
 use Rattle.p10_meaning.specs.Sound.{Kind, Sound, FrameFits, Keeps, Kept, DoneFits, region_at, opening_kinds}
-use Rattle.p10_meaning.specs.SoundRuns.{FirstPartsKeepSound, TurnsKeepSound, at_first, again, StandsSound, RunsStaySound}
+use Rattle.p10_meaning.specs.SoundRuns.{FirstPartsKeepSound, TurnsKeepSound, FramesFitOn, at_first, again, StandsSound, RunsStaySound}
 use Rattle.p10_meaning.proofs.Fitting.{grows_trans, frame_grown}
 use Rattle.p10_meaning.proofs.LaidOut.{laid_out}
 use Rattle.p10_meaning.proofs.Keeping.{keeps_from, kept, keeps_step, keeps_then, keeps_if}
@@ -125,6 +125,9 @@ first_parts_keep p whole f i task h budget w ks so = first_keeps p whole p.main 
 pub turns_keep : TurnsKeepSound
 turns_keep p whole f i task h budget frame w ks so fits =
     turn_keeps p whole p.main f h.main budget (deeper f no_depth) task (task_whole p whole p.main f h.main budget (deeper f no_depth) i task h.loop) frame w ks so fits
+
+pub frames_fit_on : FramesFitOn
+frames_fit_on p ks js grows variables held fits = frame_grown p ks js variables held grows fits
 
 -- what a piece that keeps sound states gives
 given_sound : {A : Type 0} (p : PlainProgram) (ks : List Kind) (P : List Kind → A → Type 0) (o : Progress A) (a : A) (w : State) → o ≡ gives a w → Keeps p ks P o → Kept p ks w (λ ks. P ks a)

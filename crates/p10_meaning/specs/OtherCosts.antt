@@ -102,15 +102,15 @@ pub record ReturnsCost : Type 0 where
   pub none : ReturnsAfter (calling []) 5 (pos 3)
 
 -- `i < j`
-abbrev pub less : PlainValue
-less = value_of int (binary Lt (get 0 int 0) (get 0 int 1))
+abbrev pub first_below_second : PlainValue
+first_below_second = value_of int (binary Lt (get 0 int 0) (get 0 int 1))
 
 -- `int i; int j; for (i = 0, j = 3; i < j; i++, j--) { } return i;`: each piece of a clause is a statement.
 -- 1; 1; 1; 1 + (2 + 2) + 3 * 3 + 2 * (4 + 4); 1 + 1
 abbrev pub clauses_cost : Type 0
 clauses_cost = ReturnsAfter (main_of (int_variable ∷ int_variable ∷ [])
     (does (declare 0 not_initialized) ∷ does (declare 1 not_initialized) ∷
-    does (loop (record { number = 0; keyword = For; span = span 0 }) (statements_of_list (assign int 0 (number (pos 0)) ∷ assign int 1 (number (pos 3)) ∷ [])) (Some less)
+    does (loop (record { number = 0; keyword = For; span = span 0 }) (statements_of_list (assign int 0 (number (pos 0)) ∷ assign int 1 (number (pos 3)) ∷ [])) (Some first_below_second)
     (statements_of_list (does (update Step Add int (name 0 int 0) (number (pos 1))) ∷ does (update Step Sub int (name 0 int 1) (number (pos 1))) ∷ [])) (block_of [])) ∷
     returns (get 0 int 0) ∷ [])) 34 (pos 2)
 

@@ -36,8 +36,8 @@ pub record MoreIntegersStop : Type 0 where
 -- ## Pointers
 
 -- `p[i]`, at tree 4
-abbrev pub indexed : PlainValue → ℤ → PlainValue
-indexed v i = value_of int (read (place (tree 4) int (index v (number i))))
+abbrev pub at_index : PlainValue → ℤ → PlainValue
+at_index v i = value_of int (read (place (tree 4) int (index v (number i))))
 
 -- `struct p *q = 0; return q->second;`, with the dereference at tree 7 and the member at tree 4
 abbrev pub member_of_null : PlainProgram
@@ -68,13 +68,13 @@ writes v = does (set (pointed v) (number (pos 1)))
 -- U5, U6, U7 and U9
 pub record MorePointersStop : Type 0 where
   pub null_subtracted : Stops (with_rows (returns (value_of int (convert (relation Sub long (row_value 0) p))) ∷ [])) U5 5
-  pub null_indexed : Stops (with_rows (returns (indexed p (pos 0)) ∷ [])) U5 4
+  pub null_indexed : Stops (with_rows (returns (at_index p (pos 0)) ∷ [])) U5 4
   pub member_of_null : Stops member_of_null U5 7
   pub null_compared : ReturnsValue (with_rows (returns (relation Eq int p (row_value 0)) ∷ [])) (pos 0)
   pub one_past_written : Stops (with_rows (writes (value_of ints (binary Add (row_value 0) (number (pos 3)))) ∷ [])) U6 4
   pub member_of_one_past : Stops member_of_one_past U6 4
   pub dead_written : Stops (pointing_into_a_block (writes p ∷ [])) U7 4
-  pub dead_indexed : Stops (pointing_into_a_block (returns (indexed p (pos 5)) ∷ [])) U7 4
+  pub dead_indexed : Stops (pointing_into_a_block (returns (at_index p (pos 5)) ∷ [])) U7 4
   pub dead_subtracted : Stops (pointing_into_a_block (returns (value_of int (convert (relation Sub long (row_value 0) p))) ∷ [])) U7 5
   pub members_ordered : Stops members_ordered U9 5
   pub ordered : ReturnsValue (with_rows (returns (relation Le int (row_value 0) (moved_by (row_value 0) (pos 3))) ∷ [])) (pos 1)

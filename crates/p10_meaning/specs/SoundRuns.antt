@@ -1,10 +1,10 @@
 -- Sound states along whole runs: up to the task loop, and in each of its turns.
 use Rattle.std.specs.Prelude.{◌≡◌, ℕ, ◌⊎◌, List, Some, slice_get}
-use Rattle.p10_core.specs.Typed.{statements_list, PlainFunction, PlainProgram}
+use Rattle.p10_core.specs.Typed.{statements_list, PlainVariable, PlainFunction, PlainProgram}
 use Rattle.p10_core.specs.WholePrograms.{IsWholeProgram}
 use Rattle.p10_meaning.specs.declared.world.World.{World}
 use Rattle.p10_meaning.specs.States.{IsWorld, State, gives}
-use Rattle.p10_meaning.specs.Values.{Setting}
+use Rattle.p10_meaning.specs.Values.{Setting, Held}
 use Rattle.p10_meaning.specs.Statements.{Frame, normal, continued, Done}
 use Rattle.p10_meaning.specs.Calling.{no_depth, deeper, setting_of, call_at}
 use Rattle.p10_meaning.specs.Opening.{opening}
@@ -34,6 +34,12 @@ abbrev pub TurnsKeepSound : Type 0
 TurnsKeepSound =
     (p : PlainProgram) → IsWholeProgram p → (f : PlainFunction) (i : ℕ) (task : Task) → HasTask p f i task → (budget : ℕ) (frame : Frame) (w : State) (ks : List Kind) → Sound p ks w → FrameFits p ks f.variables frame.held →
     Keeps p ks (DoneFits p f.variables f.result) (task_turn (main_setting p budget f) task frame w)
+
+-- the frames of callers: what fits the variables of a function fits them after more objects were opened, and what is executed only adds
+-- objects (`Keeps`)
+abbrev pub FramesFitOn : Type 0
+FramesFitOn =
+    (p : PlainProgram) (ks js : List Kind) → Grows ks js → (variables : List PlainVariable) (held : List Held) → FrameFits p ks variables held → FrameFits p js variables held
 
 -- ## All of it
 

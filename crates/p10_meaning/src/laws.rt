@@ -2,7 +2,7 @@
 
 ghost use Rattle.p10_meaning.specs.Laws.{CallsHaveNoBound, StatementsHaveNoBound, LoopsHaveNoBound, ValuesHaveNoBound, RunsNeedNoMore};
 ghost use Rattle.p10_meaning.specs.Sound.{CallsKeepSound, StatementsKeepSound, ValuesKeepSound, OpeningIsSound, ArraysAreSmall};
-ghost use Rattle.p10_meaning.specs.SoundRuns.{FirstPartsKeepSound, TurnsKeepSound, RunsStaySound};
+ghost use Rattle.p10_meaning.specs.SoundRuns.{FirstPartsKeepSound, TurnsKeepSound, FramesFitOn, RunsStaySound};
 ghost use Rattle.p10_meaning.specs.Apart.{WritesChangeOne, ClosingEndsOne, OpeningAddsOne};
 ghost use Rattle.p10_meaning.specs.Variables.{VariablesStay, ValuesLeaveFrames};
 ghost use Rattle.p10_meaning.specs.Costs.{StepsAreCounted};
@@ -41,10 +41,11 @@ pub fn sound_states_stay_sound()
 {}
 
 /// Whole runs keep sound states: the part of `main` before its task loop does, each turn of the loop does, and wherever a run comes
-/// to the loop its state is sound and the frame of `main` fits it.
+/// to the loop its state is sound and the frame of `main` fits it. Frames of callers fit on, since objects are only added.
 pub fn runs_stay_sound()
     ensures first { FirstPartsKeepSound }
     ensures turns { TurnsKeepSound }
+    ensures frames { FramesFitOn }
     ensures runs { RunsStaySound }
 {}
 
