@@ -24,3 +24,4 @@ pub mod Quiet
 pub mod Staying
 pub mod SoundOpening
 pub mod SoundRuns
+pub mod Arriving

@@ -8,7 +8,7 @@ use Rattle.p10_meaning.specs.Values.{Setting, Held}
 use Rattle.p10_meaning.specs.Statements.{Frame, normal, continued, Done}
 use Rattle.p10_meaning.specs.Calling.{no_depth, deeper, setting_of, call_at}
 use Rattle.p10_meaning.specs.Opening.{opening}
-use Rattle.p10_meaning.specs.Runs.{Task, task_in, task_turn, before_task}
+use Rattle.p10_meaning.specs.Runs.{Turns, Ran, ran, Task, task_in, task_turn, before_task, run_of}
 use Rattle.p10_meaning.specs.Sound.{Kind, Sound, FrameFits, Grows, Keeps, DoneFits, opening_kinds}
 
 -- what the trees of `main` stand in, with a budget that bounds calls and turns
@@ -51,6 +51,19 @@ pub data ComesToLoop (p : PlainProgram) (world : World) (prefix turn : ℕ) (f :
   again : (frame : Frame) (w : State) (done : Done) (next : State) → ComesToLoop p world prefix turn f i task frame w →
       task_turn (main_setting p turn f) task frame (record w { left = turn }) ≡ gives done next → (done.flow ≡ normal) ⊎ (done.flow ≡ continued) →
       ComesToLoop p world prefix turn f i task done.frame next
+
+-- what a run gives that ends after m turns, where it stands at its loop
+pub record EndsAtLoop (p : PlainProgram) (world : World) (prefix turn : ℕ) (f : PlainFunction) (i : ℕ) (task : Task) (m : ℕ) (r : Ran) : Type 0 where
+  pub frame : Frame
+  pub state : State
+  pub comes : ComesToLoop p world prefix turn f i task frame state
+  pub is : r ≡ ran (Turns m) state
+
+-- a run whose outcome is a number of turns stands at its loop
+abbrev pub TurnsEndAtLoop : Type 0
+TurnsEndAtLoop =
+    (p : PlainProgram) (world : World) (prefix turn n m : ℕ) (f : PlainFunction) (i : ℕ) (task : Task) → HasTask p f i task → (run_of p world prefix turn n).outcome ≡ Turns m →
+    EndsAtLoop p world prefix turn f i task m (run_of p world prefix turn n)
 
 -- a state is sound, after the objects of the opening state and others, and the frame of a function fits
 pub record StandsSound (p : PlainProgram) (f : PlainFunction) (frame : Frame) (w : State) : Type 0 where

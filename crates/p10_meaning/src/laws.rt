@@ -2,7 +2,7 @@
 
 ghost use Rattle.p10_meaning.specs.Laws.{CallsHaveNoBound, StatementsHaveNoBound, LoopsHaveNoBound, ValuesHaveNoBound, RunsNeedNoMore};
 ghost use Rattle.p10_meaning.specs.Sound.{CallsKeepSound, StatementsKeepSound, ValuesKeepSound, OpeningIsSound, ArraysAreSmall};
-ghost use Rattle.p10_meaning.specs.SoundRuns.{FirstPartsKeepSound, TurnsKeepSound, FramesFitOn, RunsStaySound};
+ghost use Rattle.p10_meaning.specs.SoundRuns.{FirstPartsKeepSound, TurnsKeepSound, FramesFitOn, TurnsEndAtLoop, RunsStaySound};
 ghost use Rattle.p10_meaning.specs.Apart.{WritesChangeOne, ClosingEndsOne, OpeningAddsOne};
 ghost use Rattle.p10_meaning.specs.Variables.{VariablesStay, ValuesLeaveFrames};
 ghost use Rattle.p10_meaning.specs.Costs.{StepsAreCounted};
@@ -41,12 +41,13 @@ pub fn sound_states_stay_sound()
 {}
 
 /// Whole runs keep sound states: the part of `main` before its task loop does, each turn of the loop does, and wherever a run comes
-/// to the loop its state is sound and the frame of `main` fits it. Frames of callers fit on, since objects are only added.
+/// to the loop its state is sound and the frame of `main` fits it; a run that ends after a number of turns stands there. Frames of callers fit on, since objects are only added.
 pub fn runs_stay_sound()
     ensures first { FirstPartsKeepSound }
     ensures turns { TurnsKeepSound }
     ensures frames { FramesFitOn }
     ensures runs { RunsStaySound }
+    ensures end { TurnsEndAtLoop }
 {}
 
 /// A write changes the scalar at its pointer and no other. In a sound state an object that is closed is dead, one that is

@@ -1,4 +1,5 @@
 use Rattle.p10_meaning.proofs.SoundRuns.{first_parts_keep, turns_keep, frames_fit_on, runs_stay}
+use Rattle.p10_meaning.proofs.Arriving.{turns_end}
 use Rattle.p10_meaning.proofs.laws.runs_stay_sound.Goals as goal
 
 pub returns-clause-first : goal.returns-clause-first
@@ -12,3 +13,6 @@ returns-clause-frames c = frames_fit_on
 
 pub returns-clause-runs : goal.returns-clause-runs
 returns-clause-runs c = runs_stay
+
+pub returns-clause-end : goal.returns-clause-end
+returns-clause-end c = turns_end
