@@ -1,0 +1,3 @@
+-- The definitions that the contracts of this crate cite: those of public clauses, and in `private` those of private ones alone.
+pub mod WholeRuns
+pub mod private

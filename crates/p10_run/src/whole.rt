@@ -1,0 +1,122 @@
+//! The whole run.
+
+ghost use Rattle.std.specs.Prelude.{◌≡◌, ◌≤◌, ◌^◌, ℕ, List, Option, IfOk, OnErr, IsErrOf, IfSome};
+ghost use Rattle.p10_world.specs.Faults.{Rose};
+ghost use Rattle.p10_world.specs.Sink.{TakesFront};
+ghost use Rattle.p10_core.specs.Typed.{PlainProgram};
+ghost use Rattle.p10_core.specs.WholePrograms.{IsWholeProgram};
+ghost use Rattle.p10_core.specs.Views.{plain_program};
+ghost use Rattle.p10_interp.specs.Resting.{fresh, is_paused};
+ghost use Rattle.p10_interp.specs.Machines.{resting_of};
+ghost use Rattle.p10_run.specs.WholeRuns.{run_with, denied_requests, IsRun, ForEachInput};
+ghost use Rattle.p10_run.specs.private.Standing.{new_machine, outcome_after, Stands, GivenUp};
+
+use crate::budget::Budget;
+use crate::finished::{FinishedRun, RunOutcome};
+use crate::turns::make_turns;
+use p10_core::Program;
+use p10_interp::{Ended, Machine, RunFault};
+use p10_world::{Sink, Source};
+use std::alloc::{AllocError, Global};
+
+/// Runs a whole program: `main` with `budget.prefix` steps, up to its task loop where it has one, and then at most
+/// `budget.turns` turns of that loop, each with `budget.turn` steps. What the program reads is taken from `input`, and what it
+/// writes is put into `out`, before the answer all of it.
+///
+/// # Errors
+///
+/// [`RunFault::Read`] and [`RunFault::Write`] only where the count of faults of `input` or `out` rose, and [`RunFault::Memory`]
+/// for want of memory. `out` has then taken a prefix of the output.
+pub fn run<'p, I: Source, O: Sink>(
+    alloc: Global,
+    p: &'p Program<'p>,
+    budget: &Budget,
+    input: &mut I,
+    out: &mut O,
+) -> Result<FinishedRun, RunFault>
+    requires whole { IsWholeProgram (plain_program p.now) }
+    requires turns { budget.now.turns ≤ 10 ^ 18 }
+
+    // Where the source tells its bytes, they are the input of the run; in any case what holds, holds for each input that it may
+    // have held.
+    ensures told { IfOk result (λ done. IfSome (I.left input.old) (λ bytes. IsRun done (O.taken out.old) (O.taken out.new) (run_with (plain_program p.now) budget.now bytes))) }
+    ensures run { IfOk result (λ done. ForEachInput (I.left input.old) (I.left input.new) (λ bytes. IsRun done (O.taken out.old) (O.taken out.new) (run_with (plain_program p.now) budget.now bytes))) }
+
+    // The same of a run that was given up.
+    ensures told_prefix { OnErr result (IfSome (I.left input.old) (λ bytes. TakesFront (O.taken out.old) (O.taken out.new) (run_with (plain_program p.now) budget.now bytes).output)) }
+    ensures prefix { OnErr result (ForEachInput (I.left input.old) (I.left input.new) (λ bytes. TakesFront (O.taken out.old) (O.taken out.new) (run_with (plain_program p.now) budget.now bytes).output)) }
+
+    ensures read { IsErrOf result RunFault.Read → Rose (I.faults input.old) (I.faults input.new) }
+    ensures write { IsErrOf result RunFault.Write → Rose (O.faults out.old) (O.faults out.new) }
+    ensures source { I.faults input.old ≤ I.faults input.new }
+    ensures sink { O.faults out.old ≤ O.faults out.new }
+{
+    match denied_requests(alloc, budget.denied) {
+        Ok(denied) => match Machine::new(alloc, p, denied) {
+            Ok(mut machine) => run_on(&mut machine, budget, input, out),
+            Err(_) => Err(RunFault::Memory),
+        },
+        Err(_) => Err(RunFault::Memory),
+    }
+}
+
+/// The numbers of the denied requests: one, or none at 0.
+fn denied_requests(alloc: Global, number: u64) -> Result<Vec<u64>, AllocError>
+    ensures { IfOk result (λ denied. denied.items ≡ denied_requests number) }
+{
+    let mut denied = Vec::new(alloc);
+    if number != 0 {
+        denied.push(number)?;
+    }
+    Ok(denied)
+}
+
+/// Runs a machine that has run nothing yet.
+fn run_on<I: Source, O: Sink>(
+    machine: &mut Machine<'_>,
+    budget: &Budget,
+    input: &mut I,
+    out: &mut O,
+) -> Result<FinishedRun, RunFault>
+    requires fresh { resting_of machine.old ≡ new_machine (resting_of machine.old).program (denied_requests budget.now.denied) }
+    requires turns { budget.now.turns ≤ 10 ^ 18 }
+    ensures run { IfOk result (λ done. ForEachInput (I.left input.old) (I.left input.new) (λ bytes. IsRun done (O.taken out.old) (O.taken out.new) (run_with (resting_of machine.old).program budget.now bytes))) }
+    ensures given_up { OnErr result (GivenUp (resting_of machine.old).program budget.now (I.left input.old) (I.left input.new) (O.taken out.old) (O.taken out.new)) }
+    ensures read { IsErrOf result RunFault.Read → Rose (I.faults input.old) (I.faults input.new) }
+    ensures write { IsErrOf result RunFault.Write → Rose (O.faults out.old) (O.faults out.new) }
+    ensures source { I.faults input.old ≤ I.faults input.new }
+    ensures sink { O.faults out.old ≤ O.faults out.new }
+{
+    match machine.run_main(input, out, budget.prefix) {
+        Ok(first) => match make_turns(machine, first, budget, input, out) {
+            Ok(last) => Ok(finished(machine, last)),
+            Err(fault) => Err(fault),
+        },
+        Err(fault) => Err(fault),
+    }
+}
+
+/// The run of a machine whose last call was answered so.
+fn finished(machine: &Machine<'_>, last: Ended) -> FinishedRun
+    ensures { result ≡ record { outcome = outcome_after last (resting_of machine.now).turns; calls = (resting_of machine.now).state.calls; bytes = (resting_of machine.now).state.bytes } }
+{
+    FinishedRun {
+        outcome: outcome_after(last, machine.turns()),
+        calls: machine.calls(),
+        bytes: machine.bytes(),
+    }
+}
+
+/// The outcome of a run whose last call of the machine was answered so, after so many turns.
+fn outcome_after(last: Ended, made: u64) -> RunOutcome
+    ensures { result ≡ outcome_after last made }
+{
+    match last {
+        Ended::AtLoop => RunOutcome::Turns(made),
+        Ended::TurnDone => RunOutcome::Turns(made),
+        Ended::Returned(value) => RunOutcome::Returned(value),
+        Ended::AssertionFailed(span) => RunOutcome::AssertionFailed(span),
+        Ended::Undefined(stop, span) => RunOutcome::Undefined(stop, span),
+        Ended::StepsSpent => RunOutcome::StepsSpent,
+    }
+}
