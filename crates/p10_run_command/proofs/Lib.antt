@@ -1,0 +1,5 @@
+-- The lemmas of this crate, by subject.
+pub mod Telling
+pub mod Running
+pub mod OneAnswer
+pub mod Lines

@@ -1,0 +1,24 @@
+-- What is told on the error output alone.
+use Rattle.std.proofs.Common.{◌≡◌, ℕ, List, [], ◌++◌, sym, subst, Option}
+use Rattle.std.specs.Io.KnownBytes.{Appends}
+use Rattle.std.proofs.KnownBytes.{Appends-nil}
+use Rattle.p10_report.specs.Stops.{StopsWithin}
+use Rattle.p10_report.proofs.Stopping.{TakesFront-stop}
+use Rattle.p10_command.specs.Saying.{Saying}
+use Rattle.p10_command.specs.Told.{Told, Stopped}
+use Rattle.p10_run_command.specs.private.Telling.{IsTold}
+
+pub told_line : (may : Saying → Type 0) (saying : Saying) (out err_old err_new : Option (List ℕ)) (given : ℕ) → may saying → saying.out ≡ [] → IsTold saying.status saying.err err_old err_new given → Told may out out err_old err_new given
+told_line may saying out err_old err_new given is none told = record {
+  saying = saying;
+  may = is;
+  status_is = told.status_is;
+  taken = record { on_out = subst (λ (text : List ℕ). Appends out out text) (sym none) (Appends-nil out); on_err = told.taken };
+}
+
+pub stopped_line : (may : Saying → Type 0) (saying : Saying) (out err_old err_new : Option (List ℕ)) → may saying → saying.out ≡ [] → StopsWithin err_old err_new saying.err → Stopped may out out err_old err_new
+stopped_line may saying out err_old err_new is none stopped = record {
+  saying = saying;
+  may = is;
+  taken = record { on_out = record { front = []; back = []; parts = none; taken = Appends-nil out }; on_err = TakesFront-stop err_old err_new saying.err stopped };
+}

@@ -1,0 +1,71 @@
+//! The command `run` of `p10`: a program runs, and how it has ended is told.
+//!
+//!     run a.c                        p10: returned 0 calls 1 bytes 4
+//!                                    p10: undefined U1 at a.c:4:12
+//!
+//! Entry point: [`run`]. The sources are gathered and read as a program, and the program runs: it takes its input from the source,
+//! and its output goes to the sink as it comes. The first of these that gives no program is what is told, and else the
+//! end of the run. Invariant: the status and both texts are those of a right answer, and where files and input are told at most
+//! one is right, but for faults and out of memory. Which words are this command is left to the crate above.
+#![tactic(auto)]
+
+ghost use Rattle.std.specs.Prelude.{◌≡◌, ◌≢◌, ◌⊎◌, ◌≤◌, ◌^◌, length};
+ghost use Rattle.p10_world.specs.Faults.{Rose};
+ghost use Rattle.p10_command.specs.Told.{Told, Stopped};
+ghost use Rattle.p10_run_command.specs.Answers.{SaysRight};
+
+mod command;
+pub mod laws;
+mod program;
+mod tell;
+
+pub use command::RunCommand;
+use p10_command::{GatheredRoots, gather_roots};
+use p10_world::{Files, Sink, Source};
+use program::run_sources;
+use std::alloc::Global;
+use tell::{tell_trouble, tell_ungathered};
+
+/// Obeys the command: runs the sources' program on `input` and `out`, and tells on `err` how it has ended, or why there is none.
+/// Gives the status with which the program exits.
+///
+/// The statuses: 0 returned or left after its turns, 3 the sources are refused, 5 a read failed, 6 a write failed, 7 out of
+/// memory, 8 a limit is passed, 9 a file is absent, 10 an assertion has failed, 11 an undefined operation, 12 no step is left.
+pub fn run<F: Files, I: Source, O: Sink, E: Sink>(
+    alloc: Global,
+    command: &RunCommand,
+    files: &mut F,
+    input: &mut I,
+    out: &mut O,
+    err: &mut E,
+) -> u8
+    requires few { length command.now.sources ≤ 65536 }
+    requires turns { command.now.turns ≤ 10 ^ 18 }
+
+    // The status and both texts are those of a right answer.
+    ensures told { result ≢ 6 → Told (SaysRight command.now
+        (record { held = F.held files.old; faults_before = F.faults files.old; faults_after = F.faults files.new })
+        (record { left = I.left input.old; faults_before = I.faults input.old; faults_after = I.faults input.new }))
+        (O.taken out.old) (O.taken out.new) (E.taken err.old) (E.taken err.new) result }
+
+    // Where a write failed, each output has taken a prefix of its text.
+    ensures stopped { result ≡ 6 → Stopped (SaysRight command.now
+        (record { held = F.held files.old; faults_before = F.faults files.old; faults_after = F.faults files.new })
+        (record { left = I.left input.old; faults_before = I.faults input.old; faults_after = I.faults input.new }))
+        (O.taken out.old) (O.taken out.new) (E.taken err.old) (E.taken err.new) }
+    ensures write { result ≡ 6 → Rose (O.faults out.old) (O.faults out.new) ⊎ Rose (E.faults err.old) (E.faults err.new) }
+
+    ensures held { F.held files.new ≡ F.held files.old }
+{
+    let gathered = gather_roots(
+        alloc,
+        files,
+        command.sources.as_slice(),
+        command.directories.as_slice(),
+    );
+    match gathered {
+        Ok(GatheredRoots::All(sources)) => run_sources(alloc, command, &sources, input, out, err),
+        Ok(GatheredRoots::Stopped(why, sources)) => tell_ungathered(command, &sources, &why, err),
+        Err(trouble) => tell_trouble(trouble, err),
+    }
+}

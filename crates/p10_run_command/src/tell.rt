@@ -1,0 +1,143 @@
+//! What is told on the error output, and the status of the program.
+
+ghost use Rattle.std.specs.Prelude.{◌≡◌, ◌≢◌, ◌⊎◌, ◌≤◌, OnErr, OnOk, Err};
+ghost use Rattle.std.specs.Io.KnownBytes.{Appends};
+ghost use Rattle.p10_world.specs.Faults.{Rose};
+ghost use Rattle.p10_world.specs.Sink.{TakesFront};
+ghost use Rattle.p10_report.specs.Stops.{StopsWithin};
+ghost use Rattle.p10_run.specs.WholeRuns.{outcome_of};
+ghost use Rattle.p10_command.specs.Gathering.{CanBeTold};
+ghost use Rattle.p10_command.specs.Reading.{HasCode};
+ghost use Rattle.p10_command.specs.Saying.{trouble_line, trouble_status, ungathered_line, ungathered_status, unread_line, unread_status};
+ghost use Rattle.p10_run_command.specs.Endings.{ended_line, ended_status, number_of_stop};
+ghost use Rattle.p10_run_command.specs.private.Telling.{end_line, end_status, IsTold};
+
+use crate::command::RunCommand;
+use p10_base::Sources;
+use p10_command::{Trouble, Ungathered, Unread, put_trouble, put_ungathered, put_unread};
+use p10_int::Stop;
+use p10_report::{put_assertion_failed, put_returned, put_steps_spent, put_turns, put_undefined};
+use p10_run::{FinishedRun, RunFault, RunOutcome};
+use p10_world::{Sink, SinkFault};
+
+/// Tells why the sources of the command aren't gathered, and gives the status of the program.
+pub fn tell_ungathered<E: Sink>(
+    command: &RunCommand,
+    sources: &Sources,
+    why: &Ungathered,
+    err: &mut E,
+) -> u8
+    requires { CanBeTold command.now.sources why.now }
+    ensures told { result ≢ 6 → IsTold (ungathered_status why.now) (ungathered_line command.now.sources sources.now why.now) (E.taken err.old) (E.taken err.new) result }
+    ensures stopped { result ≡ 6 → StopsWithin (E.taken err.old) (E.taken err.new) (ungathered_line command.now.sources sources.now why.now) }
+    ensures write { result ≡ 6 → Rose (E.faults err.old) (E.faults err.new) }
+{
+    match put_ungathered(err, command.sources.as_slice(), sources, why) {
+        Ok(()) => why.status(),
+        Err(_) => 6,
+    }
+}
+
+/// Tells why the gathered sources are no program, and gives the status of the program.
+pub fn tell_unread<E: Sink>(sources: &Sources, why: &Unread, err: &mut E) -> u8
+    requires { HasCode why.now }
+    ensures told { result ≢ 6 → IsTold (unread_status why.now) (unread_line sources.now why.now) (E.taken err.old) (E.taken err.new) result }
+    ensures stopped { result ≡ 6 → StopsWithin (E.taken err.old) (E.taken err.new) (unread_line sources.now why.now) }
+    ensures write { result ≡ 6 → Rose (E.faults err.old) (E.faults err.new) }
+{
+    match put_unread(err, sources, why) {
+        Ok(()) => why.status(),
+        Err(_) => 6,
+    }
+}
+
+/// Tells that a read has failed or memory is out, and gives the status of the program.
+pub fn tell_trouble<E: Sink>(trouble: Trouble, err: &mut E) -> u8
+    ensures told { result ≢ 6 → IsTold (trouble_status trouble) (trouble_line trouble) (E.taken err.old) (E.taken err.new) result }
+    ensures stopped { result ≡ 6 → StopsWithin (E.taken err.old) (E.taken err.new) (trouble_line trouble) }
+    ensures write { result ≡ 6 → Rose (E.faults err.old) (E.faults err.new) }
+{
+    match put_trouble(err, trouble) {
+        Ok(()) => trouble.status(),
+        Err(_) => 6,
+    }
+}
+
+/// Tells what has come of a run, and gives the status of the program. After a failed write nothing more is told.
+pub fn tell_end<E: Sink>(sources: &Sources, end: Result<FinishedRun, RunFault>, err: &mut E) -> u8
+    ensures told { result ≢ 6 → IsTold (end_status end) (end_line sources.now end) (E.taken err.old) (E.taken err.new) result }
+    ensures stopped { result ≡ 6 → TakesFront (E.taken err.old) (E.taken err.new) (end_line sources.now end) }
+    ensures write { result ≡ 6 → (end ≡ Err RunFault.Write) ⊎ Rose (E.faults err.old) (E.faults err.new) }
+{
+    match end {
+        Ok(done) => tell_finished(sources, &done, err),
+        Err(RunFault::Read) => tell_trouble(Trouble::Read, err),
+        Err(RunFault::Memory) => tell_trouble(Trouble::Memory, err),
+        Err(RunFault::Write) => 6,
+    }
+}
+
+/// Tells how a run has ended, and gives the status of the program.
+fn tell_finished<E: Sink>(sources: &Sources, done: &FinishedRun, err: &mut E) -> u8
+    ensures told { result ≢ 6 → IsTold (ended_status (outcome_of done.now.outcome)) (ended_line sources.now (outcome_of done.now.outcome) done.now.calls done.now.bytes) (E.taken err.old) (E.taken err.new) result }
+    ensures stopped { result ≡ 6 → StopsWithin (E.taken err.old) (E.taken err.new) (ended_line sources.now (outcome_of done.now.outcome) done.now.calls done.now.bytes) }
+    ensures write { result ≡ 6 → Rose (E.faults err.old) (E.faults err.new) }
+{
+    match put_end(err, sources, done) {
+        Ok(()) => status(done.outcome),
+        Err(_) => 6,
+    }
+}
+
+/// Writes the line of a run that has ended.
+///
+/// # Errors
+///
+/// A fault only where the sink's count of faults rose; it then took a prefix of the line.
+fn put_end<E: Sink>(err: &mut E, sources: &Sources, done: &FinishedRun) -> Result<(), SinkFault>
+    ensures ok { OnOk result (Appends (E.taken err.old) (E.taken err.new) (ended_line sources.now (outcome_of done.now.outcome) done.now.calls done.now.bytes)) }
+    ensures stopped { OnErr result (StopsWithin (E.taken err.old) (E.taken err.new) (ended_line sources.now (outcome_of done.now.outcome) done.now.calls done.now.bytes)) }
+    ensures failed { OnErr result (Rose (E.faults err.old) (E.faults err.new)) }
+    ensures count { E.faults err.old ≤ E.faults err.new }
+{
+    match done.outcome {
+        RunOutcome::Returned(value) => put_returned(err, i128::from(value), done.calls, done.bytes),
+        RunOutcome::Turns(turns) => put_turns(err, turns, done.calls, done.bytes),
+        RunOutcome::AssertionFailed(at) => put_assertion_failed(err, sources, at),
+        RunOutcome::Undefined(stop, at) => put_undefined(err, sources, number(stop), at),
+        RunOutcome::StepsSpent => put_steps_spent(err),
+    }
+}
+
+/// The status of the program, by how its run has ended.
+fn status(outcome: RunOutcome) -> u8
+    ensures { result ≡ ended_status (outcome_of outcome) }
+{
+    match outcome {
+        RunOutcome::Returned(_) => 0,
+        RunOutcome::Turns(_) => 0,
+        RunOutcome::AssertionFailed(_) => 10,
+        RunOutcome::Undefined(..) => 11,
+        RunOutcome::StepsSpent => 12,
+    }
+}
+
+/// The number of an undefined operation, as its code has it.
+fn number(stop: Stop) -> u8
+    ensures { result ≡ number_of_stop stop }
+{
+    match stop {
+        Stop::U1 => 1,
+        Stop::U2 => 2,
+        Stop::U3 => 3,
+        Stop::U4 => 4,
+        Stop::U5 => 5,
+        Stop::U6 => 6,
+        Stop::U7 => 7,
+        Stop::U8 => 8,
+        Stop::U9 => 9,
+        Stop::U10 => 10,
+        Stop::U11 => 11,
+        Stop::U12 => 12,
+    }
+}
