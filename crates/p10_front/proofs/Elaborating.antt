@@ -1,6 +1,5 @@
 -- What the trees of expanded words are read as.
 use Rattle.std.proofs.Common.{◌≡◌, List, map, refl, sym, ap, subst, Some, None, IfSome, Result, Ok, Err, IfOk, IfErr}
-use Rattle.p10_base.specs.declared.report.Limit.{Limit}
 use Rattle.p10_base.specs.declared.report.Refusal.{Refusal}
 use Rattle.p10_syn.specs.declared.statement.Unit as whole
 use Rattle.p10_syn.specs.BuiltStatements.{external_of}
@@ -14,7 +13,7 @@ use Rattle.p10_elab.specs.Programs.{elaborated}
 use Rattle.p10_expand.specs.declared.expanded.Expanded.{Expanded}
 use Rattle.p10_front.specs.declared.fault.FrontFault.{FrontFault}
 use Rattle.p10_front.specs.declared.reading.Reading.{Reading}
-use Rattle.p10_front.specs.Readings.{PlainReading, untyped_reading, typed_reading, Elaborates, untyped, oversized, typed}
+use Rattle.p10_front.specs.Readings.{untyped_reading, untyped, oversized, typed}
 use Rattle.p10_front.specs.private.Parsing.{plain}
 use Rattle.p10_front.specs.private.Typing.{reading_untyped, IsTyped, IsUntyped}
 

@@ -13,11 +13,10 @@ use Rattle.p10_elabx.specs.declared.problem.Problem.{Problem}
 use Rattle.p10_elab.specs.Answers.{refusal_of}
 use Rattle.p10_elab.specs.Programs.{Elaborated, elaborated, program as the_program, refusal as the_problem, too_large}
 use Rattle.p10_expand.specs.Plain.{PlainExpansion, ExpandsTo, ExpandsToOnce}
-use Rattle.p10_pexpr.specs.declared.fault.ParseFault.{ParseFault}
 use Rattle.p10_pexpr.specs.declared.fault.ParseFault.TheVariants.{Refused, Over, Memory}
 use Rattle.p10_parse.specs.Units.{AllFit, FirstFault}
 use Rattle.p10_parse.specs.Laws.{UnitsAreOne, SpelledHaveNoFault, FaultsAreOne}
-use Rattle.p10_front.specs.Readings.{PlainReading, refused_reading, untyped_reading, typed_reading, Elaborates, untyped, oversized, typed, Parses, unexpanded, nested_over, unspelled, spelled, Reads, expanded_over, expanded}
+use Rattle.p10_front.specs.Readings.{PlainReading, refused_reading, untyped_reading, typed_reading, Elaborates, untyped, oversized, typed, Parses, unexpanded, nested_over, unspelled, spelled, expanded_over, expanded}
 use Rattle.p10_front.specs.Laws.{ReadsOnce}
 
 -- ## What trees are read as

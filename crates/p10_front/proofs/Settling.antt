@@ -1,14 +1,12 @@
 -- What holds of all that files are read as: a refusal can be printed, and there is a program exactly where there is none.
-use Rattle.std.proofs.Common.{◌≡◌, ℕ, ◌≤◌, Bool, true, false, List, [], ◌∷◌, refl, sym, ap, subst, arith, inl, inr, Option, Some, None, IfSome, Result, Ok, Err, IfOk, ◌↔◌, is_some}
+use Rattle.std.proofs.Common.{◌≡◌, ◌≤◌, Bool, true, false, List, [], ◌∷◌, refl, sym, subst, arith, inl, inr, Option, Some, None, IfSome, Result, Ok, Err, IfOk, ◌↔◌, is_some}
 use Rattle.p10_base.specs.declared.at.At.{At}
 use Rattle.p10_base.specs.declared.codes.SubsetCode.{SubsetCode}
 use Rattle.p10_base.specs.declared.codes.SubsetCode.TheVariants as subset
 use Rattle.p10_base.specs.declared.report.Family.{Family}
-use Rattle.p10_base.specs.declared.report.Limit.{Limit}
 use Rattle.p10_base.specs.declared.report.Refusal.{Refusal}
 use Rattle.p10_base.specs.declared.report.TheConstants.Limit.{OBJECT_BYTES}
-use Rattle.p10_base.specs.declared.span.Span.{Span}
-use Rattle.p10_base.specs.Codes.{IsCode, subset_number, syntax_refusal}
+use Rattle.p10_base.specs.Codes.{IsCode, subset_number}
 use Rattle.p10_base.specs.Gathered.{Gathered}
 use Rattle.p10_base.specs.Words.{PlainWord}
 use Rattle.p10_syn.specs.Trees.{External}
