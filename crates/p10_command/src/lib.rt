@@ -19,6 +19,6 @@ mod texts;
 mod trouble;
 
 pub use gathering::{GatheredRoots, Ungathered, gather_roots, put_ungathered};
-pub use reading::{ReadSources, Unread, put_unread, read_sources};
+pub use reading::{ReadSources, Unread, put_unread, read_sources, release};
 pub use texts::strings;
 pub use trouble::{Trouble, put_trouble};

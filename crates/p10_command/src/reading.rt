@@ -80,6 +80,9 @@ fn unless_refused<'s>(sources: &Sources, reading: Reading<'s>) -> ReadSources<'s
     }
 }
 
+/// Lets go of a reading. That all of its trees are freed is so proved once, and not in each crate above.
+pub fn release(_reading: Reading<'_>) {}
+
 /// Writes the line that says why gathered sources are no program.
 ///
 /// The sink took the whole line at `Ok`.
