@@ -1,80 +1,87 @@
--- What is said, and what a status of 0 promises.
-use Rattle.std.proofs.Common.{◌≡◌, ◌≢◌, ℕ, List, [], refl, sym, ◌∙◌, ap, subst, arith, Option, Some, None, IfSome}
+-- What may be said, and what a status of 0 promises.
+use Rattle.std.proofs.Common.{◌≡◌, ◌≢◌, ℕ, List, [], refl, sym, ◌∙◌, ap, subst, arith, Option, Some, None, IfSome, Result, Ok, Err}
 use Rattle.std.specs.Io.KnownBytes.{Appends}
 use Rattle.std.proofs.KnownBytes.{Appends-nil}
 use Rattle.p10_base.specs.Gathered.{Gathered}
+use Rattle.p10_base.specs.Words.{Text}
 use Rattle.p10_world.specs.Files.{Named}
 use Rattle.p10_report.specs.Stops.{StopsWithin}
 use Rattle.p10_report.proofs.Stopping.{TakesFront-stop}
+use Rattle.p10_command.specs.declared.trouble.Trouble.TheVariants.{Read, Memory}
+use Rattle.p10_command.specs.declared.gathering.Ungathered.TheVariants as gathering
+use Rattle.p10_command.specs.declared.reading.Unread.TheVariants as reading
+use Rattle.p10_command.specs.Saying.{Saying}
+use Rattle.p10_command.specs.Seen.{Seen, SeenInput}
+use Rattle.p10_command.specs.Told.{Told, Stopped}
 use Rattle.p10_first.proofs.Costs.{accepted_is_within}
+use Rattle.p10_words.specs.declared.command.Command.{Command}
+use Rattle.p10_words.specs.declared.command.Command.TheVariants as command
 use Rattle.p10_words.specs.declared.command.Usage.{Usage}
 use Rattle.p10_words.specs.declared.command.Usage.TheVariants as usage
-use Rattle.p10_top.specs.declared.answer.Answer.{Answer}
-use Rattle.p10_top.specs.declared.answer.Answer.TheVariants.{AbsentSource, Refused, SourcesOver, AbsentCertificate, Unread, ReadingOver, NotBuilt, CertificateTooLong, BadCertificate, Failing, Accepted, ReadFault, NoMemory}
-use Rattle.p10_top.specs.Command.{Names, IsVerifyLine, IsNoCommand}
-use Rattle.p10_top.specs.Answers.{Seen, IsRight}
-use Rattle.p10_top.specs.Told.{BothTake, BothTakeFronts, MaySay, Saying, Told, Stopped, for_none, for_verify, for_any, err_text, out_text, saying_of, status_of}
-use Rattle.p10_top.specs.private.Deciding.{ToldFor, StoppedFor, Answered, unread_saying}
-use Rattle.p10_top.specs.Headline.{Verified}
+use Rattle.p10_words.specs.Commands.{IsCommandLine}
+use Rattle.p10_words.proofs.Deciding.{one_command}
+use Rattle.p10_verify_command.specs.declared.answer.Answer.{Answer}
+use Rattle.p10_verify_command.specs.declared.answer.Answer.TheVariants.{Ungathered, AbsentCertificate, Unread, NotBuilt, CertificateTooLong, BadCertificate, Failing, Accepted, Trouble}
+use Rattle.p10_verify_command.specs.Names.{Names}
+use Rattle.p10_verify_command.specs.Answers.{IsRight}
+use Rattle.p10_verify_command.specs.Told.{SaysRight, status_of}
+use Rattle.p10_top.specs.Commands.{IsVerifyLine, IsNoCommand}
+use Rattle.p10_top.specs.Headline.{BoundsRuns, Verified}
+use Rattle.p10_top.specs.Told.{MaySay, SaysFor, for_none, for_command, for_any, usage_saying}
+use Rattle.p10_top.specs.private.Unread.{unread_saying}
 
-pub told_for : (names : Names) (seen : Seen) (sources : Gathered) (answer : Answer) (out_old out_new err_old err_new : Option (List ℕ)) (status : ℕ) → Answered seen names sources answer → status ≡ status_of answer → BothTake out_old out_new err_old err_new (out_text sources answer) (err_text names sources answer) → ToldFor names seen out_old out_new err_old err_new status
-told_for names seen sources answer out_old out_new err_old err_new status answered is taken = record {
-  saying = saying_of names sources answer;
-  may = record { sources = sources; answer = answer; is_right = answered.is_right; said = refl };
-  status_is = is;
-  taken = taken;
-}
+-- ## A command
 
-pub stopped_for : (names : Names) (seen : Seen) (sources : Gathered) (answer : Answer) (out_old out_new err_old err_new : Option (List ℕ)) → Answered seen names sources answer → BothTakeFronts out_old out_new err_old err_new (out_text sources answer) (err_text names sources answer) → StoppedFor names seen out_old out_new err_old err_new
-stopped_for names seen sources answer out_old out_new err_old err_new answered taken = record {
-  saying = saying_of names sources answer;
-  may = record { sources = sources; answer = answer; is_right = answered.is_right; said = refl };
-  taken = taken;
-}
+pub told_command : (words : List Text) (c : Command) (seen : Seen) (input : SeenInput) (out_old out_new err_old err_new : Option (List ℕ)) (status : ℕ) → IsCommandLine words c → Told (SaysFor c seen input) out_old out_new err_old err_new status → Told (MaySay words seen input) out_old out_new err_old err_new status
+told_command words c seen input out_old out_new err_old err_new status is told = record { saying = told.saying; may = for_command c is told.may; status_is = told.status_is; taken = told.taken }
 
--- ## The command line
+pub stopped_command : (words : List Text) (c : Command) (seen : Seen) (input : SeenInput) (out_old out_new err_old err_new : Option (List ℕ)) → IsCommandLine words c → Stopped (SaysFor c seen input) out_old out_new err_old err_new → Stopped (MaySay words seen input) out_old out_new err_old err_new
+stopped_command words c seen input out_old out_new err_old err_new is stopped = record { saying = stopped.saying; may = for_command c is stopped.may; taken = stopped.taken }
 
-pub told_verify : (words : List (List ℕ)) (names : Names) (seen : Seen) (out_old out_new err_old err_new : Option (List ℕ)) (status : ℕ) → IsVerifyLine words names → ToldFor names seen out_old out_new err_old err_new status → Told words seen out_old out_new err_old err_new status
-told_verify words names seen out_old out_new err_old err_new status is told = record { saying = told.saying; may = for_verify names is told.may; status_is = told.status_is; taken = told.taken }
-
-pub stopped_verify : (words : List (List ℕ)) (names : Names) (seen : Seen) (out_old out_new err_old err_new : Option (List ℕ)) → IsVerifyLine words names → StoppedFor names seen out_old out_new err_old err_new → Stopped words seen out_old out_new err_old err_new
-stopped_verify words names seen out_old out_new err_old err_new is stopped = record { saying = stopped.saying; may = for_verify names is stopped.may; taken = stopped.taken }
-
-may_say : (words : List (List ℕ)) (seen : Seen) (fault : Usage) → (fault ≡ usage.Refused → IsNoCommand words) → MaySay words seen (unread_saying fault)
-may_say words seen usage.Refused none = for_none (none refl) refl
-may_say words seen usage.Memory none = for_any refl
+-- ## No command
 
 no_out : (fault : Usage) → (unread_saying fault).out ≡ []
 no_out usage.Refused = refl
 no_out usage.Memory = refl
 
-pub told_unread : (words : List (List ℕ)) (seen : Seen) (fault : Usage) (out err_old err_new : Option (List ℕ)) (status : ℕ) → (fault ≡ usage.Refused → IsNoCommand words) → status ≡ (unread_saying fault).status → Appends err_old err_new (unread_saying fault).err → Told words seen out out err_old err_new status
-told_unread words seen fault out err_old err_new status none is taken = record {
+told_line : (may : Saying → Type 0) (fault : Usage) (out err_old err_new : Option (List ℕ)) (status : ℕ) → may (unread_saying fault) → status ≡ (unread_saying fault).status → Appends err_old err_new (unread_saying fault).err → Told may out out err_old err_new status
+told_line may fault out err_old err_new status may_be is taken = record {
   saying = unread_saying fault;
-  may = may_say words seen fault none;
+  may = may_be;
   status_is = is;
   taken = record { on_out = subst (λ (text : List ℕ). Appends out out text) (sym (no_out fault)) (Appends-nil out); on_err = taken };
 }
 
-pub stopped_unread : (words : List (List ℕ)) (seen : Seen) (fault : Usage) (out err_old err_new : Option (List ℕ)) → (fault ≡ usage.Refused → IsNoCommand words) → StopsWithin err_old err_new (unread_saying fault).err → Stopped words seen out out err_old err_new
-stopped_unread words seen fault out err_old err_new none stopped = record {
+stopped_line : (may : Saying → Type 0) (fault : Usage) (out err_old err_new : Option (List ℕ)) → may (unread_saying fault) → StopsWithin err_old err_new (unread_saying fault).err → Stopped may out out err_old err_new
+stopped_line may fault out err_old err_new may_be stopped = record {
   saying = unread_saying fault;
-  may = may_say words seen fault none;
+  may = may_be;
   taken = record { on_out = record { front = []; back = []; parts = no_out fault; taken = Appends-nil out }; on_err = TakesFront-stop err_old err_new (unread_saying fault).err stopped };
 }
 
--- a command that isn't read isn't accepted
-pub unread_is_none : (fault : Usage) (status : ℕ) → (status ≢ 6 → status ≡ (unread_saying fault).status) → status ≡ 0 → ⊥
-unread_is_none usage.Refused status is zero = omega (arith, zero, is (λ six. omega (arith, six, zero)))
-unread_is_none usage.Memory status is zero = omega (arith, zero, is (λ six. omega (arith, six, zero)))
+may_say : (words : List Text) (seen : Seen) (input : SeenInput) (fault : Usage) (r : Result Command Usage) → r ≡ Err fault → (r ≡ Err usage.Refused → (c : Command) → IsCommandLine words c → ⊥) → MaySay words seen input (unread_saying fault)
+may_say words seen input usage.Refused r is none = for_none (none is) refl
+may_say words seen input usage.Memory r is none = for_any refl
+
+pub told_unread : (words : List Text) (seen : Seen) (input : SeenInput) (fault : Usage) (r : Result Command Usage) (out err_old err_new : Option (List ℕ)) (status : ℕ) → r ≡ Err fault → (r ≡ Err usage.Refused → (c : Command) → IsCommandLine words c → ⊥) →
+    status ≡ (unread_saying fault).status → Appends err_old err_new (unread_saying fault).err → Told (MaySay words seen input) out out err_old err_new status
+told_unread words seen input fault r out err_old err_new status is none status_is taken = told_line (MaySay words seen input) fault out err_old err_new status (may_say words seen input fault r is none) status_is taken
+
+pub stopped_unread : (words : List Text) (seen : Seen) (input : SeenInput) (fault : Usage) (r : Result Command Usage) (out err_old err_new : Option (List ℕ)) → r ≡ Err fault → (r ≡ Err usage.Refused → (c : Command) → IsCommandLine words c → ⊥) →
+    StopsWithin err_old err_new (unread_saying fault).err → Stopped (MaySay words seen input) out out err_old err_new
+stopped_unread words seen input fault r out err_old err_new is none stopped = stopped_line (MaySay words seen input) fault out err_old err_new (may_say words seen input fault r is none) stopped
+
+-- a command that can't be obeyed yet
+pub told_unbuilt : (out err_old err_new : Option (List ℕ)) (status : ℕ) → status ≡ (unread_saying usage.Refused).status → Appends err_old err_new (unread_saying usage.Refused).err → Told (λ (saying : Saying). saying ≡ usage_saying) out out err_old err_new status
+told_unbuilt out err_old err_new status is taken = told_line (λ (saying : Saying). saying ≡ usage_saying) usage.Refused out err_old err_new status refl is taken
+
+pub stopped_unbuilt : (out err_old err_new : Option (List ℕ)) → StopsWithin err_old err_new (unread_saying usage.Refused).err → Stopped (λ (saying : Saying). saying ≡ usage_saying) out out err_old err_new
+stopped_unbuilt out err_old err_new stopped = stopped_line (λ (saying : Saying). saying ≡ usage_saying) usage.Refused out err_old err_new refl stopped
 
 -- ## The headline
 
-accepted : (held : Option (List Named)) (before after : ℕ) (names : Names) (g : Gathered) (answer : Answer) (words : List (List ℕ)) → IsVerifyLine words names → status_of answer ≡ 0 → IsRight (record { held = held; faults_before = before; faults_after = after }) names g answer → IfSome held (Verified words)
-accepted None before after names g answer words is zero right = tt
-accepted (Some files) before after names g (Accepted bounds) words is zero (tokens, p, c, judges, accepts, total) = record {
-  names = names;
-  is_verify = is;
+accepted : (files : List Named) (before after : ℕ) (names : Names) (g : Gathered) (answer : Answer) → status_of answer ≡ 0 → IsRight (record { held = Some files; faults_before = before; faults_after = after }) names g answer → BoundsRuns names files
+accepted files before after names g (Accepted bounds) zero (tokens, p, c, judges, accepts, total) = record {
   sources = g;
   gathers = judges.program.gathers;
   tokens = tokens;
@@ -86,21 +93,33 @@ accepted (Some files) before after names g (Accepted bounds) words is zero (toke
   is_certificate = judges.is_certificate;
   within = accepted_is_within p c accepts;
 }
-accepted (Some files) before after names g (Failing k at) words is zero right = absurd (omega (arith, zero))
-accepted (Some files) before after names g (AbsentSource place) words is zero right = absurd (omega (arith, zero))
-accepted (Some files) before after names g (Refused refusal) words is zero right = absurd (omega (arith, zero))
-accepted (Some files) before after names g (SourcesOver limit) words is zero right = absurd (omega (arith, zero))
-accepted (Some files) before after names g AbsentCertificate words is zero right = absurd (omega (arith, zero))
-accepted (Some files) before after names g (Unread refusal) words is zero right = absurd (omega (arith, zero))
-accepted (Some files) before after names g (ReadingOver limit) words is zero right = absurd (omega (arith, zero))
-accepted (Some files) before after names g NotBuilt words is zero right = absurd (omega (arith, zero))
-accepted (Some files) before after names g CertificateTooLong words is zero right = absurd (omega (arith, zero))
-accepted (Some files) before after names g (BadCertificate line) words is zero right = absurd (omega (arith, zero))
-accepted (Some files) before after names g ReadFault words is zero right = absurd (omega (arith, zero))
-accepted (Some files) before after names g NoMemory words is zero right = absurd (omega (arith, zero))
+accepted files before after names g (Failing k at) zero right = absurd (omega (arith, zero))
+accepted files before after names g (Ungathered (gathering.AbsentRoot place)) zero right = absurd (omega (arith, zero))
+accepted files before after names g (Ungathered (gathering.Refused refusal)) zero right = absurd (omega (arith, zero))
+accepted files before after names g (Ungathered (gathering.Over limit)) zero right = absurd (omega (arith, zero))
+accepted files before after names g AbsentCertificate zero right = absurd (omega (arith, zero))
+accepted files before after names g (Unread (reading.Refused refusal)) zero right = absurd (omega (arith, zero))
+accepted files before after names g (Unread (reading.Over limit)) zero right = absurd (omega (arith, zero))
+accepted files before after names g NotBuilt zero right = absurd (omega (arith, zero))
+accepted files before after names g CertificateTooLong zero right = absurd (omega (arith, zero))
+accepted files before after names g (BadCertificate line) zero right = absurd (omega (arith, zero))
+accepted files before after names g (Trouble Read) zero right = absurd (omega (arith, zero))
+accepted files before after names g (Trouble Memory) zero right = absurd (omega (arith, zero))
 
-pub verified : (held : Option (List Named)) (before after : ℕ) (names : Names) (words : List (List ℕ)) (out_old out_new err_old err_new : Option (List ℕ)) (status : ℕ) → IsVerifyLine words names → (status ≢ 6 → ToldFor names (record { held = held; faults_before = before; faults_after = after }) out_old out_new err_old err_new status) → status ≡ 0 → IfSome held (Verified words)
-verified held before after names words out_old out_new err_old err_new status is told zero =
+says_zero : (files : List Named) (before after : ℕ) (names : Names) (saying : Saying) → SaysRight names (record { held = Some files; faults_before = before; faults_after = after }) saying → saying.status ≡ 0 → BoundsRuns names files
+says_zero files before after names saying says zero = accepted files before after names says.sources says.answer (ap (λ (s : Saying). s.status) (sym says.said) ∙ zero) says.is_right
+
+-- what is said with status 0 to `verify` is that its certificate is accepted
+by_line : (words : List Text) (files : List Named) (before after : ℕ) (input : SeenInput) (saying : Saying) → MaySay words (record { held = Some files; faults_before = before; faults_after = after }) input saying → saying.status ≡ 0 → Verified words files
+by_line words files before after input saying (for_none none said) zero names is = absurd (none (command.Verify names.directories names.certificate names.sources) is)
+by_line words files before after input saying (for_command c line says) zero names is =
+    says_zero files before after names saying
+    (subst (λ (d : Command). SaysFor d (record { held = Some files; faults_before = before; faults_after = after }) input saying) (one_command words c (command.Verify names.directories names.certificate names.sources) line is) says) zero
+by_line words files before after input saying (for_any said) zero names is = absurd (omega (arith, ap (λ (s : Saying). s.status) said, zero))
+
+pub verified : (held : Option (List Named)) (before after : ℕ) (words : List Text) (input : SeenInput) (out_old out_new err_old err_new : Option (List ℕ)) (status : ℕ) → (status ≢ 6 → Told (MaySay words (record { held = held; faults_before = before; faults_after = after }) input) out_old out_new err_old err_new status) →
+    status ≡ 0 → IfSome held (Verified words)
+verified None before after words input out_old out_new err_old err_new status told zero = tt
+verified (Some files) before after words input out_old out_new err_old err_new status told zero =
     let t = told (λ six. omega (arith, zero, six)) in
-    let status_zero : status_of t.may.answer ≡ 0 = ap (λ (s : Saying). s.status) (sym t.may.said) ∙ sym t.status_is ∙ zero in
-    accepted held before after names t.may.sources t.may.answer words is status_zero t.may.is_right
+    by_line words files before after input t.saying t.may (sym t.status_is ∙ zero)

@@ -1,7 +1,5 @@
 -- The definitions that the contracts of this crate cite: those of public clauses, and in `private` those of private ones alone.
-pub mod Command
-pub mod Loading
-pub mod Answers
+pub mod Commands
 pub mod Told
 pub mod Headline
 pub mod Laws

@@ -1,4 +1,2 @@
--- What only the clauses of private functions cite: how the code comes to what is promised.
-pub mod Deciding
-pub mod Judging
-pub mod CommandReading
+-- What only the clauses of private functions cite.
+pub mod Unread

@@ -1,35 +1,29 @@
 //! The top of `p10`: a command line, files, an input and two outputs in; a status and two texts out.
 //!
-//! Entry point: [`p10_main`]. Invariant: the status and both texts are those of a right answer. For each
-//! command line at most one answer is right where the files are told, but for faults and want of memory.
-//! What the parts of an answer mean is left to the crates below.
+//! Entry point: [`p10_main`]. The words are read as a command, which a crate of its own obeys. Invariant: the status and both
+//! texts are those of a right answer. For each command line at most one answer is right where the files are told, but for
+//! faults and want of memory. What the parts of an answer mean is left to the crates below.
 #![tactic(auto)]
 
-ghost use Rattle.std.specs.Prelude.{◌≡◌, ◌≢◌, ◌⊎◌, IfSome, map, string_bytes};
+ghost use Rattle.std.specs.Prelude.{◌≡◌, ◌≢◌, ◌⊎◌, ◌≤◌, IfSome, length, map, string_bytes};
 ghost use Rattle.std.specs.Io.KnownBytes.{Appends};
 ghost use Rattle.p10_world.specs.Faults.{Rose};
 ghost use Rattle.p10_report.specs.Stops.{StopsWithin};
+ghost use Rattle.p10_command.specs.Told.{Told, Stopped};
+ghost use Rattle.p10_top.specs.Commands.{sources_of};
 ghost use Rattle.p10_top.specs.Headline.{Verified};
-ghost use Rattle.p10_top.specs.Told.{Told, Stopped};
-ghost use Rattle.p10_top.specs.private.Deciding.{unread_saying};
+ghost use Rattle.p10_top.specs.Told.{MaySay, SaysFor};
+ghost use Rattle.p10_top.specs.private.Unread.{unread_saying};
 
 use p10_report::{put_out_of_memory, put_usage};
-use p10_words::Usage;
+use p10_verify_command::{VerifyCommand, verify};
+use p10_words::{Command, Usage, read_words};
 use p10_world::{Files, Sink, Source};
 use std::alloc::Global;
 
-mod answer;
-mod command;
-mod decide;
-mod judge;
 pub mod laws;
-mod load;
-mod tell;
 #[cfg(test)]
 mod tests;
-mod verify;
-
-pub use p10_first as first;
 
 /// Runs `p10` on the words after the program's name, and gives the status with which it exits.
 ///
@@ -53,22 +47,63 @@ pub fn p10_main<F: Files, I: Source, O: Sink, E: Sink>(
     ensures headline { result ≡ 0 → IfSome (F.held files.old) (Verified (map string_bytes words.now)) }
 
     // The status and both texts are those of a right answer.
-    ensures told { result ≢ 6 → Told (map string_bytes words.now)
+    ensures told { result ≢ 6 → Told (MaySay (map string_bytes words.now)
         (record { held = F.held files.old; faults_before = F.faults files.old; faults_after = F.faults files.new })
+        (record { left = I.left input.old; faults_before = I.faults input.old; faults_after = I.faults input.new }))
         (O.taken out.old) (O.taken out.new) (E.taken err.old) (E.taken err.new) result }
 
-    // Where a write failed, each output has taken a front of its text.
-    ensures stopped { result ≡ 6 → Stopped (map string_bytes words.now)
+    // Where a write failed, each output has taken a prefix of its text.
+    ensures stopped { result ≡ 6 → Stopped (MaySay (map string_bytes words.now)
         (record { held = F.held files.old; faults_before = F.faults files.old; faults_after = F.faults files.new })
+        (record { left = I.left input.old; faults_before = I.faults input.old; faults_after = I.faults input.new }))
         (O.taken out.old) (O.taken out.new) (E.taken err.old) (E.taken err.new) }
     ensures write { result ≡ 6 → Rose (O.faults out.old) (O.faults out.new) ⊎ Rose (E.faults err.old) (E.faults err.new) }
 
     ensures held { F.held files.new ≡ F.held files.old }
     ensures input { input.new ≡ input.old }
 {
-    match command::read(alloc, words) {
-        Ok(verify) => verify::run(alloc, &verify, files, out, err),
+    match read_words(alloc, words) {
+        Ok(command) => obey(alloc, command, files, input, out, err),
         Err(fault) => tell_unread(fault, err),
+    }
+}
+
+/// Obeys a command, and gives the status with which the program exits.
+fn obey<F: Files, I: Source, O: Sink, E: Sink>(
+    alloc: Global,
+    command: Command,
+    files: &mut F,
+    input: &mut I,
+    out: &mut O,
+    err: &mut E,
+) -> u8
+    requires { length (sources_of command) ≤ 65536 }
+    ensures told { result ≢ 6 → Told (SaysFor command
+        (record { held = F.held files.old; faults_before = F.faults files.old; faults_after = F.faults files.new })
+        (record { left = I.left input.old; faults_before = I.faults input.old; faults_after = I.faults input.new }))
+        (O.taken out.old) (O.taken out.new) (E.taken err.old) (E.taken err.new) result }
+    ensures stopped { result ≡ 6 → Stopped (SaysFor command
+        (record { held = F.held files.old; faults_before = F.faults files.old; faults_after = F.faults files.new })
+        (record { left = I.left input.old; faults_before = I.faults input.old; faults_after = I.faults input.new }))
+        (O.taken out.old) (O.taken out.new) (E.taken err.old) (E.taken err.new) }
+    ensures write { result ≡ 6 → Rose (O.faults out.old) (O.faults out.new) ⊎ Rose (E.faults err.old) (E.faults err.new) }
+    ensures held { F.held files.new ≡ F.held files.old }
+    ensures input { input.new ≡ input.old }
+{
+    match command {
+        Command::Verify {
+            dirs: directories,
+            cert: certificate,
+            files: sources,
+        } => {
+            let command = VerifyCommand {
+                directories,
+                certificate,
+                sources,
+            };
+            verify(alloc, &command, files, out, err)
+        }
+        Command::Run { .. } => tell_unread(Usage::Refused, err),
     }
 }
 

@@ -1,0 +1,118 @@
+-- What an answer rests on: files up to their limits, and what they were judged to be.
+use Rattle.std.proofs.Common.{◌≡◌, ℕ, inl, inr, ◌+◌, ◌<◌, ◌≤◌, zero, suc, List, [], ◌∷◌, length, take, length-take, refl, sym, ◌∙◌, ap, subst, arith, min, Option, Some, None, IsSome, IsSomeAnd, Result, Err}
+use Rattle.p10_base.specs.Gathered.{Gathered}
+use Rattle.p10_world.specs.Faults.{Rose}
+use Rattle.p10_world.specs.Files.{Named, file_of, Lacks}
+use Rattle.p10_expand.specs.Gathering.{Gathers}
+use Rattle.p10_command.specs.declared.gathering.Ungathered as why
+use Rattle.p10_command.specs.declared.trouble.Trouble as problem
+use Rattle.p10_command.specs.declared.trouble.Trouble.TheVariants.{Read, Memory}
+use Rattle.p10_command.specs.Gathering.{AreUngathered, CanBeTold}
+use Rattle.p10_first.specs.Certificate.{certificate_text}
+use Rattle.p10_verify_command.specs.declared.answer.Answer.{Answer}
+use Rattle.p10_verify_command.specs.declared.answer.Answer.TheVariants.{Ungathered, AbsentCertificate, Unread, NotBuilt, CertificateTooLong, BadCertificate, Failing, Accepted, Trouble}
+use Rattle.p10_verify_command.specs.Names.{Names}
+use Rattle.p10_verify_command.specs.Loading.{Gives, IsHeld, IsLonger}
+use Rattle.p10_verify_command.specs.Answers.{HasCertificate, setting_of, certificate_limit}
+use Rattle.p10_verify_command.specs.private.Deciding.{Answered, IsFront, Decides}
+use Rattle.p10_verify_command.specs.private.Judging.{IsJudged}
+
+-- ## Files up to a limit
+
+take_all : {A : Type 0} (n : ℕ) (xs : List A) → length xs ≤ n → take n xs ≡ xs
+take_all zero [] short = refl
+take_all zero (x ∷ xs) short = absurd (omega (arith, short))
+take_all (suc n) [] short = refl
+take_all (suc n) (x ∷ xs) short = ap (λ ys. x ∷ ys) (take_all n xs (omega (arith, short)))
+
+short_of : (limit : ℕ) (bytes : List ℕ) (o : Option (List ℕ)) → IsSomeAnd o (λ whole. bytes ≡ take (limit + 1) whole) → length bytes ≤ limit → o ≡ Some bytes
+short_of limit bytes None front short = absurd front
+short_of limit bytes (Some whole) front short =
+    let size : length bytes ≡ min (limit + 1) (length whole) = ap length front ∙ length-take (limit + 1) whole in
+    ap Some (sym (front ∙ take_all (limit + 1) whole (omega (arith, size, short))))
+
+long_of : (limit : ℕ) (bytes : List ℕ) (o : Option (List ℕ)) → IsSomeAnd o (λ whole. bytes ≡ take (limit + 1) whole) → limit < length bytes → IsSomeAnd o (λ whole. limit < length whole)
+long_of limit bytes None front long = front
+long_of limit bytes (Some whole) front long =
+    let size : length bytes ≡ min (limit + 1) (length whole) = ap length front ∙ length-take (limit + 1) whole in
+    omega (arith, size, long)
+
+held_of : (P : List ℕ → Type 0) (o : Option (List ℕ)) → IsSomeAnd o P → IsSome o
+held_of P None front = absurd front
+held_of P (Some whole) front = refl
+
+is_short : (held : Option (List Named)) (name : List ℕ) (limit : ℕ) (bytes : List ℕ) → IsFront held name limit bytes → length bytes ≤ limit → Gives held name bytes
+is_short None name limit bytes front short = tt
+is_short (Some files) name limit bytes front short = short_of limit bytes (file_of name files) front.front short
+
+is_long : (held : Option (List Named)) (name : List ℕ) (limit : ℕ) (bytes : List ℕ) → IsFront held name limit bytes → limit < length bytes → IsLonger held name limit
+is_long None name limit bytes front long = tt
+is_long (Some files) name limit bytes front long = long_of limit bytes (file_of name files) front.front long
+
+is_held : (held : Option (List Named)) (name : List ℕ) (limit : ℕ) (bytes : List ℕ) → IsFront held name limit bytes → IsHeld held name
+is_held None name limit bytes front = tt
+is_held (Some files) name limit bytes front = held_of (λ whole. bytes ≡ take (limit + 1) whole) (file_of name files) front.front
+
+-- ## The answers
+
+pub decides_ungathered : (held : Option (List Named)) (names : Names) (g : Gathered) (u : why.Ungathered) → AreUngathered (setting_of held names) g u → CanBeTold names.sources u → Decides held names g (Ungathered u)
+decides_ungathered held names g u fails told = record { is_right = fails; can_be_told = told }
+
+pub decides_absent : (held later : Option (List Named)) (names : Names) (g : Gathered) → Gathers (setting_of held names) g → later ≡ held → Lacks later names.certificate → Decides held names g AbsentCertificate
+decides_absent held later names g gathers unchanged lacks = record { is_right = (gathers, subst (λ (h : Option (List Named)). Lacks h names.certificate) unchanged lacks); can_be_told = tt }
+
+has_certificate : (held : Option (List Named)) (names : Names) (bytes wanted : List ℕ) → IsFront held names.certificate certificate_limit bytes → length bytes ≤ certificate_limit → bytes ≡ wanted → HasCertificate held names wanted
+has_certificate held names bytes wanted front short same =
+    let given : HasCertificate held names bytes = record { given = is_short held names.certificate certificate_limit bytes front short; short = short } in
+    subst (λ (b : List ℕ). HasCertificate held names b) same given
+
+judged_by : (held : Option (List Named)) (names : Names) (g : Gathered) (bytes : List ℕ) (answer : Answer) → Gathers (setting_of held names) g → IsFront held names.certificate certificate_limit bytes → IsJudged g bytes answer → Decides held names g answer
+judged_by held names g bytes NotBuilt gathers front none =
+    record { is_right = (gathers, is_held held names.certificate certificate_limit bytes front, none); can_be_told = tt }
+judged_by held names g bytes (Unread u) gathers front unread =
+    record { is_right = (gathers, is_held held names.certificate certificate_limit bytes front, unread.0); can_be_told = unread.1 }
+judged_by held names g bytes CertificateTooLong gathers front (words, root, (p, spell, long)) =
+    record { is_right = (words, p, record { gathers = gathers; cut = root; spell = spell }, is_long held names.certificate certificate_limit bytes front long); can_be_told = tt }
+judged_by held names g bytes (BadCertificate line) gathers front (words, root, (p, spell, (short, wrong))) =
+    record { is_right = (words, p, bytes, record { gathers = gathers; cut = root; spell = spell }, has_certificate held names bytes bytes front short refl, wrong); can_be_told = tt }
+judged_by held names g bytes (Failing k at) gathers front (words, root, (p, spell, (c, short, text_is, is_certificate, fails, at_is))) =
+    record {
+      is_right = (words, p, c, record { program = record { gathers = gathers; cut = root; spell = spell }; certificate = has_certificate held names bytes (certificate_text c) front short text_is; is_certificate = is_certificate }, fails, at_is);
+      can_be_told = tt;
+    }
+judged_by held names g bytes (Accepted bounds) gathers front (words, root, (p, spell, (c, short, text_is, is_certificate, accepts, total))) =
+    record {
+      is_right = (words, p, c, record { program = record { gathers = gathers; cut = root; spell = spell }; certificate = has_certificate held names bytes (certificate_text c) front short text_is; is_certificate = is_certificate }, accepts, total);
+      can_be_told = tt;
+    }
+judged_by held names g bytes (Ungathered u) gathers front (words, root, are) = absurd are.2
+judged_by held names g bytes AbsentCertificate gathers front (words, root, are) = absurd are.2
+judged_by held names g bytes (Trouble trouble) gathers front (words, root, are) = absurd are.2
+
+pub decides_judged : (held later : Option (List Named)) (names : Names) (g : Gathered) (bytes read : List ℕ) (answer : Answer) → Gathers (setting_of held names) g → later ≡ held → IsFront later names.certificate certificate_limit bytes → read ≡ bytes →
+    IsJudged g read answer → Decides held names g answer
+decides_judged held later names g bytes read answer gathers unchanged front same judged =
+    judged_by held names g bytes answer gathers (subst (λ (h : Option (List Named)). IsFront h names.certificate certificate_limit bytes) unchanged front) (subst (λ (b : List ℕ). IsJudged g b answer) same judged)
+
+no_fault : Rose 0 0 → ⊥
+no_fault (inl more) = absurd (omega (arith, more))
+no_fault (inr last) = absurd (omega (arith, last))
+
+-- an answer that is right without a fault is right whatever the counts of faults are
+pub seen_later : (held : Option (List Named)) (before after : ℕ) (names : Names) (g : Gathered) (answer : Answer) → Decides held names g answer → Answered (record { held = held; faults_before = before; faults_after = after }) names g answer
+seen_later held before after names g (Ungathered u) decides = record { is_right = decides.is_right; can_be_told = decides.can_be_told }
+seen_later held before after names g AbsentCertificate decides = record { is_right = decides.is_right; can_be_told = decides.can_be_told }
+seen_later held before after names g (Unread u) decides = record { is_right = decides.is_right; can_be_told = decides.can_be_told }
+seen_later held before after names g NotBuilt decides = record { is_right = decides.is_right; can_be_told = decides.can_be_told }
+seen_later held before after names g CertificateTooLong decides = record { is_right = decides.is_right; can_be_told = decides.can_be_told }
+seen_later held before after names g (BadCertificate line) decides = record { is_right = decides.is_right; can_be_told = decides.can_be_told }
+seen_later held before after names g (Failing k at) decides = record { is_right = decides.is_right; can_be_told = decides.can_be_told }
+seen_later held before after names g (Accepted bounds) decides = record { is_right = decides.is_right; can_be_told = decides.can_be_told }
+seen_later held before after names g (Trouble Read) decides = absurd (no_fault decides.is_right)
+seen_later held before after names g (Trouble Memory) decides = record { is_right = tt; can_be_told = tt }
+
+-- a read failed only where the count of faults rose
+pub troubled : {T : Type 0} (held : Option (List Named)) (before after : ℕ) (names : Names) (g : Gathered) (trouble : problem.Trouble) (r : Result T problem.Trouble) → r ≡ Err trouble → (r ≡ Err Read → Rose before after) →
+    Answered (record { held = held; faults_before = before; faults_after = after }) names g (Trouble trouble)
+troubled held before after names g Read r is failed = record { is_right = failed is; can_be_told = tt }
+troubled held before after names g Memory r is failed = record { is_right = tt; can_be_told = tt }

@@ -1,0 +1,5 @@
+use Rattle.p10_verify_command.proofs.OneAnswer.{says_right}
+use Rattle.p10_verify_command.proofs.laws.one_answer_is_right.Goals as goal
+
+pub returns : goal.returns
+returns c = λ names files before after some other. says_right c.one_reading.ensures files before after names some other

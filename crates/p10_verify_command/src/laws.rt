@@ -1,0 +1,12 @@
+//! What holds of the answers: the function does nothing, and its contract is the law.
+
+ghost use Rattle.p10_verify_command.specs.Laws.{VerifySaysOneThing};
+
+use p10_front::laws::one_reading;
+
+/// Where files are told, only one thing is right to say to `verify`, but for a read fault and want of memory.
+pub fn one_answer_is_right()
+    ensures { VerifySaysOneThing }
+{
+    one_reading();
+}

@@ -1,0 +1,21 @@
+//! The command `verify` of `p10`: whether a certificate bounds every run of a program.
+//!
+//!     verify --cert a.p10 a.c        accepted: prefix 3 turn 0 calls 1 bytes 0
+//!                                    refused: K11 a.c:1:5
+//!
+//! Entry point: [`verify`]. The sources are gathered, the certificate is loaded, the sources are read as a program, and the
+//! conditions of the certificate are tried; the first of these that gives no program, no certificate or no bounds is
+//! what is told. Invariant: the status and both texts are those of a right answer, and where the files are told at most one
+//! is right, but for faults and want of memory. Which words are this command is left to the crate above.
+#![tactic(auto)]
+
+mod answer;
+mod command;
+mod decide;
+mod judge;
+pub mod laws;
+mod load;
+mod tell;
+
+pub use answer::Answer;
+pub use command::{VerifyCommand, verify};

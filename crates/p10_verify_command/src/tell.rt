@@ -1,0 +1,59 @@
+//! What is said for an answer.
+
+ghost use Rattle.std.specs.Prelude.{◌⊎◌, ◌≤◌, OnErr, OnOk};
+ghost use Rattle.p10_world.specs.Faults.{Rose};
+ghost use Rattle.p10_command.specs.Told.{BothTake, BothTakeFronts};
+ghost use Rattle.p10_verify_command.specs.Names.{names_of};
+ghost use Rattle.p10_verify_command.specs.Told.{err_text, out_text};
+ghost use Rattle.p10_verify_command.specs.private.Deciding.{CanBeTold};
+
+use crate::answer::Answer;
+use crate::command::VerifyCommand;
+use p10_base::{Limit, Refusal, Sources, Span, SubsetCode};
+use p10_command::{put_trouble, put_ungathered, put_unread};
+use p10_report::{
+    put_absent, put_accepted, put_bad_certificate, put_failing, put_limit, put_refusal,
+};
+use p10_world::{Sink, SinkFault};
+
+/// Where sources are refused that are no program that can be verified yet.
+const BEGINNING: Span = Span {
+    file: 0,
+    start: 0,
+    end: 0,
+};
+
+/// Writes both texts of an answer.
+///
+/// # Errors
+/// A fault only where the count of faults of an output rose; each has then taken a prefix of its text.
+pub fn tell<O: Sink, E: Sink>(
+    command: &VerifyCommand,
+    answer: &Answer,
+    sources: &Sources,
+    out: &mut O,
+    err: &mut E,
+) -> Result<(), SinkFault>
+    requires { CanBeTold (names_of command.now) answer.now }
+    ensures ok { OnOk result (BothTake (O.taken out.old) (O.taken out.new) (E.taken err.old) (E.taken err.new) (out_text sources.now answer.now) (err_text (names_of command.now) sources.now answer.now)) }
+    ensures stopped { OnErr result (BothTakeFronts (O.taken out.old) (O.taken out.new) (E.taken err.old) (E.taken err.new) (out_text sources.now answer.now) (err_text (names_of command.now) sources.now answer.now)) }
+    ensures failed { OnErr result (Rose (O.faults out.old) (O.faults out.new) ⊎ Rose (E.faults err.old) (E.faults err.new)) }
+    ensures out_count { O.faults out.old ≤ O.faults out.new }
+    ensures err_count { E.faults err.old ≤ E.faults err.new }
+{
+    match answer {
+        Answer::Ungathered(why) => put_ungathered(err, command.sources.as_slice(), sources, why),
+        Answer::AbsentCertificate => put_absent(err, command.certificate.as_str()),
+        Answer::Unread(why) => put_unread(err, sources, why),
+        Answer::NotBuilt => put_refusal(
+            err,
+            sources,
+            &Refusal::subset(SubsetCode::NotBuilt, BEGINNING),
+        ),
+        Answer::CertificateTooLong => put_limit(err, Limit::CERTIFICATE_BYTES),
+        Answer::BadCertificate(line) => put_bad_certificate(err, *line),
+        Answer::Failing(condition, at) => put_failing(out, sources, condition.number(), *at),
+        Answer::Accepted(bounds) => put_accepted(out, bounds),
+        Answer::Trouble(trouble) => put_trouble(err, *trouble),
+    }
+}
