@@ -1,5 +1,6 @@
 -- The lemmas of this crate, by subject.
 pub mod Telling
 pub mod Running
+pub mod Sources
 pub mod OneAnswer
 pub mod Lines

@@ -1,5 +1,5 @@
 -- What holds of a command line that is `run`.
-use Rattle.std.proofs.Common.{◌≡◌, ℕ, ◌^◌, ◌≤◌, List, arith, Option, Some, None}
+use Rattle.std.proofs.Common.{ℕ, ◌^◌, ◌≤◌, List, arith, Option, Some, None}
 use Rattle.p10_base.specs.Words.{Text}
 use Rattle.p10_words.specs.CommandLines.{HasNumber}
 use Rattle.p10_run_command.specs.declared.command.RunCommand.{RunCommand}

@@ -1,5 +1,5 @@
 -- Where files and input are told, one thing is right to say, but for a read fault and out of memory.
-use Rattle.std.proofs.Common.{◌≡◌, ◌≢◌, ℕ, List, [], refl, sym, ◌∙◌, ap, subst, Option, Some, None, IfSome, IsSome}
+use Rattle.std.proofs.Common.{◌≡◌, ◌≢◌, ℕ, List, [], refl, sym, ◌∙◌, ap, subst, Option, Some, None, IsSome}
 use Rattle.p10_base.specs.Gathered.{Gathered}
 use Rattle.p10_world.specs.Files.{Named}
 use Rattle.p10_core.specs.Typed.{PlainProgram}
@@ -15,7 +15,7 @@ use Rattle.p10_command.specs.Saying.{Saying}
 use Rattle.p10_command.specs.Seen.{Seen, SeenInput}
 use Rattle.p10_command.proofs.Once.{same_sources, gathered_or_not, one_ungathered, same_program, read_or_not, one_unread}
 use Rattle.p10_run_command.specs.declared.command.RunCommand.{RunCommand}
-use Rattle.p10_run_command.specs.Answers.{GathersProgram, IsInput, SaysRight, ungathered, unread, ended, troubled, troubled_run, setting_of, ungathered_saying, unread_saying, troubled_saying}
+use Rattle.p10_run_command.specs.Answers.{GathersProgram, IsInput, SaysRight, ungathered, unread, ended, troubled, troubled_run, setting_of, unread_saying, troubled_saying}
 use Rattle.p10_run_command.specs.Command.{budget_of}
 use Rattle.p10_run_command.specs.Endings.{ended_saying}
 

@@ -1,11 +1,18 @@
 -- What is told of a program that ran.
-use Rattle.std.proofs.Common.{◌≡◌, ◌≢◌, ℕ, List, [], ◌∷◌, ◌++◌, refl, sym, ap, ◌∙◌, subst, append-nil, arith, Option, Some, None, IfSome, Result, Ok, Err, IfOk}
+use Rattle.std.proofs.Common.{◌≡◌, ◌≢◌, ℕ, List, [], ◌∷◌, ◌++◌, refl, sym, ap, ◌∙◌, subst, append-nil, Option, Some, None, IfSome, IsSomeAnd, ◌⊎◌, inl, inr, Result, Ok, Err, IfOk}
 use Rattle.std.specs.Prelude.{OnErr}
 use Rattle.std.specs.Io.KnownBytes.{Appends}
 use Rattle.p10_base.specs.Gathered.{Gathered}
 use Rattle.p10_world.specs.Faults.{Rose}
 use Rattle.p10_world.specs.Sink.{TakesFront}
+use Rattle.p10_core.specs.declared.program.Program.{Program}
 use Rattle.p10_core.specs.Typed.{PlainProgram}
+use Rattle.p10_core.specs.Views.{plain_program}
+use Rattle.p10_core.specs.WholePrograms.{IsWholeProgram}
+use Rattle.p10_expand.specs.Gathering.{Gathers}
+use Rattle.p10_front.specs.declared.reading.Reading.{Reading}
+use Rattle.p10_front.specs.Answers.{reading_of}
+use Rattle.p10_front.specs.Readings.{PlainReading, AreReadAs}
 use Rattle.p10_interp.specs.declared.ended.RunFault.{RunFault}
 use Rattle.p10_interp.specs.declared.ended.RunFault.TheVariants as run
 use Rattle.p10_interp.specs.Resting.{rest_of}
@@ -13,12 +20,12 @@ use Rattle.p10_meaning.specs.Runs.{Outcome, Ran}
 use Rattle.p10_run.specs.declared.budget.Budget.{Budget}
 use Rattle.p10_run.specs.declared.finished.FinishedRun.{FinishedRun}
 use Rattle.p10_run.specs.WholeRuns.{ForEachInput, IsRun, outcome_of, run_with}
-use Rattle.p10_command.specs.declared.trouble.Trouble.{Trouble}
 use Rattle.p10_command.specs.declared.trouble.Trouble.TheVariants as trouble
+use Rattle.p10_command.specs.Reading.{AreProgram}
 use Rattle.p10_command.specs.Seen.{Seen, SeenInput}
 use Rattle.p10_command.specs.Told.{Told, Stopped}
 use Rattle.p10_run_command.specs.declared.command.RunCommand.{RunCommand}
-use Rattle.p10_run_command.specs.Answers.{GathersProgram, SaysRight, ended, troubled_run, ended, setting_of, troubled_saying}
+use Rattle.p10_run_command.specs.Answers.{GathersProgram, SaysRight, ended, troubled_run, setting_of, troubled_saying}
 use Rattle.p10_run_command.specs.Command.{budget_of}
 use Rattle.p10_run_command.specs.Endings.{ended_line, ended_saying, ended_status}
 use Rattle.p10_run_command.specs.private.Telling.{Comes, IsTold, end_line, end_status}
@@ -36,6 +43,31 @@ comes p b (Some bytes) left_after taken taken_after (Ok done) told each front ea
 comes p b (Some bytes) left_after taken taken_after (Err fault) told each front each_front = (bytes, refl, front)
 comes p b None left_after taken taken_after (Ok done) told each front each_front = (each.given ++ rest_of each.ended [], tt, each.holds [])
 comes p b None left_after taken taken_after (Err fault) told each front each_front = (each_front.given ++ rest_of each_front.ended [], tt, each_front.holds [])
+
+-- the same of the program of a reading, at the budget of the command
+pub comes_to : (o : Option Program) (program : Program) (b b' : Budget) (left left_after taken taken_after : Option (List ℕ)) (end : Result FinishedRun RunFault) → o ≡ Some program → b ≡ b' →
+    IfOk end (λ done. IfSome left (λ bytes. IsRun done taken taken_after (run_with (plain_program program) b bytes))) →
+    IfOk end (λ done. ForEachInput left left_after (λ bytes. IsRun done taken taken_after (run_with (plain_program program) b bytes))) →
+    OnErr end (IfSome left (λ bytes. TakesFront taken taken_after (run_with (plain_program program) b bytes).output)) →
+    OnErr end (ForEachInput left left_after (λ bytes. TakesFront taken taken_after (run_with (plain_program program) b bytes).output)) →
+    IsSomeAnd o (λ p. Comes (plain_program p) b' left taken taken_after end)
+comes_to o program b b' left left_after taken taken_after end is same told each front each_front =
+    subst (λ (o : Option Program). IsSomeAnd o (λ p. Comes (plain_program p) b' left taken taken_after end)) (sym is)
+    (subst (λ (b : Budget). Comes (plain_program program) b left taken taken_after end) same
+    (comes (plain_program program) b left left_after taken taken_after end told each front each_front))
+
+-- a reading's program is whole
+by_whole : (g : Gathered) (r : PlainReading) (o : Option Program) → IsSomeAnd o (λ p. AreReadAs g r (plain_program p) × IsWholeProgram (plain_program p)) → IsSomeAnd o (λ p. IsWholeProgram (plain_program p))
+by_whole g r None are = are
+by_whole g r (Some p) are = are.1
+
+pub whole_program : (g : Gathered) (reading : Reading) → AreProgram g reading → IsSomeAnd reading.program (λ p. IsWholeProgram (plain_program p))
+whole_program g reading are = by_whole g (reading_of reading) reading.program are
+
+-- a write failed, of the output or of the line
+pub either_rose : {A B C : Type 0} → (A → B) → A ⊎ C → B ⊎ C
+either_rose rises (inl failed) = inl (rises failed)
+either_rose rises (inr rose) = inr rose
 
 -- ## What is said of it
 
@@ -119,3 +151,39 @@ run_stopped command seen input g p (Err run.Write) out_old out_new err_old err_n
   may = ended g p bytes gathers is refl;
   taken = record { on_out = front; on_err = no_front err_old err_new (ended_saying g (run_with p (budget_of command) bytes)).err stopped };
 }
+
+-- ## What is said of a reading's program
+
+by_program : (command : RunCommand) (seen : Seen) (input : SeenInput) (g : Gathered) (r : PlainReading) (o : Option Program) (end : Result FinishedRun RunFault) (out_old out_new err_old err_new : Option (List ℕ)) (given : ℕ) →
+    Gathers (setting_of seen command) g → IsSomeAnd o (λ p. AreReadAs g r (plain_program p) × IsWholeProgram (plain_program p)) → IsSomeAnd o (λ p. Comes (plain_program p) (budget_of command) input.left out_old out_new end) →
+    (end ≡ Err run.Read → Rose input.faults_before input.faults_after) →
+    IsTold (end_status end) (end_line g end) err_old err_new given → given ≢ 6 →
+    Told (SaysRight command seen input) out_old out_new err_old err_new given
+by_program command seen input g r None end out_old out_new err_old err_new given gathers are comes read told six = absurd are
+by_program command seen input g r (Some p) end out_old out_new err_old err_new given gathers are comes read told six =
+    run_told command seen input g (plain_program p) end out_old out_new err_old err_new given (record { gathers = gathers; reading = r; read = are.0 }) comes read told six
+
+pub program_told : (command : RunCommand) (seen : Seen) (input : SeenInput) (g : Gathered) (reading : Reading) (end : Result FinishedRun RunFault) (out_old out_new err_old err_new : Option (List ℕ)) (given : ℕ) →
+    Gathers (setting_of seen command) g → AreProgram g reading → IsSomeAnd reading.program (λ p. Comes (plain_program p) (budget_of command) input.left out_old out_new end) →
+    (end ≡ Err run.Read → Rose input.faults_before input.faults_after) →
+    IsTold (end_status end) (end_line g end) err_old err_new given → given ≢ 6 →
+    Told (SaysRight command seen input) out_old out_new err_old err_new given
+program_told command seen input g reading end out_old out_new err_old err_new given gathers are comes read told six =
+    by_program command seen input g (reading_of reading) reading.program end out_old out_new err_old err_new given gathers are comes read told six
+
+by_stopped : (command : RunCommand) (seen : Seen) (input : SeenInput) (g : Gathered) (r : PlainReading) (o : Option Program) (end : Result FinishedRun RunFault) (out_old out_new err_old err_new : Option (List ℕ)) →
+    Gathers (setting_of seen command) g → IsSomeAnd o (λ p. AreReadAs g r (plain_program p) × IsWholeProgram (plain_program p)) → IsSomeAnd o (λ p. Comes (plain_program p) (budget_of command) input.left out_old out_new end) →
+    (end ≡ Err run.Read → Rose input.faults_before input.faults_after) →
+    TakesFront err_old err_new (end_line g end) →
+    Stopped (SaysRight command seen input) out_old out_new err_old err_new
+by_stopped command seen input g r None end out_old out_new err_old err_new gathers are comes read stopped = absurd are
+by_stopped command seen input g r (Some p) end out_old out_new err_old err_new gathers are comes read stopped =
+    run_stopped command seen input g (plain_program p) end out_old out_new err_old err_new (record { gathers = gathers; reading = r; read = are.0 }) comes read stopped
+
+pub program_stopped : (command : RunCommand) (seen : Seen) (input : SeenInput) (g : Gathered) (reading : Reading) (end : Result FinishedRun RunFault) (out_old out_new err_old err_new : Option (List ℕ)) →
+    Gathers (setting_of seen command) g → AreProgram g reading → IsSomeAnd reading.program (λ p. Comes (plain_program p) (budget_of command) input.left out_old out_new end) →
+    (end ≡ Err run.Read → Rose input.faults_before input.faults_after) →
+    TakesFront err_old err_new (end_line g end) →
+    Stopped (SaysRight command seen input) out_old out_new err_old err_new
+program_stopped command seen input g reading end out_old out_new err_old err_new gathers are comes read stopped =
+    by_stopped command seen input g (reading_of reading) reading.program end out_old out_new err_old err_new gathers are comes read stopped

@@ -1,11 +1,15 @@
 -- What is told on the error output alone.
-use Rattle.std.proofs.Common.{◌≡◌, ℕ, List, [], ◌++◌, sym, subst, Option}
+use Rattle.std.proofs.Common.{◌≡◌, ℕ, List, [], sym, subst, Option, Result, Err}
 use Rattle.std.specs.Io.KnownBytes.{Appends}
 use Rattle.std.proofs.KnownBytes.{Appends-nil}
 use Rattle.p10_report.specs.Stops.{StopsWithin}
 use Rattle.p10_report.proofs.Stopping.{TakesFront-stop}
+use Rattle.p10_world.specs.Faults.{Rose}
+use Rattle.p10_command.specs.declared.trouble.Trouble.{Trouble}
+use Rattle.p10_command.specs.declared.trouble.Trouble.TheVariants.{Read, Memory}
 use Rattle.p10_command.specs.Saying.{Saying}
 use Rattle.p10_command.specs.Told.{Told, Stopped}
+use Rattle.p10_run_command.specs.Answers.{MayCome}
 use Rattle.p10_run_command.specs.private.Telling.{IsTold}
 
 pub told_line : (may : Saying → Type 0) (saying : Saying) (out err_old err_new : Option (List ℕ)) (given : ℕ) → may saying → saying.out ≡ [] → IsTold saying.status saying.err err_old err_new given → Told may out out err_old err_new given
@@ -22,3 +26,8 @@ stopped_line may saying out err_old err_new is none stopped = record {
   may = is;
   taken = record { on_out = record { front = []; back = []; parts = none; taken = Appends-nil out }; on_err = TakesFront-stop err_old err_new saying.err stopped };
 }
+
+-- a trouble comes as it may
+pub may_come : {T : Type 0} (result : Result T Trouble) (trouble : Trouble) (before after : ℕ) → result ≡ Err trouble → (result ≡ Err Read → Rose before after) → MayCome trouble before after
+may_come result Read before after is rises = rises is
+may_come result Memory before after is rises = tt

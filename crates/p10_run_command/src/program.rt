@@ -41,8 +41,11 @@ pub fn run_sources<I: Source, O: Sink, E: Sink>(
 {
     match read_sources(alloc, sources) {
         Ok(ReadSources::Program(reading)) => {
-            let end = run_reading(alloc, &reading, command, input, out);
-            tell_end(sources, end, err)
+            tell_end(
+                sources,
+                run_reading(alloc, &reading, command, input, out),
+                err,
+            )
         }
         Ok(ReadSources::Unread(why)) => tell_unread(sources, &why, err),
         Err(_) => tell_trouble(Trouble::Memory, err),

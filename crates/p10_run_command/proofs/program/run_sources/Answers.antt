@@ -1,0 +1,46 @@
+use Rattle.std.proofs.Common.{[], refl}
+use Rattle.p10_command.specs.declared.trouble.Trouble.TheVariants.{Memory}
+use Rattle.p10_run_command.specs.Answers.{unread, troubled, unread_saying, troubled_saying}
+use Rattle.p10_run_command.proofs.Running.{program_told, program_stopped, whole_program, either_rose}
+use Rattle.p10_run_command.proofs.Sources.{are_program, are_unread}
+use Rattle.p10_run_command.proofs.Telling.{told_line, stopped_line}
+use Rattle.p10_run_command.proofs.program.run_sources.Goals as goal
+
+pub run_reading-requires-clause-program : goal.run_reading-requires-clause-program
+run_reading-requires-clause-program g c = whole_program c.args.sources.now c.in-Ok-Program.reading (are_program c.args.sources.now c.in-Ok-Program.field-0 c.in-Ok-Program.reading c.in-Ok-Program.field-0-is c.in-Ok-Program.ensures)
+
+pub returns-in-Ok-Program-clause-told : goal.returns-in-Ok-Program-clause-told
+returns-in-Ok-Program-clause-told g c = λ six seen gathers.
+    program_told c.args.command.now seen _ c.args.sources.now c.in-Ok-Program.reading c.run_reading.result _ _ _ _ _ gathers
+    (are_program c.args.sources.now c.in-Ok-Program.field-0 c.in-Ok-Program.reading c.in-Ok-Program.field-0-is c.in-Ok-Program.ensures)
+    c.run_reading.ensures.comes c.run_reading.ensures.read (c.tell_end.ensures.told six) six
+
+pub returns-in-Ok-Program-clause-stopped : goal.returns-in-Ok-Program-clause-stopped
+returns-in-Ok-Program-clause-stopped g c = λ six seen gathers.
+    program_stopped c.args.command.now seen _ c.args.sources.now c.in-Ok-Program.reading c.run_reading.result _ _ _ _ gathers
+    (are_program c.args.sources.now c.in-Ok-Program.field-0 c.in-Ok-Program.reading c.in-Ok-Program.field-0-is c.in-Ok-Program.ensures)
+    c.run_reading.ensures.comes c.run_reading.ensures.read (c.tell_end.ensures.stopped six)
+
+pub returns-in-Ok-Program-clause-write : goal.returns-in-Ok-Program-clause-write
+returns-in-Ok-Program-clause-write g c = λ six. either_rose c.run_reading.ensures.write (c.tell_end.ensures.write six)
+
+pub tell_unread-requires : goal.tell_unread-requires
+tell_unread-requires g c = (are_unread c.args.sources.now c.in-Ok-Unread.field-0 c.in-Ok-Unread.why c.in-Ok-Unread.field-0-is c.in-Ok-Unread.ensures).1
+
+pub returns-in-Ok-Unread-clause-told : goal.returns-in-Ok-Unread-clause-told
+returns-in-Ok-Unread-clause-told g c = λ six seen gathers.
+    told_line _ (unread_saying c.args.sources.now c.in-Ok-Unread.why) _ _ _ _
+    (unread c.args.sources.now c.in-Ok-Unread.why gathers (are_unread c.args.sources.now c.in-Ok-Unread.field-0 c.in-Ok-Unread.why c.in-Ok-Unread.field-0-is c.in-Ok-Unread.ensures).0 refl)
+    refl (c.tell_unread.ensures.told six)
+
+pub returns-in-Ok-Unread-clause-stopped : goal.returns-in-Ok-Unread-clause-stopped
+returns-in-Ok-Unread-clause-stopped g c = λ six seen gathers.
+    stopped_line _ (unread_saying c.args.sources.now c.in-Ok-Unread.why) _ _ _
+    (unread c.args.sources.now c.in-Ok-Unread.why gathers (are_unread c.args.sources.now c.in-Ok-Unread.field-0 c.in-Ok-Unread.why c.in-Ok-Unread.field-0-is c.in-Ok-Unread.ensures).0 refl)
+    refl (c.tell_unread.ensures.stopped six)
+
+pub returns-in-Err-clause-told : goal.returns-in-Err-clause-told
+returns-in-Err-clause-told g c = λ six seen gathers. told_line _ (troubled_saying Memory []) _ _ _ _ (troubled Memory tt refl) refl (c.tell_trouble.ensures.told six)
+
+pub returns-in-Err-clause-stopped : goal.returns-in-Err-clause-stopped
+returns-in-Err-clause-stopped g c = λ six seen gathers. stopped_line _ (troubled_saying Memory []) _ _ _ (troubled Memory tt refl) refl (c.tell_trouble.ensures.stopped six)
