@@ -1,16 +1,14 @@
 -- What a call of the machine does to how far a whole run has come.
 use Rattle.std.proofs.Common.{◌≡◌, ℕ, zero, suc, ◌+◌, ◌≤◌, ◌<◌, ◌⊎◌, inl, inr, arith, Bool, true, false, List, [], ◌++◌, refl, sym, ap, ◌∙◌, subst, append-nil, append_assoc, Option, Result, Ok, Err, IfOk, OnErr, IfSome}
-use Rattle.std.proofs.KnownBytes.{Appends-nil, Appends-trans}
+use Rattle.std.proofs.KnownBytes.{Appends-trans}
 use Rattle.std.specs.Io.KnownBytes.{Appends}
 use Rattle.p10_world.specs.Sink.{TakesFront}
 use Rattle.p10_core.specs.Typed.{PlainProgram}
-use Rattle.p10_meaning.specs.States.{State, AssertionFailed as HasFailed, Undefined as IsUndefined, StepsSpent as HasSpent, Progress, gives, ends}
+use Rattle.p10_meaning.specs.States.{State, Progress, gives}
 use Rattle.p10_meaning.specs.Statements.{Frame}
-use Rattle.p10_meaning.specs.Opening.{opening}
 use Rattle.p10_meaning.specs.Runs.{Ran, ran}
-use Rattle.p10_meaning.specs.Laws.{Extends}
-use Rattle.p10_interp.specs.Stages.{Stage, at_loop, over, first_stage, turn_stage, ran_stages}
-use Rattle.p10_interp.specs.Resting.{Position, fresh, paused, finished, is_paused, Resting, rest_of, begun, reached, Asks, Means, EndsBy, Runs, GivesUp, output_of}
+use Rattle.p10_interp.specs.Stages.{Stage, at_loop, first_stage, turn_stage, ran_stages}
+use Rattle.p10_interp.specs.Resting.{Position, fresh, paused, finished, is_paused, Resting, rest_of, begun, reached, Asks, Means, Runs, GivesUp, output_of}
 use Rattle.p10_interp.specs.declared.ended.Ended.{Ended}
 use Rattle.p10_interp.specs.declared.ended.Ended.TheVariants.{AtLoop, TurnDone, Returned, AssertionFailed, Undefined, StepsSpent}
 use Rattle.p10_interp.specs.declared.ended.RunFault.{RunFault}
@@ -18,7 +16,7 @@ use Rattle.p10_interp.proofs.ByStages.{runs_by_stages}
 use Rattle.p10_run.specs.declared.budget.Budget.{Budget}
 use Rattle.p10_run.specs.declared.finished.FinishedRun.{FinishedRun}
 use Rattle.p10_run.specs.WholeRuns.{denied_requests, world_of, run_with, outcome_of, IsRun, ForEachInput}
-use Rattle.p10_run.specs.private.Standing.{new_machine, outcome_after, IsAt, Stands, GivenUp}
+use Rattle.p10_run.specs.private.Standing.{new_machine, outcome_after, Stands, GivenUp}
 use Rattle.p10_run.proofs.Inputs.{asks_twice, rest_after, for_told}
 use Rattle.p10_run.proofs.Outputs.{stage_comes_first, takes_prefix}
 

@@ -1,11 +1,8 @@
--- The inputs that a source may have held, and the faults of the outside.
-use Rattle.std.proofs.Common.{◌≡◌, ℕ, ◌≤◌, ◌<◌, ◌⊎◌, inl, inr, arith, Bool, true, false, List, [], ◌++◌, refl, sym, ap, ◌∙◌, subst, append-nil, Option, Some, None, IfSome}
+-- The inputs that a source may have held.
+use Rattle.std.proofs.Common.{◌≡◌, ℕ, Bool, true, false, List, [], ◌++◌, refl, sym, ap, ◌∙◌, subst, Option, Some, None, IfSome}
 use Rattle.std.specs.Io.KnownBytes.{Consumes, IsAtEnd}
-use Rattle.p10_world.specs.Sink.{TakesFront}
-use Rattle.p10_world.specs.Faults.{Rose, last_count}
 use Rattle.p10_interp.specs.Resting.{rest_of, StaysAsked, Asks}
-use Rattle.std.proofs.KnownBytes.{Consumes-trans, Appends-nil}
-use Rattle.p10_interp.proofs.Served.{asks_nothing}
+use Rattle.std.proofs.KnownBytes.{Consumes-trans}
 use Rattle.p10_run.specs.WholeRuns.{ForEachInput}
 
 -- ## One part after another
@@ -47,20 +44,3 @@ told_by true Claim xs given (Some ys) c end h = subst Claim (sym (c ∙ ap (λ l
 pub for_told : (left after : Option (List ℕ)) (Claim : List ℕ → Type 0) → ForEachInput left after Claim → IfSome left Claim
 for_told None after Claim f = tt
 for_told (Some xs) after Claim f = told_by f.ended Claim xs f.given after f.source.taken (λ e. f.source.end refl e) f.holds
-
--- what holds for each input, holds where nothing was taken
-pub for_all : (left : Option (List ℕ)) (Claim : List ℕ → Type 0) → ((bytes : List ℕ) → Claim bytes) → ForEachInput left left Claim
-for_all left Claim h = record { given = []; ended = false; source = asks_nothing false left; holds = λ rest. h rest }
-
--- ## Faults
-
--- what rose in a later part, rose in the whole
-pub rose_later : (a b c : ℕ) → a ≤ b → Rose b c → Rose a c
-rose_later a b c e (inl h) = inl (omega (arith, e, h))
-rose_later a b c e (inr h) = inr h
-
--- ## Nothing was run
-
--- the sink took nothing, which is a prefix of any text
-pub takes_nothing : (taken : Option (List ℕ)) (text : List ℕ) → TakesFront taken taken text
-takes_nothing taken text = record { front = []; back = text; parts = refl; taken = Appends-nil taken }

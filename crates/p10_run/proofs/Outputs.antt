@@ -1,11 +1,10 @@
 -- The output of a whole run begins with that of each of its parts.
-use Rattle.std.proofs.Common.{◌≡◌, ℕ, zero, suc, ◌≤◌, arith, List, [], ◌++◌, refl, sym, ap, ◌∙◌, subst, append_assoc, Option}
+use Rattle.std.proofs.Common.{ℕ, zero, suc, ◌≤◌, arith, List, Option}
 use Rattle.std.specs.Io.KnownBytes.{Appends}
 use Rattle.p10_world.specs.Sink.{TakesFront}
 use Rattle.p10_core.specs.Typed.{PlainProgram}
 use Rattle.p10_meaning.specs.States.{State, Progress, gives, ends}
 use Rattle.p10_meaning.specs.Statements.{Frame}
-use Rattle.p10_meaning.specs.Runs.{Ran}
 use Rattle.p10_meaning.specs.Laws.{Extends}
 use Rattle.p10_meaning.proofs.Following.{extends_same, extends_trans}
 use Rattle.p10_interp.specs.Stages.{Stage, at_loop, over, turn_stage, ran_stages}

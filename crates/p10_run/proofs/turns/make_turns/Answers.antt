@@ -1,7 +1,6 @@
 -- A turn more was made, or was given up.
-use Rattle.std.proofs.Common.{◌≡◌, ℕ, ◌<◌, true, arith, sym, ◌∙◌}
+use Rattle.std.proofs.Common.{◌<◌, arith, sym, ◌∙◌}
 use Rattle.p10_interp.specs.Machines.{resting_of}
-use Rattle.p10_interp.specs.Resting.{is_paused}
 use Rattle.p10_run.proofs.Calls.{turn_stands, turn_gives_up}
 use Rattle.p10_run.proofs.turns.make_turns.Goals as goal
 
