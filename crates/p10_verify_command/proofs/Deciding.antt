@@ -1,13 +1,17 @@
 -- What an answer rests on: files up to their limits, and what they were judged to be.
 use Rattle.std.proofs.Common.{◌≡◌, ℕ, inl, inr, ◌+◌, ◌<◌, ◌≤◌, zero, suc, List, [], ◌∷◌, length, take, length-take, refl, sym, ◌∙◌, ap, subst, arith, min, Option, Some, None, IsSome, IsSomeAnd, Result, Err}
 use Rattle.p10_base.specs.Gathered.{Gathered}
+use Rattle.p10_base.specs.Words.{Text}
 use Rattle.p10_world.specs.Faults.{Rose}
 use Rattle.p10_world.specs.Files.{Named, file_of, Lacks}
 use Rattle.p10_expand.specs.Gathering.{Gathers}
+use Rattle.p10_expand.specs.Setting.{setting}
+use Rattle.p10_command.specs.declared.gathering.GatheredRoots.{GatheredRoots}
+use Rattle.p10_command.specs.declared.gathering.GatheredRoots.TheVariants as roots_of
 use Rattle.p10_command.specs.declared.gathering.Ungathered as why
 use Rattle.p10_command.specs.declared.trouble.Trouble as problem
 use Rattle.p10_command.specs.declared.trouble.Trouble.TheVariants.{Read, Memory}
-use Rattle.p10_command.specs.Gathering.{AreUngathered, CanBeTold}
+use Rattle.p10_command.specs.Gathering.{AreGathered}
 use Rattle.p10_first.specs.Certificate.{certificate_text}
 use Rattle.p10_verify_command.specs.declared.answer.Answer.{Answer}
 use Rattle.p10_verify_command.specs.declared.answer.Answer.TheVariants.{Ungathered, AbsentCertificate, Unread, NotBuilt, CertificateTooLong, BadCertificate, Failing, Accepted, Trouble}
@@ -55,8 +59,20 @@ is_held (Some files) name limit bytes front = held_of (λ whole. bytes ≡ take 
 
 -- ## The answers
 
-pub decides_ungathered : (held : Option (List Named)) (names : Names) (g : Gathered) (u : why.Ungathered) → AreUngathered (setting_of held names) g u → CanBeTold names.sources u → Decides held names g (Ungathered u)
-decides_ungathered held names g u fails told = record { is_right = fails; can_be_told = told }
+-- the names that files are gathered by are those of the command
+with_names : (held : Option (List Named)) (names : Names) (roots directories : List Text) (found : GatheredRoots) → roots ≡ names.sources → directories ≡ names.directories → AreGathered (setting held roots directories) found → AreGathered (setting_of held names) found
+with_names held names roots directories found same_roots same_directories is =
+    subst (λ ds. AreGathered (setting held names.sources ds) found) same_directories (subst (λ rs. AreGathered (setting held rs directories) found) same_roots is)
+
+pub gathers_named : (held : Option (List Named)) (names : Names) (roots directories : List Text) (found : GatheredRoots) (g : Gathered) → roots ≡ names.sources → directories ≡ names.directories → found ≡ roots_of.All g → AreGathered (setting held roots directories) found → Gathers (setting_of held names) g
+gathers_named held names roots directories found g same_roots same_directories same is =
+    (subst (λ (f : GatheredRoots). AreGathered (setting_of held names) f) same (with_names held names roots directories found same_roots same_directories is)).0
+
+pub decides_ungathered : (held : Option (List Named)) (names : Names) (roots directories : List Text) (found : GatheredRoots) (u : why.Ungathered) (g : Gathered) → roots ≡ names.sources → directories ≡ names.directories → found ≡ roots_of.Stopped u g →
+    AreGathered (setting held roots directories) found → Decides held names g (Ungathered u)
+decides_ungathered held names roots directories found u g same_roots same_directories same is =
+    let stopped = subst (λ (f : GatheredRoots). AreGathered (setting_of held names) f) same (with_names held names roots directories found same_roots same_directories is) in
+    record { is_right = stopped.0; can_be_told = stopped.1 }
 
 pub decides_absent : (held later : Option (List Named)) (names : Names) (g : Gathered) → Gathers (setting_of held names) g → later ≡ held → Lacks later names.certificate → Decides held names g AbsentCertificate
 decides_absent held later names g gathers unchanged lacks = record { is_right = (gathers, subst (λ (h : Option (List Named)). Lacks h names.certificate) unchanged lacks); can_be_told = tt }
