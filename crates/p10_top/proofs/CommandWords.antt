@@ -1,13 +1,11 @@
 -- The words of a command, and what is named in them.
-use Rattle.std.proofs.Common.{◌≡◌, ℕ, ◌≤◌, List, [], ◌∷◌, length, ap, arith}
+use Rattle.std.proofs.Common.{◌≡◌, ℕ, ◌≤◌, ◌^◌, List, [], ◌∷◌, length, ap, arith, Option, Some, None}
 use Rattle.p10_base.specs.Words.{Text}
 use Rattle.p10_words.specs.declared.command.Command.{Command}
 use Rattle.p10_words.specs.declared.command.Command.TheVariants as command
-use Rattle.p10_words.specs.CommandLines.{Given, Splits, no_words, file, option, option_joined, ended}
+use Rattle.p10_words.specs.CommandLines.{Given, Splits, HasNumber, no_words, file, option, option_joined, ended}
 use Rattle.p10_words.specs.Commands.{IsCommandLine}
-use Rattle.p10_words.proofs.Deciding.{one_command}
-use Rattle.p10_verify_command.specs.Names.{Names}
-use Rattle.p10_top.specs.Commands.{IsVerifyLine, sources_of}
+use Rattle.p10_top.specs.Commands.{IsNoRun, IsNoRunLine, sources_of, turns_asked}
 
 -- ## How many files
 
@@ -26,3 +24,17 @@ few_sources words (command.Verify directories certificate sources) is =
 few_sources words (command.Run directories steps turns deny sources) is =
     let run = is.rest.1 in
     omega (arith, few_files _ is.words run.options sources run.split.splits, ap length is.begins, is.few)
+
+number_is_small : (value : Option Text) (standard n : ℕ) → standard ≤ 10 ^ 18 → HasNumber value standard n → n ≤ 10 ^ 18
+number_is_small None standard n small is = omega (arith, small, is)
+number_is_small (Some text) standard n small is = is.small
+
+-- a command asks for no more than 10^18 turns
+pub few_turns : (words : List Text) (c : Command) → IsCommandLine words c → turns_asked c ≤ 10 ^ 18
+few_turns words (command.Verify directories certificate sources) is = omega arith
+few_turns words (command.Run directories steps turns deny sources) is = number_is_small _ 1 turns (omega arith) is.rest.1.has_turns
+
+-- the words of a `run` are one
+pub no_run : (words : List Text) (c : Command) → IsCommandLine words c → IsNoRunLine words → IsNoRun c
+no_run words (command.Verify directories certificate sources) is none = tt
+no_run words (command.Run directories steps turns deny sources) is none = none (record { directories = directories; steps = steps; turns = turns; deny = deny; sources = sources }) is

@@ -25,10 +25,9 @@ use Rattle.p10_verify_command.specs.declared.answer.Answer.TheVariants.{Ungather
 use Rattle.p10_verify_command.specs.Names.{Names}
 use Rattle.p10_verify_command.specs.Answers.{IsRight}
 use Rattle.p10_verify_command.specs.Told.{SaysRight, status_of}
-use Rattle.p10_top.specs.Commands.{IsVerifyLine, IsNoCommand}
 use Rattle.p10_top.specs.Headline.{BoundsRuns, Verified}
-use Rattle.p10_top.specs.Told.{MaySay, SaysFor, for_none, for_command, for_any, usage_saying}
-use Rattle.p10_top.specs.private.Unread.{unread_saying}
+use Rattle.p10_top.specs.Told.{MaySay, SaysFor, for_none, for_command, for_any}
+use Rattle.p10_top.specs.private.Unread.{saying_without_command}
 
 -- ## A command
 
@@ -40,43 +39,41 @@ stopped_command words c seen input out_old out_new err_old err_new is stopped = 
 
 -- ## No command
 
-no_out : (fault : Usage) → (unread_saying fault).out ≡ []
+no_out : (fault : Usage) → (saying_without_command fault).out ≡ []
 no_out usage.Refused = refl
 no_out usage.Memory = refl
 
-told_line : (may : Saying → Type 0) (fault : Usage) (out err_old err_new : Option (List ℕ)) (status : ℕ) → may (unread_saying fault) → status ≡ (unread_saying fault).status → Appends err_old err_new (unread_saying fault).err → Told may out out err_old err_new status
+told_line : (may : Saying → Type 0) (fault : Usage) (out err_old err_new : Option (List ℕ)) (status : ℕ) → may (saying_without_command fault) → status ≡ (saying_without_command fault).status → Appends err_old err_new (saying_without_command fault).err → Told may out out err_old err_new status
 told_line may fault out err_old err_new status may_be is taken = record {
-  saying = unread_saying fault;
+  saying = saying_without_command fault;
   may = may_be;
   status_is = is;
   taken = record { on_out = subst (λ (text : List ℕ). Appends out out text) (sym (no_out fault)) (Appends-nil out); on_err = taken };
 }
 
-stopped_line : (may : Saying → Type 0) (fault : Usage) (out err_old err_new : Option (List ℕ)) → may (unread_saying fault) → StopsWithin err_old err_new (unread_saying fault).err → Stopped may out out err_old err_new
+stopped_line : (may : Saying → Type 0) (fault : Usage) (out err_old err_new : Option (List ℕ)) → may (saying_without_command fault) → StopsWithin err_old err_new (saying_without_command fault).err → Stopped may out out err_old err_new
 stopped_line may fault out err_old err_new may_be stopped = record {
-  saying = unread_saying fault;
+  saying = saying_without_command fault;
   may = may_be;
-  taken = record { on_out = record { front = []; back = []; parts = no_out fault; taken = Appends-nil out }; on_err = TakesFront-stop err_old err_new (unread_saying fault).err stopped };
+  taken = record { on_out = record { front = []; back = []; parts = no_out fault; taken = Appends-nil out }; on_err = TakesFront-stop err_old err_new (saying_without_command fault).err stopped };
 }
 
-may_say : (words : List Text) (seen : Seen) (input : SeenInput) (fault : Usage) (r : Result Command Usage) → r ≡ Err fault → (r ≡ Err usage.Refused → (c : Command) → IsCommandLine words c → ⊥) → MaySay words seen input (unread_saying fault)
+may_say : (words : List Text) (seen : Seen) (input : SeenInput) (fault : Usage) (r : Result Command Usage) → r ≡ Err fault → (r ≡ Err usage.Refused → (c : Command) → IsCommandLine words c → ⊥) → MaySay words seen input (saying_without_command fault)
 may_say words seen input usage.Refused r is none = for_none (none is) refl
 may_say words seen input usage.Memory r is none = for_any refl
 
 pub told_unread : (words : List Text) (seen : Seen) (input : SeenInput) (fault : Usage) (r : Result Command Usage) (out err_old err_new : Option (List ℕ)) (status : ℕ) → r ≡ Err fault → (r ≡ Err usage.Refused → (c : Command) → IsCommandLine words c → ⊥) →
-    status ≡ (unread_saying fault).status → Appends err_old err_new (unread_saying fault).err → Told (MaySay words seen input) out out err_old err_new status
+    status ≡ (saying_without_command fault).status → Appends err_old err_new (saying_without_command fault).err → Told (MaySay words seen input) out out err_old err_new status
 told_unread words seen input fault r out err_old err_new status is none status_is taken = told_line (MaySay words seen input) fault out err_old err_new status (may_say words seen input fault r is none) status_is taken
 
 pub stopped_unread : (words : List Text) (seen : Seen) (input : SeenInput) (fault : Usage) (r : Result Command Usage) (out err_old err_new : Option (List ℕ)) → r ≡ Err fault → (r ≡ Err usage.Refused → (c : Command) → IsCommandLine words c → ⊥) →
-    StopsWithin err_old err_new (unread_saying fault).err → Stopped (MaySay words seen input) out out err_old err_new
+    StopsWithin err_old err_new (saying_without_command fault).err → Stopped (MaySay words seen input) out out err_old err_new
 stopped_unread words seen input fault r out err_old err_new is none stopped = stopped_line (MaySay words seen input) fault out err_old err_new (may_say words seen input fault r is none) stopped
 
--- a command that can't be obeyed yet
-pub told_unbuilt : (out err_old err_new : Option (List ℕ)) (status : ℕ) → status ≡ (unread_saying usage.Refused).status → Appends err_old err_new (unread_saying usage.Refused).err → Told (λ (saying : Saying). saying ≡ usage_saying) out out err_old err_new status
-told_unbuilt out err_old err_new status is taken = told_line (λ (saying : Saying). saying ≡ usage_saying) usage.Refused out err_old err_new status refl is taken
-
-pub stopped_unbuilt : (out err_old err_new : Option (List ℕ)) → StopsWithin err_old err_new (unread_saying usage.Refused).err → Stopped (λ (saying : Saying). saying ≡ usage_saying) out out err_old err_new
-stopped_unbuilt out err_old err_new stopped = stopped_line (λ (saying : Saying). saying ≡ usage_saying) usage.Refused out err_old err_new refl stopped
+-- what isn't read as a command isn't accepted
+pub unread_is_none : (fault : Usage) (status : ℕ) → (status ≢ 6 → status ≡ (saying_without_command fault).status) → status ≡ 0 → ⊥
+unread_is_none usage.Refused status is zero = omega (arith, zero, is (λ six. omega (arith, six, zero)))
+unread_is_none usage.Memory status is zero = omega (arith, zero, is (λ six. omega (arith, six, zero)))
 
 -- ## The headline
 

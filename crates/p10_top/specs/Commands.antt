@@ -1,14 +1,20 @@
 -- The command lines of `p10`.
-use Rattle.std.specs.Prelude.{List}
+use Rattle.std.specs.Prelude.{ℕ, List}
 use Rattle.p10_base.specs.Words.{Text}
 use Rattle.p10_words.specs.declared.command.Command.{Command}
 use Rattle.p10_words.specs.declared.command.Command.TheVariants.{Verify, Run}
 use Rattle.p10_words.specs.Commands.{IsCommandLine}
+use Rattle.p10_run_command.specs.declared.command.RunCommand.{RunCommand}
+use Rattle.p10_run_command.specs.Command.{IsRunLine}
 use Rattle.p10_verify_command.specs.Names.{Names}
 
 -- the words are the command `verify` with these names
 abbrev pub IsVerifyLine : List Text → Names → Type 0
 IsVerifyLine words names = IsCommandLine words (Verify names.directories names.certificate names.sources)
+
+-- the words are no `run`
+abbrev pub IsNoRunLine : List Text → Type 0
+IsNoRunLine words = (run : RunCommand) → IsRunLine words run → ⊥
 
 -- the words are no command
 abbrev pub IsNoCommand : List Text → Type 0
@@ -18,3 +24,13 @@ IsNoCommand words = (command : Command) → IsCommandLine words command → ⊥
 abbrev pub sources_of : Command → List Text
 sources_of (Verify directories certificate sources) = sources
 sources_of (Run directories steps turns deny sources) = sources
+
+-- the most turns that a command asks for
+abbrev pub turns_asked : Command → ℕ
+turns_asked (Verify directories certificate sources) = 0
+turns_asked (Run directories steps turns deny sources) = turns
+
+-- a command that isn't `run`
+abbrev pub IsNoRun : Command → Type 0
+IsNoRun (Verify directories certificate sources) = Unit {0}
+IsNoRun (Run directories steps turns deny sources) = ⊥

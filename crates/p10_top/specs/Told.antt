@@ -7,7 +7,8 @@ use Rattle.p10_report.specs.Messages.{out_of_memory_line, usage_line}
 use Rattle.p10_words.specs.declared.command.Command.{Command}
 use Rattle.p10_words.specs.declared.command.Command.TheVariants.{Verify, Run}
 use Rattle.p10_words.specs.Commands.{IsCommandLine}
-use Rattle.p10_verify_command.specs.Told.{SaysRight}
+use Rattle.p10_run_command.specs.Answers as run
+use Rattle.p10_verify_command.specs.Told as verify
 use Rattle.p10_top.specs.Commands.{IsNoCommand}
 
 -- what is said where the words are no command
@@ -18,10 +19,10 @@ usage_saying = record { status = 2; out = []; err = usage_line }
 abbrev pub memory_saying : Saying
 memory_saying = record { status = 7; out = []; err = out_of_memory_line }
 
--- what is right to say to a command, by what is seen of files and input; `run` can't be obeyed yet, and is told how commands are written
+-- what is right to say to a command, by what is seen of files and input
 abbrev pub SaysFor : Command → Seen → SeenInput → Saying → Type 0
-SaysFor (Verify directories certificate sources) seen input saying = SaysRight (record { directories = directories; certificate = certificate; sources = sources }) seen saying
-SaysFor (Run directories steps turns deny sources) seen input saying = saying ≡ usage_saying
+SaysFor (Verify directories certificate sources) seen input saying = verify.SaysRight (record { directories = directories; certificate = certificate; sources = sources }) seen saying
+SaysFor (Run directories steps turns deny sources) seen input saying = run.SaysRight (record { directories = directories; steps = steps; turns = turns; deny = deny; sources = sources }) seen input saying
 
 -- what may be said to a command line; out of memory may come at any
 pub data MaySay (words : List Text) (seen : Seen) (input : SeenInput) (saying : Saying) : Type 0 where

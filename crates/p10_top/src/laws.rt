@@ -2,12 +2,14 @@
 
 ghost use Rattle.p10_top.specs.Laws.{SaysOneThing};
 
+use p10_run_command::laws::one_thing_is_said as one_run_is_said;
 use p10_verify_command::laws::one_answer_is_right;
 
-/// Where files are told, only one thing may be said to a command line, but for a read fault and want
+/// Where files and input are told, only one thing may be said to a command line, but for a read fault and want
 /// of memory.
 pub fn one_thing_is_said()
     ensures { SaysOneThing }
 {
     one_answer_is_right();
+    one_run_is_said();
 }

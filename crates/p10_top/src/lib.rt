@@ -5,17 +5,18 @@
 //! faults and want of memory. What the parts of an answer mean is left to the crates below.
 #![tactic(auto)]
 
-ghost use Rattle.std.specs.Prelude.{◌≡◌, ◌≢◌, ◌⊎◌, ◌≤◌, IfSome, length, map, string_bytes};
+ghost use Rattle.std.specs.Prelude.{◌≡◌, ◌≢◌, ◌⊎◌, ◌≤◌, ◌^◌, IfSome, length, map, string_bytes};
 ghost use Rattle.std.specs.Io.KnownBytes.{Appends};
 ghost use Rattle.p10_world.specs.Faults.{Rose};
 ghost use Rattle.p10_report.specs.Stops.{StopsWithin};
 ghost use Rattle.p10_command.specs.Told.{Told, Stopped};
-ghost use Rattle.p10_top.specs.Commands.{sources_of};
+ghost use Rattle.p10_top.specs.Commands.{sources_of, turns_asked, IsNoRun, IsNoRunLine};
 ghost use Rattle.p10_top.specs.Headline.{Verified};
 ghost use Rattle.p10_top.specs.Told.{MaySay, SaysFor};
-ghost use Rattle.p10_top.specs.private.Unread.{unread_saying};
+ghost use Rattle.p10_top.specs.private.Unread.{saying_without_command};
 
 use p10_report::{put_out_of_memory, put_usage};
+use p10_run_command::{RunCommand, run};
 use p10_verify_command::{VerifyCommand, verify};
 use p10_words::{Command, Usage, read_words};
 use p10_world::{Files, Sink, Source};
@@ -29,12 +30,14 @@ mod tests;
 ///
 /// `verify [--include DIRECTORIES] --cert CERTIFICATE SOURCE..`, with options and sources in any order, tells on `out`
 /// whether the certificate bounds every run of the sources' program; all else is told on `err`. `DIRECTORIES` are joined
-/// by `:`, and included files are looked for in them. Nothing is read of `input` by this command. Other commands can't be
-/// obeyed yet, and are none.
+/// by `:`, and included files are looked for in them. Nothing is read of `input` by this command.
 ///
-/// The statuses: 0 accepted, 1 a condition doesn't hold, 2 no command, 3 the source is refused, 4 no
-/// certificate, 5 a read failed, 6 a write failed, 7 want of memory, 8 a limit is passed, 9 a file is
-/// absent.
+/// `run [--include DIRECTORIES] [--steps N] [--turns N] [--deny N] SOURCE..` runs the sources' program on `input` and `out`, and tells
+/// on `err` how it has ended, or why there is none. Other commands can't be obeyed yet, and are none.
+///
+/// The statuses: 0 accepted or run to its end, 1 a condition doesn't hold, 2 no command, 3 the source is refused, 4 no
+/// certificate, 5 a read failed, 6 a write failed, 7 out of memory, 8 a limit is passed, 9 a file is
+/// absent, 10 an assertion has failed, 11 an undefined operation, 12 no step is left.
 pub fn p10_main<F: Files, I: Source, O: Sink, E: Sink>(
     alloc: Global,
     words: &[String],
@@ -59,8 +62,9 @@ pub fn p10_main<F: Files, I: Source, O: Sink, E: Sink>(
         (O.taken out.old) (O.taken out.new) (E.taken err.old) (E.taken err.new) }
     ensures write { result ≡ 6 → Rose (O.faults out.old) (O.faults out.new) ⊎ Rose (E.faults err.old) (E.faults err.new) }
 
+    // Only a run takes anything of the input.
     ensures held { F.held files.new ≡ F.held files.old }
-    ensures input { input.new ≡ input.old }
+    ensures input { IsNoRunLine (map string_bytes words.now) → input.new ≡ input.old }
 {
     match read_words(alloc, words) {
         Ok(command) => obey(alloc, command, files, input, out, err),
@@ -77,7 +81,8 @@ fn obey<F: Files, I: Source, O: Sink, E: Sink>(
     out: &mut O,
     err: &mut E,
 ) -> u8
-    requires { length (sources_of command) ≤ 65536 }
+    requires few { length (sources_of command) ≤ 65536 }
+    requires turns { turns_asked command ≤ 10 ^ 18 }
     ensures told { result ≢ 6 → Told (SaysFor command
         (record { held = F.held files.old; faults_before = F.faults files.old; faults_after = F.faults files.new })
         (record { left = I.left input.old; faults_before = I.faults input.old; faults_after = I.faults input.new }))
@@ -88,7 +93,7 @@ fn obey<F: Files, I: Source, O: Sink, E: Sink>(
         (O.taken out.old) (O.taken out.new) (E.taken err.old) (E.taken err.new) }
     ensures write { result ≡ 6 → Rose (O.faults out.old) (O.faults out.new) ⊎ Rose (E.faults err.old) (E.faults err.new) }
     ensures held { F.held files.new ≡ F.held files.old }
-    ensures input { input.new ≡ input.old }
+    ensures input { IsNoRun command → input.new ≡ input.old }
 {
     match command {
         Command::Verify {
@@ -103,15 +108,30 @@ fn obey<F: Files, I: Source, O: Sink, E: Sink>(
             };
             verify(alloc, &command, files, out, err)
         }
-        Command::Run { .. } => tell_unread(Usage::Refused, err),
+        Command::Run {
+            dirs: directories,
+            steps,
+            turns,
+            deny,
+            files: sources,
+        } => {
+            let command = RunCommand {
+                directories,
+                steps,
+                turns,
+                deny,
+                sources,
+            };
+            run(alloc, &command, files, input, out, err)
+        }
     }
 }
 
 /// Tells why no command was read, and gives the status with which the program exits.
 fn tell_unread<E: Sink>(fault: Usage, err: &mut E) -> u8
-    ensures status { result ≢ 6 → result ≡ (unread_saying fault).status }
-    ensures told { result ≢ 6 → Appends (E.taken err.old) (E.taken err.new) (unread_saying fault).err }
-    ensures stopped { result ≡ 6 → StopsWithin (E.taken err.old) (E.taken err.new) (unread_saying fault).err }
+    ensures status { result ≢ 6 → result ≡ (saying_without_command fault).status }
+    ensures told { result ≢ 6 → Appends (E.taken err.old) (E.taken err.new) (saying_without_command fault).err }
+    ensures stopped { result ≡ 6 → StopsWithin (E.taken err.old) (E.taken err.new) (saying_without_command fault).err }
     ensures write { result ≡ 6 → Rose (E.faults err.old) (E.faults err.new) }
 {
     match fault {

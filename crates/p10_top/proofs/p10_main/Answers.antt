@@ -1,9 +1,15 @@
-use Rattle.p10_top.proofs.CommandWords.{few_sources}
-use Rattle.p10_top.proofs.Telling.{verified, told_command, stopped_command, told_unread, stopped_unread}
+use Rattle.p10_top.proofs.CommandWords.{few_sources, few_turns, no_run}
+use Rattle.p10_top.proofs.Telling.{verified, told_command, stopped_command, told_unread, stopped_unread, unread_is_none}
 use Rattle.p10_top.proofs.p10_main.Goals as goal
 
-pub obey-requires : goal.obey-requires
-obey-requires g c = few_sources _ c.in-Ok.command c.in-Ok.ensures.found
+pub obey-requires-clause-few : goal.obey-requires-clause-few
+obey-requires-clause-few g c = few_sources _ c.in-Ok.command c.in-Ok.ensures.found
+
+pub obey-requires-clause-turns : goal.obey-requires-clause-turns
+obey-requires-clause-turns g c = few_turns _ c.in-Ok.command c.in-Ok.ensures.found
+
+pub returns-in-Ok-clause-input : goal.returns-in-Ok-clause-input
+returns-in-Ok-clause-input g c = λ none. c.obey.ensures.input (no_run _ c.in-Ok.command c.in-Ok.ensures.found none)
 
 pub returns-in-Ok-clause-headline : goal.returns-in-Ok-clause-headline
 returns-in-Ok-clause-headline g c = verified _ _ _ _ _ _ _ _ _ _ (λ six. told_command _ c.in-Ok.command _ _ _ _ _ _ _ c.in-Ok.ensures.found (c.obey.ensures.told six))
@@ -15,7 +21,7 @@ pub returns-in-Ok-clause-stopped : goal.returns-in-Ok-clause-stopped
 returns-in-Ok-clause-stopped g c = λ six. stopped_command _ c.in-Ok.command _ _ _ _ _ _ c.in-Ok.ensures.found (c.obey.ensures.stopped six)
 
 pub returns-in-Err-clause-headline : goal.returns-in-Err-clause-headline
-returns-in-Err-clause-headline g c = verified _ _ _ _ _ _ _ _ _ _ (λ six. told_unread _ _ _ c.in-Err.fault c.read_words.result _ _ _ _ c.in-Err.is c.read_words.ensures.refused (c.tell_unread.ensures.status six) (c.tell_unread.ensures.told six))
+returns-in-Err-clause-headline g c = λ zero. absurd (unread_is_none c.in-Err.fault _ c.tell_unread.ensures.status zero)
 
 pub returns-in-Err-clause-told : goal.returns-in-Err-clause-told
 returns-in-Err-clause-told g c = λ six. told_unread _ _ _ c.in-Err.fault c.read_words.result _ _ _ _ c.in-Err.is c.read_words.ensures.refused (c.tell_unread.ensures.status six) (c.tell_unread.ensures.told six)

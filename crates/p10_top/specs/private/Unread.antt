@@ -5,6 +5,6 @@ use Rattle.p10_words.specs.declared.command.Usage.TheVariants.{Refused, Memory}
 use Rattle.p10_top.specs.Told.{usage_saying, memory_saying}
 
 -- what is said where no command was read
-abbrev pub unread_saying : Usage → Saying
-unread_saying Refused = usage_saying
-unread_saying Memory = memory_saying
+abbrev pub saying_without_command : Usage → Saying
+saying_without_command Refused = usage_saying
+saying_without_command Memory = memory_saying
