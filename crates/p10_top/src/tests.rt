@@ -1,5 +1,5 @@
-//! What no command can show, over files, an input and outputs in memory: each read and each byte of a write fails in turn,
-//! memory is wanting, and the reads are counted. All else that the program answers is shown by the cases in `tests/`.
+//! What no command can show, over files, an input and outputs in memory: each read of files and of the input and each byte of a
+//! write fails in turn, memory is wanting, and the reads are counted. All else that the program answers is shown by the cases in `tests/`.
 
 ghost use Rattle.std.specs.Prelude.{None};
 
@@ -144,27 +144,39 @@ fn cut(want: Want, count: usize) -> Want {
     }
 }
 
-/// Runs the program on the words, and compares all that it answers.
+/// Runs the program on the words, compares all that it answers, and gives how often it asked for input.
 fn check<F: Files>(
     rt: &impl Abort,
     alloc: Global,
     words: &[&str],
     files: &mut F,
+    mut input: MemSource,
     want: &Want,
-) -> Result<(), Fail> {
+) -> Result<u64, Fail> {
     let mut given = Vec::new(alloc);
     for word in words {
         given.push(String::from_str(alloc, word)?)?;
     }
-    let mut input = MemSource::new(Vec::from_slice(alloc, b"input")?, Vec::new(alloc));
     let mut out = MemSink::new(alloc, 100, want.out_fails)?;
     let mut err = MemSink::new(alloc, 100, want.err_fails)?;
     let status = p10_main(alloc, &given, files, &mut input, &mut out, &mut err);
     assert_eq!(rt; status, want.status, "{}{}", want.out, want.err);
     assert_eq!(rt; out.taken(), want.out.as_bytes(), "{}", want.out);
     assert_eq!(rt; err.taken(), want.err.as_bytes(), "{}", want.err);
-    // This command takes nothing of the input.
-    assert_eq!(rt; input.calls(), 0);
+    Ok(input.calls())
+}
+
+/// The same for a command that takes nothing of the input.
+fn check_without_input<F: Files>(
+    rt: &impl Abort,
+    alloc: Global,
+    words: &[&str],
+    files: &mut F,
+    want: &Want,
+) -> Result<(), Fail> {
+    let input = MemSource::new(Vec::from_slice(alloc, b"input")?, Vec::new(alloc));
+    let asked = check(rt, alloc, words, files, input, want)?;
+    assert_eq!(rt; asked, 0);
     Ok(())
 }
 
@@ -179,7 +191,7 @@ fn check_row(rt: &impl Abort, alloc: Global, row: &Row, want: &Want) -> Result<(
             )?;
         }
     }
-    check(rt, alloc, row.0, &mut files, want)?;
+    check_without_input(rt, alloc, row.0, &mut files, want)?;
     assert_eq!(rt; files.calls(), row.3, "{}{}", want.out, want.err);
     Ok(())
 }
@@ -230,5 +242,103 @@ impl Files for NoMemory {
 #[test]
 fn want_of_memory(rt: HostRuntime) -> Result<(), Fail> {
     let row: Row = (&VERIFY, NEITHER, &[], 0, 7, OUT_OF_MEMORY);
-    check(&rt, rt.alloc(), row.0, &mut NoMemory, &wanted(&row))
+    check_without_input(&rt, rt.alloc(), row.0, &mut NoMemory, &wanted(&row))
+}
+
+const RUN: [&str; 4] = ["run", "--steps", "1000", "a.c"];
+
+/// Writes its input.
+const ECHO: &str =
+    "#include <stdio.h>\nint main(void) { int c = getchar(); while (c >= 0) { (void)putchar(c); c = getchar(); } return 7; }\n";
+
+/// Writes a byte, and then divides by the next one less 48.
+const DIVIDES: &str =
+    "#include <stdio.h>\nint main(void) { (void)putchar(getchar()); return 9 / (getchar() - 48); }\n";
+
+/// A program, its input, the numbers of the calls for input that fail, how many calls there are, the status, the output, and the
+/// text on the error output.
+type Run = (
+    &'static str,
+    &'static [u8],
+    &'static [u64],
+    u64,
+    u8,
+    &'static str,
+    &'static str,
+);
+
+const ECHOED: &str = "p10: returned 7 calls 1 bytes 4\n";
+
+const DIVIDED: &str = "p10: returned 3 calls 1 bytes 0\n";
+
+const BY_ZERO: &str = "p10: undefined U2 at a.c:2:51\n";
+
+const SPINS: &str = "int main(void) { while (1) { } return 0; }\n";
+
+const SPENT: &str = "p10: steps spent\n";
+
+static RUNS: [Run; 7] = [
+    (ECHO, b"ab", &[], 2, 0, "ab", ECHOED),
+    (ECHO, b"ab", &[3], 2, 0, "ab", ECHOED),
+    (ECHO, b"ab", &[1], 1, 5, "", READ_FAULT),
+    // What waits isn't written where the input fails.
+    (ECHO, b"ab", &[2], 2, 5, "", READ_FAULT),
+    (DIVIDES, b"a3", &[], 1, 0, "a", DIVIDED),
+    (DIVIDES, b"a0", &[], 1, 11, "a", BY_ZERO),
+    (SPINS, b"", &[], 0, 12, "", SPENT),
+];
+
+/// Runs the program of a row on its input, and counts the calls for it.
+fn check_run(rt: &impl Abort, alloc: Global, row: &Run, want: &Want) -> Result<u64, Fail> {
+    let mut files = MemFiles::new(alloc, Vec::new(alloc));
+    files.add(
+        String::from_str(alloc, "a.c")?,
+        Vec::from_slice(alloc, row.0.as_bytes())?,
+    )?;
+    let input = MemSource::new(
+        Vec::from_slice(alloc, row.1)?,
+        Vec::from_slice(alloc, row.2)?,
+    );
+    check(rt, alloc, &RUN, &mut files, input, want)
+}
+
+/// What a run wants, where the outputs fail after these counts of bytes.
+fn wanted_of_run(row: &Run, out_fails: Option<u64>, err_fails: Option<u64>) -> Want {
+    Want {
+        status: row.4,
+        out: row.5,
+        err: row.6,
+        out_fails,
+        err_fails,
+    }
+}
+
+#[test]
+fn faults_of_input(rt: HostRuntime) -> Result<(), Fail> {
+    for row in &RUNS {
+        let asked = check_run(&rt, rt.alloc(), row, &wanted_of_run(row, None, None))?;
+        assert_eq!(rt; asked, row.3);
+    }
+    Ok(())
+}
+
+// What the program writes is written before the line that tells how it has ended, so where the output fails nothing is told.
+#[test]
+fn faults_of_output(rt: HostRuntime) -> Result<(), Fail> {
+    for row in &RUNS {
+        for count in 0..row.5.len() {
+            let mut want = wanted_of_run(row, Some(count as u64), None);
+            want.status = 6;
+            want.out = row.5.get(..count).unwrap_or(row.5);
+            want.err = "";
+            check_run(&rt, rt.alloc(), row, &want)?;
+        }
+        for count in 0..row.6.len() {
+            let mut want = wanted_of_run(row, None, Some(count as u64));
+            want.status = 6;
+            want.err = row.6.get(..count).unwrap_or(row.6);
+            check_run(&rt, rt.alloc(), row, &want)?;
+        }
+    }
+    Ok(())
 }
