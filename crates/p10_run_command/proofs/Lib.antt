@@ -3,4 +3,3 @@ pub mod Telling
 pub mod Running
 pub mod Sources
 pub mod OneAnswer
-pub mod Lines

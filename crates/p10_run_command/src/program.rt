@@ -14,7 +14,7 @@ ghost use Rattle.p10_run_command.specs.private.Telling.{Comes};
 use crate::command::RunCommand;
 use crate::tell::{tell_end, tell_trouble, tell_unread};
 use p10_base::Sources;
-use p10_command::{ReadSources, Trouble, read_sources};
+use p10_command::{ReadSources, Trouble, read_sources, release};
 use p10_front::Reading;
 use p10_run::{FinishedRun, RunFault};
 use p10_world::{Sink, Source};
@@ -41,11 +41,9 @@ pub fn run_sources<I: Source, O: Sink, E: Sink>(
 {
     match read_sources(alloc, sources) {
         Ok(ReadSources::Program(reading)) => {
-            tell_end(
-                sources,
-                run_reading(alloc, &reading, command, input, out),
-                err,
-            )
+            let end = run_reading(alloc, &reading, command, input, out);
+            release(reading);
+            tell_end(sources, end, err)
         }
         Ok(ReadSources::Unread(why)) => tell_unread(sources, &why, err),
         Err(_) => tell_trouble(Trouble::Memory, err),

@@ -6,23 +6,23 @@ use Rattle.p10_run_command.proofs.Sources.{are_program, are_unread}
 use Rattle.p10_run_command.proofs.Telling.{told_line, stopped_line}
 use Rattle.p10_run_command.proofs.program.run_sources.Goals as goal
 
-pub run_reading-requires-clause-program : goal.run_reading-requires-clause-program
-run_reading-requires-clause-program g c = whole_program c.args.sources.now c.in-Ok-Program.reading (are_program c.args.sources.now c.in-Ok-Program.field-0 c.in-Ok-Program.reading c.in-Ok-Program.field-0-is c.in-Ok-Program.ensures)
+pub run_reading-end-requires-clause-program : goal.run_reading-end-requires-clause-program
+run_reading-end-requires-clause-program g c = whole_program c.args.sources.now c.in-Ok-Program.reading (are_program c.args.sources.now c.in-Ok-Program.field-0 c.in-Ok-Program.reading c.in-Ok-Program.field-0-is c.in-Ok-Program.ensures)
 
 pub returns-in-Ok-Program-clause-told : goal.returns-in-Ok-Program-clause-told
 returns-in-Ok-Program-clause-told g c = λ six seen gathers.
-    program_told c.args.command.now seen _ c.args.sources.now c.in-Ok-Program.reading c.run_reading.result _ _ _ _ _ gathers
+    program_told c.args.command.now seen _ c.args.sources.now c.in-Ok-Program.reading c.run_reading-end.result _ _ _ _ _ gathers
     (are_program c.args.sources.now c.in-Ok-Program.field-0 c.in-Ok-Program.reading c.in-Ok-Program.field-0-is c.in-Ok-Program.ensures)
-    c.run_reading.ensures.comes c.run_reading.ensures.read (c.tell_end.ensures.told six) six
+    c.run_reading-end.ensures.comes c.run_reading-end.ensures.read (c.tell_end.ensures.told six) six
 
 pub returns-in-Ok-Program-clause-stopped : goal.returns-in-Ok-Program-clause-stopped
 returns-in-Ok-Program-clause-stopped g c = λ six seen gathers.
-    program_stopped c.args.command.now seen _ c.args.sources.now c.in-Ok-Program.reading c.run_reading.result _ _ _ _ gathers
+    program_stopped c.args.command.now seen _ c.args.sources.now c.in-Ok-Program.reading c.run_reading-end.result _ _ _ _ gathers
     (are_program c.args.sources.now c.in-Ok-Program.field-0 c.in-Ok-Program.reading c.in-Ok-Program.field-0-is c.in-Ok-Program.ensures)
-    c.run_reading.ensures.comes c.run_reading.ensures.read (c.tell_end.ensures.stopped six)
+    c.run_reading-end.ensures.comes c.run_reading-end.ensures.read (c.tell_end.ensures.stopped six)
 
 pub returns-in-Ok-Program-clause-write : goal.returns-in-Ok-Program-clause-write
-returns-in-Ok-Program-clause-write g c = λ six. either_rose c.run_reading.ensures.write (c.tell_end.ensures.write six)
+returns-in-Ok-Program-clause-write g c = λ six. either_rose c.run_reading-end.ensures.write (c.tell_end.ensures.write six)
 
 pub tell_unread-requires : goal.tell_unread-requires
 tell_unread-requires g c = (are_unread c.args.sources.now c.in-Ok-Unread.field-0 c.in-Ok-Unread.why c.in-Ok-Unread.field-0-is c.in-Ok-Unread.ensures).1
