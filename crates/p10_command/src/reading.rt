@@ -61,8 +61,10 @@ pub fn read_sources<'s>(alloc: Global, sources: &'s Sources) -> Result<ReadSourc
 {
     match read(alloc, sources) {
         Ok(reading) => Ok(unless_refused(sources, reading)),
-        Err(FrontFault::Over(limit)) => Ok(ReadSources::Unread(Unread::Over(limit))),
-        Err(FrontFault::Memory) => Err(AllocError),
+        Err(fault) => match fault {
+            FrontFault::Over(limit) => Ok(ReadSources::Unread(Unread::Over(limit))),
+            FrontFault::Memory => Err(AllocError),
+        },
     }
 }
 
@@ -75,7 +77,10 @@ fn unless_refused<'s>(sources: &Sources, reading: Reading<'s>) -> ReadSources<'s
     ensures { AreRead sources.now result }
 {
     match reading.refusal {
-        Some(refusal) => ReadSources::Unread(Unread::Refused(refusal)),
+        Some(refusal) => {
+            release(reading);
+            ReadSources::Unread(Unread::Refused(refusal))
+        }
         None => ReadSources::Program(reading),
     }
 }

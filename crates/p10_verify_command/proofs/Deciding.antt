@@ -3,7 +3,7 @@ use Rattle.std.proofs.Common.{◌≡◌, ℕ, inl, inr, ◌+◌, ◌<◌, ◌≤
 use Rattle.p10_base.specs.Gathered.{Gathered}
 use Rattle.p10_base.specs.Words.{Text}
 use Rattle.p10_world.specs.Faults.{Rose}
-use Rattle.p10_world.specs.Files.{Named, file_of, Lacks}
+use Rattle.p10_world.specs.Files.{Named, file_of}
 use Rattle.p10_expand.specs.Gathering.{Gathers}
 use Rattle.p10_expand.specs.Setting.{setting}
 use Rattle.p10_command.specs.declared.gathering.GatheredRoots.{GatheredRoots}
@@ -73,9 +73,6 @@ pub decides_ungathered : (held : Option (List Named)) (names : Names) (roots dir
 decides_ungathered held names roots directories found u g same_roots same_directories same is =
     let stopped = subst (λ (f : GatheredRoots). AreGathered (setting_of held names) f) same (with_names held names roots directories found same_roots same_directories is) in
     record { is_right = stopped.0; can_be_told = stopped.1 }
-
-pub decides_absent : (held later : Option (List Named)) (names : Names) (g : Gathered) → Gathers (setting_of held names) g → later ≡ held → Lacks later names.certificate → Decides held names g AbsentCertificate
-decides_absent held later names g gathers unchanged lacks = record { is_right = (gathers, subst (λ (h : Option (List Named)). Lacks h names.certificate) unchanged lacks); can_be_told = tt }
 
 has_certificate : (held : Option (List Named)) (names : Names) (bytes wanted : List ℕ) → IsFront held names.certificate certificate_limit bytes → length bytes ≤ certificate_limit → bytes ≡ wanted → HasCertificate held names wanted
 has_certificate held names bytes wanted front short same =
