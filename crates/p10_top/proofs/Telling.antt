@@ -20,6 +20,8 @@ use Rattle.p10_words.specs.declared.command.Usage.{Usage}
 use Rattle.p10_words.specs.declared.command.Usage.TheVariants as usage
 use Rattle.p10_words.specs.Commands.{IsCommandLine}
 use Rattle.p10_words.proofs.Deciding.{one_command}
+use Rattle.p10_run_command.specs.declared.command.RunCommand.{RunCommand}
+use Rattle.p10_run_command.specs.Answers as run
 use Rattle.p10_verify_command.specs.declared.answer.Answer.{Answer}
 use Rattle.p10_verify_command.specs.declared.answer.Answer.TheVariants.{Ungathered, AbsentCertificate, Unread, NotBuilt, CertificateTooLong, BadCertificate, Failing, Accepted, Trouble}
 use Rattle.p10_verify_command.specs.Names.{Names}
@@ -36,6 +38,15 @@ told_command words c seen input out_old out_new err_old err_new status is told =
 
 pub stopped_command : (words : List Text) (c : Command) (seen : Seen) (input : SeenInput) (out_old out_new err_old err_new : Option (List ℕ)) → IsCommandLine words c → Stopped (SaysFor c seen input) out_old out_new err_old err_new → Stopped (MaySay words seen input) out_old out_new err_old err_new
 stopped_command words c seen input out_old out_new err_old err_new is stopped = record { saying = stopped.saying; may = for_command c is stopped.may; taken = stopped.taken }
+
+-- what is told of a run is told of its command
+pub told_run : (c : Command) (r : RunCommand) (seen : Seen) (input : SeenInput) (out_old out_new err_old err_new : Option (List ℕ)) (status : ℕ) → c ≡ command.Run r.directories r.steps r.turns r.deny r.sources →
+    Told (run.SaysRight r seen input) out_old out_new err_old err_new status → Told (SaysFor c seen input) out_old out_new err_old err_new status
+told_run c r seen input out_old out_new err_old err_new status is told = subst (λ (d : Command). Told (SaysFor d seen input) out_old out_new err_old err_new status) (sym is) told
+
+pub stopped_run : (c : Command) (r : RunCommand) (seen : Seen) (input : SeenInput) (out_old out_new err_old err_new : Option (List ℕ)) → c ≡ command.Run r.directories r.steps r.turns r.deny r.sources →
+    Stopped (run.SaysRight r seen input) out_old out_new err_old err_new → Stopped (SaysFor c seen input) out_old out_new err_old err_new
+stopped_run c r seen input out_old out_new err_old err_new is stopped = subst (λ (d : Command). Stopped (SaysFor d seen input) out_old out_new err_old err_new) (sym is) stopped
 
 -- ## No command
 
