@@ -112,7 +112,7 @@ impl<'p> Machine<'p> {
     }
 
     /// Runs `main` with so many steps: up to its task loop, whose statement step it takes ([`Ended::AtLoop`]), or all of it where
-    /// it has none. Input is taken from the source in pieces of at most 4,096 bytes, none after it has answered 0; output is put
+    /// it has none. Input is taken from the source in pieces of at most 4,096 bytes, none after its end was noted; output is put
     /// when 4,096 bytes wait, and before each answer.
     ///
     /// # Errors
