@@ -1,7 +1,7 @@
 //! The top of `p10`: a command line, files, an input and two outputs in; a status and two texts out.
 //!
 //! Entry point: [`p10_main`]. The words are read as a command, which a crate of its own obeys. Invariant: the status and both
-//! texts are those of a right answer. For each command line at most one answer is right where the files are told, but for
+//! texts are those of a right answer. For each command line at most one answer is right where files and input are told, but for
 //! faults and want of memory. What the parts of an answer mean is left to the crates below.
 #![tactic(auto)]
 
