@@ -14,7 +14,7 @@ use Rattle.p10_graph.proofs.Found.{edge_within}
 use Rattle.p10_calls.specs.declared.sites.CallSite.{CallSite}
 use Rattle.p10_calls.specs.CallSites.{call_sites, calls_by, site}
 use Rattle.p10_calls.specs.CallGraphs.{callees_of, call_graph}
-use Rattle.p10_calls.specs.private.Numbering.{edge_of, IsGraphOf}
+use Rattle.p10_calls.specs.private.Numbering.{edge_of, HasEdgesOf}
 use Rattle.p10_calls.proofs.Lists.{only_one, kept, came_from, mapped, mapped_from, passes, passed}
 use Rattle.p10_calls.proofs.Standing.{stands_in, site_there}
 
@@ -68,7 +68,7 @@ two_named count s first second =
 -- ## The graph of calls
 
 pub graph_is : (sites : List CallSite) (count : ℕ) (edges : List (ℕ × ℕ)) (g : List (List ℕ)) → edges ≡ filter_map (edge_of count) sites → length g ≡ count
-    → ((u v : ℕ) → Edge g u v ↔ Contains edges (u, v)) → IsGraphOf sites count g
+    → ((u v : ℕ) → Edge g u v ↔ Contains edges (u, v)) → HasEdgesOf sites count g
 graph_is sites count edges g are nodes is = record {
   nodes = nodes;
   edges = λ u v. (
@@ -122,7 +122,7 @@ edge_from p u v edge =
     ]
 
 -- a graph of the calls of a program has the edges of the graph of calls
-pub same_edges : (p : PlainProgram) (g : List (List ℕ)) → IsGraphOf (call_sites p) (length p.functions) g → (u v : ℕ) → Edge g u v ↔ Edge (call_graph p) u v
+pub same_edges : (p : PlainProgram) (g : List (List ℕ)) → HasEdgesOf (call_sites p) (length p.functions) g → (u v : ℕ) → Edge g u v ↔ Edge (call_graph p) u v
 same_edges p g is u v = (
   (λ edge. let found = (is.edges u v).0 edge in edge_there p found.0 u v found.1 (names_two (length p.functions) found.0 u v found.2)),
   (λ edge. (is.edges u v).1 (edge_from p u v edge)),
@@ -144,6 +144,6 @@ edges_within sites count edges e k d inside =
     (two.caller_low, two.called_low)
 
 pub graph_of_is : {E : Type 0} (sites : List CallSite) (count : ℕ) (edges slice : List (ℕ × ℕ)) (r : Result (List (List ℕ)) E) → edges ≡ filter_map (edge_of count) sites → slice ≡ edges → IfOk r (λ g. length g ≡ count)
-    → IfOk r (λ g. (u v : ℕ) → Edge g u v ↔ Contains slice (u, v)) → IfOk r (IsGraphOf sites count)
+    → IfOk r (λ g. (u v : ℕ) → Edge g u v ↔ Contains slice (u, v)) → IfOk r (HasEdgesOf sites count)
 graph_of_is sites count edges slice (Err e) are same nodes is = tt
 graph_of_is sites count edges slice (Ok g) are same nodes is = graph_is sites count slice g (same ∙ are) nodes is

@@ -16,7 +16,7 @@ use Rattle.p10_calls.specs.CallSites.{call_sites, calls_among}
 use Rattle.p10_calls.specs.CallGraphs.{callees_of, call_graph}
 use Rattle.p10_calls.specs.Laws.{EachGraphIsOfCalls, RanksExist, RanksMeanNoRecursion}
 use Rattle.p10_calls.specs.Ranks.{AreRanks}
-use Rattle.p10_calls.specs.Samples.{calling, caller_of}
+use Rattle.p10_calls.specs.Samples.{call_statement, caller_of}
 use Rattle.p10_calls.specs.private.Numbering.{AreRankedBelow, Descends, IsRankAbove}
 use Rattle.p10_calls.proofs.Edges.{edge_there, reaches_within, NamesTwo}
 use Rattle.p10_calls.proofs.Lists.{here, there, passed}
@@ -134,7 +134,7 @@ ranks_mean_no_recursion p ranks (s ∷ found) are recursive =
 
 -- ## Each graph is one of calls
 
-calls_are : (row : List ℕ) → map (λ (c : FunctionUse). c.function) (calls_among (nodes_of_statements (statements_of_list (map calling row)))) ≡ row
+calls_are : (row : List ℕ) → map (λ (c : FunctionUse). c.function) (calls_among (nodes_of_statements (statements_of_list (map call_statement row)))) ≡ row
 calls_are [] = refl
 calls_are (v ∷ row) = ap (λ (l : List ℕ). v ∷ l) (calls_are row)
 

@@ -6,7 +6,7 @@ use Rattle.std.proofs.lemmas.Bool.{cases_lt, cases_eq}
 use Rattle.std.proofs.lemmas.List.{get_or-set_same, get_or-set_other, get_or_past, take_more, length-replicate}
 use Rattle.std.proofs.lemmas.List.Elements.{Contains-append_left, Contains-push, Contains-push_cases, Contains-get_or}
 use Rattle.p10_graph.specs.Graphs.{Edge}
-use Rattle.p10_calls.specs.Ranks.{IsRank, AreRanks}
+use Rattle.p10_calls.specs.Ranks.{HasRank, AreRanks}
 use Rattle.p10_calls.specs.private.Numbering.{AreRankedBelow, Descends, FindsByNumber, IsRankAbove}
 use Rattle.p10_calls.proofs.Lists.{none_in}
 
@@ -128,7 +128,7 @@ module _ (g : List (List ℕ)) (numbers ranks : List ℕ) (node rank : ℕ) (dow
       let less : slice_index numbers v < slice_index numbers u = down.falls u v edge in
       at_other v (λ same. let e : slice_index numbers v ≡ slice_index numbers node = ap (slice_index numbers) same in omega (arith, e, less, low))
 
-  rank_again : (u : ℕ) → u ≢ node → slice_index numbers u ≤ slice_index numbers node → IsRank g ranks u → IsRank g after u
+  rank_again : (u : ℕ) → u ≢ node → slice_index numbers u ≤ slice_index numbers node → HasRank g ranks u → HasRank g after u
   rank_again u other low before =
       let same : slice_index after u ≡ slice_index ranks u = at_other u other in
       record {
@@ -139,7 +139,7 @@ module _ (g : List (List ℕ)) (numbers ranks : List ℕ) (node rank : ℕ) (dow
         ];
       }
 
-  rank_of_node : IsRank g after node
+  rank_of_node : HasRank g after node
   rank_of_node = record {
     above = λ v edge. let e : slice_index after v ≡ slice_index ranks v = kept_rank node v edge (omega arith) in let here : slice_index after node ≡ rank = at_node in
         let over : slice_index ranks v < rank = is.above v edge in omega (arith, here, e, over);
@@ -170,7 +170,7 @@ module _ (g : List (List ℕ)) (numbers ranks : List ℕ) (node rank : ℕ) (dow
   ranked_more = record {
     each = length-set ranks node rank ∙ ranked.each;
     exact = λ u low l. elim (cases_eq u node) [
-      | inl same ↦ subst (IsRank g after) (sym same) rank_of_node
+      | inl same ↦ subst (HasRank g after) (sym same) rank_of_node
       | inr other ↦ let less : slice_index numbers u < slice_index numbers node = earlier u other low l in rank_again u other (omega (arith, less)) (ranked.exact u low less)
     ];
     small = λ u low l. elim (cases_eq u node) [

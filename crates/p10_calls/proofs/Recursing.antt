@@ -15,9 +15,9 @@ use Rattle.p10_graph.proofs.Cycles.{edge_law}
 use Rattle.p10_calls.specs.declared.sites.CallSite.{CallSite}
 use Rattle.p10_calls.specs.CallSites.{call_sites}
 use Rattle.p10_calls.specs.CallGraphs.{callees_of, call_graph}
-use Rattle.p10_calls.specs.Recursion.{IsRecursive, AreRecursiveCalls}
+use Rattle.p10_calls.specs.Recursion.{IsRecursiveCall, AreRecursiveCalls}
 use Rattle.p10_calls.specs.Ranks.{AreRanks}
-use Rattle.p10_calls.specs.private.Numbering.{has_one_number, IsGraphOf, Descends}
+use Rattle.p10_calls.specs.private.Numbering.{has_one_number, HasEdgesOf, Descends}
 use Rattle.p10_calls.proofs.Lists.{none_in, passes}
 use Rattle.p10_calls.proofs.Standing.{stands_in}
 use Rattle.p10_calls.proofs.Edges.{names_two, two_named, reaches_same, reaches_within, same_edges}
@@ -44,9 +44,9 @@ number_one numbers s h =
     ∙ ap (λ (b : Bool). b && nat_eq (slice_index numbers s.caller) (slice_index numbers s.call.function)) (lt-ltb s.call.function (length numbers) h.called_low)
     ∙ eq-eqb (slice_index numbers s.caller) (slice_index numbers s.call.function) h.same
 
-module _ (p : PlainProgram) (g : List (List ℕ)) (numbers : List ℕ) (is : IsGraphOf (call_sites p) (length p.functions) g) (are : AreComponents g numbers) where
+module _ (p : PlainProgram) (g : List (List ℕ)) (numbers : List ℕ) (is : HasEdgesOf (call_sites p) (length p.functions) g) (are : AreComponents g numbers) where
   -- a call whose functions have one number is recursive
-  recursive_by_number : (s : CallSite) → HaveOneNumber numbers s → IsRecursive p s
+  recursive_by_number : (s : CallSite) → HaveOneNumber numbers s → IsRecursiveCall p s
   recursive_by_number s h =
       let each : length numbers ≡ length g = are.each in
       let low : s.caller < length numbers = h.caller_low in
@@ -57,7 +57,7 @@ module _ (p : PlainProgram) (g : List (List ℕ)) (numbers : List ℕ) (is : IsG
       ((are.same s.caller s.call.function within within2).0 h.same).back
 
   -- the functions of a recursive call have one number
-  number_by_recursion : (s : CallSite) → Contains (call_sites p) s → IsRecursive p s → HaveOneNumber numbers s
+  number_by_recursion : (s : CallSite) → Contains (call_sites p) s → IsRecursiveCall p s → HaveOneNumber numbers s
   number_by_recursion s held recursive =
       let each : length numbers ≡ length g = are.each in
       let nodes : length g ≡ length p.functions = is.nodes in
@@ -138,17 +138,17 @@ ranks_same g h ranks nodes same are = record {
 -- ## What code has found
 
 pub graph_of_program : (program : Program) (sites slice : List CallSite) (fs : List Func) (g : List (List ℕ)) → sites ≡ call_sites (plain_program program) → slice ≡ sites → fs ≡ program.functions
-    → IsGraphOf slice (length fs) g → IsGraphOf (call_sites (plain_program program)) (length (plain_program program).functions) g
+    → HasEdgesOf slice (length fs) g → HasEdgesOf (call_sites (plain_program program)) (length (plain_program program).functions) g
 graph_of_program program sites slice fs g are same functions is =
     let count : length fs ≡ length (map plain_function program.functions) = ap length functions ∙ sym (length-map program.functions plain_function) in
-    subst (λ (n : ℕ). IsGraphOf (call_sites (plain_program program)) n g) count (subst (λ (l : List CallSite). IsGraphOf l (length fs) g) (same ∙ are) is)
+    subst (λ (n : ℕ). HasEdgesOf (call_sites (plain_program program)) n g) count (subst (λ (l : List CallSite). HasEdgesOf l (length fs) g) (same ∙ are) is)
 
-pub found_are : (p : PlainProgram) (g : List (List ℕ)) (numbers slice : List ℕ) (sites found : List CallSite) → IsGraphOf (call_sites p) (length p.functions) g → AreComponents g numbers → slice ≡ numbers
+pub found_are : (p : PlainProgram) (g : List (List ℕ)) (numbers slice : List ℕ) (sites found : List CallSite) → HasEdgesOf (call_sites p) (length p.functions) g → AreComponents g numbers → slice ≡ numbers
     → sites ≡ call_sites p → found ≡ filter (has_one_number slice) sites → AreRecursiveCalls p found
 found_are p g numbers slice sites found is are same all e =
     subst (AreRecursiveCalls p) (sym (e ∙ ap (λ (l : List ℕ). filter (has_one_number l) sites) same ∙ ap (filter (has_one_number numbers)) all)) (recursive_are p g numbers is are)
 
-pub none_descend : (p : PlainProgram) (g : List (List ℕ)) (numbers slice slice2 : List ℕ) (sites found : List CallSite) → IsGraphOf (call_sites p) (length p.functions) g → AreComponents g numbers → slice ≡ numbers
+pub none_descend : (p : PlainProgram) (g : List (List ℕ)) (numbers slice slice2 : List ℕ) (sites found : List CallSite) → HasEdgesOf (call_sites p) (length p.functions) g → AreComponents g numbers → slice ≡ numbers
     → sites ≡ call_sites p → found ≡ filter (has_one_number slice) sites → found ≡ [] → slice2 ≡ numbers → Descends g slice2
 none_descend p g numbers slice slice2 sites found is are same all e none same2 =
     subst (Descends g) (sym same2) (descends p g numbers is are (sym (e ∙ ap (λ (l : List ℕ). filter (has_one_number l) sites) same ∙ ap (filter (has_one_number numbers)) all) ∙ none))
@@ -163,7 +163,7 @@ something_found xs n is e none =
     let test : nat_eq n 0 ≡ true = eq-eqb n 0 zero_is in
     absurd cc
 
-pub ranked_ordered : (p : PlainProgram) (g : List (List ℕ)) (ranks told : List ℕ) (found : List CallSite) → IsGraphOf (call_sites p) (length p.functions) g → AreRanks g ranks → told ≡ ranks → AreRecursiveCalls p found → found ≡ []
+pub ranked_ordered : (p : PlainProgram) (g : List (List ℕ)) (ranks told : List ℕ) (found : List CallSite) → HasEdgesOf (call_sites p) (length p.functions) g → AreRanks g ranks → told ≡ ranks → AreRecursiveCalls p found → found ≡ []
     → AreRanks (call_graph p) told × AreRecursiveCalls p []
 ranked_ordered p g ranks told found is are same recursive none = (
   ranks_same g (call_graph p) told (length-map p.functions (callees_of (length p.functions)) ∙ sym is.nodes) (same_edges p g is) (subst (AreRanks g) (sym same) are),

@@ -8,14 +8,14 @@ use Rattle.p10_graph.specs.Graphs.{Walk}
 use Rattle.p10_graph.proofs.Found.{edge_within}
 use Rattle.p10_calls.specs.CallSites.{call_sites}
 use Rattle.p10_calls.specs.Laws.{RanksAreUnique, NoRanksOnCycles, RecursiveCallsAreOneList}
-use Rattle.p10_calls.specs.Recursion.{IsRecursive}
-use Rattle.p10_calls.specs.Ranks.{IsRank, AreRanks}
+use Rattle.p10_calls.specs.Recursion.{IsRecursiveCall}
+use Rattle.p10_calls.specs.Ranks.{HasRank, AreRanks}
 use Rattle.p10_calls.proofs.Lists.{those_are_one}
 
 -- ## One list of ranks
 
 -- two ranks of a node, where those of smaller rank are the same
-one_rank : (g : List (List ℕ)) (these others : List ℕ) (u : ℕ) → ((v : ℕ) → slice_index these v < slice_index these u → slice_index these v ≡ slice_index others v) → IsRank g these u → IsRank g others u
+one_rank : (g : List (List ℕ)) (these others : List ℕ) (u : ℕ) → ((v : ℕ) → slice_index these v < slice_index these u → slice_index these v ≡ slice_index others v) → HasRank g these u → HasRank g others u
     → slice_index these u ≡ slice_index others u
 one_rank g these others u smaller first second =
     elim first.least [
@@ -69,4 +69,4 @@ no_ranks_on_cycles g ranks are u on =
 -- ## Recursive calls
 
 pub recursive_calls_are_one_list : RecursiveCallsAreOneList
-recursive_calls_are_one_list p these others first second = those_are_one (IsRecursive p) (call_sites p) these others first second
+recursive_calls_are_one_list p these others first second = those_are_one (IsRecursiveCall p) (call_sites p) these others first second

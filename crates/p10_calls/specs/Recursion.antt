@@ -8,9 +8,9 @@ use Rattle.p10_calls.specs.CallSites.{call_sites}
 use Rattle.p10_calls.specs.CallGraphs.{call_graph}
 
 -- a call lies on a cycle of calls: the function that it calls is the one in which it stands, or reaches it by calls
-abbrev pub IsRecursive : PlainProgram → CallSite → Type 0
-IsRecursive p s = Reaches (call_graph p) s.call.function s.caller
+abbrev pub IsRecursiveCall : PlainProgram → CallSite → Type 0
+IsRecursiveCall p s = Reaches (call_graph p) s.call.function s.caller
 
 -- the recursive calls of a program, in the order of the functions and of the text
 abbrev pub AreRecursiveCalls : PlainProgram → List CallSite → Type 0
-AreRecursiveCalls p found = AreThose (IsRecursive p) (call_sites p) found
+AreRecursiveCalls p found = AreThose (IsRecursiveCall p) (call_sites p) found

@@ -14,8 +14,8 @@ abbrev pub no_place : At
 no_place = record { first = 0; past = 0; span = no_span }
 
 -- the call of a function by its number, as a statement
-abbrev pub calling : ℕ → PlainStatement
-calling n = statement no_place (evaluate (value no_place (void false) (call no_span n no_values)))
+abbrev pub call_statement : ℕ → PlainStatement
+call_statement n = statement no_place (evaluate (value no_place (void false) (call no_span n no_values)))
 
 -- a function whose body calls these functions, one after the other
 abbrev pub caller_of : List ℕ → PlainFunction
@@ -26,7 +26,7 @@ caller_of callees = record {
   parameters = 0;
   result = void false;
   variables = [];
-  body = statements_of_list (map calling callees);
+  body = statements_of_list (map call_statement callees);
 }
 
 -- a program whose functions call these functions

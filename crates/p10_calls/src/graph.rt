@@ -6,7 +6,7 @@ ghost use Rattle.std.specs.List.{All, filter_map};
 ghost use Rattle.p10_core.specs.Views.{plain_program};
 ghost use Rattle.p10_graph.specs.Graphs.{Edge};
 ghost use Rattle.p10_calls.specs.CallGraphs.{call_graph};
-ghost use Rattle.p10_calls.specs.private.Numbering.{IsGraphOf, edge_of};
+ghost use Rattle.p10_calls.specs.private.Numbering.{HasEdgesOf, edge_of};
 
 use crate::sites::{CallSite, call_sites};
 use p10_core::Program;
@@ -25,7 +25,7 @@ pub fn call_graph(alloc: Global, program: &Program<'_>) -> Result<Graph, AllocEr
 
 /// The graph of these calls, over so many functions.
 pub(crate) fn graph_of(alloc: Global, sites: &[CallSite], count: usize) -> Result<Graph, AllocError>
-    ensures { IfOk result (IsGraphOf sites.now count) }
+    ensures { IfOk result (HasEdgesOf sites.now count) }
 {
     // A graph counts its nodes in 32 bits. So many functions never fit memory, and are told as out of it.
     if count > u32::MAX as usize {

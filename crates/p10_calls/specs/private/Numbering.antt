@@ -3,7 +3,7 @@ use Rattle.std.specs.Prelude.{◌≡◌, ℕ, ◌+◌, ◌<◌, ◌≤◌, nat_l
 use Rattle.std.specs.List.{Contains}
 use Rattle.p10_graph.specs.Graphs.{Edge}
 use Rattle.p10_calls.specs.declared.sites.CallSite.{CallSite}
-use Rattle.p10_calls.specs.Ranks.{IsRank}
+use Rattle.p10_calls.specs.Ranks.{HasRank}
 
 -- the edge of a call in a graph of so many functions, if it names two of them
 abbrev pub edge_of : ℕ → CallSite → Option (ℕ × ℕ)
@@ -15,7 +15,7 @@ has_one_number numbers s =
     (nat_lt s.caller (length numbers) && nat_lt s.call.function (length numbers)) && nat_eq (slice_index numbers s.caller) (slice_index numbers s.call.function)
 
 -- the graph has the edges of the calls
-pub record IsGraphOf (sites : List CallSite) (count : ℕ) (g : List (List ℕ)) : Type 0 where
+pub record HasEdgesOf (sites : List CallSite) (count : ℕ) (g : List (List ℕ)) : Type 0 where
   pub nodes : length g ≡ count
   pub edges : (u v : ℕ) → Edge g u v ↔ ((s : CallSite) × Contains sites s × (edge_of count s ≡ Some (u, v)))
 
@@ -35,7 +35,7 @@ pub record FindsByNumber (numbers nodes : List ℕ) : Type 0 where
 -- the nodes with a number below this one have their ranks, none of which is greater than the number
 pub record AreRankedBelow (g : List (List ℕ)) (numbers ranks : List ℕ) (k : ℕ) : Type 0 where
   pub each : length ranks ≡ length g
-  pub exact : (u : ℕ) → u < length g → slice_index numbers u < k → IsRank g ranks u
+  pub exact : (u : ℕ) → u < length g → slice_index numbers u < k → HasRank g ranks u
   pub small : (u : ℕ) → u < length g → slice_index numbers u < k → slice_index ranks u ≤ slice_index numbers u
 
 -- the rank is one more than the greatest of those of nodes, or 0 where there are none
