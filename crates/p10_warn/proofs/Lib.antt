@@ -1,0 +1,16 @@
+mod Booleans
+mod Collecting
+mod Exact
+mod FunctionRows
+mod Groupings
+mod HiddenRows
+mod JumpRows
+mod Members
+mod NodeRows
+mod Ordered
+mod Noting
+mod Rows
+mod ScopeSteps
+mod StatementForms
+mod Turns
+mod UnusedRows

@@ -1,0 +1,12 @@
+use Rattle.std.proofs.Common.{◌≡◌, ◌++◌, ◌≤◌, length, drop, map}
+use Rattle.p10_core.specs.Views.{plain_function}
+use Rattle.p10_core.specs.Walks.{left_in}
+use Rattle.p10_warn.specs.AllNodes.{nodes_in_bodies}
+use Rattle.p10_warn.proofs.program_nodes.put_functions.Given as goal
+
+abbrev pub invariant-loop-left : goal.invariant-loop-left
+invariant-loop-left l =
+    (l.left ≤ length l.functions) × (left_in l.nodes ≡ nodes_in_bodies (map plain_function (drop l.left l.functions)) ++ left_in l.initial.nodes)
+
+abbrev pub decreases-loop-left : goal.decreases-loop-left
+decreases-loop-left l = l.left

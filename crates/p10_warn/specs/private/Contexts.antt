@@ -1,0 +1,20 @@
+-- What a walk over a function for its declarations knows, and what it lists.
+use Rattle.std.specs.Prelude.{List, map, flat_map}
+use Rattle.p10_base.specs.declared.report.Violation.{Violation}
+use Rattle.p10_core.specs.Typed.{PlainObject, PlainVariable}
+use Rattle.p10_core.specs.Views.{plain_object, plain_variable}
+use Rattle.p10_warn.specs.declared.context.Context.{Context}
+use Rattle.p10_warn.specs.Scopes.{Declaration}
+use Rattle.p10_warn.specs.private.Listing.{declaration_violations}
+
+-- the objects that are known
+abbrev pub objects_known : Context → List PlainObject
+objects_known c = map plain_object c.file.now.objects.now
+
+-- the variables that are known
+abbrev pub variables_known : Context → List PlainVariable
+variables_known c = map plain_variable c.variables.now
+
+-- the violations by declarations
+abbrev pub listed_by : Context → List Declaration → List Violation
+listed_by c declarations = flat_map (declaration_violations (objects_known c) c.function) declarations

@@ -1,0 +1,41 @@
+//! The objects of file scope, by their names.
+
+ghost use Rattle.std.specs.Prelude.{◌≡◌, ℕ, List, map};
+ghost use Rattle.std.specs.List.{list_any};
+ghost use Rattle.p10_core.specs.Views.{plain_object};
+ghost use Rattle.p10_warn.specs.Scopes.{covers};
+ghost use Rattle.p10_warn.specs.private.NamedExtents.{noted_for, is_name_in_scope};
+
+use crate::named_extents::NamedExtents;
+use p10_core::Global as StaticObject;
+use std::alloc::{AllocError, Global};
+
+/// The objects of static lifetime of a program, of which those in scope at a function are found by their names.
+#[derive(Drop)]
+pub(crate) struct FileScope<'w, 's> {
+    pub(crate) objects: &'w [StaticObject<'s>],
+    extents: NamedExtents<'s>,
+    ghost known: { (name : List ℕ) (n : ℕ) → list_any (covers n) (noted_for extents name) ≡ is_name_in_scope (map plain_object objects.now) n name },
+}
+
+impl<'w, 's> FileScope<'w, 's> {
+    ghost use Rattle.std.specs.Prelude.{IfOk};
+
+    /// These objects.
+    pub(crate) fn of(
+        alloc: Global,
+        objects: &'w [StaticObject<'s>],
+    ) -> Result<FileScope<'w, 's>, AllocError>
+        ensures { IfOk result (λ file. file.objects.now ≡ objects.now) }
+    {
+        let extents = NamedExtents::of(alloc, objects)?;
+        Ok(FileScope { objects, extents })
+    }
+
+    /// Whether an object with this name is in scope at the function with a number.
+    pub(crate) fn has(&self, name: &[u8], function: usize) -> bool
+        ensures { result ≡ is_name_in_scope (map plain_object self.now.objects.now) function name.now }
+    {
+        self.extents.has(name, function)
+    }
+}
