@@ -7,4 +7,5 @@ pub mod Scopes
 pub mod Jumps
 pub mod Ends
 pub mod Violations
+pub mod SmallPrograms
 pub mod private

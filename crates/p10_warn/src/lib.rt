@@ -22,6 +22,7 @@ mod ends;
 mod file_scope;
 mod functions;
 mod jumps;
+pub mod laws;
 mod listing;
 mod marks;
 mod named_extents;
