@@ -1,5 +1,5 @@
 -- The violations that the parts of the code list, taken together.
-use Rattle.std.proofs.Common.{◌≡◌, ℕ, List, [], ◌∷◌, ◌++◌, map, refl, sym, ◌∙◌, ap}
+use Rattle.std.proofs.Common.{◌≡◌, ℕ, List, [], ◌++◌, map, ◌∙◌, ap}
 use Rattle.std.specs.List.{filter_map, flat_map}
 use Rattle.std.proofs.lemmas.List.{append_assoc}
 use Rattle.p10_base.specs.declared.report.Violation.{Violation}

@@ -1,13 +1,13 @@
 -- The violations that are listed are those of the rows.
-use Rattle.std.proofs.Common.{◌≡◌, ℕ, ◌+◌, List, ◌++◌, Option, Some, false, slice_get, refl, sym, ◌∙◌, ap, subst, arith, ◌⊎◌, inl, inr}
+use Rattle.std.proofs.Common.{◌≡◌, ℕ, ◌+◌, List, ◌++◌, Some, slice_get, sym, ◌∙◌, ap, subst, arith, inl, inr}
 use Rattle.std.specs.Prelude.{◌↔◌}
 use Rattle.std.specs.List.{Contains, filter_map, flat_map}
 use Rattle.std.proofs.lemmas.List.Elements.{Contains-append_left, Contains-append_right, Contains-append_cases}
 use Rattle.p10_base.specs.declared.span.Span.{Span}
 use Rattle.p10_base.specs.declared.report.Sub.{Sub}
 use Rattle.p10_base.specs.declared.report.Violation.{Violation}
-use Rattle.p10_core.specs.Nodes.{PlainNode, a_statement}
-use Rattle.p10_core.specs.Typed.{PlainObject, PlainProgram, statement, switch}
+use Rattle.p10_core.specs.Nodes.{PlainNode}
+use Rattle.p10_core.specs.Typed.{PlainObject, PlainProgram}
 use Rattle.p10_core.specs.WholePrograms.{is_among}
 use Rattle.p10_warn.specs.AllNodes.{all_nodes}
 use Rattle.p10_warn.specs.Naming.{HasNaming, object_named, function_called}

@@ -1,5 +1,5 @@
 -- The violations by functions are those of the rows on functions.
-use Rattle.std.proofs.Common.{◌≡◌, ℕ, zero, suc, ◌+◌, ◌==◌, ◌++◌, List, [], ◌∷◌, Bool, true, false, not, ◌&&◌, Option, Some, None, slice_get, refl, sym, ◌∙◌, ap, subst, arith, ◌⊎◌, inl, inr}
+use Rattle.std.proofs.Common.{◌≡◌, ℕ, zero, suc, ◌+◌, ◌==◌, ◌++◌, List, [], ◌∷◌, true, false, not, ◌&&◌, Some, slice_get, refl, sym, ◌∙◌, ap, subst, arith, inl, inr}
 use Rattle.std.specs.List.{Contains, filter_map, flat_map}
 use Rattle.std.proofs.lemmas.Bool.{and_parts, eqb-true, eq-eqb}
 use Rattle.std.proofs.lemmas.List.Elements.{Contains-append_left, Contains-append_right, Contains-append_cases}
@@ -14,7 +14,7 @@ use Rattle.p10_warn.specs.Naming.{HasNaming, variable_named, function_called}
 use Rattle.p10_warn.specs.Scopes.{Declaration, declarations_of_function, Hides}
 use Rattle.p10_warn.specs.Jumps.{LabelledBlock, blocks_of, FollowsJump}
 use Rattle.p10_warn.specs.Ends.{reach_end}
-use Rattle.p10_warn.specs.Violations.{Violates, unused_variable, unused_function, name_hidden, after_jump, end_reached}
+use Rattle.p10_warn.specs.Violations.{unused_variable, unused_function, name_hidden, after_jump, end_reached}
 use Rattle.p10_warn.specs.private.Listing.{listed_if, unused_variables, hides, declaration_violations, block_violations, lacks_return, function_violations, functions_violations}
 use Rattle.p10_warn.proofs.Booleans.{both, not_is, is_not, not_both_ways}
 use Rattle.p10_warn.proofs.Members.{none_in, here, there, first_or_later}

@@ -1,5 +1,5 @@
 -- The violations by nodes are those of the rows on nodes.
-use Rattle.std.proofs.Common.{◌≡◌, ℕ, List, [], ◌∷◌, ◌++◌, Bool, true, false, not, ◌&&◌, Option, Some, None, refl, sym, ap, subst, inl, inr}
+use Rattle.std.proofs.Common.{◌≡◌, ℕ, true, not, ◌&&◌, Option, Some, None, refl, ap, subst, inl, inr}
 use Rattle.std.specs.List.{Contains}
 use Rattle.std.proofs.lemmas.Bool.{and_parts}
 use Rattle.std.proofs.lemmas.List.Elements.{Contains-append_left, Contains-append_right, Contains-append_cases}
@@ -16,7 +16,7 @@ use Rattle.p10_core.specs.Nodes.{PlainNode, a_statement, a_value, a_place}
 use Rattle.p10_warn.specs.AllNodes.{all_nodes}
 use Rattle.p10_warn.specs.Conversions.{narrows, NarrowsAt, converted_value, updated_place, updated_result}
 use Rattle.p10_warn.specs.Comparisons.{compares, as_written, differ_in_sign, is_natural_constant, MixesSignsAt, mixed}
-use Rattle.p10_warn.specs.Violations.{Violates, implicit_narrowing, signs_mixed, no_default}
+use Rattle.p10_warn.specs.Violations.{implicit_narrowing, signs_mixed, no_default}
 use Rattle.p10_warn.specs.private.Listing.{listed_if, is_narrowed, mixes_signs, is_missing, value_violations, update_violations, statement_violations, node_violations}
 use Rattle.p10_warn.proofs.Booleans.{both, not_is, is_not}
 use Rattle.p10_warn.proofs.Members.{none_in}

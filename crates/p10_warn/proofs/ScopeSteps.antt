@@ -1,11 +1,10 @@
 -- Names in scope, one declaration after the other.
-use Rattle.std.proofs.Common.{◌≡◌, ℕ, ◌+◌, List, [], ◌∷◌, ◌++◌, map, take, length, Bool, true, false, ◌||◌, bytes_eq, if◌then◌else◌, Option, Some, None, refl, sym, ◌∙◌, ap, arith}
+use Rattle.std.proofs.Common.{◌≡◌, ℕ, List, [], ◌∷◌, ◌++◌, map, take, length, Bool, true, false, ◌||◌, bytes_eq, if◌then◌else◌, Option, Some, None, refl, sym, ◌∙◌, ap}
 use Rattle.std.specs.List.{list_any}
-use Rattle.std.specs.Option.{is_some}
 use Rattle.std.proofs.lemmas.List.{append_assoc, append-nil}
 use Rattle.p10_base.specs.Words.{Text}
 use Rattle.p10_bindings.specs.Lookup.{last_after, last_bound}
-use Rattle.p10_core.specs.Typed.{PlainObject, PlainVariable, PlainStatement, PlainStatements, no_statements, more_statements}
+use Rattle.p10_core.specs.Typed.{PlainObject, PlainVariable, PlainStatements, no_statements, more_statements}
 use Rattle.p10_core.specs.declared.program.Func.{Func}
 use Rattle.p10_core.specs.declared.program.Variable.{Variable}
 use Rattle.p10_core.specs.declared.statements.Stmt.{Stmt}

@@ -1,5 +1,4 @@
 -- Forms of statements of the code, and lists of what stands in their parts.
-use Rattle.std.specs.Prelude.{Vec}
 use Rattle.std.specs.declared.alloc.Global.{Global}
 use Rattle.std.proofs.Common.{◌≡◌, ℕ, List, [], ◌∷◌, ◌++◌, Option, Some, None, option_map, Box, refl, sym, ◌∙◌, ap, rules}
 use Rattle.std.specs.List.{flat_map}
@@ -9,7 +8,6 @@ use Rattle.p10_base.specs.Words.{Text}
 use Rattle.p10_core.specs.declared.typed.Value.{Value}
 use Rattle.p10_core.specs.declared.statements.LoopHead.{LoopHead}
 use Rattle.p10_core.specs.declared.statements.Stmt.{Stmt}
-use Rattle.p10_core.specs.declared.statements.StmtForm.{StmtForm}
 use Rattle.p10_core.specs.declared.statements.StmtForm.TheVariants.{If, Loop}
 use Rattle.p10_core.specs.declared.statements.StmtForm.TheViews.{the_lemmas}
 use Rattle.p10_core.specs.Typed.{PlainObject, PlainVariable, PlainStatementForm, statement, if_then, if_else, loop}

@@ -6,7 +6,7 @@ use Rattle.p10_base.specs.declared.span.Span.{Span}
 use Rattle.p10_int.specs.declared.operators.BinOp.{BinOp}
 use Rattle.p10_int.specs.declared.operators.BinOp.TheVariants.{Lt, Gt, Le, Ge, Eq, Ne}
 use Rattle.p10_int.specs.Types.{is_signed_of, promoted}
-use Rattle.p10_core.specs.Types.{PlainType, void, integer, pointer, array, structure}
+use Rattle.p10_core.specs.Types.{PlainType, integer}
 use Rattle.p10_core.specs.Constants.{is_constant, inconstant_part, fold}
 use Rattle.p10_core.specs.Typed.{PlainValue, value, convert, binary, type_of}
 use Rattle.p10_core.specs.Nodes.{PlainNode, a_value}

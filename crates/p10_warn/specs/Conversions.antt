@@ -5,7 +5,7 @@ use Rattle.p10_base.specs.declared.span.Span.{Span}
 use Rattle.p10_int.specs.declared.operators.BinOp.{BinOp}
 use Rattle.p10_int.specs.Types.{holds_all}
 use Rattle.p10_core.specs.declared.statements.UpdateKind.TheVariants.{Compound}
-use Rattle.p10_core.specs.Types.{PlainType, void, integer, pointer, array, structure}
+use Rattle.p10_core.specs.Types.{PlainType, integer}
 use Rattle.p10_core.specs.Constants.{is_constant, inconstant_part}
 use Rattle.p10_core.specs.Typed.{PlainValue, value, convert, at_of, type_of, PlainPlace, place_at, place_type, statement, update}
 use Rattle.p10_core.specs.Nodes.{PlainNode, a_statement, a_value}

@@ -9,7 +9,7 @@ use Rattle.p10_int.specs.declared.types.IntType.TheVariants.{UChar, Int, UInt}
 use Rattle.p10_int.specs.declared.operators.BinOp.TheVariants.{Add, Lt}
 use Rattle.p10_core.specs.declared.statements.LoopKeyword.TheVariants.{While, For}
 use Rattle.p10_core.specs.declared.statements.UpdateKind.TheVariants.{Compound, Step}
-use Rattle.p10_core.specs.Types.{PlainType, integer, void}
+use Rattle.p10_core.specs.Types.{integer}
 use Rattle.p10_core.specs.Typed.{PlainValue, value, PlainForm, constant, read, convert, binary, call, PlainPlace, place, variable, global, no_values, not_initialized, PlainStatement, statement, PlainStatementForm, set, update, evaluate, declare, block, if_then, loop, switch, break, continue, return, empty, no_statements, statements_of_list, PlainVariable, PlainFunction, PlainObject, PlainProgram}
 use Rattle.p10_warn.specs.Violations.{Violates, rule_ten}
 

@@ -1,5 +1,5 @@
 -- The rows of Holzmann's rule 10 ("The Power of Ten", 2006: all code compiles with all warnings on, and with none).
-use Rattle.std.specs.Prelude.{◌≡◌, ℕ, true, false, Option, Some, None, slice_get}
+use Rattle.std.specs.Prelude.{◌≡◌, ℕ, true, false, Some, None, slice_get}
 use Rattle.std.specs.List.{Contains}
 use Rattle.p10_base.specs.declared.at.At.{At}
 use Rattle.p10_base.specs.declared.span.Span.{Span}

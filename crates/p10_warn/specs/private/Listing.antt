@@ -4,14 +4,13 @@ use Rattle.std.specs.List.{list_any, filter_map}
 use Rattle.p10_base.specs.declared.at.At.{At}
 use Rattle.p10_base.specs.declared.span.Span.{Span}
 use Rattle.p10_base.specs.declared.report.Violation.{Violation}
-use Rattle.p10_base.specs.Words.{Text}
 use Rattle.p10_int.specs.declared.operators.BinOp.{BinOp}
 use Rattle.p10_core.specs.declared.statements.UpdateKind.{UpdateKind}
 use Rattle.p10_core.specs.declared.statements.UpdateKind.TheVariants.{Compound, Step}
 use Rattle.p10_core.specs.Types.{PlainType}
 use Rattle.p10_core.specs.Rows.{is_void}
 use Rattle.p10_core.specs.Constants.{is_constant, inconstant_part}
-use Rattle.p10_core.specs.Typed.{PlainValue, value, PlainForm, convert, binary, at_of, type_of, PlainPlace, place_at, place_type, PlainStatement, statement, PlainStatementForm, update, switch, PlainStatements, no_statements, more_statements, statement_at, PlainVariable, PlainFunction, PlainObject, PlainProgram}
+use Rattle.p10_core.specs.Typed.{PlainValue, value, PlainForm, convert, binary, at_of, type_of, PlainPlace, place_at, place_type, statement, PlainStatementForm, update, switch, PlainStatements, no_statements, more_statements, statement_at, PlainVariable, PlainFunction, PlainObject, PlainProgram}
 use Rattle.p10_core.specs.Nodes.{PlainNode, a_statement, a_value, a_place, nodes_of_statements}
 use Rattle.p10_core.specs.WholePrograms.{is_among}
 use Rattle.p10_warn.specs.AllNodes.{all_nodes}

@@ -1,5 +1,5 @@
 -- The functions at which objects of file scope are in scope, by the names of the objects.
-use Rattle.std.specs.Prelude.{◌≡◌, ℕ, Bool, ◌&&◌, if◌then◌else◌, List, [], ◌∷◌, ◌++◌, Option, Some, None, map, slice_get, bytes_eq}
+use Rattle.std.specs.Prelude.{ℕ, Bool, ◌&&◌, if◌then◌else◌, List, [], ◌∷◌, ◌++◌, Option, Some, None, map, slice_get, bytes_eq}
 use Rattle.std.specs.List.{list_any}
 use Rattle.p10_base.specs.Words.{Text}
 use Rattle.p10_base.specs.Names.{place_in}

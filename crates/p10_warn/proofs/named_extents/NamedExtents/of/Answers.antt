@@ -1,5 +1,4 @@
-use Rattle.p10_core.specs.Views.{plain_object}
-use Rattle.p10_warn.specs.private.NamedExtents.{noted_for, extents_named}
+use Rattle.p10_warn.specs.private.NamedExtents.{noted_for}
 use Rattle.p10_warn.proofs.Noting.{noted_more}
 use Rattle.p10_warn.proofs.Turns.{cut_list}
 use Rattle.p10_warn.proofs.named_extents.NamedExtents.of.Goals as goal
