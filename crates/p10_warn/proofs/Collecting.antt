@@ -9,7 +9,7 @@ use Rattle.p10_core.specs.declared.program.Program.{Program}
 use Rattle.p10_core.specs.Nodes.{PlainNode}
 use Rattle.p10_core.specs.Views.{plain_function, plain_object, plain_program}
 use Rattle.p10_warn.specs.AllNodes.{nodes_in_bodies, nodes_in_initializers}
-use Rattle.p10_warn.specs.Naming.{object_named, function_called}
+use Rattle.p10_warn.specs.Naming.{named_object, called_function}
 use Rattle.p10_warn.specs.private.Listing.{node_violations, unused_objects, functions_violations, program_violations}
 
 -- the nodes of functions and objects
@@ -21,15 +21,15 @@ abbrev on_nodes : List Func → List Global → List Violation
 on_nodes functions objects = flat_map node_violations (nodes_in functions objects)
 
 abbrev on_objects : List Func → List Global → List Violation
-on_objects functions objects = unused_objects (filter_map object_named (nodes_in functions objects)) 0 (map plain_object objects)
+on_objects functions objects = unused_objects (filter_map named_object (nodes_in functions objects)) 0 (map plain_object objects)
 
 abbrev on_functions : ℕ → List Func → List Global → List Violation
 on_functions main functions objects =
-    functions_violations (map plain_object objects) main (filter_map function_called (nodes_in functions objects)) 0 (map plain_function functions)
+    functions_violations (map plain_object objects) main (filter_map called_function (nodes_in functions objects)) 0 (map plain_function functions)
 
 pub collected : (program : Program) (functions : List Func) (objects known : List Global) (nodes : List PlainNode) (named called : List ℕ) (first one two all : List Violation)
     → functions ≡ program.functions → objects ≡ program.globals → known ≡ objects → nodes ≡ nodes_in functions objects
-    → named ≡ filter_map object_named (nodes_in functions objects) → called ≡ filter_map function_called (nodes_in functions objects) → first ≡ []
+    → named ≡ filter_map named_object (nodes_in functions objects) → called ≡ filter_map called_function (nodes_in functions objects) → first ≡ []
     → one ≡ first ++ flat_map node_violations nodes → two ≡ one ++ unused_objects named 0 (map plain_object objects)
     → all ≡ two ++ functions_violations (map plain_object known) program.main called 0 (map plain_function functions) → all ≡ program_violations (plain_program program)
 collected program functions objects known nodes named called first one two all same_functions same_objects same_known are named_are called_are none by_nodes by_objects by_functions =

@@ -10,7 +10,7 @@ use Rattle.p10_core.specs.Nodes.{PlainNode}
 use Rattle.p10_core.specs.Typed.{PlainObject, PlainProgram}
 use Rattle.p10_core.specs.WholePrograms.{is_among}
 use Rattle.p10_warn.specs.AllNodes.{all_nodes}
-use Rattle.p10_warn.specs.Naming.{HasNaming, object_named, function_called}
+use Rattle.p10_warn.specs.Naming.{HasNaming, named_object, called_function}
 use Rattle.p10_warn.specs.Violations.{Violates, unused_object, unused_variable, unused_function, implicit_narrowing, signs_mixed, name_hidden, no_default, after_jump, end_reached}
 use Rattle.p10_warn.specs.private.Listing.{node_violations, unused_objects, functions_violations, program_violations}
 use Rattle.p10_warn.proofs.Rows.{Breaks, row_at, in_pieces, piece_in}
@@ -23,19 +23,19 @@ module _ (p : PlainProgram) where
   on_nodes = flat_map node_violations (all_nodes p)
 
   abbrev named : List ℕ
-  named = filter_map object_named (all_nodes p)
+  named = filter_map named_object (all_nodes p)
 
   abbrev on_objects : List Violation
   on_objects = unused_objects named 0 p.objects
 
   abbrev on_functions : List Violation
-  on_functions = functions_violations p.objects p.main (filter_map function_called (all_nodes p)) 0 p.functions
+  on_functions = functions_violations p.objects p.main (filter_map called_function (all_nodes p)) 0 p.functions
 
   object_is : (v : Violation) → Contains on_objects v → Breaks p v
   object_is v held =
       let h = unused_object_is named 0 p.objects v held in
       let same : 0 + h.0 ≡ h.0 = omega arith in
-      subst (Breaks p) h.4 (unused_object h.0 h.1 h.2 (unnamed_is object_named (all_nodes p) h.0 (ap (λ k. is_among k named) (sym same) ∙ h.3)))
+      subst (Breaks p) h.4 (unused_object h.0 h.1 h.2 (unnamed_is named_object (all_nodes p) h.0 (ap (λ k. is_among k named) (sym same) ∙ h.3)))
 
   listed_is : (v : Violation) → Contains (program_violations p) v → Breaks p v
   listed_is v held =
@@ -47,11 +47,11 @@ module _ (p : PlainProgram) where
   by_node : (node : PlainNode) (v : Violation) → Contains (all_nodes p) node → Contains (node_violations node) v → Contains (program_violations p) v
   by_node node v held in' = Contains-append_left on_nodes (on_objects ++ on_functions) v (piece_in node_violations (all_nodes p) node v held in')
 
-  by_object : (n : ℕ) (o : PlainObject) → slice_get p.objects n ≡ Some o → (HasNaming object_named (all_nodes p) n → ⊥) → Contains (program_violations p) (row_at 1 o.span)
+  by_object : (n : ℕ) (o : PlainObject) → slice_get p.objects n ≡ Some o → (HasNaming named_object (all_nodes p) n → ⊥) → Contains (program_violations p) (row_at 1 o.span)
   by_object n o at unnamed =
       let same : n ≡ 0 + n = omega arith in
       Contains-append_right on_nodes (on_objects ++ on_functions) (row_at 1 o.span) (Contains-append_left on_objects on_functions (row_at 1 o.span)
-      (is_unused_object named 0 p.objects n o at (ap (λ k. is_among k named) (sym same) ∙ is_unnamed object_named (all_nodes p) n unnamed)))
+      (is_unused_object named 0 p.objects n o at (ap (λ k. is_among k named) (sym same) ∙ is_unnamed named_object (all_nodes p) n unnamed)))
 
   by_function : (v : Violation) → Contains on_functions v → Contains (program_violations p) v
   by_function v held = Contains-append_right on_nodes (on_objects ++ on_functions) v (Contains-append_right on_objects on_functions v held)

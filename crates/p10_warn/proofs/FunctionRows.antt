@@ -10,8 +10,8 @@ use Rattle.p10_core.specs.Nodes.{nodes_of_statements}
 use Rattle.p10_core.specs.Typed.{PlainStatement, PlainVariable, PlainFunction, PlainObject, PlainProgram, statement_at}
 use Rattle.p10_core.specs.WholePrograms.{is_among}
 use Rattle.p10_warn.specs.AllNodes.{all_nodes}
-use Rattle.p10_warn.specs.Naming.{HasNaming, variable_named, function_called}
-use Rattle.p10_warn.specs.Scopes.{Declaration, declarations_of_function, Hides}
+use Rattle.p10_warn.specs.Naming.{HasNaming, named_variable, called_function}
+use Rattle.p10_warn.specs.Scopes.{ScopedDeclaration, declarations_of_function, Hides}
 use Rattle.p10_warn.specs.Jumps.{LabelledBlock, blocks_of, FollowsJump}
 use Rattle.p10_warn.specs.Ends.{reach_end}
 use Rattle.p10_warn.specs.Violations.{unused_variable, unused_function, name_hidden, after_jump, end_reached}
@@ -74,10 +74,10 @@ is_other_number n m h = elim (n == m) as (λ b. (n == m) ≡ b → not b ≡ tru
 
 module _ (p : PlainProgram) where
   abbrev called : List ℕ
-  called = filter_map function_called (all_nodes p)
+  called = filter_map called_function (all_nodes p)
 
   abbrev on_variables : PlainFunction → List Violation
-  on_variables f = unused_variables (filter_map variable_named (nodes_of_statements f.body)) 0 f.variables
+  on_variables f = unused_variables (filter_map named_variable (nodes_of_statements f.body)) 0 f.variables
 
   abbrev on_calls : ℕ → PlainFunction → List Violation
   on_calls n f = listed_if 2 (f.static && not (is_among n called)) f.span
@@ -93,16 +93,16 @@ module _ (p : PlainProgram) where
 
   variable_is : (n : ℕ) (f : PlainFunction) (v : Violation) → Contains p.functions f → Contains (on_variables f) v → Breaks p v
   variable_is n f v held in' =
-      let named = filter_map variable_named (nodes_of_statements f.body) in
+      let named = filter_map named_variable (nodes_of_statements f.body) in
       let h = unused_variable_is named 0 f.variables v in' in
       let same : 0 + h.0 ≡ h.0 = omega arith in
-      subst (Breaks p) h.4 (unused_variable f h.0 h.1 held h.2 (unnamed_is variable_named (nodes_of_statements f.body) h.0 (ap (λ k. is_among k named) (sym same) ∙ h.3)))
+      subst (Breaks p) h.4 (unused_variable f h.0 h.1 held h.2 (unnamed_is named_variable (nodes_of_statements f.body) h.0 (ap (λ k. is_among k named) (sym same) ∙ h.3)))
 
   call_is : (n : ℕ) (f : PlainFunction) (v : Violation) → slice_get p.functions n ≡ Some f → Contains (on_calls n f) v → Breaks p v
   call_is n f v at in' =
       let h = row_is 2 (f.static && not (is_among n called)) f.span v in' in
       let parts = and_parts f.static (not (is_among n called)) h.0 in
-      subst (Breaks p) h.1 (unused_function n f at parts.0 (unnamed_is function_called (all_nodes p) n (not_is (is_among n called) parts.1)))
+      subst (Breaks p) h.1 (unused_function n f at parts.0 (unnamed_is called_function (all_nodes p) n (not_is (is_among n called) parts.1)))
 
   name_is : (n : ℕ) (f : PlainFunction) (v : Violation) → slice_get p.functions n ≡ Some f → Contains (on_names n f) v → Breaks p v
   name_is n f v at in' =
@@ -161,22 +161,22 @@ module _ (p : PlainProgram) where
   after_names : (n : ℕ) (f : PlainFunction) (v : Violation) → Contains (on_jumps f ++ on_end n f) v → Contains (function_violations p.objects p.main called n f) v
   after_names n f v held = after_calls n f v (Contains-append_right (on_names n f) (on_jumps f ++ on_end n f) v held)
 
-  pub is_variable : (f : PlainFunction) (n : ℕ) (w : PlainVariable) → Contains p.functions f → slice_get f.variables n ≡ Some w → (HasNaming variable_named (nodes_of_statements f.body) n → ⊥)
+  pub is_variable : (f : PlainFunction) (n : ℕ) (w : PlainVariable) → Contains p.functions f → slice_get f.variables n ≡ Some w → (HasNaming named_variable (nodes_of_statements f.body) n → ⊥)
       → Contains (functions_violations p.objects p.main called 0 p.functions) (row_at 1 w.span)
   is_variable f n w held at unnamed =
       let place = place_of_held p.functions f held in
-      let named = filter_map variable_named (nodes_of_statements f.body) in
+      let named = filter_map named_variable (nodes_of_statements f.body) in
       let same : n ≡ 0 + n = omega arith in
       in_function place.0 f (row_at 1 w.span) place.1 (on_variables_in place.0 f (row_at 1 w.span)
-      (is_unused_variable named 0 f.variables n w at (ap (λ k. is_among k named) (sym same) ∙ is_unnamed variable_named (nodes_of_statements f.body) n unnamed)))
+      (is_unused_variable named 0 f.variables n w at (ap (λ k. is_among k named) (sym same) ∙ is_unnamed named_variable (nodes_of_statements f.body) n unnamed)))
 
-  pub is_call : (n : ℕ) (f : PlainFunction) → slice_get p.functions n ≡ Some f → f.static ≡ true → (HasNaming function_called (all_nodes p) n → ⊥)
+  pub is_call : (n : ℕ) (f : PlainFunction) → slice_get p.functions n ≡ Some f → f.static ≡ true → (HasNaming called_function (all_nodes p) n → ⊥)
       → Contains (functions_violations p.objects p.main called 0 p.functions) (row_at 2 f.span)
   is_call n f at static uncalled =
       in_function n f (row_at 2 f.span) at (after_variables n f (row_at 2 f.span) (Contains-append_left (on_calls n f) (on_names n f ++ (on_jumps f ++ on_end n f)) (row_at 2 f.span)
-      (is_row 2 (f.static && not (is_among n called)) f.span (both f.static (not (is_among n called)) static (is_not (is_among n called) (is_unnamed function_called (all_nodes p) n uncalled))))))
+      (is_row 2 (f.static && not (is_among n called)) f.span (both f.static (not (is_among n called)) static (is_not (is_among n called) (is_unnamed called_function (all_nodes p) n uncalled))))))
 
-  pub is_name : (n : ℕ) (f : PlainFunction) (d : Declaration) → slice_get p.functions n ≡ Some f → Contains (declarations_of_function p.objects f) d → Hides p.objects n d
+  pub is_name : (n : ℕ) (f : PlainFunction) (d : ScopedDeclaration) → slice_get p.functions n ≡ Some f → Contains (declarations_of_function p.objects f) d → Hides p.objects n d
       → Contains (functions_violations p.objects p.main called 0 p.functions) (row_at 5 d.declares.span)
   is_name n f d at held hidden =
       in_function n f (row_at 5 d.declares.span) at (after_calls n f (row_at 5 d.declares.span) (Contains-append_left (on_names n f) (on_jumps f ++ on_end n f) (row_at 5 d.declares.span)

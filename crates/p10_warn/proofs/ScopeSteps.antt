@@ -9,7 +9,7 @@ use Rattle.p10_core.specs.declared.program.Func.{Func}
 use Rattle.p10_core.specs.declared.program.Variable.{Variable}
 use Rattle.p10_core.specs.declared.statements.Stmt.{Stmt}
 use Rattle.p10_core.specs.Views.{plain_variable, plain_statements, plain_function}
-use Rattle.p10_warn.specs.Scopes.{DeclaredName, name_declared, with_declared, names_after, declarations_of_parameters, declarations_among, declarations_of_function}
+use Rattle.p10_warn.specs.Scopes.{DeclaredName, name_declared, scope_after, names_after, declarations_of_parameters, declarations_among, declarations_of_function}
 
 -- ## Look-up
 
@@ -57,7 +57,7 @@ names_kept old mid new count more long grown kept =
     ∙ ap (λ n. take n (map (λ b. b.0) old ++ more)) (long ∙ sym (map_length (λ b. b.0) old)) ∙ take_all (map (λ b. b.0) old) more
 
 -- names grow
-pub declared_grows : (around : List Text) (d : Option DeclaredName) → (more : List Text) × (with_declared around d ≡ around ++ more)
+pub declared_grows : (around : List Text) (d : Option DeclaredName) → (more : List Text) × (scope_after around d ≡ around ++ more)
 declared_grows around None = ([], sym (append-nil around))
 declared_grows around (Some d) = (d.name ∷ [], refl)
 
@@ -65,7 +65,7 @@ pub names_grow : (objects : List PlainObject) (variables : List PlainVariable) (
 names_grow objects variables around no_statements = ([], sym (append-nil around))
 names_grow objects variables around (more_statements s rest) =
     let one = declared_grows around (name_declared objects variables s) in
-    let others = names_grow objects variables (with_declared around (name_declared objects variables s)) rest in
+    let others = names_grow objects variables (scope_after around (name_declared objects variables s)) rest in
     (one.0 ++ others.0, others.1 ∙ ap (λ xs. xs ++ others.0) one.1 ∙ append_assoc around one.0 others.0)
 
 -- ## Loops

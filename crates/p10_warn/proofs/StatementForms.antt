@@ -14,7 +14,7 @@ use Rattle.p10_core.specs.Typed.{PlainObject, PlainVariable, PlainStatementForm,
 use Rattle.p10_core.specs.Views.{plain_value, plain_statement, plain_statement_form, plain_statements}
 use Rattle.p10_core.proofs.StatementRows.{statements_row-items}
 use Rattle.p10_warn.specs.Jumps.{blocks_in, blocks_in_form}
-use Rattle.p10_warn.specs.Scopes.{declarations_in, declarations_among, names_after, name_declared, with_declared}
+use Rattle.p10_warn.specs.Scopes.{declarations_in, declarations_among, names_after, name_declared, scope_after}
 use Rattle.p10_warn.specs.private.Branches.{blocks_in_branch, declarations_in_branch}
 
 if_then_is : (v : Value) (then : Box Stmt Global) → plain_statement_form (If v then None) ≡ if_then (plain_value v) (plain_statement then.value)
@@ -61,6 +61,6 @@ declarations_in_loop objects variables around at head first test third body =
 
 -- a loop declares nothing around it
 pub nothing_declared : (objects : List PlainObject) (variables : List PlainVariable) (around : List Text) (at : At) (head : LoopHead) (first : List Stmt) (test : Option Value) (third : List Stmt) (body : Box Stmt Global) (f : PlainStatementForm) →
-    f ≡ plain_statement_form (Loop head first test third body) → with_declared around (name_declared objects variables (statement at f)) ≡ around
+    f ≡ plain_statement_form (Loop head first test third body) → scope_after around (name_declared objects variables (statement at f)) ≡ around
 nothing_declared objects variables around at head first test third body f is =
-    ap (λ g. with_declared around (name_declared objects variables (statement at g))) (is ∙ loop_is head first test third body)
+    ap (λ g. scope_after around (name_declared objects variables (statement at g))) (is ∙ loop_is head first test third body)

@@ -11,18 +11,18 @@ variable_of_form (variable n) = Some n
 variable_of_form f = None
 
 -- the number of the variable of its function that a node names, whether it is read, written or its address is taken
-abbrev pub variable_named : PlainNode → Option ℕ
-variable_named (a_statement s) = None
-variable_named (a_value v) = None
-variable_named (a_place (place at t f)) = variable_of_form f
+abbrev pub named_variable : PlainNode → Option ℕ
+named_variable (a_statement s) = None
+named_variable (a_value v) = None
+named_variable (a_place (place at t f)) = variable_of_form f
 
 -- the number of the object of static lifetime that a node names; a sensor is named where it is read
-abbrev pub object_named : PlainNode → Option ℕ
-object_named node = option_map (λ u. u.object) (object_used node)
+abbrev pub named_object : PlainNode → Option ℕ
+named_object node = option_map (λ u. u.object) (object_used node)
 
 -- the number of the function that a node calls
-abbrev pub function_called : PlainNode → Option ℕ
-function_called node = option_map (λ u. u.function) (function_used node)
+abbrev pub called_function : PlainNode → Option ℕ
+called_function node = option_map (λ u. u.function) (function_used node)
 
 -- one of the nodes names what has a number
 pub record HasNaming (number : PlainNode → Option ℕ) (nodes : List PlainNode) (n : ℕ) : Type 0 where

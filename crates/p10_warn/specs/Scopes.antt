@@ -13,7 +13,7 @@ pub record DeclaredName : Type 0 where
 
 -- a declaration in a function: what it declares, and the names of objects and parameters that the function declared before and
 -- that are in scope there. A name is declared once in a block (C99 6.7p3), so one that is in scope already is an outer one
-pub record Declaration : Type 0 where
+pub record ScopedDeclaration : Type 0 where
   pub declares : DeclaredName
   pub around : List Text
 
@@ -32,30 +32,30 @@ name_declared objects variables (statement at (declare_static n)) = option_map o
 name_declared objects variables s = None
 
 -- the names in scope after a declaration
-abbrev pub with_declared : List Text → Option DeclaredName → List Text
-with_declared around None = around
-with_declared around (Some d) = around ++ d.name ∷ []
+abbrev pub scope_after : List Text → Option DeclaredName → List Text
+scope_after around None = around
+scope_after around (Some d) = around ++ d.name ∷ []
 
 -- the declaration of a name
-abbrev pub declaration_of : List Text → Option DeclaredName → List Declaration
-declaration_of around None = []
-declaration_of around (Some d) = record { declares = d; around = around } ∷ []
+abbrev pub scoped_declaration : List Text → Option DeclaredName → List ScopedDeclaration
+scoped_declaration around None = []
+scoped_declaration around (Some d) = record { declares = d; around = around } ∷ []
 
 -- the names in scope after all of the statements of a block (C99 6.2.1p4, p7)
 abbrev pub names_after : List PlainObject → List PlainVariable → List Text → PlainStatements → List Text
 names_after objects variables around no_statements = around
 names_after objects variables around (more_statements s rest) =
-    names_after objects variables (with_declared around (name_declared objects variables s)) rest
+    names_after objects variables (scope_after around (name_declared objects variables s)) rest
 
 abbrev mutual
   -- the declarations in a statement, where the names stand around it: what a block or the first clause of a `for` declares is
   -- in scope from its declaration up to the end of the block or loop (C99 6.2.1p4, 6.8.5p5)
-  pub declarations_in : List PlainObject → List PlainVariable → List Text → PlainStatement → List Declaration
+  pub declarations_in : List PlainObject → List PlainVariable → List Text → PlainStatement → List ScopedDeclaration
   declarations_in objects variables around (statement at f) =
-      declaration_of around (name_declared objects variables (statement at f)) ++ declarations_in_form objects variables around f
+      scoped_declaration around (name_declared objects variables (statement at f)) ++ declarations_in_form objects variables around f
 
   -- the same of what stands in a form of statement
-  pub declarations_in_form : List PlainObject → List PlainVariable → List Text → PlainStatementForm → List Declaration
+  pub declarations_in_form : List PlainObject → List PlainVariable → List Text → PlainStatementForm → List ScopedDeclaration
   declarations_in_form objects variables around (block ss) = declarations_among objects variables around ss
   declarations_in_form objects variables around (if_then v s) = declarations_in objects variables around s
   declarations_in_form objects variables around (if_else v s t) =
@@ -66,14 +66,14 @@ abbrev mutual
   declarations_in_form objects variables around f = []
 
   -- the same of statements, each of which sees what those before it declare
-  pub declarations_among : List PlainObject → List PlainVariable → List Text → PlainStatements → List Declaration
+  pub declarations_among : List PlainObject → List PlainVariable → List Text → PlainStatements → List ScopedDeclaration
   declarations_among objects variables around no_statements = []
   declarations_among objects variables around (more_statements s rest) =
       declarations_in objects variables around s
-      ++ declarations_among objects variables (with_declared around (name_declared objects variables s)) rest
+      ++ declarations_among objects variables (scope_after around (name_declared objects variables s)) rest
 
 -- the declarations of parameters
-abbrev pub declarations_of_parameters : List Text → List PlainVariable → List Declaration
+abbrev pub declarations_of_parameters : List Text → List PlainVariable → List ScopedDeclaration
 declarations_of_parameters around [] = []
 declarations_of_parameters around (v ∷ rest) =
     record { declares = variable_name v; around = around } ∷ declarations_of_parameters (around ++ v.name ∷ []) rest
@@ -83,7 +83,7 @@ abbrev pub parameters_of : PlainFunction → List PlainVariable
 parameters_of f = take f.parameters f.variables
 
 -- the declarations of a function: its parameters, whose scope is that of the block of its body, and then those in its body
-abbrev pub declarations_of_function : List PlainObject → PlainFunction → List Declaration
+abbrev pub declarations_of_function : List PlainObject → PlainFunction → List ScopedDeclaration
 declarations_of_function objects f =
     declarations_of_parameters [] (parameters_of f)
     ++ declarations_among objects f.variables (map (λ v. v.name) (parameters_of f)) f.body
@@ -98,6 +98,6 @@ is_in_scope_at n o = list_any (covers n) o.visible
 
 -- A declaration in the function with a number hides an outer object or parameter: one of the function, or an object of file scope
 -- that is in scope at the function.
-pub data Hides (objects : List PlainObject) (n : ℕ) (d : Declaration) : Type 0 where
+pub data Hides (objects : List PlainObject) (n : ℕ) (d : ScopedDeclaration) : Type 0 where
   of_function : Contains d.around d.declares.name → Hides objects n d
   of_file : (o : PlainObject) → Contains objects o → o.name ≡ d.declares.name → is_in_scope_at n o ≡ true → Hides objects n d

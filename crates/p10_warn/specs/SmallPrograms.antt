@@ -23,41 +23,41 @@ HasJust p violations = (v : Violation) → Contains violations v ↔ Violates p 
 abbrev pub piece : ℕ → Span
 piece n = span_of 0 n (n + 1)
 
--- a tree that is a piece
-abbrev pub tree : ℕ → At
-tree n = record { first = n; past = n + 1; span = piece n }
+-- the tree that is a piece
+abbrev pub piece_tree : ℕ → At
+piece_tree n = record { first = n; past = n + 1; span = piece n }
 
 -- a row of rule 10 at a piece
-abbrev pub found : ℕ → ℕ → Violation
-found row n = record { sub = rule_ten row; span = piece n }
+abbrev pub row_found : ℕ → ℕ → Violation
+row_found row n = record { sub = rule_ten row; span = piece n }
 
--- a value of an integer type, a place of one, and what is read there
-abbrev pub valued : ℕ → IntType → PlainForm → PlainValue
-valued n t f = value (tree n) (integer false t) f
+-- a value of an integer type at a piece
+abbrev pub piece_value : ℕ → IntType → PlainForm → PlainValue
+piece_value n t f = value (piece_tree n) (integer false t) f
 
--- the variable with a number, of a type
+-- the place of the variable with a number, of a type
 abbrev pub local : ℕ → IntType → ℕ → PlainPlace
-local n t k = place (tree n) (integer false t) (variable k)
+local n t k = place (piece_tree n) (integer false t) (variable k)
 
 -- the value of a variable
 abbrev pub local_value : ℕ → IntType → ℕ → PlainValue
-local_value n t k = valued n t (read (local n t k))
+local_value n t k = piece_value n t (read (local n t k))
 
 -- a number
 abbrev pub number : ℕ → ℕ → PlainValue
-number n k = valued n Int (constant (pos k))
+number n k = piece_value n Int (constant (pos k))
 
 -- a statement
 abbrev pub stated : ℕ → PlainStatementForm → PlainStatement
-stated n f = statement (tree n) f
+stated n f = statement (piece_tree n) f
 
 -- a variable with a name of one letter
-abbrev pub named : Text → ℕ → IntType → PlainVariable
-named name n t = record { name = name; type = integer false t; bytes = 4; frame = true; span = piece n }
+abbrev pub small_variable : Text → ℕ → IntType → PlainVariable
+small_variable name n t = record { name = name; type = integer false t; bytes = 4; frame = true; span = piece n }
 
 -- an object of file scope, in scope at the first two functions
-abbrev pub filed : Text → ℕ → PlainObject
-filed name n = record {
+abbrev pub small_object : Text → ℕ → PlainObject
+small_object name n = record {
   name = name;
   type = integer false Int;
   bytes = 4;
@@ -69,8 +69,8 @@ filed name n = record {
 }
 
 -- a function that gives an `int`, of which the first variables are parameters
-abbrev pub function : Text → ℕ → ℕ → List PlainVariable → List PlainStatement → PlainFunction
-function name n parameters variables body = record {
+abbrev pub small_function : Text → ℕ → ℕ → List PlainVariable → List PlainStatement → PlainFunction
+small_function name n parameters variables body = record {
   name = name;
   span = piece n;
   static = false;
@@ -80,49 +80,49 @@ function name n parameters variables body = record {
   body = statements_of_list body;
 }
 
--- a program whose last function but so many is `main`
-abbrev pub program : List PlainObject → List PlainFunction → ℕ → PlainProgram
-program objects functions main = record { structures = []; objects = objects; functions = functions; literals = []; main = main; mark = None; task = None }
+-- a program, with the number of `main`
+abbrev pub small_program : List PlainObject → List PlainFunction → ℕ → PlainProgram
+small_program objects functions main = record { structures = []; objects = objects; functions = functions; literals = []; main = main; mark = None; task = None }
 
 -- ## Names
 
--- `static int x; static int f(int x) { { int x = 1; } return 1; } int main(void) { return 0; }`: nothing is named, f isn't called,
+-- `static int x; static int f(int x) { { int x; } return 1; } int main(void) { return 0; }`: nothing is named, f isn't called,
 -- and each x but the first hides an outer one
-abbrev pub careless : PlainProgram
-careless = program (filed (codes "x") 1 ∷ [])
-    (record (function (codes "f") 2 1 (named (codes "x") 3 Int ∷ named (codes "x") 4 Int ∷ [])
+abbrev pub careless_names : PlainProgram
+careless_names = small_program (small_object (codes "x") 1 ∷ [])
+    (record (small_function (codes "f") 2 1 (small_variable (codes "x") 3 Int ∷ small_variable (codes "x") 4 Int ∷ [])
     (stated 5 (block (statements_of_list (stated 6 (declare 1 not_initialized) ∷ []))) ∷ stated 7 (return (piece 7) (Some (number 8 1))) ∷ [])) { static = true }
-    ∷ function (codes "main") 9 0 [] (stated 10 (return (piece 10) (Some (number 11 0))) ∷ []) ∷ []) 1
+    ∷ small_function (codes "main") 9 0 [] (stated 10 (return (piece 10) (Some (number 11 0))) ∷ []) ∷ []) 1
 
 -- `static int x; static int f(int y) { { int z; z = x; } { int z; z = y; } return y; } int main(void) { return f(0); }`: all is
 -- named and called, and one z isn't in scope at the other
-abbrev pub careful : PlainProgram
-careful = program (filed (codes "x") 1 ∷ [])
-    (record (function (codes "f") 2 1 (named (codes "y") 3 Int ∷ named (codes "z") 4 Int ∷ named (codes "z") 5 Int ∷ [])
-    (stated 6 (block (statements_of_list (stated 7 (declare 1 not_initialized) ∷ stated 8 (set (local 9 Int 1) (valued 10 Int (read (place (tree 10) (integer false Int) (global 0))))) ∷ [])))
+abbrev pub tidy_names : PlainProgram
+tidy_names = small_program (small_object (codes "x") 1 ∷ [])
+    (record (small_function (codes "f") 2 1 (small_variable (codes "y") 3 Int ∷ small_variable (codes "z") 4 Int ∷ small_variable (codes "z") 5 Int ∷ [])
+    (stated 6 (block (statements_of_list (stated 7 (declare 1 not_initialized) ∷ stated 8 (set (local 9 Int 1) (piece_value 10 Int (read (place (piece_tree 10) (integer false Int) (global 0))))) ∷ [])))
     ∷ stated 11 (block (statements_of_list (stated 12 (declare 2 not_initialized) ∷ stated 13 (set (local 14 Int 2) (local_value 15 Int 0)) ∷ [])))
     ∷ stated 16 (return (piece 16) (Some (local_value 17 Int 0))) ∷ [])) { static = true }
-    ∷ function (codes "main") 18 0 [] (stated 19 (return (piece 19) (Some (valued 20 Int (call (piece 21) 0 no_values)))) ∷ []) ∷ []) 1
+    ∷ small_function (codes "main") 18 0 [] (stated 19 (return (piece 19) (Some (piece_value 20 Int (call (piece 21) 0 no_values)))) ∷ []) ∷ []) 1
 
 -- ## Values
 
 -- in `main`, with `int i; unsigned u; unsigned char c;`: `u = i;` narrows, `c += i;` narrows its result, `i += u;` what is read and its
 -- result, and `u < i` compares a signed with an unsigned operand, which it narrows
 abbrev pub mixing : PlainProgram
-mixing = program [] (function (codes "main") 1 0 (named (codes "i") 2 Int ∷ named (codes "u") 3 UInt ∷ named (codes "c") 4 UChar ∷ [])
-    (stated 10 (set (local 11 UInt 1) (valued 12 UInt (convert (local_value 12 Int 0))))
+mixing = small_program [] (small_function (codes "main") 1 0 (small_variable (codes "i") 2 Int ∷ small_variable (codes "u") 3 UInt ∷ small_variable (codes "c") 4 UChar ∷ [])
+    (stated 10 (set (local 11 UInt 1) (piece_value 12 UInt (convert (local_value 12 Int 0))))
     ∷ stated 20 (update Compound Add (integer false Int) (local 21 UChar 2) (local_value 22 Int 0))
     ∷ stated 30 (update Compound Add (integer false UInt) (local 31 Int 0) (local_value 32 UInt 1))
-    ∷ stated 40 (evaluate (valued 41 Int (binary Lt (local_value 42 UInt 1) (valued 43 UInt (convert (local_value 43 Int 0))))))
+    ∷ stated 40 (evaluate (piece_value 41 Int (binary Lt (local_value 42 UInt 1) (piece_value 43 UInt (convert (local_value 43 Int 0))))))
     ∷ stated 50 (return (piece 50) (Some (number 51 0))) ∷ []) ∷ []) 0
 
 -- the same with constants, with `++`, and with a type that holds the other: `c = 1;`, `c++;`, `i = c;`, `u < 1`
 abbrev pub keeping : PlainProgram
-keeping = program [] (function (codes "main") 1 0 (named (codes "i") 2 Int ∷ named (codes "u") 3 UInt ∷ named (codes "c") 4 UChar ∷ [])
-    (stated 10 (set (local 11 UChar 2) (valued 12 UChar (convert (number 12 1))))
+keeping = small_program [] (small_function (codes "main") 1 0 (small_variable (codes "i") 2 Int ∷ small_variable (codes "u") 3 UInt ∷ small_variable (codes "c") 4 UChar ∷ [])
+    (stated 10 (set (local 11 UChar 2) (piece_value 12 UChar (convert (number 12 1))))
     ∷ stated 20 (update Step Add (integer false Int) (local 21 UChar 2) (number 22 1))
-    ∷ stated 30 (set (local 31 Int 0) (valued 32 Int (convert (local_value 32 UChar 2))))
-    ∷ stated 40 (evaluate (valued 41 Int (binary Lt (local_value 42 UInt 1) (valued 43 UInt (convert (number 43 1))))))
+    ∷ stated 30 (set (local 31 Int 0) (piece_value 32 Int (convert (local_value 32 UChar 2))))
+    ∷ stated 40 (evaluate (piece_value 41 Int (binary Lt (local_value 42 UInt 1) (piece_value 43 UInt (convert (number 43 1))))))
     ∷ stated 50 (return (piece 50) (Some (number 51 0))) ∷ []) ∷ []) 0
 
 -- ## Statements
@@ -130,19 +130,19 @@ keeping = program [] (function (codes "main") 1 0 (named (codes "i") 2 Int ∷ n
 -- `switch (1) { case 1: break; case 2: break; ; }` without `default`, an item after the second `break`, and in g the end of
 -- `for (;;) { break; }` is reached
 abbrev pub falling : PlainProgram
-falling = program [] (function (codes "main") 1 0 []
+falling = small_program [] (small_function (codes "main") 1 0 []
     (stated 2 (switch (piece 3) (number 4 1) (record { cases = record { value = pos 1; place = 0 } ∷ record { value = pos 2; place = 1 } ∷ []; otherwise = None })
     (stated 5 (block (statements_of_list (stated 6 break ∷ stated 7 break ∷ stated 8 empty ∷ []))))) ∷ [])
-    ∷ function (codes "g") 9 0 []
+    ∷ small_function (codes "g") 9 0 []
     (stated 10 (loop (record { number = 0; keyword = For; span = piece 10 }) no_statements None no_statements (stated 11 (block (statements_of_list (stated 12 break ∷ []))))) ∷ []) ∷ []) 0
 
 -- `switch (1) { case 1: break; default: break; }`, and in g `while (1) { switch (1) { default: break; } if (1) { continue; } }`,
 -- whose `break` leaves the `switch`
 abbrev pub ending : PlainProgram
-ending = program [] (function (codes "main") 1 0 []
+ending = small_program [] (small_function (codes "main") 1 0 []
     (stated 2 (switch (piece 3) (number 4 1) (record { cases = record { value = pos 1; place = 0 } ∷ []; otherwise = Some 1 })
     (stated 5 (block (statements_of_list (stated 6 break ∷ stated 7 break ∷ []))))) ∷ [])
-    ∷ function (codes "g") 9 0 []
+    ∷ small_function (codes "g") 9 0 []
     (stated 10 (loop (record { number = 0; keyword = While; span = piece 10 }) no_statements (Some (number 11 1)) no_statements
     (stated 12 (block (statements_of_list
     (stated 13 (switch (piece 13) (number 14 1) (record { cases = []; otherwise = Some 0 }) (stated 15 (block (statements_of_list (stated 16 break ∷ [])))))

@@ -4,7 +4,7 @@ ghost use Rattle.std.specs.Prelude.{◌≡◌, ◌++◌, IfOk, option_to_list};
 ghost use Rattle.std.specs.List.{filter_map};
 ghost use Rattle.p10_core.specs.Views.{plain_place_form};
 ghost use Rattle.p10_core.specs.Walks.{plain_node, left_in};
-ghost use Rattle.p10_warn.specs.Naming.{variable_named, variable_of_form};
+ghost use Rattle.p10_warn.specs.Naming.{named_variable, variable_of_form};
 ghost use Rattle.p10_warn.specs.private.Numbers.{number_named};
 
 use crate::number_set::NumberSet;
@@ -52,7 +52,7 @@ fn number_named(kind: Named, node: Node<'_>) -> Option<u32>
     ensures { result ≡ number_named kind (plain_node node.entry) }
 {
     match kind {
-        Named::Variable => variable_named(node),
+        Named::Variable => named_variable(node),
         Named::Object => match node.object_used() {
             Some(used) => Some(used.object),
             None => None,
@@ -65,8 +65,8 @@ fn number_named(kind: Named, node: Node<'_>) -> Option<u32>
 }
 
 /// The number of the variable that a node names.
-fn variable_named(node: Node<'_>) -> Option<u32>
-    ensures { result ≡ variable_named (plain_node node.entry) }
+fn named_variable(node: Node<'_>) -> Option<u32>
+    ensures { result ≡ named_variable (plain_node node.entry) }
 {
     match node {
         Node::Place(place) => variable_of_form(&place.form),

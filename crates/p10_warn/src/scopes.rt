@@ -3,7 +3,7 @@
 ghost use Rattle.std.specs.Prelude.{◌≡◌, ◌++◌, ◌∷◌, [], IfOk, OnOk, map, take, option_map, flat_map, bytes_eq};
 ghost use Rattle.std.specs.List.{list_any};
 ghost use Rattle.p10_core.specs.Views.{plain_object, plain_variable, plain_function, plain_statement, plain_statements};
-ghost use Rattle.p10_warn.specs.Scopes.{name_declared, with_declared, declaration_of, names_after, declarations_in, declarations_among, declarations_of_parameters, declarations_of_function};
+ghost use Rattle.p10_warn.specs.Scopes.{name_declared, scope_after, scoped_declaration, names_after, declarations_in, declarations_among, declarations_of_parameters, declarations_of_function};
 ghost use Rattle.p10_warn.specs.private.Branches.{declarations_in_branch};
 ghost use Rattle.p10_warn.specs.private.Contexts.{objects_known, variables_known, listed_by};
 ghost use Rattle.p10_warn.specs.private.ScopeNames.{names_in};
@@ -139,7 +139,7 @@ fn push_in<'s>(
     names: &mut Names<'s>,
     violations: &mut Vec<Violation>,
 ) -> Result<(), AllocError>
-    ensures names { IfOk result (λ _. names_in names.new ≡ with_declared (names_in names.old) (name_declared (objects_known context.now) (variables_known context.now) (plain_statement statement.now))) }
+    ensures names { IfOk result (λ _. names_in names.new ≡ scope_after (names_in names.old) (name_declared (objects_known context.now) (variables_known context.now) (plain_statement statement.now))) }
     ensures violations { IfOk result (λ _. violations.new.items ≡ violations.old.items ++ listed_by context.now (declarations_in (objects_known context.now) (variables_known context.now) (names_in names.old) (plain_statement statement.now))) }
 {
     match &statement.form {
@@ -179,8 +179,8 @@ fn push_declared<'s>(
     names: &mut Names<'s>,
     violations: &mut Vec<Violation>,
 ) -> Result<(), AllocError>
-    ensures names { IfOk result (λ _. names_in names.new ≡ with_declared (names_in names.old) (name_declared (objects_known context.now) (variables_known context.now) (plain_statement statement.now))) }
-    ensures violations { IfOk result (λ _. violations.new.items ≡ violations.old.items ++ listed_by context.now (declaration_of (names_in names.old) (name_declared (objects_known context.now) (variables_known context.now) (plain_statement statement.now)))) }
+    ensures names { IfOk result (λ _. names_in names.new ≡ scope_after (names_in names.old) (name_declared (objects_known context.now) (variables_known context.now) (plain_statement statement.now))) }
+    ensures violations { IfOk result (λ _. violations.new.items ≡ violations.old.items ++ listed_by context.now (scoped_declaration (names_in names.old) (name_declared (objects_known context.now) (variables_known context.now) (plain_statement statement.now)))) }
 {
     match context.name_declared(statement) {
         Some((name, span)) => push_name(context, name, span, names, violations),

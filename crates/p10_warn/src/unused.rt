@@ -4,7 +4,7 @@ ghost use Rattle.std.specs.Prelude.{◌≡◌, ◌++◌, IfOk, map};
 ghost use Rattle.std.specs.List.{filter_map};
 ghost use Rattle.p10_core.specs.Nodes.{nodes_of_statements};
 ghost use Rattle.p10_core.specs.Views.{plain_object, plain_variable, plain_statements};
-ghost use Rattle.p10_warn.specs.Naming.{variable_named};
+ghost use Rattle.p10_warn.specs.Naming.{named_variable};
 ghost use Rattle.p10_warn.specs.private.Listing.{unused_objects, unused_variables};
 
 use crate::listing::push_if;
@@ -34,7 +34,7 @@ pub(crate) fn push_unused_in(
     function: &Func<'_>,
     violations: &mut Vec<Violation>,
 ) -> Result<(), AllocError>
-    ensures { IfOk result (λ _. violations.new.items ≡ violations.old.items ++ unused_variables (filter_map variable_named (nodes_of_statements (plain_statements function.now.body))) 0 (map plain_variable function.now.vars)) }
+    ensures { IfOk result (λ _. violations.new.items ≡ violations.old.items ++ unused_variables (filter_map named_variable (nodes_of_statements (plain_statements function.now.body))) 0 (map plain_variable function.now.vars)) }
 {
     let mut nodes = Nodes::of_statements(alloc, function.body.as_slice())?;
     let named = numbers_named(alloc, Named::Variable, &mut nodes)?;

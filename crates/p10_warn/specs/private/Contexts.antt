@@ -4,7 +4,7 @@ use Rattle.p10_base.specs.declared.report.Violation.{Violation}
 use Rattle.p10_core.specs.Typed.{PlainObject, PlainVariable}
 use Rattle.p10_core.specs.Views.{plain_object, plain_variable}
 use Rattle.p10_warn.specs.declared.context.Context.{Context}
-use Rattle.p10_warn.specs.Scopes.{Declaration}
+use Rattle.p10_warn.specs.Scopes.{ScopedDeclaration}
 use Rattle.p10_warn.specs.private.Listing.{declaration_violations}
 
 -- the objects that are known
@@ -16,5 +16,5 @@ abbrev pub variables_known : Context → List PlainVariable
 variables_known c = map plain_variable c.variables.now
 
 -- the violations by declarations
-abbrev pub listed_by : Context → List Declaration → List Violation
+abbrev pub listed_by : Context → List ScopedDeclaration → List Violation
 listed_by c declarations = flat_map (declaration_violations (objects_known c) c.function) declarations

@@ -14,10 +14,10 @@ use Rattle.p10_core.specs.Typed.{PlainValue, value, PlainForm, convert, binary, 
 use Rattle.p10_core.specs.Nodes.{PlainNode, a_statement, a_value, a_place, nodes_of_statements}
 use Rattle.p10_core.specs.WholePrograms.{is_among}
 use Rattle.p10_warn.specs.AllNodes.{all_nodes}
-use Rattle.p10_warn.specs.Naming.{variable_named, object_named, function_called}
+use Rattle.p10_warn.specs.Naming.{named_variable, named_object, called_function}
 use Rattle.p10_warn.specs.Conversions.{narrows}
 use Rattle.p10_warn.specs.Comparisons.{compares, as_written, differ_in_sign, is_natural_constant}
-use Rattle.p10_warn.specs.Scopes.{Declaration, declarations_of_function}
+use Rattle.p10_warn.specs.Scopes.{ScopedDeclaration, declarations_of_function}
 use Rattle.p10_warn.specs.Jumps.{is_jump, LabelledBlock, blocks_of}
 use Rattle.p10_warn.specs.Ends.{reach_end}
 use Rattle.p10_warn.specs.Violations.{rule_ten}
@@ -82,11 +82,11 @@ unused_variables named n (v ∷ rest) = listed_if 1 (not (is_among n named)) v.s
 -- ## Hidden names
 
 -- whether a declaration hides something
-abbrev pub hides : List PlainObject → ℕ → Declaration → Bool
+abbrev pub hides : List PlainObject → ℕ → ScopedDeclaration → Bool
 hides objects n d = list_any (λ x. bytes_eq x d.declares.name) d.around || is_name_in_scope objects n d.declares.name
 
 -- the violation by a declaration
-abbrev pub declaration_violations : List PlainObject → ℕ → Declaration → List Violation
+abbrev pub declaration_violations : List PlainObject → ℕ → ScopedDeclaration → List Violation
 declaration_violations objects n d = listed_if 5 (hides objects n d) d.declares.span
 
 -- ## After jumps
@@ -110,7 +110,7 @@ lacks_return main n f = not (nat_eq n main) && (not (is_void f.result) && reach_
 -- the violations by a function
 abbrev pub function_violations : List PlainObject → ℕ → List ℕ → ℕ → PlainFunction → List Violation
 function_violations objects main called n f =
-    unused_variables (filter_map variable_named (nodes_of_statements f.body)) 0 f.variables
+    unused_variables (filter_map named_variable (nodes_of_statements f.body)) 0 f.variables
     ++ (listed_if 2 (f.static && not (is_among n called)) f.span
     ++ (flat_map (declaration_violations objects n) (declarations_of_function objects f)
     ++ (flat_map block_violations (blocks_of f)
@@ -128,5 +128,5 @@ functions_violations objects main called n (f ∷ rest) =
 abbrev pub program_violations : PlainProgram → List Violation
 program_violations p =
     flat_map node_violations (all_nodes p)
-    ++ (unused_objects (filter_map object_named (all_nodes p)) 0 p.objects
-    ++ functions_violations p.objects p.main (filter_map function_called (all_nodes p)) 0 p.functions)
+    ++ (unused_objects (filter_map named_object (all_nodes p)) 0 p.objects
+    ++ functions_violations p.objects p.main (filter_map called_function (all_nodes p)) 0 p.functions)

@@ -6,7 +6,7 @@ use Rattle.p10_core.specs.Typed.{PlainObject, PlainVariable, PlainStatement, Pla
 use Rattle.p10_core.specs.Views.{plain_statement, plain_statements, plain_statement_form}
 use Rattle.p10_core.proofs.StatementRows.{plain_block}
 use Rattle.p10_base.specs.Words.{Text}
-use Rattle.p10_warn.specs.Scopes.{Declaration, name_declared, names_after, declarations_in, declarations_among}
+use Rattle.p10_warn.specs.Scopes.{ScopedDeclaration, name_declared, names_after, declarations_in, declarations_among}
 use Rattle.p10_warn.specs.private.Branches.{declarations_in_branch}
 use Rattle.p10_warn.specs.private.Contexts.{objects_known, variables_known, listed_by}
 use Rattle.p10_warn.specs.private.ScopeNames.{names_in}
@@ -30,10 +30,10 @@ push_in-returns-in-Block-clause-violations t c =
     let objects : List PlainObject = objects_known c.args.context.now in
     let variables : List PlainVariable = variables_known c.args.context.now in
     let around : List Text = names_in c.args.names.now in
-    let whole : PlainStatementForm → List Declaration = λ f. declarations_in objects variables around (statement c.args.statement.now.at f) in
+    let whole : PlainStatementForm → List ScopedDeclaration = λ f. declarations_in objects variables around (statement c.args.statement.now.at f) in
     let is : declarations_among objects variables around (plain_statements c.as_slice.result.now) ≡ declarations_in objects variables around (plain_statement c.args.statement.now) =
     ap (λ all. declarations_among objects variables around (plain_statements all)) c.as_slice.ensures ∙ sym (ap whole (ap plain_statement_form c.in-Block.is ∙ plain_block c.in-Block.items)) in
-    let P : List Declaration → Type 0 = λ ds. IfOk c.push_block.result (λ _. c.push_block.new.violations.items ≡ c.args.violations.now.items ++ listed_by c.args.context.now ds) in
+    let P : List ScopedDeclaration → Type 0 = λ ds. IfOk c.push_block.result (λ _. c.push_block.new.violations.items ≡ c.args.violations.now.items ++ listed_by c.args.context.now ds) in
     subst P is c.push_block.ensures.violations
 
 pub push_in-returns-in_ok-push_part-in-If-clause-violations : goal.push_in-returns-in_ok-push_part-in-If-clause-violations

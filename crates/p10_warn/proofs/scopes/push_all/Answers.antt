@@ -3,7 +3,7 @@ use Rattle.std.proofs.lemmas.Result.{IfOk-weaker}
 use Rattle.p10_base.specs.Words.{Text}
 use Rattle.p10_core.specs.Typed.{PlainObject, PlainVariable}
 use Rattle.p10_core.specs.Views.{plain_variable, plain_statements}
-use Rattle.p10_warn.specs.Scopes.{Declaration, declarations_among, declarations_of_parameters}
+use Rattle.p10_warn.specs.Scopes.{ScopedDeclaration, declarations_among, declarations_of_parameters}
 use Rattle.p10_warn.specs.private.Contexts.{objects_known, variables_known, listed_by}
 use Rattle.p10_warn.specs.private.ScopeNames.{names_in}
 use Rattle.p10_warn.specs.private.Listing.{declaration_violations}
@@ -15,8 +15,8 @@ returns c =
     let objects : List PlainObject = objects_known c.args.context.now in
     let variables : List PlainVariable = variables_known c.args.context.now in
     let around : List Text = names_in c.args.names.now in
-    let first : List Declaration = declarations_of_parameters around (map plain_variable c.args.parameters.now) in
-    let second : List Declaration = declarations_among objects variables (around ++ map (λ v. v.name) (map plain_variable c.args.parameters.now)) (plain_statements c.args.body.now) in
+    let first : List ScopedDeclaration = declarations_of_parameters around (map plain_variable c.args.parameters.now) in
+    let second : List ScopedDeclaration = declarations_among objects variables (around ++ map (λ v. v.name) (map plain_variable c.args.parameters.now)) (plain_statements c.args.body.now) in
     IfOk-weaker c.push_among.result _ _
     (λ _ e. both_listed (declaration_violations objects c.args.context.now.function) first second (first ++ second) c.args.violations.now.items c.push_parameters.new.violations.items c.push_among.new.violations.items
     c.in_ok-push_parameters.ensures.violations
