@@ -1,5 +1,5 @@
 -- The violations that are listed are those of the rows.
-use Rattle.std.proofs.Common.{◌≡◌, ℕ, ◌*◌, nat_lt, List, [], ◌∷◌, ◌++◌, map, length, Bool, true, false, not, ◌&&◌, Option, Some, None, refl, sym, ◌∙◌, ap, subst, ◌⊎◌, inl, inr}
+use Rattle.std.proofs.Common.{◌≡◌, ◌*◌, nat_lt, List, [], ◌++◌, length, Bool, true, false, not, ◌&&◌, Option, Some, None, refl, sym, ◌∙◌, ap, subst, inl, inr}
 use Rattle.std.specs.Prelude.{◌↔◌, count_by}
 use Rattle.std.specs.List.{Contains, flat_map, filter}
 use Rattle.std.proofs.lemmas.Bool.{and_parts}

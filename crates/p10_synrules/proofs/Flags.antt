@@ -1,5 +1,5 @@
 -- Each part of an expression stands in the condition of an `if` where the whole expression does.
-use Rattle.std.proofs.Common.{◌≡◌, List, [], ◌∷◌, ◌++◌, Bool, true, false, Option, Some, None, refl, sym, subst, inl, inr}
+use Rattle.std.proofs.Common.{◌≡◌, List, [], ◌∷◌, ◌++◌, Bool, false, Option, Some, None, refl, subst, inl, inr}
 use Rattle.std.specs.List.{Contains}
 use Rattle.p10_base.specs.declared.at.At.{At}
 use Rattle.p10_syn.specs.Declaring.{makes_types}

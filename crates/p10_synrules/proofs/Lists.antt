@@ -1,5 +1,5 @@
 -- Lists one turn at a time.
-use Rattle.std.specs.Prelude.{◌≡◌, ℕ, suc, ◌+◌, List, [], ◌∷◌, ◌++◌, length, map, refl}
+use Rattle.std.specs.Prelude.{◌≡◌, ℕ, suc, ◌+◌, List, ◌∷◌, ◌++◌, length}
 use Rattle.std.proofs.Common.{◌∙◌, ◌<◌, ap, sym, drop, drop-cons, get_or, add-one}
 use Rattle.std.proofs.lemmas.List.{append_assoc}
 

@@ -1,11 +1,11 @@
 -- Assertions, which state what holds where they stand (Holzmann's rule 5).
-use Rattle.std.specs.Prelude.{List, Bool, true, false, ◌||◌, ◌&&◌, not, Option, Some, None, codes, bytes_eq}
+use Rattle.std.specs.Prelude.{Bool, true, false, ◌||◌, ◌&&◌, not, Option, Some, None, codes, bytes_eq}
 use Rattle.std.specs.List.{list_any}
 use Rattle.p10_base.specs.Words.{Text}
 use Rattle.p10_base.specs.declared.at.At.{At}
 use Rattle.p10_syn.specs.declared.sign.Sign.{Sign}
 use Rattle.p10_syn.specs.declared.sign.Sign.TheVariants as sign
-use Rattle.p10_syn.specs.Trees.{Expression, expression, Form, Name, Unary, Binary, Call, Expressions, NoExpressions, MoreExpressions}
+use Rattle.p10_syn.specs.Trees.{Expression, expression, Name, Unary, Binary, Call, Expressions, NoExpressions, MoreExpressions}
 use Rattle.p10_synrules.specs.Parts.{Part, ExpressionPart, NamePart, expression_parts}
 
 -- whether an expression is this name, also in parentheses

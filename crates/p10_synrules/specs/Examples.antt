@@ -1,11 +1,11 @@
 -- Small trees, by which laws are told by hand. They stand nowhere.
-use Rattle.std.specs.Prelude.{List, [], ◌∷◌, Bool, false, None, codes}
+use Rattle.std.specs.Prelude.{List, [], ◌∷◌, false, None, codes}
 use Rattle.p10_base.specs.Words.{Text}
 use Rattle.p10_base.specs.declared.at.At.{At}
 use Rattle.p10_syn.specs.declared.sign.Sign.{Sign}
 use Rattle.p10_syn.specs.declared.sign.Sign.TheVariants as sign
 use Rattle.p10_syn.specs.Places.{nowhere}
-use Rattle.p10_syn.specs.Trees.{Identifier, Expression, expression, Form, Name, Number, Unary, Binary, Call, Index, Member, Arrow, Cast, SizeofExpression, Optional, Absent, Present, type_name, MoreSpecifiers, NoSpecifiers, Specifiers, Keyword, Declarator, Named, Unnamed, Pointer, Parenthesised, Array, Function, NoParameters, Statement, Evaluate, If, For, Empty, Declare, Block, Statements, statement_row, expression_row, Definition, External, Defines, InitDeclarator, Declaration}
+use Rattle.p10_syn.specs.Trees.{Identifier, Expression, expression, Form, Name, Number, Unary, Binary, Call, Member, Arrow, Absent, Present, MoreSpecifiers, NoSpecifiers, Specifiers, Keyword, Declarator, Named, Pointer, Parenthesised, Array, Function, NoParameters, Statement, Evaluate, For, Declare, statement_row, expression_row, External, Defines}
 
 -- a name
 abbrev pub identifier_tree : Text → Identifier At

@@ -6,7 +6,7 @@ use Rattle.p10_base.specs.Places.{line_of}
 use Rattle.p10_base.specs.declared.at.At.{At}
 use Rattle.p10_base.specs.declared.span.Span.{Span}
 use Rattle.p10_syn.specs.Declaring.{identifier_in}
-use Rattle.p10_syn.specs.Trees.{Identifier, Statement, Block, Pragma, Landmarks, Definition, External, Outer, Defines}
+use Rattle.p10_syn.specs.Trees.{Identifier, Block, Pragma, Landmarks, Definition, External, Outer, Defines}
 use Rattle.p10_synrules.specs.Parts.{Part, StatementPart, statements_parts}
 
 -- the function that a unit defines, if it is one

@@ -1,11 +1,11 @@
 -- What is right of the rows at small trees, worked out by hand, and what holds of all trees.
-use Rattle.std.specs.Prelude.{ℕ, ◌≡◌, ◌⊎◌, List, [], ◌∷◌, ◌++◌, length, Bool, true, false, Option, Some, None, codes, count_by}
+use Rattle.std.specs.Prelude.{◌≡◌, [], ◌∷◌, Bool, true, false, Some, None, codes, count_by}
 use Rattle.std.specs.List.{Contains}
 use Rattle.p10_base.specs.declared.at.At.{At}
 use Rattle.p10_syn.specs.declared.sign.Sign.TheVariants as sign
 use Rattle.p10_syn.specs.Places.{nowhere}
-use Rattle.p10_syn.specs.Trees.{Expression, expression, Name, Unary, Binary, Index, Cast, Call, SizeofExpression, type_name, Unnamed, Statement, Empty, Block, If, IfElse, Pragma, Label, MoreExpressions, NoExpressions, statement_row, expression_row, External}
-use Rattle.p10_synrules.specs.Parts.{Part, ExpressionPart, StatementPart, NamePart, expression_parts, statement_parts, statements_parts, unit_parts}
+use Rattle.p10_syn.specs.Trees.{Expression, expression, Name, Unary, Binary, Index, Cast, Call, SizeofExpression, type_name, Unnamed, Empty, Block, If, IfElse, Pragma, Label, statement_row, expression_row}
+use Rattle.p10_synrules.specs.Parts.{ExpressionPart, StatementPart, NamePart, expression_parts, statement_parts, statements_parts}
 use Rattle.p10_synrules.specs.Assertions.{is_assertion, states_call, states_no_test, is_constant, is_sound_assertion, calls_c_assert}
 use Rattle.p10_synrules.specs.Pointers.{dereferences_twice, has_star, points_to_function}
 use Rattle.p10_synrules.specs.Functions.{is_counted, function_names, chief_name}

@@ -1,9 +1,9 @@
 -- Pointers that are followed, and declarators of pointers (Holzmann's rule 9).
-use Rattle.std.specs.Prelude.{Bool, true, false, ◌||◌, ◌&&◌, Option, Some, None}
+use Rattle.std.specs.Prelude.{Bool, true, false, ◌||◌, ◌&&◌}
 use Rattle.p10_base.specs.declared.at.At.{At}
 use Rattle.p10_syn.specs.declared.sign.Sign.{Sign}
 use Rattle.p10_syn.specs.declared.sign.Sign.TheVariants as sign
-use Rattle.p10_syn.specs.Trees.{Expression, expression, Form, Name, Number, Character, Strings, Unary, Step, Binary, Assign, Conditional, Call, Index, Member, Arrow, Cast, SizeofExpression, SizeofType, Comma, Declarator, Named, Unnamed, Pointer, Parenthesised, Array, Function}
+use Rattle.p10_syn.specs.Trees.{Expression, expression, Form, Unary, Binary, Index, Member, Arrow, Cast, Declarator, Named, Unnamed, Pointer, Parenthesised, Array, Function}
 
 -- whether an operator is `*`
 abbrev pub is_star : Sign → Bool

@@ -1,5 +1,5 @@
 -- The rows of Holzmann's rules 1, 4, 5 and 9 on trees ("The Power of Ten", 2006).
-use Rattle.std.specs.Prelude.{ℕ, ◌≡◌, ◌*◌, nat_lt, nat_eq, min, suc, ◌+◌, List, [], ◌∷◌, Bool, true, false, ◌||◌, Option, Some, None, length, count_by, codes, bytes_eq, slice_get, if◌then◌else◌}
+use Rattle.std.specs.Prelude.{ℕ, ◌≡◌, ◌*◌, nat_lt, nat_eq, min, ◌+◌, List, Bool, true, false, ◌||◌, Option, Some, None, length, count_by, codes, bytes_eq, slice_get, if◌then◌else◌}
 use Rattle.std.specs.List.{Contains}
 use Rattle.p10_base.specs.Words.{Text, span_of}
 use Rattle.p10_base.specs.Gathered.{Gathered, name_of, text_of}
@@ -9,7 +9,7 @@ use Rattle.p10_base.specs.declared.report.Sub.{Sub}
 use Rattle.p10_syn.specs.Declaring.{identifier_in}
 use Rattle.p10_syn.specs.Trees.{Identifier, Expression, expression, Declarator, Statement, Goto, Label, Definition, External}
 use Rattle.p10_synrules.specs.Parts.{Part, ExpressionPart, DeclaratorPart, StatementPart, NamePart, unit_parts}
-use Rattle.p10_synrules.specs.Assertions.{is_assertion, calls_c_assert, states_call, states_no_test, is_constant, is_sound_assertion}
+use Rattle.p10_synrules.specs.Assertions.{calls_c_assert, states_call, states_no_test, is_constant, is_sound_assertion}
 use Rattle.p10_synrules.specs.Pointers.{dereferences_twice, has_star, points_to_function, declarator_place}
 use Rattle.p10_synrules.specs.Functions.{definitions_in, function_names, has_many_lines, has_many_statements, chief_name}
 

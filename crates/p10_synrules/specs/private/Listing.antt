@@ -1,5 +1,5 @@
 -- The violations of parts and functions, one after the other.
-use Rattle.std.specs.Prelude.{◌≡◌, ◌*◌, nat_lt, List, [], ◌∷◌, ◌++◌, Bool, false, not, ◌&&◌, Option, Some, None, if◌then◌else◌, length, count_by}
+use Rattle.std.specs.Prelude.{◌*◌, nat_lt, List, [], ◌∷◌, ◌++◌, Bool, not, ◌&&◌, Option, Some, None, if◌then◌else◌, length, count_by}
 use Rattle.std.specs.List.{flat_map}
 use Rattle.p10_base.specs.Gathered.{Gathered, name_of}
 use Rattle.p10_base.specs.declared.at.At.{At}
