@@ -1,0 +1,11 @@
+pub mod Adding
+pub mod CallTallies
+pub mod Rows
+pub mod ScalarsOfTypes
+pub mod ListedStatements
+pub mod Telling
+pub mod TellingTrees
+pub mod Finishing
+pub mod Frames
+pub mod Listing
+pub mod Computed

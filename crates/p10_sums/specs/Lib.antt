@@ -1,0 +1,7 @@
+-- The definitions that the contracts of this crate cite, each on those above it.
+pub mod Counting
+pub mod Costs
+pub mod Depths
+pub mod Sums
+pub mod Worked
+pub mod private

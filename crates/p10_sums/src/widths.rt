@@ -1,0 +1,46 @@
+//! How many scalars types have, up to one more than the greatest sum that is allowed.
+
+ghost use Rattle.std.specs.Prelude.{◌≡◌, length, false};
+ghost use Rattle.p10_core.specs.Types.{plain_type, structure, representative_of, bare};
+ghost use Rattle.p10_core.specs.Views.{plain_types};
+ghost use Rattle.p10_core.specs.Sizes.{scalars_of};
+ghost use Rattle.p10_core.specs.WholePrograms.{AreWholeStructures};
+ghost use Rattle.p10_sums.specs.private.Tallies.{capped};
+
+use crate::tally::{capped, times};
+use p10_core::{CType, TypeForm, Types};
+
+/// How many scalars an object of a type has. Structures of several roots that are compatible are one (C99 6.2.7).
+#[tactic(auto, unfolding(p10_core::specs::Sizes::layout_of))]
+pub(crate) fn capped_width(types: &Types<'_>, t: &CType) -> u64
+    requires structures { AreWholeStructures (plain_types types.now) }
+    ensures { result ≡ capped (length (scalars_of (plain_types types.now) (bare (plain_types types.now) (plain_type t.now)))) }
+{
+    match &t.form {
+        TypeForm::Void => capped(0),
+        TypeForm::Int(_) | TypeForm::Pointer(_) => capped(1),
+        TypeForm::Array(element, length) => times(*length, capped_width(types, element)),
+        TypeForm::Struct(number) => capped(structure_width(types, *number)),
+    }
+}
+
+/// How many scalars a structure has: none where it isn't complete.
+fn structure_width(types: &Types<'_>, number: u32) -> u64
+    requires structures { AreWholeStructures (plain_types types.now) }
+    ensures { result ≡ length (scalars_of (plain_types types.now) (structure false (representative_of (plain_types types.now) number))) }
+{
+    match types.body(representative(types, number)) {
+        Some(body) => body.scalars,
+        None => 0,
+    }
+}
+
+/// The structure that stands for one of its number: itself where there is none.
+fn representative(types: &Types<'_>, number: u32) -> u32
+    ensures { result ≡ representative_of (plain_types types.now) number }
+{
+    match types.structure(number) {
+        Some(structure) => structure.representative,
+        None => number,
+    }
+}
