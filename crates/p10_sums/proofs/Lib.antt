@@ -9,3 +9,9 @@ pub mod Finishing
 pub mod Frames
 pub mod Listing
 pub mod Computed
+pub mod Spending
+pub mod Covering
+pub mod SpendingValues
+pub mod SpendingLoops
+pub mod SpendingStatements
+pub mod SpendingTasks

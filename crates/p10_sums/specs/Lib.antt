@@ -4,4 +4,6 @@ pub mod Costs
 pub mod Depths
 pub mod Sums
 pub mod Worked
+pub mod Keeping
+pub mod Laws
 pub mod private
