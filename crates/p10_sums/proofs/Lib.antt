@@ -15,3 +15,4 @@ pub mod SpendingValues
 pub mod SpendingLoops
 pub mod SpendingStatements
 pub mod SpendingTasks
+pub mod SpendingClaims

@@ -6,4 +6,5 @@ pub mod Sums
 pub mod Worked
 pub mod Keeping
 pub mod Laws
+pub mod CallLaws
 pub mod private

@@ -1,6 +1,7 @@
 //! What holds of the sums: each law is the contract of a function without a body.
 
 ghost use Rattle.p10_sums.specs.Worked.{WorkedSums};
+ghost use Rattle.p10_sums.specs.CallLaws.{CallsKeepTheirClaims};
 ghost use Rattle.p10_sums.specs.Laws.{ValuesTakeWhatTheyCost, StatementsTakeWhatTheyCost, CallsTakeWhatTheyCost, FirstPartsTakeWhatTheyCost, TurnsTakeWhatTheyCost};
 
 /// What small programs cost, row by row of the table of steps, by hand.
@@ -22,4 +23,10 @@ pub fn executions_take_what_they_cost()
 pub fn turns_take_what_they_cost()
     ensures first { FirstPartsTakeWhatTheyCost }
     ensures turns { TurnsTakeWhatTheyCost }
+{}
+
+/// A call keeps what is claimed of its function, where that is no less than what the function costs, and the calls and loops of
+/// its body keep what is claimed of them: by induction on the bound of nested calls, which never counts, every call does.
+pub fn calls_keep_their_claims()
+    ensures { CallsKeepTheirClaims }
 {}
