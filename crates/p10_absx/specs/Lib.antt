@@ -1,0 +1,10 @@
+-- The definitions that the contracts of this crate cite.
+pub mod Abstract
+pub mod Environments
+pub mod Operators
+pub mod Comparing
+pub mod Assessing
+pub mod Entering
+pub mod Describing
+pub mod Trails
+pub mod private
