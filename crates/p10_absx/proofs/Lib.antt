@@ -1,3 +1,5 @@
 -- Lemmas, by subject.
 pub mod Entries
 pub mod Trails
+pub mod Nearness
+pub mod BothSides

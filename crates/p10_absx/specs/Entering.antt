@@ -7,7 +7,7 @@ use Rattle.p10_core.specs.Rows.{is_integer}
 use Rattle.p10_core.specs.Constants.{integer_of}
 use Rattle.p10_core.specs.Typed.{PlainVariable, PlainFunction, PlainProgram}
 use Rattle.p10_cert.specs.Claims.{Value, Number, Func, Claims}
-use Rattle.p10_absx.specs.Abstract.{only_range}
+use Rattle.p10_absx.specs.Abstract.{Abstract, only_range}
 use Rattle.p10_absx.specs.Environments.{Environment}
 
 -- what a certificate claims of a parameter of an integer type: a range, or nothing more than the type
@@ -20,12 +20,15 @@ abbrev pub claims_on : Option Func → List Value
 claims_on None = []
 claims_on (Some f) = f.params
 
+-- the entry of variable n of a function with some parameters
+abbrev pub entry_for : ℕ → ℕ → List Value → PlainVariable → Option Abstract
+entry_for n parameters claims v =
+    if ltb n parameters && v.frame && is_integer v.type then Some (only_range (parameter_claimed (integer_of v.type) (slice_get claims n))) else None
+
 -- the entries of variables from number n on, of which the first `parameters` are in scope
 abbrev pub entries_from : ℕ → ℕ → List Value → List PlainVariable → Environment
 entries_from n parameters claims [] = []
-entries_from n parameters claims (v ∷ vs) =
-    (if ltb n parameters && v.frame && is_integer v.type then Some (only_range (parameter_claimed (integer_of v.type) (slice_get claims n))) else None)
-    ∷ entries_from (suc n) parameters claims vs
+entries_from n parameters claims (v ∷ vs) = entry_for n parameters claims v ∷ entries_from (suc n) parameters claims vs
 
 -- the environment at the entry of a function: its integer frame parameters lie in their claimed ranges
 abbrev pub entry_of_function : Option Func → PlainFunction → Environment

@@ -5,6 +5,7 @@ pub mod Operators
 pub mod Comparing
 pub mod Assessing
 pub mod Entering
+pub mod Assuming
 pub mod Describing
 pub mod Trails
 pub mod private

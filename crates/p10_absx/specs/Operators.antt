@@ -58,15 +58,17 @@ sum_offset a b = of a.offset b.offset
 abbrev pub shrunk : Interval → Interval
 shrunk a = from_to (pos 0 -ℤ a.high) (pos 0 -ℤ pos 1)
 
+-- the offset of a number that an operator makes smaller: where it is positive, and the other operand is at least a number
+abbrev pub shrunk_offset : Abstract → Interval → ℤ → Option Offset
+shrunk_offset a b least = if int_le (pos 1) a.range.low && int_le least b.low then option_and_then (moved_by (shrunk a.range)) a.offset else None
+
 -- what an operator does to offsets: `+`, `-`, and `/` and `>>` where they make a positive number smaller
 abbrev pub binary_offset : BinOp → IntType → Abstract → Abstract → Option Offset
 binary_offset Add kind a b = if is_exact kind (sums a.range b.range) then sum_offset a b else None
 binary_offset Sub kind a b =
     if is_exact kind (differences a.range b.range) then option_and_then (moved_by (negatives b.range)) a.offset else None
-binary_offset Div kind a b =
-    if int_le (pos 1) a.range.low && int_le (pos 2) b.range.low then option_and_then (moved_by (shrunk a.range)) a.offset else None
-binary_offset Shr kind a b =
-    if int_le (pos 1) a.range.low && int_le (pos 1) b.range.low then option_and_then (moved_by (shrunk a.range)) a.offset else None
+binary_offset Div kind a b = shrunk_offset a b.range (pos 2)
+binary_offset Shr kind a b = shrunk_offset a b.range (pos 1)
 binary_offset op kind a b = None
 
 -- whether the right operand of an operator is one: it lies in the type, and for a shift anywhere

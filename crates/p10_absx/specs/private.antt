@@ -1,2 +1,5 @@
 -- What the contracts of private functions alone cite.
 pub mod Kept
+pub mod Changes
+pub mod Nearness
+pub mod Found
