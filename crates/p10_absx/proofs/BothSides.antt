@@ -11,7 +11,6 @@ use Rattle.p10_absx.specs.Comparing.{met_with, side_met}
 use Rattle.p10_absx.specs.private.Found.{both_met, state_of}
 use Rattle.p10_absx.specs.declared.changes.Change.{Change}
 use Rattle.std.specs.declared.alloc.Global.{Global}
-
 use Rattle.p10_absx.specs.private.Changes.{Replaced, replaced_in, applied, change_met, known_side, known_after}
 use Rattle.p10_absx.proofs.Entries.{get_below, get_set, get_other, set_again}
 

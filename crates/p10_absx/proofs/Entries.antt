@@ -1,6 +1,8 @@
 -- Lists of entries that are read and written by numbers.
 use Rattle.std.proofs.Common.{◌≡◌, ℕ, zero, suc, ◌<◌, ◌≢◌, List, [], ◌∷◌, length, map, Option, Some, None, refl, ap, sym, ◌∙◌, arith}
 use Rattle.std.specs.Prelude.{slice_get, slice_set, ◌⊎◌}
+use Rattle.std.specs.Option.{option_map}
+use Rattle.std.proofs.lemmas.Option.{slice_get-map}
 use Rattle.std.proofs.Common.{inl, inr}
 
 pub get_below : {A : Type 0} (xs : List A) (i : ℕ) (x : A) → slice_get xs i ≡ Some x → i < length xs
@@ -63,3 +65,6 @@ pub set_same : {A : Type 0} (xs : List A) (n : ℕ) (x : A) → slice_get xs n �
 set_same [] n x e = absurd cc
 set_same (z ∷ xs) zero x e = let p : z ≡ x = cc in ap (λ y. y ∷ xs) (sym p)
 set_same (z ∷ xs) (suc n) x e = ap (λ ys. z ∷ ys) (set_same xs n x e)
+
+pub got_mapped : {A B : Type 0} (f : A → B) (xs : List A) (n : ℕ) → slice_get (map f xs) n ≡ option_map f (slice_get xs n)
+got_mapped f xs n = slice_get-map f xs n

@@ -3,3 +3,6 @@ pub mod Entries
 pub mod Trails
 pub mod Nearness
 pub mod BothSides
+pub mod Hulls
+pub mod Changing
+pub mod Walking

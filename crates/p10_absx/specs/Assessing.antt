@@ -183,6 +183,16 @@ truth_found env a = a_test (known_where true env a) (known_where false env a)
 abbrev pub negation_found : Environment → Assessed → Assessed
 negation_found env a = a_test (known_where false env a) (known_where true env a)
 
+-- a unary operator
+abbrev pub unary_assessed : UnOp → PlainType → Environment → Assessed → Assessed
+unary_assessed Not t env a = negation_found env a
+unary_assessed op t env a = unary_found op t (value_found a)
+
+-- a call of a library function, by what is found of its argument, if it has only one
+abbrev pub library_assessed : Library → PlainType → Environment → Option Assessed → Assessed
+library_assessed CAssert t env (Some a) = truth_found env a
+library_assessed f t env a = library_found f t
+
 -- ## The table
 
 abbrev mutual
@@ -199,14 +209,17 @@ abbrev mutual
   assess_form c t (decay p) env = any_of t
   assess_form c t (convert v) env = converted_found t (as_side (assess c v env))
   assess_form c t (cast v) env = converted_found t (as_side (assess c v env))
-  assess_form c t (unary Not v) env = negation_found env (assess c v env)
-  assess_form c t (unary op v) env = unary_found op t (value_found (assess c v env))
+  assess_form c t (unary op v) env = unary_assessed op t env (assess c v env)
   assess_form c t (binary op a b) env = binary_found op t (are_integers a b) (assess c a env) (assess c b env) env
   assess_form c t (logic op a b) env = logic_found op env (assess c a env) (λ env. assess c b env)
   assess_form c t (conditional v a b) env = conditional_found t env (assess c v env) (λ env. assess c a env) (λ env. assess c b env)
   assess_form c t (call s n arguments) env = call_found c n t
-  assess_form c t (built_in s CAssert (more_values v no_values)) env = truth_found env (assess c v env)
-  assess_form c t (built_in s f arguments) env = library_found f t
+  assess_form c t (built_in s f arguments) env = library_assessed f t env (assess_only c arguments env)
+
+  -- what is found of the only one of values
+  pub assess_only : Option Claims → PlainValues → Environment → Option Assessed
+  assess_only c (more_values v no_values) env = Some (assess c v env)
+  assess_only c arguments env = None
 
 -- the abstract value of an integer: none where every evaluation ends
 abbrev pub abstract_value : Option Claims → Environment → PlainValue → Option Abstract

@@ -8,4 +8,5 @@ pub mod Entering
 pub mod Assuming
 pub mod Describing
 pub mod Trails
+pub mod Examples
 pub mod private

@@ -90,11 +90,7 @@ fn sum(a: Range, b: Range) -> Range
 fn near(about: u32, by: Range) -> Option<(u32, Range)>
     ensures { option_map offset_of result ≡ near_of (offset_of (about, by)) }
 {
-    if is_near(by) {
-        Some((about, by))
-    } else {
-        None
-    }
+    if is_near(by) { Some((about, by)) } else { None }
 }
 
 /// The same of an offset that may be lacking.

@@ -44,6 +44,10 @@ known_after left right (c ∷ changes) env = of left right
     of (Some m) (Some n) = if eqb m n then c.known else known env n
     of m n = known_side n env
 
--- changes after which each variable that they change has what both have that and another environment
+-- a change after which its variable has what it has there and in another environment
+abbrev pub widened_one : Environment → Replaced → Replaced
+widened_one env c = record { variable = c.variable; known = hull_entry (known env c.variable) c.known }
+
+-- changes after which each variable that they change has what it has there and in another environment
 abbrev pub widened : Environment → List Replaced → List Replaced
-widened env changes = map (λ (c : Replaced). record { variable = c.variable; known = hull_entry (known env c.variable) c.known }) changes
+widened env changes = map (widened_one env) changes
