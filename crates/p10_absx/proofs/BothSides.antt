@@ -1,5 +1,5 @@
 -- The changes that a comparison makes are what it says of an environment.
-use Rattle.std.proofs.Common.{◌≡◌, ℕ, zero, suc, ◌<◌, ◌≢◌, eqb, Bool, true, false, List, [], ◌∷◌, ◌++◌, length, Option, Some, None, refl, ap, sym, ◌∙◌, subst, arith}
+use Rattle.std.proofs.Common.{◌≡◌, ℕ, ◌<◌, eqb, Bool, true, false, List, [], ◌∷◌, ◌++◌, length, Option, Some, None, refl, ap, sym, ◌∙◌, subst, arith}
 use Rattle.std.specs.Prelude.{slice_get, slice_set, if◌then◌else◌, IfSome, Vec}
 use Rattle.std.specs.Option.{option_map, option_and_then}
 use Rattle.std.proofs.lemmas.Bool.Decides.{nat_tests}
@@ -12,7 +12,7 @@ use Rattle.p10_absx.specs.private.Found.{both_met, state_of}
 use Rattle.p10_absx.specs.declared.changes.Change.{Change}
 use Rattle.std.specs.declared.alloc.Global.{Global}
 use Rattle.p10_absx.specs.private.Changes.{Replaced, replaced_in, applied, change_met, known_side, known_after}
-use Rattle.p10_absx.proofs.Entries.{get_below, get_set, get_other, set_again}
+use Rattle.p10_absx.proofs.Entries.{get_below, get_set, get_other}
 
 pub applied_more : (xs ys : List Replaced) (env : Environment) → applied (xs ++ ys) env ≡ applied ys (applied xs env)
 applied_more [] ys env = refl

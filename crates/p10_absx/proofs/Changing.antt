@@ -1,5 +1,5 @@
 -- Lists of changes and of entries that grow.
-use Rattle.std.proofs.Common.{◌≡◌, ℕ, suc, ◌<◌, ◌+◌, List, [], ◌∷◌, ◌++◌, length, map, take, drop, get_or, Option, Some, None, Vec, refl, ap, sym, ◌∙◌, subst, arith, append_assoc, add-one}
+use Rattle.std.proofs.Common.{◌≡◌, ℕ, suc, ◌<◌, ◌+◌, List, [], ◌∷◌, ◌++◌, length, map, take, drop, get_or, Option, Some, Vec, ap, sym, ◌∙◌, append_assoc, add-one}
 use Rattle.std.specs.Option.{option_map}
 use Rattle.std.specs.declared.alloc.Global.{Global}
 use Rattle.std.proofs.lemmas.List.{map-append, take_more}
@@ -14,7 +14,7 @@ use Rattle.p10_absx.specs.Abstract.{Abstract, abstract_of}
 use Rattle.p10_absx.specs.Environments.{Environment, hull_environment}
 use Rattle.p10_absx.specs.Entering.{entry_for, entries_from}
 use Rattle.p10_absx.specs.Trails.{known_in_entries}
-use Rattle.p10_absx.specs.private.Changes.{Replaced, replaced_of, replaced_in, applied, widened_one, widened}
+use Rattle.p10_absx.specs.private.Changes.{replaced_of, replaced_in, applied, widened_one, widened}
 use Rattle.p10_absx.specs.private.Found.{state_of}
 use Rattle.p10_absx.proofs.Trails.{entry_with}
 use Rattle.p10_absx.proofs.BothSides.{applied_more}

@@ -1,16 +1,15 @@
 -- The hull of what two lists of changes give.
-use Rattle.std.proofs.Common.{◌≡◌, ℕ, zero, suc, ◌≢◌, eqb, Bool, true, false, List, [], ◌∷◌, ◌++◌, length, map, Option, Some, None, refl, ap, sym, ◌∙◌, subst, inl, inr, arith}
-use Rattle.std.specs.Prelude.{slice_get, slice_set, if◌then◌else◌, ◌||◌, ◌⊎◌, ℤ}
+use Rattle.std.proofs.Common.{◌≡◌, ℕ, zero, suc, ◌≢◌, eqb, Bool, true, false, List, [], ◌∷◌, ◌++◌, Option, Some, None, refl, ap, sym, ◌∙◌, subst, inl, inr, arith}
+use Rattle.std.specs.Prelude.{slice_get, slice_set, if◌then◌else◌, ◌⊎◌}
 use Rattle.std.specs.Option.{option_map}
-use Rattle.std.specs.Int.{int_min, int_max}
 use Rattle.std.proofs.lemmas.Int.{ints, clamps}
 use Rattle.std.proofs.lemmas.Bool.Decides.{nat_tests, eqb_tells}
 use Rattle.std.proofs.lemmas.Bool.{eqb-true}
-use Rattle.p10_range.specs.Ranges.{Interval, from_to, hull_of}
+use Rattle.p10_range.specs.Ranges.{Interval, hull_of}
 use Rattle.p10_range.proofs.Carried.{both}
 use Rattle.p10_absx.specs.Abstract.{Offset, Abstract, hull_offset, hull_abstract}
 use Rattle.p10_absx.specs.Environments.{Environment, known_in, known, hull_entry, hull_environment}
-use Rattle.p10_absx.specs.private.Changes.{Replaced, applied, widened_one, widened}
+use Rattle.p10_absx.specs.private.Changes.{Replaced, applied, widened}
 use Rattle.p10_absx.proofs.Entries.{get_other}
 
 -- ## Hulls of entries

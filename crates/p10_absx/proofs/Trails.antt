@@ -1,6 +1,6 @@
 -- What an environment's trail keeps where entries are changed and branches are opened and taken back.
-use Rattle.std.proofs.Common.{◌≡◌, ℕ, zero, suc, ◌+◌, ◌<◌, ◌≤◌, ◌≢◌, eqb, cond, Bool, true, false, List, [], ◌∷◌, ◌++◌, reverse, take, get_or, length, map, Option, Some, None, refl, ap, sym, ◌∙◌, subst, inl, inr, arith}
-use Rattle.std.specs.Prelude.{slice_get, slice_set, ◌⊎◌, if◌then◌else◌, ◌||◌}
+use Rattle.std.proofs.Common.{◌≡◌, ℕ, zero, suc, ◌+◌, ◌<◌, ◌≤◌, eqb, Bool, true, false, List, [], ◌∷◌, ◌++◌, reverse, take, get_or, length, Option, Some, None, refl, ap, sym, ◌∙◌, subst, inl, inr, arith}
+use Rattle.std.specs.Prelude.{slice_get, slice_set, ◌⊎◌, if◌then◌else◌}
 use Rattle.std.specs.Option.{option_map}
 use Rattle.std.proofs.lemmas.List.{length-map, length-reverse, reverse-append, set_past, map-append, take_more}
 use Rattle.std.proofs.lemmas.Bool.Decides.{nat_tests}
@@ -11,9 +11,9 @@ use Rattle.p10_absx.specs.declared.notes.Note.TheVariants.{Opened, Was}
 use Rattle.p10_absx.specs.declared.abs.Abs.{Abs}
 use Rattle.p10_absx.specs.Abstract.{Abstract, abstract_of}
 use Rattle.p10_absx.specs.Environments.{Environment}
-use Rattle.p10_absx.specs.Trails.{Branching, known_in_entries, outer_of, branching_of, back, branched, with_values}
+use Rattle.p10_absx.specs.Trails.{Branching, known_in_entries, outer_of, branching_of, back, branched}
 use Rattle.p10_absx.specs.private.Kept.{unnoted, branch_from, IsNotedIn, IsBranch, AreBranches, IsTrail, Changed, Taken, taken_back}
-use Rattle.p10_absx.proofs.Entries.{get_below, get_set, get_other, got_after, set_map, set_again, set_apart, set_same}
+use Rattle.p10_absx.proofs.Entries.{got_after, set_map, set_again, set_apart, set_same}
 
 -- ## Counts
 

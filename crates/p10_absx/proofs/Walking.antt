@@ -1,5 +1,5 @@
 -- The rows of values that hold others, as the walk comes to them.
-use Rattle.std.proofs.Common.{◌≡◌, ℕ, zero, suc, ◌<◌, ◌≤◌, List, [], ◌∷◌, length, get_or, Option, Some, None, refl, ap, sym, ◌∙◌, subst, arith}
+use Rattle.std.proofs.Common.{◌≡◌, ◌<◌, ◌≤◌, List, [], ◌∷◌, length, get_or, Option, Some, None, refl, ap, sym, ◌∙◌, subst, arith}
 use Rattle.std.specs.Option.{option_map}
 use Rattle.p10_base.specs.declared.span.Span.{Span}
 use Rattle.p10_core.specs.declared.typed.Value.{Value}
@@ -11,7 +11,7 @@ use Rattle.p10_core.specs.Views.{plain_form, plain_value, plain_values}
 use Rattle.p10_cert.specs.Claims.{Claims}
 use Rattle.p10_absx.specs.declared.found.Found.{Found}
 use Rattle.p10_absx.specs.Environments.{Environment}
-use Rattle.p10_absx.specs.Assessing.{Assessed, assess, assess_form, assess_only, logic_found, library_assessed}
+use Rattle.p10_absx.specs.Assessing.{assess, assess_form, assess_only, logic_found, library_assessed}
 use Rattle.p10_absx.specs.private.Found.{assessed_of}
 
 -- `&&` and `||`

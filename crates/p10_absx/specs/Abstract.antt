@@ -2,7 +2,7 @@
 use Rattle.std.specs.Prelude.{ℕ, ◌^◌, eqb, ◌&&◌, if◌then◌else◌, Bool, ℤ, pos, neg_ℤ, int_le, Option, Some, None}
 use Rattle.std.specs.Option.{option_map}
 use Rattle.p10_int.specs.declared.types.IntType.{IntType}
-use Rattle.p10_range.specs.Ranges.{Interval, from_to, interval_of, hull_of}
+use Rattle.p10_range.specs.Ranges.{Interval, interval_of, hull_of}
 use Rattle.p10_range.specs.declared.ranges.Range.{Range}
 use Rattle.p10_range.specs.Rows.{values_of, sums}
 use Rattle.p10_absx.specs.declared.abs.Abs.{Abs}

@@ -1,10 +1,10 @@
 -- What is known of values of a tree, and of the variables where they are true or false.
-use Rattle.std.specs.Prelude.{ℕ, ◌&&◌, if◌then◌else◌, Bool, true, false, not, is_some, ℤ, pos, neg_ℤ, slice_get, Option, Some, None}
+use Rattle.std.specs.Prelude.{ℕ, ◌&&◌, if◌then◌else◌, Bool, true, false, is_some, pos, neg_ℤ, slice_get, Option, Some, None}
 use Rattle.std.specs.Option.{option_map, option_and_then}
 use Rattle.p10_int.specs.declared.types.IntType.{IntType}
 use Rattle.p10_int.specs.declared.types.IntType.TheVariants.{Int}
 use Rattle.p10_int.specs.declared.operators.BinOp.{BinOp}
-use Rattle.p10_int.specs.declared.operators.BinOp.TheVariants.{Eq, Ne}
+use Rattle.p10_int.specs.declared.operators.BinOp.TheVariants.{Ne}
 use Rattle.p10_int.specs.declared.operators.UnOp.{UnOp}
 use Rattle.p10_int.specs.declared.operators.UnOp.TheVariants.{Not}
 use Rattle.p10_range.specs.Ranges.{Interval, from_to, is_within}

@@ -5,9 +5,8 @@ use Rattle.p10_range.specs.Rows.{values_of}
 use Rattle.p10_core.specs.Constants.{integer_of}
 use Rattle.p10_core.specs.Typed.{PlainVariable}
 use Rattle.p10_meaning.specs.declared.pointers.Scalar.{Scalar}
-use Rattle.p10_meaning.specs.declared.pointers.Scalar.TheVariants.{Int, Pointer}
-use Rattle.p10_meaning.specs.declared.pointers.Cell.{Cell}
-use Rattle.p10_meaning.specs.Values.{Held, holds, stands, absent}
+use Rattle.p10_meaning.specs.declared.pointers.Scalar.TheVariants.{Int}
+use Rattle.p10_meaning.specs.Values.{Held, holds}
 use Rattle.p10_absx.specs.Abstract.{Offset, Abstract}
 use Rattle.p10_absx.specs.Environments.{Environment, known}
 

@@ -1,7 +1,6 @@
 -- The rows of values, refinement and hulls, at small values written out.
-use Rattle.std.specs.Prelude.{◌≡◌, ℕ, ◌^◌, ◌-◌, Bool as Flag, true, false, List, [], ◌∷◌, ℤ, pos, neg_ℤ, Option, Some, None}
-use Rattle.p10_int.specs.declared.types.IntType.{IntType}
-use Rattle.p10_int.specs.declared.types.IntType.TheVariants.{Int, UInt, UChar}
+use Rattle.std.specs.Prelude.{◌≡◌, ℕ, ◌^◌, ◌-◌, true, false, [], ◌∷◌, pos, neg_ℤ, Some, None}
+use Rattle.p10_int.specs.declared.types.IntType.TheVariants.{UInt, UChar}
 use Rattle.p10_int.specs.declared.operators.BinOp.{BinOp}
 use Rattle.p10_int.specs.declared.operators.BinOp.TheVariants.{Add, Div, Shr, Lt, Gt, Ge, Eq, Ne}
 use Rattle.p10_range.specs.Ranges.{Interval, from_to}
@@ -10,9 +9,8 @@ use Rattle.p10_core.specs.declared.typed.LogicOp.TheVariants.{And, Or}
 use Rattle.p10_core.specs.Types.{PlainType, integer}
 use Rattle.p10_core.specs.Typed.{PlainValue, convert, cast, binary, logic, conditional, call, built_in, no_values, more_values}
 use Rattle.p10_meaning.specs.Examples.{span, int, number, get, value_of, null}
-use Rattle.p10_base.specs.declared.report.Bounds.{Bounds}
-use Rattle.p10_cert.specs.Claims.{Number, Func, Claims}
-use Rattle.p10_absx.specs.Abstract.{Offset, Abstract, only_range}
+use Rattle.p10_cert.specs.Claims.{Number, Claims}
+use Rattle.p10_absx.specs.Abstract.{Abstract, only_range}
 use Rattle.p10_absx.specs.Environments.{Environment}
 use Rattle.p10_absx.specs.Assessing.{abstract_value, assume_of}
 

@@ -1,5 +1,5 @@
 -- What contracts see of the code's environments: a flat list of entries, with a trail of what open branches changed.
-use Rattle.std.specs.Prelude.{ℕ, List, [], ◌∷◌, map, reverse, slice_set}
+use Rattle.std.specs.Prelude.{List, [], ◌∷◌, map, reverse, slice_set}
 use Rattle.std.specs.Option.{option_map}
 use Rattle.p10_absx.specs.declared.notes.Entry.{Entry}
 use Rattle.p10_absx.specs.declared.notes.Note.{Note}

@@ -1,5 +1,5 @@
 -- Changes of environments, as the code lists them.
-use Rattle.std.specs.Prelude.{ℕ, eqb, if◌then◌else◌, List, [], ◌∷◌, ◌++◌, map, slice_set, Option, Some, None}
+use Rattle.std.specs.Prelude.{ℕ, eqb, if◌then◌else◌, List, [], ◌∷◌, map, slice_set, Option, Some, None}
 use Rattle.std.specs.Option.{option_map}
 use Rattle.p10_range.specs.Ranges.{Interval, meet_of}
 use Rattle.p10_absx.specs.declared.changes.Change.{Change}

@@ -1,5 +1,5 @@
 -- What the code finds of values: changes of an environment stand for other environments.
-use Rattle.std.specs.Prelude.{◌≡◌, Bool, true, false, List, [], ◌∷◌, ◌++◌, Option, Some, None, Vec}
+use Rattle.std.specs.Prelude.{List, [], ◌∷◌, ◌++◌, Option, Some, None, Vec}
 use Rattle.std.specs.Option.{option_map, option_and_then}
 use Rattle.std.specs.declared.alloc.Global.{Global}
 use Rattle.p10_absx.specs.declared.changes.Change.{Change}

@@ -1,4 +1,4 @@
-use Rattle.std.proofs.Common.{◌≡◌, ◌<◌, ◌++◌, ◌∷◌, [], ◌+◌, List, take, length, subst, sym, arith, rules}
+use Rattle.std.proofs.Common.{◌≡◌, ◌<◌, ◌+◌, List, take, length, subst, sym, arith}
 use Rattle.p10_absx.specs.declared.changes.Change.{Change}
 use Rattle.p10_absx.specs.private.Changes.{replaced_in, widened}
 use Rattle.p10_absx.proofs.Changing.{widened_more}

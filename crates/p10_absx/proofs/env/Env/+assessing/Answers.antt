@@ -1,11 +1,11 @@
-use Rattle.std.proofs.Common.{◌≡◌, ◌<◌, ◌≤◌, ◌∙◌, ap, sym, length, Some, arith, Option}
+use Rattle.std.proofs.Common.{◌≡◌, ◌∙◌, ap, sym, Some}
 use Rattle.std.specs.Option.{option_map, option_copied}
 use Rattle.std.proofs.lemmas.Result.{IfOk-weaker}
 use Rattle.p10_core.specs.declared.typed.Value.{Value}
 use Rattle.p10_core.specs.Typed.{logic, built_in}
 use Rattle.p10_core.specs.Views.{plain_form, plain_value, plain_values}
 use Rattle.p10_core.proofs.Lists.{plain_built_in}
-use Rattle.p10_cert.specs.Claims.{Claims, claims_of}
+use Rattle.p10_cert.specs.Claims.{claims_of}
 use Rattle.p10_absx.specs.Trails.{Branching}
 use Rattle.p10_absx.proofs.Walking.{logic_carried, built_in_carried, only_one}
 use Rattle.p10_absx.proofs.env.Env.+assessing.Goals as goal

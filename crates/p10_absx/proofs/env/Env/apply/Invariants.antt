@@ -1,5 +1,4 @@
 use Rattle.std.proofs.Common.{◌≡◌, drop}
-use Rattle.p10_absx.specs.Trails.{with_values}
 use Rattle.p10_absx.specs.private.Changes.{replaced_in, applied}
 use Rattle.p10_absx.proofs.env.Env.apply.Given as goal
 

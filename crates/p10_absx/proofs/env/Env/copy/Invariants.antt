@@ -1,4 +1,4 @@
-use Rattle.std.proofs.Common.{◌≡◌, ℕ, take, map, Some}
+use Rattle.std.proofs.Common.{◌≡◌, ℕ, take, Some}
 use Rattle.std.specs.Prelude.{slice_get}
 use Rattle.p10_absx.specs.declared.notes.Entry.{Entry}
 use Rattle.p10_absx.specs.Trails.{known_in_entries}

@@ -1,5 +1,5 @@
 use Rattle.std.proofs.Common.{◌≡◌, ◌≤◌, ◌+◌, ◌++◌, ◌∷◌, [], suc, ℕ, List, reverse, length, subst, sym, ap, ◌∙◌, arith, rules, length-append}
-use Rattle.std.specs.Vec.{vec_capacity, vec_len}
+use Rattle.std.specs.Vec.{vec_capacity}
 use Rattle.p10_absx.specs.declared.notes.Note.{Note}
 use Rattle.p10_absx.specs.declared.notes.Note.TheVariants.{Opened}
 use Rattle.p10_absx.specs.private.Kept.{IsTrail}

@@ -1,4 +1,4 @@
-use Rattle.std.proofs.Common.{◌≡◌, ◌∙◌, ap, subst, sym, reverse}
+use Rattle.std.proofs.Common.{◌∙◌, ap, subst, sym, reverse}
 use Rattle.std.specs.Vec.{vec_capacity}
 use Rattle.p10_absx.specs.Trails.{back}
 use Rattle.p10_absx.specs.private.Kept.{IsTrail}
