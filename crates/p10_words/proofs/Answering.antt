@@ -8,10 +8,10 @@ use Rattle.p10_words.specs.declared.command.Usage.{Usage}
 use Rattle.p10_words.specs.declared.command.Usage.TheVariants.{Refused, Memory}
 use Rattle.p10_base.specs.Words.{Text}
 use Rattle.p10_words.specs.CommandLines.{value_of}
-use Rattle.p10_words.specs.Commands.{verify_options, run_options, IsRestOf}
+use Rattle.p10_words.specs.Commands.{check_options, verify_options, run_options, IsRestOf}
 use Rattle.p10_words.specs.private.Parsing.{file_id, some_list, Matched, IsParse}
-use Rattle.p10_words.specs.private.Deciding.{has_files, IsVerifyOf, IsRunOf, Answers}
-use Rattle.p10_words.proofs.Deciding.{verify_is, verify_from, no_verify, run_is, run_from, no_run}
+use Rattle.p10_words.specs.private.Deciding.{has_files, IsCheckOf, IsVerifyOf, IsRunOf, Answers}
+use Rattle.p10_words.proofs.Deciding.{check_is, check_from, no_check, verify_is, verify_from, no_verify, run_is, run_from, no_run}
 
 -- an answer by another condition that is the same
 carried : (P Q : Command → Type 0) (r : Result Command Usage) → ((c : Command) → P c → Q c) → ((c : Command) → Q c → P c) → Answers P r → Answers Q r
@@ -26,6 +26,28 @@ some_files (x ∷ xs) ys e = cc
 no_files : (xs : List Text) → some_list xs ≡ None → xs ≡ []
 no_files [] e = refl
 no_files (x ∷ xs) e = absurd cc
+
+-- ---- `check`
+pub check_done : (words : List Text) (m : ArgMatches) (include format : Option Text) (files : List Text) (r : Result Command Usage) → Matched check_options words m
+    → include ≡ first_value (found_of m) (codes "include") → format ≡ first_value (found_of m) (codes "format") → Some files ≡ option_map raw_values (matched_of (found_of m) file_id)
+    → Answers (IsCheckOf include format files) r → Answers (λ c. IsRestOf c (codes "check") words) r
+check_done words m include format files r h i j k a =
+    let s = h.split in
+    let there : IsCheckOf include format files ≡ IsCheckOf (value_of s.options (codes "include")) (value_of s.options (codes "format")) s.files =
+    ap (λ (o : Option Text). IsCheckOf o format files) (i ∙ h.reads.options (codes "include") refl) ∙ ap (λ (o : Option Text). IsCheckOf (value_of s.options (codes "include")) o files) (j ∙ h.reads.options (codes "format") refl)
+    ∙ ap (λ (l : List Text). IsCheckOf (value_of s.options (codes "include")) (value_of s.options (codes "format")) l) (sym (some_files s.files files (sym (k ∙ h.reads.files)))) in
+    carried (IsCheckOf (value_of s.options (codes "include")) (value_of s.options (codes "format")) s.files) (λ c. IsRestOf c (codes "check") words) r
+    (λ c v. check_is words s c h.scanned h.once v) (λ c v. check_from words s c h.scanned v) (subst (λ (P : Command → Type 0). Answers P r) there a)
+
+pub check_without : (words : List Text) (m : ArgMatches) → Matched check_options words m → None ≡ option_map raw_values (matched_of (found_of m) file_id) → (c : Command) → IsRestOf c (codes "check") words → ⊥
+check_without words m h k c v =
+    let none = no_files h.split.files (sym (k ∙ h.reads.files)) in
+    let some = subst (λ (l : List Text). has_files l ≡ true) none (check_from words h.split c h.scanned v).some in
+    cc
+
+pub check_lost : (words : List Text) (u : Usage) → IsParse check_options words (Err u) → Answers (λ c. IsRestOf c (codes "check") words) (Err u)
+check_lost words Refused n = λ c v. no_check words c n v
+check_lost words Memory n = tt
 
 -- ---- `verify`
 pub verify_done : (words : List Text) (m : ArgMatches) (include cert : Option Text) (files : List Text) (r : Result Command Usage) → Matched verify_options words m

@@ -1,5 +1,5 @@
 -- What the values that `clap` found come to, against the command lines.
-use Rattle.std.proofs.Common.{◌≡◌, ◌≢◌, ℕ, true, false, Bool, cond, ap, sym, ◌∙◌, refl, subst, List, [], ◌∷◌, ◌++◌, Option, Some, None, append_assoc, arith, ◌==◌, ◌<◌}
+use Rattle.std.proofs.Common.{◌≡◌, ◌≢◌, ℕ, true, false, Bool, cond, ap, sym, ◌∙◌, refl, subst, List, [], ◌∷◌, ◌++◌, Option, Some, None, append_assoc, arith, ◌==◌, ◌<◌, inl, inr}
 use Rattle.std.specs.Prelude.{◌&&◌, ◌||◌, if◌then◌else◌, option_map, find, codes, bytes_eq, not, decimal}
 use Rattle.std.specs.List.{list_all}
 use Rattle.std.specs.Char.{digit_value}
@@ -7,16 +7,16 @@ use Rattle.std.specs.Str.Parse.{IsNumeral}
 use Rattle.std.proofs.lemmas.Fmt.{decimal_is_IsNumeral}
 use Rattle.clap.specs.Lexer.{long_of}
 use Rattle.p10_words.specs.declared.command.Command.{Command}
-use Rattle.p10_words.specs.declared.command.Command.TheVariants.{Verify, Run}
+use Rattle.p10_words.specs.declared.command.Command.TheVariants.{Check, Verify, Run}
 use Rattle.p10_base.specs.Words.{Text}
-use Rattle.p10_words.specs.CommandLines.{Given, AreGivenOnce, value_of, directories_in, HasNumber}
-use Rattle.p10_words.specs.Commands.{verify_options, run_options, IsSplit, AreDirectories, IsRun, IsRestOf}
+use Rattle.p10_words.specs.CommandLines.{Given, AreGivenOnce, value_of, directories_in, HasNumber, HasFormat}
+use Rattle.p10_words.specs.Commands.{check_options, verify_options, run_options, IsSplit, AreDirectories, IsCheck, IsRun, IsRestOf}
 use Rattle.p10_words.specs.Laws.{LinesAreOneCommand}
 use Rattle.p10_words.specs.private.Scanning.{Split, is_among, is_name, scan, scan_value, scan_word, scan_long, with_option, with_file}
 use Rattle.p10_words.specs.private.Parsing.{are_askable, IsNoSplit}
-use Rattle.p10_words.specs.private.Deciding.{is_given_name, has_directories, has_files, IsVerifyOf, IsRunOf}
+use Rattle.p10_words.specs.private.Deciding.{is_given_name, has_directories, has_files, IsCheckOf, IsVerifyOf, IsRunOf}
 use Rattle.p10_words.proofs.Rows.{same_text, text_same}
-use Rattle.p10_words.proofs.Asked.{verify_askable, run_askable}
+use Rattle.p10_words.proofs.Asked.{check_askable, verify_askable, run_askable}
 use Rattle.p10_words.proofs.Numbers.{same_number}
 use Rattle.p10_words.proofs.Splitting.{and_left, and_right, all_named, all_names, read_so, split_so}
 
@@ -126,6 +126,40 @@ files_have : (files : List Text) → files ≢ [] → list_all is_name files ≡
 files_have [] n e = absurd (n refl)
 files_have (f ∷ files) n e = e
 
+-- ---- `check`
+by_check : (n : Text) (P : Text → Type 0) → is_among check_options n ≡ true → P (codes "include") → P (codes "format") → P n
+by_check n P a i f = by_tests (bytes_eq (codes "include") n) (bytes_eq (codes "format") n) refl refl a
+  where
+    by_tests : (x y : Bool) → bytes_eq (codes "include") n ≡ x → bytes_eq (codes "format") n ≡ y → x || (y || false) ≡ true → P n
+    by_tests true y p q e = subst P (same_text (codes "include") n p) i
+    by_tests false true p q e = subst P (same_text (codes "format") n q) f
+    by_tests false false p q e = absurd cc
+
+-- a format is a name
+format_named : (o : Option Text) (json : Bool) → HasFormat o json → is_given_name o ≡ true
+format_named None json h = refl
+format_named (Some value) json (inl text) = ap is_name text.0
+format_named (Some value) json (inr json_is) = ap is_name json_is.0
+
+pub check_is : (words : List Text) (sp : Split) (c : Command) → scan check_options None words ≡ Some sp → AreGivenOnce [] sp.options
+    → IsCheckOf (value_of sp.options (codes "include")) (value_of sp.options (codes "format")) sp.files c → IsRestOf c (codes "check") words
+unfolding Known
+check_is words sp c e g v =
+    let value = and_left (is_given_name (value_of sp.options (codes "include"))) (list_all is_name (directories_in (value_of sp.options (codes "include")))) v.directories in
+    let parts = and_right (is_given_name (value_of sp.options (codes "include"))) (list_all is_name (directories_in (value_of sp.options (codes "include")))) v.directories in
+    let options = all_pass check_options [] sp.options g ((known check_options words).0 sp e)
+    (λ n a. by_check n (λ m. is_given_name (value_of sp.options m) ≡ true) a value (format_named _ _ v.has_format)) in
+    let names = and_both (list_all (λ (o : Given). is_name o.1) sp.options) (list_all is_name sp.files) options (files_named sp.files v.some) in
+    subst (λ (x : Command). IsRestOf x (codes "check") words) (sym v.is) (
+      refl,
+      record {
+        options = sp.options;
+        split = record { splits = split_so check_options words sp e names; once = g; some = files_some sp.files v.some };
+        include = record { are = refl; names = all_names (directories_in (value_of sp.options (codes "include"))) parts };
+        has_format = v.has_format;
+      },
+    )
+
 -- ---- `verify`
 by_verify : (n : Text) (P : Text → Type 0) → is_among verify_options n ≡ true → P (codes "include") → P (codes "cert") → P n
 by_verify n P a i c = by_tests (bytes_eq (codes "include") n) (bytes_eq (codes "cert") n) refl refl a
@@ -190,6 +224,36 @@ verify_of options words directories certificate files s d e =
 same_split : (o : Option Split) (i j : Split) → o ≡ Some i → o ≡ Some j → i ≡ j
 same_split o i j e f = let w = sym e ∙ f in cc
 
+check_of : (words directories : List Text) (json : Bool) (files : List Text) (r : IsCheck words directories json files)
+    → IsCheckOf (value_of r.options (codes "include")) (value_of r.options (codes "format")) files (Check directories json files)
+check_of words directories json files r =
+    let q = read check_options words r.options files check_askable r.split in
+    record {
+      json = json;
+      directories = has_all r.options directories q.options_named r.include;
+      has_format = r.has_format;
+      some = q.files_are;
+      is = ap (λ (l : List Text). Check l json files) r.include.are;
+    }
+
+pub check_from : (words : List Text) (sp : Split) (c : Command) → scan check_options None words ≡ Some sp → IsRestOf c (codes "check") words
+    → IsCheckOf (value_of sp.options (codes "include")) (value_of sp.options (codes "format")) sp.files c
+check_from words sp (Check directories json files) e r =
+    let v = r.1 in
+    let same = same_split _ _ _ (read check_options words v.options files check_askable v.split).scanned e in
+    subst (λ (x : Split). IsCheckOf (value_of x.options (codes "include")) (value_of x.options (codes "format")) x.files (Check directories json files)) same
+    (check_of words directories json files v)
+check_from words sp (Verify directories certificate files) e r = let f = r.0 in absurd cc
+check_from words sp (Run directories steps turns deny files) e r = let f = r.0 in absurd cc
+
+pub no_check : (words : List Text) (c : Command) → IsNoSplit check_options words → IsRestOf c (codes "check") words → ⊥
+no_check words (Check directories json files) n r =
+    let v = r.1 in
+    let s = read_so check_options words v.options files check_askable v.split.splits in
+    n (record { options = v.options; files = files }) s.scanned v.split.once s.names_alone
+no_check words (Verify directories certificate files) n r = let f = r.0 in cc
+no_check words (Run directories steps turns deny files) n r = let f = r.0 in cc
+
 pub verify_from : (words : List Text) (sp : Split) (c : Command) → scan verify_options None words ≡ Some sp → IsRestOf c (codes "verify") words
     → IsVerifyOf (value_of sp.options (codes "include")) (value_of sp.options (codes "cert")) sp.files c
 verify_from words sp (Verify directories certificate files) e r =
@@ -198,6 +262,7 @@ verify_from words sp (Verify directories certificate files) e r =
     subst (λ (x : Split). IsVerifyOf (value_of x.options (codes "include")) (value_of x.options (codes "cert")) x.files (Verify directories certificate files)) same
     (verify_of v.options words directories certificate files v.split v.include v.cert)
 verify_from words sp (Run directories steps turns deny files) e r = let f = r.0 in absurd cc
+verify_from words sp (Check directories json files) e r = let f = r.0 in absurd cc
 
 pub no_verify : (words : List Text) (c : Command) → IsNoSplit verify_options words → IsRestOf c (codes "verify") words → ⊥
 no_verify words (Verify directories certificate files) n r =
@@ -205,6 +270,7 @@ no_verify words (Verify directories certificate files) n r =
     let s = read_so verify_options words v.options files verify_askable v.split.splits in
     n (record { options = v.options; files = files }) s.scanned v.split.once s.names_alone
 no_verify words (Run directories steps turns deny files) n r = let f = r.0 in cc
+no_verify words (Check directories json files) n r = let f = r.0 in cc
 
 -- ---- `run`
 by_run : (n : Text) (P : Text → Type 0) → is_among run_options n ≡ true → P (codes "include") → P (codes "steps") → P (codes "turns") → P (codes "deny") → P n
@@ -275,6 +341,7 @@ run_from words sp (Run directories steps turns deny files) e r =
     subst (λ (x : Split). IsRunOf (value_of x.options (codes "include")) (value_of x.options (codes "steps")) (value_of x.options (codes "turns")) (value_of x.options (codes "deny")) x.files (Run directories steps turns deny files)) same
     (run_of words directories steps turns deny files v)
 run_from words sp (Verify directories certificate files) e r = let f = r.0 in absurd cc
+run_from words sp (Check directories json files) e r = let f = r.0 in absurd cc
 
 pub no_run : (words : List Text) (c : Command) → IsNoSplit run_options words → IsRestOf c (codes "run") words → ⊥
 no_run words (Run directories steps turns deny files) n r =
@@ -282,6 +349,7 @@ no_run words (Run directories steps turns deny files) n r =
     let s = read_so run_options words v.options files run_askable v.split.splits in
     n (record { options = v.options; files = files }) s.scanned v.split.once s.names_alone
 no_run words (Verify directories certificate files) n r = let f = r.0 in cc
+no_run words (Check directories json files) n r = let f = r.0 in cc
 
 -- ---- a line is one command
 split_of : List Given → List Text → Split
@@ -294,11 +362,34 @@ one_split names words os ps fs gs k s t = same_split _ _ _ (read names words os 
 same_value : (o : Option Text) (p : Option Text) (c d : Text) → o ≡ p → o ≡ Some c → p ≡ Some d → c ≡ d
 same_value o p c d e f g = let w = sym f ∙ e ∙ g in cc
 
+two_formats : codes "text" ≡ codes "json" → ⊥
+two_formats same = let t : bytes_eq (codes "json") (codes "text") ≡ true = subst (λ (v : Text). bytes_eq v (codes "text") ≡ true) same (text_same (codes "text")) in absurd cc
+
+-- a value is one format at most
+same_format : (o : Option Text) (this that : Bool) → HasFormat o this → HasFormat o that → this ≡ that
+same_format None this that i j = i ∙ sym j
+same_format (Some value) this that (inl i) (inl j) = i.1 ∙ sym j.1
+same_format (Some value) this that (inr i) (inr j) = i.1 ∙ sym j.1
+same_format (Some value) this that (inl i) (inr j) = absurd (two_formats (sym i.0 ∙ j.0))
+same_format (Some value) this that (inr i) (inl j) = absurd (two_formats (sym j.0 ∙ i.0))
+
 value_in : Text → Split → Option Text
 value_in name s = value_of s.options name
 
 one_rest : (a b : Command) (word : Text) (words : List Text) → IsRestOf a word words → IsRestOf b word words → a ≡ b
 unfolding value_in split_of
+one_rest (Check d b f) (Check e c g) word words i j =
+    let v = i.1 in
+    let w = j.1 in
+    let same = one_split check_options words v.options w.options f g check_askable v.split w.split in
+    let files : f ≡ g = ap (λ (x : Split). x.files) same in
+    let dirs : d ≡ e = v.include.are ∙ ap (λ (x : Split). directories_in (value_in (codes "include") x)) same ∙ sym w.include.are in
+    let json : b ≡ c = same_format (value_of w.options (codes "format")) b c (subst (λ (o : Option Text). HasFormat o b) (ap (value_in (codes "format")) same) v.has_format) w.has_format in
+    ap (λ (x : List Text). Check x b f) dirs ∙ ap (λ (x : Bool). Check e x f) json ∙ ap (λ (x : List Text). Check e c x) files
+one_rest (Check d b f) (Verify e k g) word words i j = let w = sym i.0 ∙ j.0 in absurd cc
+one_rest (Check d b f) (Run e u v m g) word words i j = let w = sym i.0 ∙ j.0 in absurd cc
+one_rest (Verify d c f) (Check e b g) word words i j = let w = sym i.0 ∙ j.0 in absurd cc
+one_rest (Run d s t n f) (Check e b g) word words i j = let w = sym i.0 ∙ j.0 in absurd cc
 one_rest (Verify d c f) (Verify e k g) word words i j =
     let v = i.1 in
     let w = j.1 in

@@ -1,10 +1,10 @@
--- Numbers of options.
-use Rattle.std.proofs.Common.{◌≡◌, ℕ, ◌<◌, ◌≤◌, ◌^◌, ap, sym, ◌∙◌, arith, subst, Option, Some, None, Result, Ok, Err}
+-- Numbers and formats of options.
+use Rattle.std.proofs.Common.{◌≡◌, ℕ, ◌<◌, ◌≤◌, ◌^◌, ap, sym, ◌∙◌, arith, subst, Bool, Bor, Option, Some, None, Result, Ok, Err}
 use Rattle.std.proofs.lemmas.Fmt.{parse-decimal, decimal_is_IsNumeral}
-use Rattle.std.specs.Prelude.{IfNone}
+use Rattle.std.specs.Prelude.{IfNone, option_map}
 use Rattle.std.specs.Str.Parse.{ParsesUnsigned, digits_value}
 use Rattle.p10_base.specs.Words.{Text}
-use Rattle.p10_words.specs.CommandLines.{IsNumber, HasNumber}
+use Rattle.p10_words.specs.CommandLines.{IsNumber, HasNumber, HasFormat}
 
 small : (n : ℕ) → n ≤ 10 ^ 18 → n < 2 ^ 64
 small n h = omega (arith, h)
@@ -27,3 +27,9 @@ one_number value m n i j =
 pub same_number : (o : Option Text) (standard m n : ℕ) → HasNumber o standard m → HasNumber o standard n → m ≡ n
 same_number None standard m n i j = i ∙ sym j
 same_number (Some value) standard m n i j = one_number value m n i j
+
+-- a value that is given is no format
+pub unformatted : (o : Option (Bor Text)) (value : Bor Text) (found : Option Bool) → o ≡ Some value → IfNone found ((json : Bool) → HasFormat (Some value.now) json → ⊥)
+    → IfNone found ((json : Bool) → HasFormat (option_map (λ w. w.now) o) json → ⊥)
+unformatted o value None is none = λ json has. none json (subst (λ (o : Option (Bor Text)). HasFormat (option_map (λ w. w.now) o) json) is has)
+unformatted o value (Some found) is none = tt

@@ -1,5 +1,5 @@
 -- Which command lines are which commands: the words after the program's name.
-use Rattle.std.specs.Prelude.{◌≡◌, ◌≢◌, ℕ, ◌^◌, ◌≤◌, List, [], ◌∷◌, ◌++◌, true, ◌==◌, codes, decimal, find, bytes_eq, Option, Some, None, option_map}
+use Rattle.std.specs.Prelude.{◌≡◌, ◌≢◌, ℕ, ◌^◌, ◌≤◌, ◌⊎◌, List, [], ◌∷◌, ◌++◌, Bool, true, false, ◌==◌, codes, decimal, find, bytes_eq, Option, Some, None, option_map}
 use Rattle.std.specs.List.{list_any, slice_split}
 use Rattle.p10_base.specs.Words.{Text}
 
@@ -65,3 +65,8 @@ pub record IsNumber (value : Text) (n : ℕ) : Type 0 where
 abbrev pub HasNumber : Option Text → ℕ → ℕ → Type 0
 HasNumber None standard n = n ≡ standard
 HasNumber (Some value) standard n = IsNumber value n
+
+-- whether the format that is asked for is JSON: it is `json`, or `text`, which is meant where none is given
+abbrev pub HasFormat : Option Text → Bool → Type 0
+HasFormat None json = json ≡ false
+HasFormat (Some value) json = (value ≡ codes "text") × (json ≡ false) ⊎ (value ≡ codes "json") × (json ≡ true)

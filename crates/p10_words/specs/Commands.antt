@@ -1,11 +1,14 @@
 -- The commands, and the words that are each of them.
-use Rattle.std.specs.Prelude.{◌≡◌, ◌≢◌, ℕ, ◌≤◌, List, [], ◌∷◌, codes, length, Some}
+use Rattle.std.specs.Prelude.{◌≡◌, ◌≢◌, ℕ, ◌≤◌, Bool, List, [], ◌∷◌, codes, length, Some}
 use Rattle.p10_words.specs.declared.command.Command.{Command}
-use Rattle.p10_words.specs.declared.command.Command.TheVariants.{Verify, Run}
+use Rattle.p10_words.specs.declared.command.Command.TheVariants.{Check, Verify, Run}
 use Rattle.p10_base.specs.Words.{Text}
-use Rattle.p10_words.specs.CommandLines.{Given, AreNames, Splits, AreGivenOnce, value_of, directories_in, HasNumber}
+use Rattle.p10_words.specs.CommandLines.{Given, AreNames, Splits, AreGivenOnce, value_of, directories_in, HasNumber, HasFormat}
 
--- the options of `verify` and of `run`
+-- the options of `check`, of `verify` and of `run`
+abbrev pub check_options : List Text
+check_options = codes "include" ∷ codes "format" ∷ []
+
 abbrev pub verify_options : List Text
 verify_options = codes "include" ∷ codes "cert" ∷ []
 
@@ -22,6 +25,13 @@ pub record IsSplit (names : List Text) (words : List Text) (options : List Given
 pub record AreDirectories (options : List Given) (directories : List Text) : Type 0 where
   pub are : directories ≡ directories_in (value_of options (codes "include"))
   pub names : AreNames directories
+
+-- `check [--include D] [--format text|json] FILE..`: lines of text where no format is given
+pub record IsCheck (words : List Text) (directories : List Text) (json : Bool) (files : List Text) : Type 0 where
+  pub options : List Given
+  pub split : IsSplit check_options words options files
+  pub include : AreDirectories options directories
+  pub has_format : HasFormat (value_of options (codes "format")) json
 
 -- `verify [--include D] --cert C FILE..`
 pub record IsVerify (words : List Text) (directories : List Text) (certificate : Text) (files : List Text) : Type 0 where
@@ -41,6 +51,7 @@ pub record IsRun (words : List Text) (directories : List Text) (steps turns deny
 
 -- what follows the command's own word
 abbrev pub IsRestOf : Command → Text → List Text → Type 0
+IsRestOf (Check directories json files) word words = (word ≡ codes "check") × IsCheck words directories json files
 IsRestOf (Verify directories certificate files) word words = (word ≡ codes "verify") × IsVerify words directories certificate files
 IsRestOf (Run directories steps turns deny files) word words = (word ≡ codes "run") × IsRun words directories steps turns deny files
 

@@ -5,6 +5,15 @@ use p10_base::{ListBuf, TextBuf};
 /// A command with its options and files.
 #[derive(Debug, Drop)]
 pub enum Command {
+    /// `check [--include D] [--format text|json] FILE..`
+    Check {
+        /// The directories of `--include`, in their order.
+        dirs: ListBuf<TextBuf>,
+        /// Whether the report is asked for as JSON; lines of text where no format is given.
+        json: bool,
+        /// The source files; there is one at least.
+        files: ListBuf<TextBuf>,
+    },
     /// `verify [--include D] --cert C FILE..`
     Verify {
         /// The directories of `--include`, in their order.

@@ -3,13 +3,23 @@
 ghost use Rattle.std.specs.Prelude.{◌≡◌, [], ◌∷◌, List, ℕ, false, true, map, string_bytes, IfOk, codes};
 ghost use Rattle.clap.specs.Walk.{rule_of};
 ghost use Rattle.clap.specs.Simple.{app_of, with_rule};
-ghost use Rattle.p10_words.specs.Commands.{verify_options, run_options};
+ghost use Rattle.p10_words.specs.Commands.{check_options, verify_options, run_options};
 ghost use Rattle.p10_words.specs.private.Parsing.{bare as bare_app, option_asked, files_asked, IsAsked, IsParse, IsUsage, are_askable};
 
 use crate::command::Usage;
 use clap::error::ErrorKind;
 use clap::{Arg, ArgAction, ArgMatches, Command};
 use std::alloc::{AllocError, Global};
+
+/// What `clap` reads of the words after `check`.
+pub fn check_matches<'w>(alloc: Global, words: &'w [String]) -> Result<ArgMatches<'w>, Usage>
+    ensures { IsParse check_options (map string_bytes words.entry.now) result }
+{
+    match check_command(alloc) {
+        Ok(command) => matches(command, words),
+        Err(_) => Err(Usage::Memory),
+    }
+}
 
 /// What `clap` reads of the words after `verify`.
 pub fn verify_matches<'w>(alloc: Global, words: &'w [String]) -> Result<ArgMatches<'w>, Usage>
@@ -29,6 +39,17 @@ pub fn run_matches<'w>(alloc: Global, words: &'w [String]) -> Result<ArgMatches<
         Ok(command) => matches(command, words),
         Err(_) => Err(Usage::Memory),
     }
+}
+
+/// The options and files of `check`.
+fn check_command<'w>(alloc: Global) -> Result<Command<'w>, AllocError>
+    ensures { IfOk result (λ c. IsAsked (app_of c) check_options) }
+{
+    let command = bare(alloc, "check")
+        .arg(option(alloc, "include"))?
+        .arg(option(alloc, "format"))?
+        .arg(files(alloc))?;
+    Ok(command)
 }
 
 /// The options and files of `verify`.

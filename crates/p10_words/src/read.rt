@@ -2,14 +2,16 @@
 
 ghost use Rattle.std.specs.Prelude.{◌≡◌, Some, Err, map, string_bytes, IfOk, codes, option_map};
 ghost use Rattle.p10_words.specs.declared.command.Command.{Command};
-ghost use Rattle.p10_words.specs.declared.command.Command.TheVariants.{Verify, Run};
+ghost use Rattle.p10_words.specs.declared.command.Command.TheVariants.{Check, Verify, Run};
 ghost use Rattle.p10_words.specs.CommandLines.{directories_in};
 ghost use Rattle.p10_words.specs.Commands.{IsCommandLine, IsRestOf};
-ghost use Rattle.p10_words.specs.private.Deciding.{IsVerifyOf, IsRunOf, Answers};
+ghost use Rattle.p10_words.specs.private.Deciding.{IsCheckOf, IsVerifyOf, IsRunOf, Answers};
 
 use crate::command::{Command, Usage};
-use crate::parse::{run_matches, verify_matches};
-use crate::values::{directories, name_files, names_directories, names_file, number, text, texts};
+use crate::parse::{check_matches, run_matches, verify_matches};
+use crate::values::{
+    directories, is_json, name_files, names_directories, names_file, number, text, texts,
+};
 use std::alloc::{AllocError, Global};
 
 /// The most words of a command line.
@@ -52,12 +54,32 @@ pub fn read_words(alloc: Global, words: &[String]) -> Result<Command, Usage>
 fn by_name(alloc: Global, command: &str, words: &[String]) -> Result<Command, Usage>
     ensures { Answers (λ c. IsRestOf c command.now (map string_bytes words.now)) result }
 {
-    if command == "verify" {
+    if command == "check" {
+        check(alloc, words)
+    } else if command == "verify" {
         verify(alloc, words)
     } else if command == "run" {
         run(alloc, words)
     } else {
         Err(Usage::Refused)
+    }
+}
+
+/// `check` with the words after it.
+fn check(alloc: Global, words: &[String]) -> Result<Command, Usage>
+    ensures { Answers (λ c. IsRestOf c (codes "check") (map string_bytes words.now)) result }
+{
+    match check_matches(alloc, words) {
+        Ok(found) => match found.get_strs("FILE") {
+            Some(files) => check_of(
+                alloc,
+                found.get_str("include"),
+                found.get_str("format"),
+                files,
+            ),
+            None => Err(Usage::Refused),
+        },
+        Err(fault) => Err(fault),
     }
 }
 
@@ -97,6 +119,42 @@ fn run(alloc: Global, words: &[String]) -> Result<Command, Usage>
         },
         Err(fault) => Err(fault),
     }
+}
+
+/// `check` of these values of options and files.
+fn check_of(
+    alloc: Global,
+    include: Option<&str>,
+    format: Option<&str>,
+    files: &[&str],
+) -> Result<Command, Usage>
+    ensures { Answers (IsCheckOf (option_map (λ w. w.now) include.entry) (option_map (λ w. w.now) format.entry) (map (λ w. w.now) files.now)) result }
+{
+    let Some(json) = is_json(format) else {
+        return Err(Usage::Refused);
+    };
+    if names_directories(include) && name_files(files) {
+        match new_check(alloc, include, json, files) {
+            Ok(command) => Ok(command),
+            Err(_) => Err(Usage::Memory),
+        }
+    } else {
+        Err(Usage::Refused)
+    }
+}
+
+/// The command `check`, with texts of its own.
+fn new_check(
+    alloc: Global,
+    include: Option<&str>,
+    json: bool,
+    files: &[&str],
+) -> Result<Command, AllocError>
+    ensures { IfOk result (λ c. c ≡ Check (directories_in (option_map (λ w. w.now) include.entry)) json (map (λ w. w.now) files.now)) }
+{
+    let dirs = directories(alloc, include)?;
+    let files = texts(alloc, files)?;
+    Ok(Command::Check { dirs, json, files })
 }
 
 /// `verify` of these values of options and files.

@@ -10,7 +10,27 @@ struct Row {
     says: &'static str,
 }
 
-static ROWS: [Row; 16] = [
+static ROWS: [Row; 21] = [
+    Row {
+        line: "check a.c b.c",
+        says: "check 0 false 2",
+    },
+    Row {
+        line: "check a.c --format json --include=x:y",
+        says: "check 2 true 1",
+    },
+    Row {
+        line: "check --format=text -- a.c",
+        says: "check 0 false 1",
+    },
+    Row {
+        line: "check --format=xml a.c",
+        says: "refused",
+    },
+    Row {
+        line: "check --format json",
+        says: "refused",
+    },
     Row {
         line: "verify --cert a.p10 a.c",
         says: "verify 0 a.p10 1",
@@ -84,6 +104,10 @@ fn said(alloc: Global, line: &str) -> Result<String, AllocError> {
         words.push(String::from_str(alloc, word)?)?;
     }
     match read_words(alloc, words.as_slice()) {
+        Ok(Command::Check { dirs, json, files }) => {
+            let (dirs, files) = (dirs.as_slice().len(), files.as_slice().len());
+            format!(in alloc; "check {dirs} {json} {files}")
+        }
         Ok(Command::Verify { dirs, cert, files }) => {
             let (dirs, cert, files) = (
                 dirs.as_slice().len(),

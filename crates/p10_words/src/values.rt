@@ -1,8 +1,8 @@
 //! Values of options, and files.
 
-ghost use Rattle.std.specs.Prelude.{◌≡◌, ◌++◌, ℕ, map, IfOk, OnOk, IfSome, IfNone, option_map};
+ghost use Rattle.std.specs.Prelude.{◌≡◌, ◌++◌, ℕ, Bool, map, IfOk, OnOk, IfSome, IfNone, Some, option_map};
 ghost use Rattle.std.specs.List.{list_all};
-ghost use Rattle.p10_words.specs.CommandLines.{cut, directories_in, HasNumber, IsNumber};
+ghost use Rattle.p10_words.specs.CommandLines.{cut, directories_in, HasFormat, HasNumber, IsNumber};
 ghost use Rattle.p10_words.specs.private.Scanning.{is_name};
 ghost use Rattle.p10_words.specs.private.Deciding.{has_directories, has_files};
 
@@ -144,6 +144,31 @@ fn checked(value: &str, number: u64) -> Option<u64>
     let mut buffer = itoa::Buffer::new();
     if number <= MOST && buffer.format(number) == value {
         Some(number)
+    } else {
+        None
+    }
+}
+
+/// Whether the format that is asked for is JSON; `None` where the value is no format.
+pub fn is_json(value: Option<&str>) -> Option<bool>
+    ensures some { IfSome result (HasFormat (option_map (λ w. w.now) value.entry)) }
+    ensures none { IfNone result ((json : Bool) → HasFormat (option_map (λ w. w.now) value.entry) json → ⊥) }
+{
+    match value {
+        None => Some(false),
+        Some(value) => format_named(value),
+    }
+}
+
+/// Whether the format of this name is JSON; `None` where no format has it.
+fn format_named(name: &str) -> Option<bool>
+    ensures some { IfSome result (HasFormat (Some name.now)) }
+    ensures none { IfNone result ((json : Bool) → HasFormat (Some name.now) json → ⊥) }
+{
+    if name == "json" {
+        Some(true)
+    } else if name == "text" {
+        Some(false)
     } else {
         None
     }

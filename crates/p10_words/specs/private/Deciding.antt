@@ -2,11 +2,11 @@
 use Rattle.std.specs.Prelude.{◌≡◌, ℕ, List, [], ◌∷◌, Bool, true, false, ◌&&◌, Option, Some, None, Result, Ok, Err}
 use Rattle.std.specs.List.{list_all}
 use Rattle.p10_words.specs.declared.command.Command.{Command}
-use Rattle.p10_words.specs.declared.command.Command.TheVariants.{Verify, Run}
+use Rattle.p10_words.specs.declared.command.Command.TheVariants.{Check, Verify, Run}
 use Rattle.p10_words.specs.declared.command.Usage.{Usage}
 use Rattle.p10_words.specs.declared.command.Usage.TheVariants.{Refused, Memory}
 use Rattle.p10_base.specs.Words.{Text}
-use Rattle.p10_words.specs.CommandLines.{directories_in, HasNumber}
+use Rattle.p10_words.specs.CommandLines.{directories_in, HasNumber, HasFormat}
 use Rattle.p10_words.specs.private.Scanning.{is_name}
 
 -- a value is a name, if there is one
@@ -22,6 +22,14 @@ has_directories value = is_given_name value && list_all is_name (directories_in 
 abbrev pub has_files : List Text → Bool
 has_files [] = false
 has_files (file ∷ files) = list_all is_name (file ∷ files)
+
+-- `check` of these values and files
+pub record IsCheckOf (include format : Option Text) (files : List Text) (c : Command) : Type 0 where
+  pub json : Bool
+  pub directories : has_directories include ≡ true
+  pub has_format : HasFormat format json
+  pub some : has_files files ≡ true
+  pub is : c ≡ Check (directories_in include) json files
 
 -- `verify` of these values and files
 pub record IsVerifyOf (include cert : Option Text) (files : List Text) (c : Command) : Type 0 where

@@ -1,0 +1,5 @@
+use Rattle.p10_words.proofs.Numbers.{unformatted}
+use Rattle.p10_words.proofs.values.is_json.Goals as goal
+
+pub returns-in-Some-clause-none : goal.returns-in-Some-clause-none
+returns-in-Some-clause-none c = unformatted c.args.value c.in-Some.value c.format_named.result c.in-Some.is c.format_named.ensures.none
