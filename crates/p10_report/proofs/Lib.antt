@@ -1,2 +1,3 @@
 -- Lemmas for this crate and those above it.
 pub mod Stopping
+pub mod Values

@@ -3,3 +3,6 @@ pub mod Lines
 pub mod Stops
 pub mod Messages
 pub mod Endings
+pub mod Violations
+pub mod Json
+pub mod Laws

@@ -4,7 +4,8 @@
 //! [`put_accepted`], [`put_failing`] and [`put_limit`] tell what was found in the sources and the certificate;
 //! [`put_returned`], [`put_turns`], [`put_assertion_failed`], [`put_undefined`] and [`put_steps_spent`] how a run has ended;
 //! [`put_usage`], [`put_absent`], [`put_bad_certificate`], [`put_read_fault`] and [`put_out_of_memory`] tell
-//! why there is nothing to tell of them. Invariant: what a sink took of a line is always the line's front, and all of
+//! why there is nothing to tell of them. [`put_violation`] tells a violation of a rule, and [`json`] gives the text of a
+//! whole report as JSON, which takes memory. Invariant: what a sink took of a line is always the line's front, and all of
 //! it at `Ok`. A line is written in several pieces, so the `wrote` of a fault counts bytes of the last
 //! piece alone. Which line is told, and to which sink, is left to the crates above.
 #![tactic(auto)]
@@ -17,14 +18,19 @@ ghost use Rattle.p10_report.specs.Lines.{accepted_line, failing_line, limit_line
 ghost use Rattle.p10_report.specs.Stops.{StopsWithin};
 
 pub use endings::{put_assertion_failed, put_returned, put_steps_spent, put_turns, put_undefined};
+pub use json_report::json;
 pub use messages::{put_absent, put_bad_certificate, put_out_of_memory, put_read_fault, put_usage};
 use p10_base::{Bounds, Limit, Refusal, Sources, Span};
 use p10_world::{Sink, SinkFault};
 use pieces::{put_at, put_bytes, put_depths, put_labelled, put_place, put_reason, put_refused};
+pub use rows::put_violation;
 
 mod endings;
+mod json_report;
+pub mod laws;
 mod messages;
 mod pieces;
+mod rows;
 #[cfg(test)]
 mod tests;
 

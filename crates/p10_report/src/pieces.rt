@@ -61,14 +61,14 @@ pub fn put_place<O: Sink>(out: &mut O, s: &Sources, at: Span) -> Result<(), Sink
 }
 
 /// The name of a file; there is none where the number is no file's.
-fn file_name(s: &Sources, file: u32) -> &str
+pub fn file_name(s: &Sources, file: u32) -> &str
     ensures { result.now ≡ name_of s.now file }
 {
     if file < s.count() { s.name(file) } else { "" }
 }
 
 /// The line and the column of a place, both from 1.
-fn line_col(s: &Sources, at: Span) -> (u64, u64)
+pub fn line_col(s: &Sources, at: Span) -> (u64, u64)
     ensures line { result.0 ≡ line_of (text_of s.now at.file) at.start }
     ensures column { result.1 ≡ column_of (text_of s.now at.file) at.start }
 {
