@@ -18,9 +18,9 @@ unfoldable pub refusal_text : Gathered → Refusal → Text
 refusal_text g r = place_text g r.span then refused_part r.family r.number then codes ": " then code_text r.family r.number
 
 -- the code of a refusal has a text, if there is one
-abbrev pub HasText : Option Refusal → Type 0
-HasText None = Unit {0}
-HasText (Some r) = IsCode r.family r.number
+abbrev pub IsPrintable : Option Refusal → Type 0
+IsPrintable None = Unit {0}
+IsPrintable (Some r) = IsCode r.family r.number
 
 -- a refusal as a string, or null where there is none
 unfoldable pub refusal_data : Gathered → Option Refusal → Data

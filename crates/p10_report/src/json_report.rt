@@ -6,7 +6,7 @@ ghost use Rattle.serde_json.specs.View.{items_of, view};
 ghost use Rattle.p10_base.specs.Codes.{IsCode};
 ghost use Rattle.p10_base.specs.Gathered.{name_of, text_of};
 ghost use Rattle.p10_base.specs.Places.{column_of, line_of};
-ghost use Rattle.p10_report.specs.Json.{json_text, refusal_data, refusal_text, violation_data, HasText};
+ghost use Rattle.p10_report.specs.Json.{json_text, refusal_data, refusal_text, violation_data, IsPrintable};
 ghost use Rattle.p10_report.specs.Lines.{place_text};
 ghost use Rattle.p10_report.specs.Violations.{row_number};
 
@@ -30,7 +30,7 @@ pub fn json(
     v: &[Violation],
     r: Option<Refusal>,
 ) -> Result<String, AllocError>
-    requires { HasText r }
+    requires { IsPrintable r }
     ensures { IfOk result (λ text. string_bytes text ≡ json_text s.now v.now r) }
 {
     let refusal = refusal_value(alloc, s, r)?;
@@ -49,7 +49,7 @@ fn report_value(alloc: Global, refusal: Value, violations: Vec<Value>) -> Result
 
 /// The refusal, or null where there is none.
 fn refusal_value(alloc: Global, s: &Sources, r: Option<Refusal>) -> Result<Value, AllocError>
-    requires { HasText r }
+    requires { IsPrintable r }
     ensures { IfOk result (λ value. view value ≡ refusal_data s.now r) }
 {
     match r {
