@@ -20,6 +20,8 @@ use Rattle.p10_words.specs.declared.command.Usage.{Usage}
 use Rattle.p10_words.specs.declared.command.Usage.TheVariants as usage
 use Rattle.p10_words.specs.Commands.{IsCommandLine}
 use Rattle.p10_words.proofs.Deciding.{one_command}
+use Rattle.p10_check_command.specs.declared.command.CheckCommand.{CheckCommand}
+use Rattle.p10_check_command.specs.Answers as check
 use Rattle.p10_run_command.specs.declared.command.RunCommand.{RunCommand}
 use Rattle.p10_run_command.specs.Answers as run
 use Rattle.p10_verify_command.specs.declared.answer.Answer.{Answer}
@@ -47,6 +49,15 @@ told_run c r seen input out_old out_new err_old err_new status is told = subst (
 pub stopped_run : (c : Command) (r : RunCommand) (seen : Seen) (input : SeenInput) (out_old out_new err_old err_new : Option (List ℕ)) → c ≡ command.Run r.directories r.steps r.turns r.deny r.sources →
     Stopped (run.SaysRight r seen input) out_old out_new err_old err_new → Stopped (SaysFor c seen input) out_old out_new err_old err_new
 stopped_run c r seen input out_old out_new err_old err_new is stopped = subst (λ (d : Command). Stopped (SaysFor d seen input) out_old out_new err_old err_new) (sym is) stopped
+
+-- and what is told of a check
+pub told_check : (c : Command) (k : CheckCommand) (seen : Seen) (input : SeenInput) (out_old out_new err_old err_new : Option (List ℕ)) (status : ℕ) → c ≡ command.Check k.directories k.json k.sources →
+    Told (check.SaysRight k seen) out_old out_new err_old err_new status → Told (SaysFor c seen input) out_old out_new err_old err_new status
+told_check c k seen input out_old out_new err_old err_new status is told = subst (λ (d : Command). Told (SaysFor d seen input) out_old out_new err_old err_new status) (sym is) told
+
+pub stopped_check : (c : Command) (k : CheckCommand) (seen : Seen) (input : SeenInput) (out_old out_new err_old err_new : Option (List ℕ)) → c ≡ command.Check k.directories k.json k.sources →
+    Stopped (check.SaysRight k seen) out_old out_new err_old err_new → Stopped (SaysFor c seen input) out_old out_new err_old err_new
+stopped_check c k seen input out_old out_new err_old err_new is stopped = subst (λ (d : Command). Stopped (SaysFor d seen input) out_old out_new err_old err_new) (sym is) stopped
 
 -- ## No command
 

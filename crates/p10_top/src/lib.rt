@@ -15,6 +15,7 @@ ghost use Rattle.p10_top.specs.Headline.{Verified};
 ghost use Rattle.p10_top.specs.Told.{MaySay, SaysFor};
 ghost use Rattle.p10_top.specs.private.Unread.{saying_without_command};
 
+use p10_check_command::{CheckCommand, check};
 use p10_report::{put_out_of_memory, put_usage};
 use p10_run_command::{RunCommand, run};
 use p10_verify_command::{VerifyCommand, verify};
@@ -28,14 +29,17 @@ mod tests;
 
 /// Runs `p10` on the words after the program's name, and gives the status with which it exits.
 ///
-/// `verify [--include DIRECTORIES] --cert CERTIFICATE SOURCE..`, with options and sources in any order, tells on `out`
-/// whether the certificate bounds every run of the sources' program; all else is told on `err`. `DIRECTORIES` are joined
-/// by `:`, and included files are looked for in them. Nothing is read of `input` by this command.
+/// `check [--include DIRECTORIES] [--format text|json] SOURCE..`, with options and sources in any order, tells on `out` what
+/// breaks a rule in the sources and why they are refused; all else is told on `err`. `DIRECTORIES` are joined by `:`, and
+/// included files are looked for in them. Nothing is read of `input` by this command.
+///
+/// `verify [--include DIRECTORIES] --cert CERTIFICATE SOURCE..` tells on `out` whether the certificate bounds every run of the
+/// sources' program; all else is told on `err`. Nothing is read of `input` by this command either.
 ///
 /// `run [--include DIRECTORIES] [--steps N] [--turns N] [--deny N] SOURCE..` runs the sources' program on `input` and `out`, and tells
 /// on `err` how it has ended, or why there is none. Other commands can't be obeyed yet, and are none.
 ///
-/// The statuses: 0 accepted or run to its end, 1 a condition doesn't hold, 2 no command, 3 the source is refused, 4 no
+/// The statuses: 0 no rule broken, accepted or run to its end, 1 a rule is broken or a condition doesn't hold, 2 no command, 3 the source is refused, 4 no
 /// certificate, 5 a read failed, 6 a write failed, 7 out of memory, 8 a limit is passed, 9 a file is
 /// absent, 10 an assertion has failed, 11 an undefined operation, 12 no step is left.
 pub fn p10_main<F: Files, I: Source, O: Sink, E: Sink>(
@@ -96,6 +100,18 @@ fn obey<F: Files, I: Source, O: Sink, E: Sink>(
     ensures input { IsNoRun command → input.new ≡ input.old }
 {
     match command {
+        Command::Check {
+            dirs: directories,
+            json,
+            files: sources,
+        } => {
+            let command = CheckCommand {
+                directories,
+                json,
+                sources,
+            };
+            check(alloc, &command, files, out, err)
+        }
         Command::Verify {
             dirs: directories,
             cert: certificate,

@@ -11,6 +11,8 @@ use std::test::Fail;
 
 const VERIFY: [&str; 4] = ["verify", "--cert", "a.p10", "a.c"];
 
+const CHECK: [&str; 2] = ["check", "a.c"];
+
 const TWICE: [&str; 5] = ["verify", "--cert", "a.p10", "a.c", "a.c"];
 
 /// `int main(void) { return 0; }` takes three steps: one each for the entry, the statement and the
@@ -28,6 +30,8 @@ end
 const USAGE: &str = "p10: usage: p10 (check|derive|verify|run|gen) [options] FILE..\n";
 
 const ACCEPTED: &str = "accepted: prefix 3 turn 0 calls 1 bytes 0\n";
+
+const UNASSERTED: &str = "a.c:1:5: rule 5.1: fewer than two assertions per function\n";
 
 const TOO_FEW_STEPS: &str = "refused: K11 a.c:1:5\n";
 
@@ -87,7 +91,7 @@ type Row = (
     &'static str,
 );
 
-static ROWS: [Row; 16] = [
+static ROWS: [Row; 19] = [
     (&["verify", "a.c"], BOTH, &[], 0, 2, USAGE),
     (&VERIFY, BOTH, &[3], 2, 0, ACCEPTED),
     (&VERIFY, ONE_MORE, &[], 2, 1, TOO_FEW_STEPS),
@@ -108,6 +112,10 @@ static ROWS: [Row; 16] = [
     (&VERIFY, WORD, &[2], 2, 5, READ_FAULT),
     (&VERIFY, INCLUDES, &[2], 2, 5, READ_FAULT),
     (&VERIFY, INCLUDES, &[3], 3, 5, READ_FAULT),
+    // A report asks for no certificate.
+    (&CHECK, BOTH, &[2], 1, 1, UNASSERTED),
+    (&CHECK, BOTH, &[1], 1, 5, READ_FAULT),
+    (&CHECK, NEITHER, &[], 1, 9, ABSENT_SOURCE),
 ];
 
 /// The status and both texts of a run, and after how many bytes the outputs fail.
