@@ -11,7 +11,7 @@ pub record Counting : Type 0 where
   pub functions : List Func
   pub loops : List Loop
 
--- the claim of which nothing is more than 0: what counts where none is made
+-- the steps that are claimed of a function; 0 where nothing is claimed, as in all that follow
 abbrev pub steps_claimed : Option Func → ℕ
 steps_claimed None = 0
 steps_claimed (Some f) = f.steps

@@ -92,7 +92,7 @@ ring_functions = ring_init ∷ function_of 1 (integer false Truth) (int_variable
 abbrev pub ring_claims : List Func
 ring_claims = claiming 25 1 0 true [] ∷ claiming 38 1 4 false [] ∷ claiming 40 1 4 false [] ∷ claiming 527 2 12 false (8 ∷ []) ∷ []
 
--- `int main(void)`: `bool ready = ring_init(); if (!c_assert(ready == true)) { return 1; }`, and the task loop, which passes bytes on
+-- `bool`
 abbrev pub bool_type : PlainType
 bool_type = integer false Truth
 
@@ -107,7 +107,7 @@ ring_turn = block_of
     (block_of (does (if_then (value_of int (unary Not (value_of int (convert (value_of bool_type (call (span 0) 1 (values_of_list (get 0 int 1 ∷ []))))))))
     (block_of (does (evaluate (value_of (void false) (cast (value_of int (built_in (span 0) Putchar (values_of_list (number (pos 33) ∷ []))))))) ∷ []))) ∷ []))))) ∷ [])
 
--- the program
+-- the program, whose `main` is `bool ready = ring_init(); if (!c_assert(ready == true)) { return 1; }` and the task loop
 abbrev pub ring : PlainProgram
 ring = record (program_of ring_functions (frame_variable bool_type 1 ∷ int_variable ∷ [])
     (begin 0 (value_of bool_type (call (span 0) 0 (values_of_list []))) ∷
