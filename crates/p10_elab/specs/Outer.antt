@@ -379,7 +379,7 @@ roots_passed h heads k (root ∷ rest) = roots_passed h heads (root_passed h hea
 -- before the first root
 abbrev pub nothing_known : Known
 nothing_known = record {
-  standing = record { scope = record { structures = []; names = []; tags = []; floors = [] }; open_structures = []; problems = [] };
+  standing = record { scope = record { structures = []; names = []; tags = []; floors = []; evaluated = true }; open_structures = []; problems = [] };
   root = 0;
   linked = [];
   functions = [];

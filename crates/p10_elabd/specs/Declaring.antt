@@ -20,7 +20,7 @@ use Rattle.p10_elabd.specs.declared.site.Allowed.{Allowed}
 use Rattle.p10_elabd.specs.Blocks.{declaring}
 use Rattle.p10_elabd.specs.Tagged.{structure_named, enumeration_named, Begun, begun, begun_anew, ended, structure_made, enumeration_begun, with_enumeration}
 use Rattle.p10_elabd.specs.Members.{member_declared, with_width, with_member, enumerator_passed}
-use Rattle.p10_elabd.specs.Shapes.{PlainParameter, DeclaredType, of_type, name_in, place_or, pointer_declared, element_declared, array_declared, open_declared, result_declared, parameter_declared, among_parameters, function_declared}
+use Rattle.p10_elabd.specs.Shapes.{PlainParameter, DeclaredType, of_type, name_in, place_or, declares_function, pointer_declared, element_declared, array_declared, open_declared, function_inside, result_declared, parameter_declared, among_parameters, function_declared}
 
 -- ## Pieces
 
@@ -125,10 +125,11 @@ is_no_parameter d t = false
 abbrev pub based : Option PlainType → PlainStanding → Passed DeclaredType
 based t s = record { made = option_map of_type t; after = s }
 
--- a parameter after others, by what its declarator made of the type of its specifiers
+-- a parameter after others, by what its declarator made of the type of its specifiers: that of a function would be a pointer to it
 abbrev pub with_declared_parameter : Keep → ℕ → Option (List PlainParameter) → At → Declarator At → Passed DeclaredType → Passed (List PlainParameter)
 with_declared_parameter h i before at d j =
-    let u : Passed PlainType = parameter_declared h at (place_or at (name_in d)) (declarator_place d) j.made j.after in
+    let s : PlainStanding = refusing h (declares_function d) subset.BadPointer (declarator_place d) j.after in
+    let u : Passed PlainType = parameter_declared h at (place_or at (name_in d)) j.made s in
     record { made = parameter_added before at (name_in d) u.made; after = with_parameter h i (name_in d) u.made u.after }
 
 -- ## The trees
@@ -177,7 +178,8 @@ abbrev mutual
   field_passed h t p (field at d width) =
       let name_at : At = place_or (declarator_place d) (name_in d) in
       let j : Passed DeclaredType = declarator_passed h name_at (based t (with_width h (declarator_place d) width p.after)) d in
-      with_member h name_at p.made (name_in d) (member_declared h name_at j.made j.after)
+      let s : PlainStanding = refusing h (declares_function d) subset.IncompleteType name_at j.after in
+      with_member h name_at p.made (name_in d) (member_declared h name_at j.made s)
 
   -- what a declarator makes of a type, from its specifiers to its name
   pub declarator_passed : Keep → At → Passed DeclaredType → Declarator At → Passed DeclaredType
@@ -189,7 +191,8 @@ abbrev mutual
   declarator_passed h name_at p (Array at d brackets (Present e)) = declarator_passed h name_at (array_declared h e (element_declared h name_at p.made p.after)) d
   declarator_passed h name_at p (Function at d parentheses all more) =
       let r : Passed PlainType = result_declared h at name_at p.made p.after in
-      let q : Passed (List PlainParameter) = all_parameters_passed h (among_parameters (refusing h more subset.NoPrototype parentheses r.after)) parentheses all in
+      let s : PlainStanding = function_inside h name_at d (refusing h more subset.NoPrototype parentheses r.after) in
+      let q : Passed (List PlainParameter) = all_parameters_passed h (among_parameters s) parentheses all in
       declarator_passed h name_at (function_declared r.made q.made q.after) d
 
   -- the parameters of a function: there are some, or the word `void` (C99 6.7.5.3p10, p14)

@@ -70,12 +70,12 @@ is_plain_name d = false
 
 -- ## Pointers
 
--- a pointer to a type: not to `void` nor to a function; an array without a length has no type
+-- a pointer to a type: not to `void`; one to a function is refused by its form; an array without a length has no type
 abbrev pub pointed_to : Keep → At → At → Bool → DeclaredType → PlainStanding → Passed DeclaredType
 pointed_to h at name_at constant (of_type t) s =
     if is_void t then nothing_made (refusing h true subset.BadPointer at s) else passed (of_type (pointer constant t)) s
 pointed_to h at name_at constant (of_open_array t) s = nothing_made (refusing h true subset.IncompleteType name_at s)
-pointed_to h at name_at constant (of_function f) s = nothing_made (refusing h true subset.BadPointer at s)
+pointed_to h at name_at constant (of_function f) s = nothing_made s
 
 -- a pointer where its target may be refused; of the qualifiers `const` alone is in the subset
 abbrev pub pointer_declared : Keep → At → At → List (Qualifier At) → Option DeclaredType → PlainStanding → Passed DeclaredType
@@ -91,11 +91,12 @@ pointer_declared h at name_at qualifiers target s = by_target target (refusing_w
 
 -- ## Arrays
 
--- an element: it has a size, and is no function (C99 6.7.5.2p1)
+-- an element: it has a size (C99 6.7.5.2p1); an array of functions is refused by its form
 abbrev pub element_type : Keep → At → DeclaredType → PlainStanding → Passed PlainType
 element_type h name_at (of_type t) s =
     if is_complete s.scope.structures t then passed t s else nothing_made (refusing h true subset.IncompleteType name_at s)
-element_type h name_at d s = nothing_made (refusing h true subset.IncompleteType name_at s)
+element_type h name_at (of_open_array t) s = nothing_made (refusing h true subset.IncompleteType name_at s)
+element_type h name_at (of_function f) s = nothing_made s
 
 -- an element whose type may be refused
 abbrev pub element_declared : Keep → At → Option DeclaredType → PlainStanding → Passed PlainType
@@ -125,12 +126,23 @@ open_declared element = record { made = option_map of_open_array element.made; a
 
 -- ## Functions
 
--- the result of a function: no structure, array or function (C99 6.7.5.3p1)
+-- the declarator inside that of a function, by its form: it makes no pointer to the function, no array of such functions and no
+-- function that gives one (C99 6.7.5.2p1, 6.7.5.3p1). These rows hold whatever else is refused
+abbrev pub function_inside : Keep → At → Declarator At → PlainStanding → PlainStanding
+function_inside h name_at (Named name) s = s
+function_inside h name_at (Unnamed at) s = s
+function_inside h name_at (Pointer at qualifiers d) s = refusing h true subset.BadPointer at s
+function_inside h name_at (Parenthesised at d) s = function_inside h name_at d s
+function_inside h name_at (Array at d brackets length) s = refusing h true subset.IncompleteType name_at s
+function_inside h name_at (Function at d parentheses _ _) s = refusing h true subset.IncompleteType name_at s
+
+-- the result of a function: no structure and no array (C99 6.7.5.3p1); a function is refused by its form
 abbrev pub result_type : Keep → At → At → DeclaredType → PlainStanding → Passed PlainType
 result_type h at name_at (of_type (structure c n)) s = nothing_made (refusing h true subset.StructurePassed at s)
 result_type h at name_at (of_type (array c t n)) s = nothing_made (refusing h true subset.IncompleteType name_at s)
 result_type h at name_at (of_type t) s = passed t s
-result_type h at name_at d s = nothing_made (refusing h true subset.IncompleteType name_at s)
+result_type h at name_at (of_open_array t) s = nothing_made (refusing h true subset.IncompleteType name_at s)
+result_type h at name_at (of_function f) s = nothing_made s
 
 -- a result whose type may be refused
 abbrev pub result_declared : Keep → At → At → Option DeclaredType → PlainStanding → Passed PlainType
@@ -145,16 +157,16 @@ plain_parameter_type h at name_at (array c t n) s = passed (pointer false t) s
 plain_parameter_type h at name_at (void c) s = nothing_made (refusing h true subset.IncompleteType name_at s)
 plain_parameter_type h at name_at t s = passed t s
 
--- the type of a parameter: that of a function would be a pointer to it
-abbrev pub parameter_type : Keep → At → At → At → DeclaredType → PlainStanding → Passed PlainType
-parameter_type h at name_at declarator (of_type t) s = plain_parameter_type h at name_at t s
-parameter_type h at name_at declarator (of_open_array t) s = passed (pointer false t) s
-parameter_type h at name_at declarator (of_function f) s = nothing_made (refusing h true subset.BadPointer declarator s)
+-- the type of a parameter; a function is refused by its form
+abbrev pub parameter_type : Keep → At → At → DeclaredType → PlainStanding → Passed PlainType
+parameter_type h at name_at (of_type t) s = plain_parameter_type h at name_at t s
+parameter_type h at name_at (of_open_array t) s = passed (pointer false t) s
+parameter_type h at name_at (of_function f) s = nothing_made s
 
 -- the type of a parameter that may be refused
-abbrev pub parameter_declared : Keep → At → At → At → Option DeclaredType → PlainStanding → Passed PlainType
-parameter_declared h at name_at declarator None s = nothing_made s
-parameter_declared h at name_at declarator (Some d) s = parameter_type h at name_at declarator d s
+abbrev pub parameter_declared : Keep → At → At → Option DeclaredType → PlainStanding → Passed PlainType
+parameter_declared h at name_at None s = nothing_made s
+parameter_declared h at name_at (Some d) s = parameter_type h at name_at d s
 
 -- what stands where parameters are declared: names among them hide others up to the end of the declarator (C99 6.2.1p4)
 abbrev pub among_parameters : PlainStanding → PlainStanding

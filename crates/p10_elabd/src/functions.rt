@@ -1,18 +1,36 @@
 //! Results and parameters of functions in declarators, one at a time (C99 6.7.5.3).
 
 ghost use Rattle.std.specs.Prelude.{◌≡◌, IfOk, option_map};
+ghost use Rattle.p10_syn.specs.Built.{declarator_of};
 ghost use Rattle.p10_core.specs.Types.{plain_type};
 ghost use Rattle.p10_elabx.specs.First.{only_first};
-ghost use Rattle.p10_elabd.specs.Shapes.{result_type, result_declared, plain_parameter_type, parameter_type, parameter_declared};
+ghost use Rattle.p10_elabd.specs.Shapes.{function_inside, result_type, result_declared, plain_parameter_type, parameter_type, parameter_declared};
 ghost use Rattle.p10_elabd.specs.Views.{plain_standing, plain_declared, told};
 
 use crate::declaration::Declared;
 use crate::standing::Standing;
 use p10_base::{At, SubsetCode};
 use p10_core::{CType, TypeForm};
+use p10_syn::Declarator;
 use std::alloc::{AllocError, Global};
 
-/// The result of a function: no structure, array or function (C99 6.7.5.3p1).
+/// Notes what the declarator inside that of a function may not be by its form: a pointer to the function, an array of such
+/// functions, or a function that gives one (C99 6.7.5.2p1, 6.7.5.3p1).
+pub fn function_inside(standing: &mut Standing<'_>, name_at: At, d: &Declarator<'_>)
+    ensures { plain_standing standing.new ≡ function_inside only_first name_at (declarator_of d.now) (plain_standing standing.old) }
+{
+    match d {
+        Declarator::Named(_) | Declarator::Unnamed(_) => {}
+        Declarator::Pointer(at, _, _) => standing.refuse(SubsetCode::BadPointer, *at),
+        Declarator::Parenthesised(_, inner) => function_inside(standing, name_at, inner),
+        Declarator::Array(_, _, _, _) | Declarator::Function(_, _, _, _, _) => standing.refuse(
+            SubsetCode::IncompleteType,
+            name_at,
+        ),
+    }
+}
+
+/// The result of a function: no structure and no array (C99 6.7.5.3p1); a function is refused by its form.
 fn result_type<'s>(
     standing: &mut Standing<'s>,
     at: At,
@@ -33,10 +51,11 @@ fn result_type<'s>(
             }
             TypeForm::Void | TypeForm::Int(_) | TypeForm::Pointer(_) => Some(ty),
         },
-        Declared::OpenArray(_) | Declared::Function(_) => {
+        Declared::OpenArray(_) => {
             standing.refuse(SubsetCode::IncompleteType, name_at);
             None
         }
+        Declared::Function(_) => None,
     }
 }
 
@@ -83,24 +102,20 @@ fn plain_parameter_type(
     }
 }
 
-/// The type of a parameter.
+/// The type of a parameter; a function is refused by its form.
 fn parameter_type<'s>(
     alloc: Global,
     standing: &mut Standing<'s>,
     at: At,
     name_at: At,
-    declarator: At,
     given: Declared<'s>,
 ) -> Result<Option<CType>, AllocError>
-    ensures { IfOk result (λ made. told (option_map plain_type made) standing.new ≡ parameter_type only_first at name_at declarator (plain_declared given.entry) (plain_standing standing.old)) }
+    ensures { IfOk result (λ made. told (option_map plain_type made) standing.new ≡ parameter_type only_first at name_at (plain_declared given.entry) (plain_standing standing.old)) }
 {
     match given {
         Declared::Plain(ty) => Ok(plain_parameter_type(standing, at, name_at, ty)),
         Declared::OpenArray(element) => Ok(Some(CType::pointer(alloc, element)?)),
-        Declared::Function(_) => {
-            standing.refuse(SubsetCode::BadPointer, declarator);
-            Ok(None)
-        }
+        Declared::Function(_) => Ok(None),
     }
 }
 
@@ -110,13 +125,12 @@ pub fn parameter_declared<'s>(
     standing: &mut Standing<'s>,
     at: At,
     name_at: At,
-    declarator: At,
     given: Option<Declared<'s>>,
 ) -> Result<Option<CType>, AllocError>
-    ensures { IfOk result (λ made. told (option_map plain_type made) standing.new ≡ parameter_declared only_first at name_at declarator (option_map plain_declared given.entry) (plain_standing standing.old)) }
+    ensures { IfOk result (λ made. told (option_map plain_type made) standing.new ≡ parameter_declared only_first at name_at (option_map plain_declared given.entry) (plain_standing standing.old)) }
 {
     match given {
         None => Ok(None),
-        Some(given) => parameter_type(alloc, standing, at, name_at, declarator, given),
+        Some(given) => parameter_type(alloc, standing, at, name_at, given),
     }
 }

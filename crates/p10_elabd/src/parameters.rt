@@ -10,9 +10,9 @@ ghost use Rattle.p10_elabd.specs.Views.{plain_standing, plain_declared, plain_pa
 
 use crate::declaration::{Declared, DeclaredFunction, DeclaredParameter};
 use crate::functions::parameter_declared;
-use crate::shapes::{name_in, place_or};
+use crate::shapes::{declares_function, name_in, place_or};
 use crate::standing::Standing;
-use p10_base::At;
+use p10_base::{At, SubsetCode};
 use p10_core::{CType, TypeForm};
 use p10_elabx::{Block, Named, declarator_place};
 use p10_syn::{Declarator, Identifier, Parameter};
@@ -105,14 +105,9 @@ pub fn with_declared_parameter<'s>(
     let declarator = &parameter.declarator;
     let name = name_in(declarator);
     let name_at = place_or(at, name);
-    let ty = parameter_declared(
-        alloc,
-        standing,
-        at,
-        name_at,
-        declarator_place(declarator),
-        given,
-    )?;
+    let place = declarator_place(declarator);
+    standing.refuse_where(declares_function(declarator), SubsetCode::BadPointer, place);
+    let ty = parameter_declared(alloc, standing, at, name_at, given)?;
     declare_parameter(alloc, standing, number, name, &ty)?;
     parameter_added(before, at, name, ty)
 }

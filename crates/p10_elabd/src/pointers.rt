@@ -15,7 +15,7 @@ use p10_elabx::{has_const_word, other_word};
 use p10_syn::Qualifier;
 use std::alloc::{AllocError, Global};
 
-/// A pointer to what is declared: not to `void` nor to a function; an array without a length has no type.
+/// A pointer to what is declared: not to `void`; one to a function is refused by its form; an array without a length has no type.
 fn pointed_to<'s>(
     alloc: Global,
     standing: &mut Standing<'s>,
@@ -43,10 +43,7 @@ fn pointed_to<'s>(
             standing.refuse(SubsetCode::IncompleteType, name_at);
             Ok(None)
         }
-        Declared::Function(_) => {
-            standing.refuse(SubsetCode::BadPointer, at);
-            Ok(None)
-        }
+        Declared::Function(_) => Ok(None),
     }
 }
 
@@ -77,7 +74,7 @@ pub fn pointer_declared<'s>(
     }
 }
 
-/// An element of an array: it has a size, and is no function (C99 6.7.5.2p1).
+/// An element of an array: it has a size (C99 6.7.5.2p1); an array of functions is refused by its form.
 fn element_type<'s>(
     standing: &mut Standing<'s>,
     name_at: At,
@@ -94,10 +91,11 @@ fn element_type<'s>(
                 None
             }
         }
-        Declared::OpenArray(_) | Declared::Function(_) => {
+        Declared::OpenArray(_) => {
             standing.refuse(SubsetCode::IncompleteType, name_at);
             None
         }
+        Declared::Function(_) => None,
     }
 }
 

@@ -14,11 +14,11 @@ use crate::arrays::{array_declared, open_declared};
 use crate::bases::{as_named, based, based_on, next_number, none_allowed, structure_ended};
 use crate::declaration::{Declared, DeclaredParameter};
 use crate::enumerations::enumeration_passed;
-use crate::functions::result_declared;
+use crate::functions::{function_inside, result_declared};
 use crate::members::{judge_width, member_declared, with_member};
 use crate::parameters::{function_declared, is_no_parameter, with_declared_parameter};
 use crate::pointers::{element_declared, pointer_declared};
-use crate::shapes::{name_in, place_or};
+use crate::shapes::{declares_function, name_in, place_or};
 use crate::site::{Allowed, Site};
 use crate::specifiers::{
     Manner, both_named, stored_by, tag_passed, type_specified, typedef_passed, word_passed,
@@ -198,6 +198,8 @@ fn field_passed<'s>(
     judge_width(alloc, standing, place, &field.width)?;
     let given = based_on(alloc, ty)?;
     let declared = declarator_passed(alloc, standing, name_at, given, &field.declarator)?;
+    let is_function = declares_function(&field.declarator);
+    standing.refuse_where(is_function, SubsetCode::IncompleteType, name_at);
     let ty = member_declared(standing, name_at, declared);
     let members = with_member(standing, name_at, members, name, ty)?;
     Ok(members)
@@ -239,6 +241,7 @@ pub fn declarator_passed<'s>(
         Declarator::Function(at, inner, parentheses, all, more) => {
             let gives = result_declared(standing, *at, name_at, given);
             standing.refuse_where(*more, SubsetCode::NoPrototype, *parentheses);
+            function_inside(standing, name_at, inner);
             let given = function_passed(alloc, standing, *parentheses, gives, all)?;
             let made = declarator_passed(alloc, standing, name_at, given, inner)?;
             Ok(made)

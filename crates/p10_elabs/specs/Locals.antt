@@ -159,12 +159,16 @@ no_initializer h (Some i) s = (surplus_item h s i).after
 abbrev pub unknown_in : Keep → Identifier At → PlainStanding → PlainStanding
 unknown_in h name s = declaring h name unknown_name s
 
--- a typedef: of a function it isn't in the subset
+-- a typedef by what is declared
+abbrev pub typedef_of : Keep → Identifier At → Option DeclaredType → PlainStanding → PlainStanding
+typedef_of h name None s = unknown_in h name s
+typedef_of h name (Some (of_type t)) s = declaring h name (named_type t) s
+typedef_of h name (Some (of_open_array t)) s = unknown_in h name (refusing h true subset.IncompleteType name.place s)
+typedef_of h name (Some (of_function f)) s = unknown_in h name s
+
+-- a typedef: of a function it isn't in the subset, which is a row on the form
 abbrev pub typedef_passed : Keep → Identifier At → Declarator At → Option DeclaredType → PlainStanding → PlainStanding
-typedef_passed h name d None s = unknown_in h name s
-typedef_passed h name d (Some (of_type t)) s = declaring h name (named_type t) s
-typedef_passed h name d (Some (of_open_array t)) s = unknown_in h name (refusing h true subset.IncompleteType name.place s)
-typedef_passed h name d (Some (of_function f)) s = unknown_in h name (refusing h true subset.BadSpecifier (declarator_place d) s)
+typedef_passed h name d o s = typedef_of h name o (refusing h (declares_function d) subset.BadSpecifier (declarator_place d) s)
 
 -- an array of so many elements; that it is too large is refused at its brackets
 abbrev pub counted_array : Keep → At → PlainType → ℕ → PlainStanding → Passed PlainType

@@ -9,14 +9,15 @@ ghost use Rattle.p10_syn.specs.BuiltStatements.{initial_of, initializer_of, decl
 ghost use Rattle.p10_elabx.specs.First.{only_first};
 ghost use Rattle.p10_elabd.specs.Initializers.{elements_given};
 ghost use Rattle.p10_elabd.specs.Views.{plain_standing, plain_declared, told};
-ghost use Rattle.p10_elabs.specs.Locals.{specified_in, no_initializer, unknown_in, typedef_passed, counted_array, filled_array, object_type, initialized_by};
+ghost use Rattle.p10_elabs.specs.Locals.{specified_in, no_initializer, unknown_in, typedef_of, typedef_passed, counted_array, filled_array, object_type, initialized_by};
 ghost use Rattle.p10_elabs.specs.LocalDeclarations.{declared_object};
 
 use crate::specifiers::{allowed_by, declares_sensors, is_alone, volatile_noted};
 use p10_base::{At, SubsetCode};
 use p10_core::{CType, Initializer, Types};
 use p10_elabd::{
-    Declared, Lifetime, Site, Standing, elements_given, initialized, specified, surplus_item,
+    Declared, Lifetime, Site, Standing, declares_function, elements_given, initialized, specified,
+    surplus_item,
 };
 use p10_elabx::{Named, declarator_place, known_size};
 use p10_syn::{Decl, Declarator, Identifier, Init};
@@ -63,7 +64,7 @@ pub fn unknown_in<'s>(standing: &mut Standing<'s>, name: Identifier<'s>) -> Resu
     Ok(())
 }
 
-/// Declares a typedef (C99 6.7.7): of a function it isn't in the subset.
+/// Declares a typedef (C99 6.7.7): of a function it isn't in the subset, which is a row on the form.
 pub fn typedef_passed<'s>(
     standing: &mut Standing<'s>,
     name: Identifier<'s>,
@@ -71,6 +72,19 @@ pub fn typedef_passed<'s>(
     declared: Option<Declared<'s>>,
 ) -> Result<(), AllocError>
     ensures { IfOk result (λ _. plain_standing standing.new ≡ typedef_passed only_first (identifier_of name.entry) (declarator_of d.now) (option_map plain_declared declared.entry) (plain_standing standing.old)) }
+{
+    let place = declarator_place(d);
+    standing.refuse_where(declares_function(d), SubsetCode::BadSpecifier, place);
+    typedef_of(standing, name, declared)
+}
+
+/// Declares a typedef by what is declared.
+fn typedef_of<'s>(
+    standing: &mut Standing<'s>,
+    name: Identifier<'s>,
+    declared: Option<Declared<'s>>,
+) -> Result<(), AllocError>
+    ensures { IfOk result (λ _. plain_standing standing.new ≡ typedef_of only_first (identifier_of name.entry) (option_map plain_declared declared.entry) (plain_standing standing.old)) }
 {
     match declared {
         None => {
@@ -87,7 +101,6 @@ pub fn typedef_passed<'s>(
             Ok(())
         }
         Some(Declared::Function(_)) => {
-            standing.refuse(SubsetCode::BadSpecifier, declarator_place(d));
             unknown_in(standing, name)?;
             Ok(())
         }

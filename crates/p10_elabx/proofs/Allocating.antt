@@ -15,10 +15,10 @@ use Rattle.p10_core.specs.declared.typed.Library.TheVariants.{Malloc, Calloc}
 use Rattle.p10_core.specs.Typed.{PlainValue}
 use Rattle.p10_elabx.specs.declared.allocations.Site.{Site}
 use Rattle.p10_elabx.specs.First.{Judged, only_first, refused}
-use Rattle.p10_elabx.specs.Scopes.{PlainScope}
-use Rattle.p10_elabx.specs.Operands.{PlainOperand, as_value}
+use Rattle.p10_elabx.specs.Scopes.{PlainScope, evaluating}
+use Rattle.p10_elabx.specs.Operands.{PlainOperand}
 use Rattle.p10_elabx.specs.TypeNames.{Shape}
-use Rattle.p10_elabx.specs.Judging.{is_star, place_of, one_element, two_sizes, counted_elements, other_allocation, product_judged, cleared_judged, judge, judge_type, judge_size, judge_bytes, judge_allocation}
+use Rattle.p10_elabx.specs.Judging.{is_star, place_of, value_in, one_element, two_sizes, counted_elements, other_allocation, product_judged, cleared_judged, judge, judge_type, judge_size, judge_bytes, judge_allocation}
 use Rattle.p10_elabx.specs.private.Walking.{memory_call, allocation_call}
 use Rattle.p10_elabx.specs.private.Numbers.{NumberOfBytes, of_type, of_sizes, of_elements, of_bytes, product_in, bytes_in}
 use Rattle.p10_elabx.proofs.TreeNodes.{binary_tree, sizeof_tree}
@@ -81,8 +81,8 @@ by_bytes s site t j at of_bytes = other_allocation only_first site t j
 
 product_as : (s : PlainScope) (site : Site) (t : Judged Shape) (j : Judged PlainOperand) (at : At) (star : Bool) (a b : Expression At) (left right : Option (Judged Shape)) →
     by_bytes s site t j at (product_in only_first s star a left b right)
-    ≡ product_judged only_first s.structures site t j at star (record { at = place_of a; size = left; value = as_value s.structures (judge only_first s a) })
-    (record { at = place_of b; size = right; value = as_value s.structures (judge only_first s b) })
+    ≡ product_judged only_first s.structures site t j at star (record { at = place_of a; size = left; value = value_in s (judge only_first s a) })
+    (record { at = place_of b; size = right; value = value_in s (judge only_first s b) })
 product_as s site t j at true a b (Some l) (Some r) = refl
 product_as s site t j at true a b None (Some r) = refl
 product_as s site t j at true a b (Some l) None = refl
@@ -92,7 +92,7 @@ product_as s site t j at false a b left right = refl
 bytes_as : (s : PlainScope) (site : Site) (t : Judged Shape) (j : Judged PlainOperand) (e : Expression At) →
     by_bytes s site t j (place_of e) (bytes_in only_first s e) ≡ judge_bytes only_first s site t j e
 bytes_as s site t j (expression at n (SizeofType k)) = refl
-bytes_as s site t j (expression at n (Binary sign a b)) = product_as s site t j at (is_star sign) a b (judge_size only_first s a) (judge_size only_first s b)
+bytes_as s site t j (expression at n (Binary sign a b)) = product_as s site t j at (is_star sign) a b (judge_size only_first (evaluating s) a) (judge_size only_first (evaluating s) b)
 bytes_as s site t j e = refl
 
 -- a call of `malloc` with one argument, by what is found in that
@@ -107,24 +107,24 @@ bytes_row s site t all e found bytes one at is same =
 -- ## Numbers of bytes
 
 pub size_bytes : (s : PlainScope) (e : Expr) (k : Box TypeName Global) (x : TypeName) (element : Judged Shape) → e.form ≡ form.SizeofType k → x ≡ k.value →
-    element ≡ judge_type only_first s (kind_of x) → of_type element ≡ bytes_in only_first s (expression_of e)
+    element ≡ judge_type only_first (evaluating s) (kind_of x) → of_type element ≡ bytes_in only_first s (expression_of e)
 size_bytes s e k x element is ex el =
-    ap of_type (el ∙ ap (λ y. judge_type only_first s (kind_of y)) ex) ∙ ap (bytes_in only_first s) (sym (sizeof_tree e k is))
+    ap of_type (el ∙ ap (λ y. judge_type only_first (evaluating s) (kind_of y)) ex) ∙ ap (bytes_in only_first s) (sym (sizeof_tree e k is))
 
 pub product_bytes : (s : PlainScope) (e : Expr) (sign : Sign) (a b : Box Expr Global) (x y : Expr) (star : Bool) (left right size_a size_b : Option (Judged Shape)) →
     e.form ≡ form.Binary sign a b → x ≡ a.value → y ≡ b.value → star ≡ is_star sign → star ≡ true →
-    size_a ≡ judge_size only_first s (expression_of x) → size_a ≡ left → size_b ≡ judge_size only_first s (expression_of y) → size_b ≡ right →
+    size_a ≡ judge_size only_first (evaluating s) (expression_of x) → size_a ≡ left → size_b ≡ judge_size only_first (evaluating s) (expression_of y) → size_b ≡ right →
     product_in only_first s true (expression_of x) left (expression_of y) right ≡ bytes_in only_first s (expression_of e)
 product_bytes s e sign a b x y star left right size_a size_b is ex ey es holds ea la eb lb =
     ap (λ z. product_in only_first s z (expression_of x) left (expression_of y) right) (sym holds ∙ es)
     ∙ ap (λ z. product_in only_first s (is_star sign) (expression_of x) z (expression_of y) right) (sym la ∙ ea)
-    ∙ ap (product_in only_first s (is_star sign) (expression_of x) (judge_size only_first s (expression_of x)) (expression_of y)) (sym lb ∙ eb)
+    ∙ ap (product_in only_first s (is_star sign) (expression_of x) (judge_size only_first (evaluating s) (expression_of x)) (expression_of y)) (sym lb ∙ eb)
     ∙ ap (bytes_in only_first s) (sym (binary_tree e sign a b x y is ex ey))
 
 pub sign_bytes : (s : PlainScope) (e : Expr) (sign : Sign) (a b : Box Expr Global) (star : Bool) → e.form ≡ form.Binary sign a b → star ≡ is_star sign → star ≡ false →
     of_bytes ≡ bytes_in only_first s (expression_of e)
 sign_bytes s e sign a b star is es fails =
-    ap (λ z. product_in only_first s z (expression_of a.value) (judge_size only_first s (expression_of a.value)) (expression_of b.value) (judge_size only_first s (expression_of b.value))) (sym fails ∙ es)
+    ap (λ z. product_in only_first s z (expression_of a.value) (judge_size only_first (evaluating s) (expression_of a.value)) (expression_of b.value) (judge_size only_first (evaluating s) (expression_of b.value))) (sym fails ∙ es)
     ∙ ap (bytes_in only_first s) (sym (binary_tree e sign a b a.value b.value is refl refl))
 
 -- ## Cleared elements
@@ -132,23 +132,23 @@ sign_bytes s e sign a b star is es fails =
 -- what is found in a call of `calloc` with two arguments under a cast, by the size in it
 abbrev pub cleared_of : PlainScope → Site → Judged Shape → Expressions At → Expression At → Expression At → Option (Judged Shape) → Judged PlainOperand
 cleared_of s site t all e f size =
-    cleared_judged only_first s.structures site t (memory_call only_first s site Calloc all) (place_of e) (as_value s.structures (judge only_first s e)) (place_of f) size
+    cleared_judged only_first s.structures site t (memory_call only_first s site Calloc all) (place_of e) (value_in s (judge only_first s e)) (place_of f) size
 
 pub cleared_row : (s : PlainScope) (site : Site) (t : Judged Shape) (all : Expressions At) (e f : Expression At) (size : Option (Judged Shape)) →
-    all ≡ MoreExpressions e (MoreExpressions f NoExpressions) → size ≡ judge_size only_first s f →
+    all ≡ MoreExpressions e (MoreExpressions f NoExpressions) → size ≡ judge_size only_first (evaluating s) f →
     cleared_of s site t all e f size ≡ allocation_call only_first s site t Calloc all
 cleared_row s site t all e f size two es =
     ap (cleared_of s site t all e f) es ∙ ap (judge_allocation only_first s site t Calloc (memory_call only_first s site Calloc all)) (sym two)
 
 pub cleared_size : (s : PlainScope) (site : Site) (t : Judged Shape) (all : List Expr) (e f : Expr) (size : Option (Judged Shape)) (element : Judged Shape) (v : Judged PlainValue) (j : Judged PlainOperand) →
-    length all ≡ 2 → e ≡ get_or all 0 e → f ≡ get_or all 1 f → size ≡ judge_size only_first s (expression_of f) → size ≡ Some element → v ≡ as_value s.structures (judge only_first s (expression_of e)) →
+    length all ≡ 2 → e ≡ get_or all 0 e → f ≡ get_or all 1 f → size ≡ judge_size only_first (evaluating s) (expression_of f) → size ≡ Some element → v ≡ value_in s (judge only_first s (expression_of e)) →
     j ≡ counted_elements only_first s.structures site Calloc (refused subset.TypesDiffer e.at) t f.at element v → j ≡ allocation_call only_first s site t Calloc (row_of all)
 cleared_size s site t all e f size element v j two at next es is ev ej =
     ej ∙ ap (counted_elements only_first s.structures site Calloc (refused subset.TypesDiffer e.at) t f.at element) ev
     ∙ cleared_row s site t (row_of all) (expression_of e) (expression_of f) (Some element) (row_of_two all e f two at next) (sym is ∙ es)
 
 pub cleared_other : (s : PlainScope) (site : Site) (t : Judged Shape) (all : List Expr) (e f : Expr) (size : Option (Judged Shape)) (j : Judged PlainOperand) →
-    length all ≡ 2 → e ≡ get_or all 0 e → f ≡ get_or all 1 f → size ≡ judge_size only_first s (expression_of f) → size ≡ None →
+    length all ≡ 2 → e ≡ get_or all 0 e → f ≡ get_or all 1 f → size ≡ judge_size only_first (evaluating s) (expression_of f) → size ≡ None →
     j ≡ other_allocation only_first site t (memory_call only_first s site Calloc (row_of all)) → j ≡ allocation_call only_first s site t Calloc (row_of all)
 cleared_other s site t all e f size j two at next es is ej =
     ej ∙ cleared_row s site t (row_of all) (expression_of e) (expression_of f) None (row_of_two all e f two at next) (sym is ∙ es)

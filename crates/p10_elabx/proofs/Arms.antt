@@ -10,7 +10,7 @@ use Rattle.p10_syn.specs.Trees.{Identifier, Expression, Expressions, expression_
 use Rattle.p10_syn.specs.Built.{expression_of, kind_of}
 use Rattle.p10_core.specs.declared.typed.Library.{Library}
 use Rattle.p10_elabx.specs.First.{Judged, only_first}
-use Rattle.p10_elabx.specs.Scopes.{PlainScope, named}
+use Rattle.p10_elabx.specs.Scopes.{PlainScope, evaluating, named}
 use Rattle.p10_elabx.specs.Operands.{PlainOperand}
 use Rattle.p10_elabx.specs.Calls.{Callee, Listed, of_library, callee_of, library_wants, wants_of, wanted_of, no_arguments, call_judged, operand_call, other_call}
 use Rattle.p10_elabx.specs.TypeNames.{Shape}
@@ -62,14 +62,14 @@ comma_row s e all items k j is same ek ej =
 -- ## Type names
 
 pub cast_to : (s : PlainScope) (e : Expr) (k : Box TypeName Global) (a : Box Expr Global) (t : Judged Shape) (j : Judged PlainOperand) →
-    e.form ≡ form.Cast k a → t ≡ judge_type only_first s (kind_of k.value) →
+    e.form ≡ form.Cast k a → t ≡ judge_type only_first (evaluating s) (kind_of k.value) →
     j ≡ judge_cast only_first s e.at t (judge only_first s (expression_of a.value)) (expression_of a.value) → j ≡ judge only_first s (expression_of e)
 cast_to s e k a t j is et ej =
     ej ∙ ap (λ x. judge_cast only_first s e.at x (judge only_first s (expression_of a.value)) (expression_of a.value)) et
     ∙ ap (judge only_first s) (sym (cast_tree e k a is))
 
 pub size_of_type : (s : PlainScope) (e : Expr) (k : Box TypeName Global) (t : Judged Shape) (j : Judged PlainOperand) →
-    e.form ≡ form.SizeofType k → t ≡ judge_type only_first s (kind_of k.value) → j ≡ type_size_judged s.structures e.at t → j ≡ judge only_first s (expression_of e)
+    e.form ≡ form.SizeofType k → t ≡ judge_type only_first (evaluating s) (kind_of k.value) → j ≡ type_size_judged s.structures e.at t → j ≡ judge only_first s (expression_of e)
 size_of_type s e k t j is et ej = ej ∙ ap (type_size_judged s.structures e.at) et ∙ ap (judge only_first s) (sym (sizeof_tree e k is))
 
 -- ## Casts

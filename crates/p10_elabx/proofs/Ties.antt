@@ -21,15 +21,15 @@ use Rattle.p10_elabx.specs.declared.signs.Operation.{Operation}
 use Rattle.p10_elabx.specs.declared.signs.Operation.TheVariants.{Values, Truth, Nothing}
 use Rattle.p10_elabx.specs.declared.shape.Made.{Made}
 use Rattle.p10_elabx.specs.declared.shape.Made.TheVariants as around
-use Rattle.p10_elabx.specs.First.{every, only_first, Found, Ruled, nothing_said, refused, Judged, on_part, on_parts, unordered}
+use Rattle.p10_elabx.specs.First.{every, only_first, Found, Ruled, nothing_said, refused, Judged, on_part, on_parts, if_evaluated, unordered}
 use Rattle.p10_elabx.specs.Laws.{IsKept, Tied}
-use Rattle.p10_elabx.specs.Scopes.{PlainScope, named}
+use Rattle.p10_elabx.specs.Scopes.{PlainScope, unevaluated, evaluating, named}
 use Rattle.p10_elabx.specs.Operands.{PlainOperand, operand_value, not_void, reads_object, reads_sensor, any_value, as_value}
 use Rattle.p10_elabx.specs.Operators.{binary_value, logic_value, conditional_value, operand_size, indexed, member_found, arrow_found, address_found, target_found, assigned, updated}
 use Rattle.p10_elabx.specs.Calls.{Callee, of_library, callee_of, library_wants, Wanted, wanted_value, wants_of, wanted_of, Listed, no_arguments, with_value, argument_judged, with_argument, call_problem, call_value, is_assert, is_allocator, is_counted, with_problem, call_judged, operand_call, other_call, element_count}
 use Rattle.p10_elabx.specs.TypeNames.{Shape, a_type, an_open_array, a_function_type, declarator_place, name_place, other_word, also_word, is_of_function, is_of_aggregate, pointed, pointer_judged, element, array_of, array_judged, open_array_judged, given_type, no_parameters, is_alone, parameter_type, with_type, lacks_prototype, made_by, parameter_judged, function_judged, said_of, nothing_specified, is_bad_mixture, specifier_rule, later, specifiers_found, specified_type, specifiers_at, specifiers_judged}
 use Rattle.p10_elabx.specs.Literals.{number_found, character_found, strings_found}
-use Rattle.p10_elabx.specs.Judging.{name_found, valued, operation_of, assignment_of, step_of, is_and, is_star, unary_found, unary_judged, unary_by_sign, may_be_place, place_of, address_judged, values_judged, truth_judged, binary_judged, conditional_judged, index_judged, member_judged, arrow_judged, size_judged, shape_size, type_size_judged, cast_found, is_void_shape, cast_judged, target_judged, assignment_judged, counts_as_read, counts_as_act, with_read, update_judged, one_at, step_judged, by_sign, nested, comma_judged, sized_shape, shape_allocation, one_element, counted_elements, size_shape, either_shape, two_sizes, other_allocation, product_judged, cleared_judged, count_of, called_name, for_name, memory_called, for_memory, judge, judge_arguments, judge_cast, judge_allocation, judge_bytes, judge_size, judge_type, judge_declarator, judge_parameters}
+use Rattle.p10_elabx.specs.Judging.{name_found, valued, operation_of, assignment_of, step_of, is_and, is_star, unary_found, unary_judged, unary_by_sign, may_be_place, place_of, address_judged, values_judged, truth_judged, binary_judged, conditional_judged, index_judged, member_judged, arrow_judged, size_judged, shape_size, type_size_judged, cast_found, is_void_shape, cast_judged, target_judged, assignment_judged, counts_as_read, counts_as_act, with_read, update_judged, one_at, step_judged, by_sign, nested, comma_judged, sized_shape, shape_allocation, one_element, counted_elements, size_shape, either_shape, two_sizes, other_allocation, product_judged, cleared_judged, count_of, called_name, for_name, memory_called, for_memory, value_in, target_in, judge, judge_arguments, judge_cast, judge_allocation, judge_bytes, judge_size, judge_type, judge_declarator, judge_parameters}
 use Rattle.p10_elabx.proofs.Firsts.{kept_lift, kept_on, kept_pair, kept_where, or_same, tied_plainly, tied_on_part, tied_on_parts, tied_also, unordered_same}
 
 -- a test of what is found
@@ -350,6 +350,15 @@ tied_by_unary : (ss : List PlainStructure) (at : At) (b : Bool) (word : Sign) (m
 tied_by_unary ss at true word may j k t = tied_address at may j k t
 tied_by_unary ss at false word may j k t = tied_unary at word _ _ (tied_value ss j k t)
 
+pub tied_if : {A : Type 0} (evaluated : Bool) (j k : Judged A) → Tied A j k → Tied A (if_evaluated evaluated j) (if_evaluated evaluated k)
+tied_if evaluated j k t = record { found = t.found; acts = ap (λ x. evaluated && x) t.acts; reads = ap (λ x. evaluated && x) t.reads }
+
+tied_value_in : (s : PlainScope) (j k : Judged PlainOperand) → Tied PlainOperand j k → Tied PlainValue (value_in s j) (value_in s k)
+tied_value_in s j k t = tied_if s.evaluated _ _ (tied_value s.structures j k t)
+
+tied_target_in : (s : PlainScope) (e : Expression At) (j k : Judged PlainOperand) → Tied PlainOperand j k → Tied (PlaceKind × PlainPlace) (target_in every s e j) (target_in only_first s e k)
+tied_target_in s e j k t = tied_if s.evaluated _ _ (tied_target s.structures (place_of e) (may_be_place e) j k t)
+
 -- ## The trees
 
 nothing_tied : TiedList no_arguments no_arguments
@@ -363,30 +372,30 @@ mutual
   tied s (expression at n (Strings texts)) = tied_plainly (strings_found at texts)
   tied s (expression at n (Unary word e)) = tied_by_unary s.structures at (is_and word) word (may_be_place e) _ _ (tied s e)
   tied s (expression at n (Step side word e)) =
-      tied_nested at _ _ (tied_step s.structures at (step_of word) _ _ (tied_target s.structures (place_of e) (may_be_place e) _ _ (tied s e)))
+      tied_nested at _ _ (tied_step s.structures at (step_of word) _ _ (tied_target_in s e _ _ (tied s e)))
   tied s (expression at n (Binary word a b)) =
-      tied_binary s.structures at (operation_of word) _ _ _ _ (tied_value s.structures _ _ (tied s a)) (tied_value s.structures _ _ (tied s b))
+      tied_binary s.structures at (operation_of word) _ _ _ _ (tied_value_in s _ _ (tied s a)) (tied_value_in s _ _ (tied s b))
   tied s (expression at n (Assign word a b)) =
-      tied_nested at _ _ (tied_by_sign s.structures at (assignment_of word) _ _ _ _ (tied_target s.structures (place_of a) (may_be_place a) _ _ (tied s a)) (tied_value s.structures _ _ (tied s b)))
+      tied_nested at _ _ (tied_by_sign s.structures at (assignment_of word) _ _ _ _ (tied_target_in s a _ _ (tied s a)) (tied_value_in s _ _ (tied s b)))
   tied s (expression at n (Conditional c a b)) =
-      tied_conditional at _ _ _ _ _ _ (tied_value s.structures _ _ (tied s c)) (tied_value s.structures _ _ (tied s a)) (tied_value s.structures _ _ (tied s b))
+      tied_conditional at _ _ _ _ _ _ (tied_value_in s _ _ (tied s c)) (tied_value_in s _ _ (tied s a)) (tied_value_in s _ _ (tied s b))
   tied s (expression at n (Call e all)) =
       tied_name (called_name e) _ _ _ _
       (λ f. let callee : Callee = callee_of (named s f.name) f.name in
       tied_operand_call at callee _ _ (tied_call at f.place callee (count_of all) _ _ (tied_arguments s (wanted_of (wants_of callee) (count_of all)) 0 no_arguments no_arguments all nothing_tied)))
       (tied_other_call at _ _ _ _ (tied s e) (tied_arguments s [] 0 no_arguments no_arguments all nothing_tied))
-  tied s (expression at n (Index a i)) = tied_index s.structures at _ _ _ _ (tied_value s.structures _ _ (tied s a)) (tied_value s.structures _ _ (tied s i))
+  tied s (expression at n (Index a i)) = tied_index s.structures at _ _ _ _ (tied_value_in s _ _ (tied s a)) (tied_value_in s _ _ (tied s i))
   tied s (expression at n (Member e name)) = tied_member s.structures at name.name _ _ (tied s e)
-  tied s (expression at n (Arrow e name)) = tied_arrow s.structures at name.name _ _ (tied_value s.structures _ _ (tied s e))
-  tied s (expression at n (Cast t e)) = tied_cast_of s at _ _ _ _ e (tied_type s t) (tied s e)
-  tied s (expression at n (SizeofExpression e)) = tied_size s.structures at _ _ (tied s e)
-  tied s (expression at n (SizeofType t)) = tied_type_size s.structures at _ _ (tied_type s t)
+  tied s (expression at n (Arrow e name)) = tied_arrow s.structures at name.name _ _ (tied_value_in s _ _ (tied s e))
+  tied s (expression at n (Cast t e)) = tied_cast_of s at _ _ _ _ e (tied_type (evaluating s) t) (tied s e)
+  tied s (expression at n (SizeofExpression e)) = tied_size s.structures at _ _ (tied (unevaluated s) e)
+  tied s (expression at n (SizeofType t)) = tied_type_size s.structures at _ _ (tied_type (evaluating s) t)
   tied s (expression at n (Comma all)) = tied_comma at _ _ (tied_arguments s [] 0 no_arguments no_arguments all nothing_tied)
 
   tied_arguments : (s : PlainScope) (wanted : List Wanted) (i : ℕ) (j k : Listed) (all : Expressions At) → TiedList j k → TiedList (judge_arguments every s wanted i j all) (judge_arguments only_first s wanted i k all)
   tied_arguments s wanted i j k NoExpressions t = t
   tied_arguments s wanted i j k (MoreExpressions e rest) t =
-      tied_arguments s wanted (i + 1) _ _ rest (tied_more j k _ _ t (tied_argument (slice_get wanted i) _ _ (tied_value s.structures _ _ (tied s e))))
+      tied_arguments s wanted (i + 1) _ _ rest (tied_more j k _ _ t (tied_argument (slice_get wanted i) _ _ (tied_value_in s _ _ (tied s e))))
 
   tied_cast_of : (s : PlainScope) (at : At) (t t' : Judged Shape) (j j' : Judged PlainOperand) (e : Expression At) → Tied Shape t t' → Tied PlainOperand j j' →
       Tied PlainOperand (judge_cast every s at t j e) (judge_cast only_first s at t' j' e)
@@ -401,15 +410,15 @@ mutual
       Tied PlainOperand (judge_allocation every s site t f j all) (judge_allocation only_first s site t' f j' all)
   tied_allocation s site t t' Malloc j j' (MoreExpressions e NoExpressions) p q = tied_bytes s site t t' j j' e p q
   tied_allocation s site t t' Calloc j j' (MoreExpressions e (MoreExpressions size NoExpressions)) p q =
-      tied_cleared s.structures site t t' j j' (place_of e) _ _ (place_of size) _ _ p q (tied_value s.structures _ _ (tied s e)) (tied_size_of s size)
+      tied_cleared s.structures site t t' j j' (place_of e) _ _ (place_of size) _ _ p q (tied_value_in s _ _ (tied s e)) (tied_size_of (evaluating s) size)
   tied_allocation s site t t' f j j' all p q = tied_other site t t' j j' p q
 
   tied_bytes : (s : PlainScope) (site : Site) (t t' : Judged Shape) (j j' : Judged PlainOperand) (e : Expression At) → Tied Shape t t' → Tied PlainOperand j j' →
       Tied PlainOperand (judge_bytes every s site t j e) (judge_bytes only_first s site t' j' e)
-  tied_bytes s site t t' j j' (expression at n (SizeofType element)) p q = tied_one s.structures site t t' at _ _ p (tied_type s element)
+  tied_bytes s site t t' j j' (expression at n (SizeofType element)) p q = tied_one s.structures site t t' at _ _ p (tied_type (evaluating s) element)
   tied_bytes s site t t' j j' (expression at n (Binary word a b)) p q =
-      tied_product s.structures site t t' j j' at (is_star word) (place_of a) (place_of b) _ _ _ _ _ _ _ _ p q (tied_size_of s a) (tied_size_of s b)
-      (tied_value s.structures _ _ (tied s a)) (tied_value s.structures _ _ (tied s b))
+      tied_product s.structures site t t' j j' at (is_star word) (place_of a) (place_of b) _ _ _ _ _ _ _ _ p q (tied_size_of (evaluating s) a) (tied_size_of (evaluating s) b)
+      (tied_value_in s _ _ (tied s a)) (tied_value_in s _ _ (tied s b))
   tied_bytes s site t t' j j' e p q = tied_other site t t' j j' p q
 
   tied_size_of : (s : PlainScope) (e : Expression At) → TiedSize (judge_size every s e) (judge_size only_first s e)

@@ -9,20 +9,19 @@ use Rattle.p10_core.specs.Types.{PlainType}
 use Rattle.p10_core.specs.Typed.{PlainValue}
 use Rattle.p10_elabx.specs.First.{Found, Judged, only_first}
 use Rattle.p10_elabx.specs.Scopes.{PlainScope}
-use Rattle.p10_elabx.specs.Operands.{as_value}
 use Rattle.p10_elabx.specs.Calls.{Wanted, Listed, argument_judged, with_argument}
 use Rattle.p10_elabx.specs.TypeNames.{with_parameter}
-use Rattle.p10_elabx.specs.Judging.{judge, judge_arguments, judge_parameters}
+use Rattle.p10_elabx.specs.Judging.{value_in, judge, judge_arguments, judge_parameters}
 use Rattle.p10_elabx.specs.private.Walking.{one_parameter}
 
 -- one argument
 pub step_arguments : (s : PlainScope) (wants : List Wanted) (i : ℕ) (all : List Expr) (e : Expr) (k n : Listed) (v a : Judged PlainValue) (w : Option Wanted) →
     expression_row (map expression_of (drop i all)) ≡ MoreExpressions (expression_of e) (expression_row (map expression_of (drop (i + 1) all))) →
-    v ≡ as_value s.structures (judge only_first s (expression_of e)) → w ≡ slice_get wants i → a ≡ argument_judged w v → n ≡ with_argument only_first k a →
+    v ≡ value_in s (judge only_first s (expression_of e)) → w ≡ slice_get wants i → a ≡ argument_judged w v → n ≡ with_argument only_first k a →
     judge_arguments only_first s wants i k (expression_row (map expression_of (drop i all)))
     ≡ judge_arguments only_first s wants (i + 1) n (expression_row (map expression_of (drop (i + 1) all)))
 step_arguments s wants i all e k n v a w cut ev ew ea en =
-    let t : n ≡ with_argument only_first k (argument_judged (slice_get wants i) (as_value s.structures (judge only_first s (expression_of e)))) =
+    let t : n ≡ with_argument only_first k (argument_judged (slice_get wants i) (value_in s (judge only_first s (expression_of e)))) =
     en ∙ ap (with_argument only_first k) (ea ∙ ap (λ x. argument_judged x v) ew ∙ ap (argument_judged (slice_get wants i)) ev) in
     ap (judge_arguments only_first s wants i k) cut ∙ ap (λ x. judge_arguments only_first s wants (i + 1) x (expression_row (map expression_of (drop (i + 1) all)))) (sym t)
 

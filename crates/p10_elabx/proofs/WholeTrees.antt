@@ -25,7 +25,7 @@ use Rattle.p10_elabx.specs.Operators.{operand_size, member_found, arrow_found, a
 use Rattle.p10_elabx.specs.Calls.{Callee, of_program, of_library, not_declared, no_function, refused_before, callee_of, Wanted, of_type, library_wants, wants_of, wanted_of, wanted_value, Listed, no_arguments, argument_judged, with_argument, call_problem, is_assert, is_allocator, with_problem, call_value, call_judged, operand_call, other_call}
 use Rattle.p10_elabx.specs.TypeNames.{Shape}
 use Rattle.p10_elabx.specs.Literals.{number_found, character_found, strings_found}
-use Rattle.p10_elabx.specs.Judging.{name_found, is_and, is_star, unary_found, unary_judged, unary_by_sign, may_be_place, place_of, address_judged, values_judged, truth_judged, binary_judged, conditional_judged, index_judged, member_judged, arrow_judged, size_judged, shape_size, type_size_judged, is_void_shape, cast_judged, nested, comma_judged, sized_shape, one_element, counted_elements, size_shape, two_sizes, other_allocation, product_judged, cleared_judged, count_of, called_name, for_name, memory_called, for_memory, judge, judge_arguments, judge_cast, judge_allocation, judge_bytes}
+use Rattle.p10_elabx.specs.Judging.{name_found, is_and, is_star, unary_found, unary_judged, unary_by_sign, may_be_place, place_of, address_judged, values_judged, truth_judged, binary_judged, conditional_judged, index_judged, member_judged, arrow_judged, size_judged, shape_size, type_size_judged, is_void_shape, cast_judged, nested, comma_judged, sized_shape, one_element, counted_elements, size_shape, two_sizes, other_allocation, product_judged, cleared_judged, count_of, called_name, for_name, memory_called, for_memory, value_in, judge, judge_arguments, judge_cast, judge_allocation, judge_bytes}
 use Rattle.p10_elabx.specs.Wholeness.{Stands, is_frame_name, AreAllowed, EachAllowed, ValuesAreWhole}
 use Rattle.p10_elabx.proofs.WholeParts.{IfFound, IfRuled, if_lift, if_on, if_pair, if_where, WholeValue, WholeOperand, AreSimple, any_whole, value_whole, binary_whole, logic_whole, conditional_whole}
 use Rattle.p10_elabx.proofs.WholeTexts.{number_whole, character_whole, strings_whole}
@@ -336,7 +336,7 @@ module _ (h : Keep) (s : PlainScope) (variables : ℕ → Option SeenVariable) (
   simple : AreSimple Here
   simple = record { frames = stands.frames; sensors = stands.sensors }
 
-  as_whole : (e : Expression At) → IfFound (WholeOperand Here (is_frame_name s e)) (judge h s e).found → IfFound (WholeValue Here) (as_value s.structures (judge h s e)).found
+  as_whole : (e : Expression At) → IfFound (WholeOperand Here (is_frame_name s e)) (judge h s e).found → IfFound (WholeValue Here) (value_in s (judge h s e)).found
   as_whole e w = value_whole Here simple (is_frame_name s e) (judge h s e) w
 
   -- what is found in arguments from one of them on
@@ -378,8 +378,8 @@ module _ (h : Keep) (s : PlainScope) (variables : ℕ → Option SeenVariable) (
     each (MoreExpressions x rest) a wanted i k e p =
         let m : OneMore wanted i = one_more wanted i (omega (arith, e)) in
         each rest a.1 wanted (i + 1) _ (e ∙ omega arith)
-        (subst (λ ws. IfFound (Met Here ws) (with_argument h k (argument_judged (slice_get wanted i) (as_value s.structures (judge h s x)))).found) (sym (ap (λ n. take n wanted) (add-one i) ∙ m.taken))
-        (subst (λ o. IfFound (Met Here (take i wanted ++ m.next ∷ [])) (with_argument h k (argument_judged o (as_value s.structures (judge h s x)))).found) (sym m.there)
+        (subst (λ ws. IfFound (Met Here ws) (with_argument h k (argument_judged (slice_get wanted i) (value_in s (judge h s x)))).found) (sym (ap (λ n. take n wanted) (add-one i) ∙ m.taken))
+        (subst (λ o. IfFound (Met Here (take i wanted ++ m.next ∷ [])) (with_argument h k (argument_judged o (value_in s (judge h s x)))).found) (sym m.there)
         (more_whole Here h (take i wanted) m.next k _ p (argument_whole Here m.next _ (as_whole x (whole x a.0))))))
 
     cast : (at : At) (t : Judged Shape) (e : Expression At) → AreAllowed s e → IfFound (WholeOperand Here (is_frame_name s e)) (judge h s e).found → IfFound (WholeOperand Here false) (judge_cast h s at t (judge h s e) e).found

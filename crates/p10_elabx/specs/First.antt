@@ -120,6 +120,10 @@ on_parts h j k go = record {
 abbrev pub also : {A : Type 0} → Keep → Bool → SubsetCode → At → Judged A → Judged A
 also h holds code at j = record j { found = refused_where h holds code at j.found }
 
+-- what counts for the order of evaluation if the tree is evaluated, else nothing
+abbrev pub if_evaluated : {A : Type 0} → Bool → Judged A → Judged A
+if_evaluated evaluated j = record { found = j.found; acts = evaluated && j.acts; reads = evaluated && j.reads }
+
 -- whether a tree has a call, or reads an object or a sensor
 abbrev pub touches : {A : Type 0} → Judged A → Bool
 touches j = j.acts || j.reads

@@ -25,8 +25,8 @@ use Rattle.p10_elabx.specs.declared.signs.Operation.{Operation}
 use Rattle.p10_elabx.specs.declared.signs.Operation.TheVariants.{Values, Truth, Nothing}
 use Rattle.p10_elabx.specs.declared.shape.Made.{Made}
 use Rattle.p10_elabx.specs.declared.shape.Made.TheVariants as around
-use Rattle.p10_elabx.specs.First.{Keep, Found, Ruled, ruled, refused, nothing_said, Judged, plainly, pair, on, on_part, on_parts, also, unordered}
-use Rattle.p10_elabx.specs.Scopes.{PlainScope, Meaning, local, object, callable, number, unknown_name, named, library_named}
+use Rattle.p10_elabx.specs.First.{Keep, Found, Ruled, ruled, refused, nothing_said, Judged, plainly, pair, on, on_part, on_parts, also, if_evaluated, unordered}
+use Rattle.p10_elabx.specs.Scopes.{PlainScope, unevaluated, evaluating, Meaning, local, object, callable, number, unknown_name, named, library_named}
 use Rattle.p10_elabx.specs.Operands.{PlainOperand, a_value, a_place, a_function, any_value, as_value}
 use Rattle.p10_elabx.specs.Operators.{unary_value, binary_value, logic_value, conditional_value, cast_value, has_size, size_value, operand_size, dereferenced, indexed, member_found, arrow_found, address_found, target_found, assigned, updated}
 use Rattle.p10_elabx.specs.Calls.{Callee, of_library, callee_of, Wanted, library_wants, wants_of, wanted_of, Listed, no_arguments, argument_judged, with_argument, call_judged, operand_call, other_call, allocation, element_count, size_constant, points_to}
@@ -387,8 +387,17 @@ abbrev pub for_memory : {A : Type 0} → Option (Library × At) → (Library →
 for_memory None go other = other
 for_memory (Some (f, name_at)) go other = go f name_at
 
+-- an operand where a value is needed
+abbrev pub value_in : PlainScope → Judged PlainOperand → Judged PlainValue
+value_in s j = if_evaluated s.evaluated (as_value s.structures j)
+
+-- the target of an assignment or a step
+abbrev pub target_in : Keep → PlainScope → Expression At → Judged PlainOperand → Judged (PlaceKind × PlainPlace)
+target_in h s e j = if_evaluated s.evaluated (target_judged h s.structures (place_of e) (may_be_place e) j)
+
 abbrev mutual
-  -- what is found in an expression
+  -- what is found in an expression. Nothing in an operand of `sizeof` is evaluated; the length in a type is a constant expression,
+  -- and is judged alike everywhere
   pub judge : Keep → PlainScope → Expression At → Judged PlainOperand
   judge h s (expression at n (Name x)) = plainly (name_found at x.place x.name (named s x.name))
   judge h s (expression at n (Number text)) = plainly (number_found at text)
@@ -396,32 +405,32 @@ abbrev mutual
   judge h s (expression at n (Strings texts)) = plainly (strings_found at texts)
   judge h s (expression at n (Unary word e)) = unary_by_sign h s.structures at (is_and word) word (may_be_place e) (judge h s e)
   judge h s (expression at n (Step side word e)) =
-      nested h at (step_judged s.structures at (step_of word) (target_judged h s.structures (place_of e) (may_be_place e) (judge h s e)))
+      nested h at (step_judged s.structures at (step_of word) (target_in h s e (judge h s e)))
   judge h s (expression at n (Binary word a b)) =
-      binary_judged h s.structures at (operation_of word) (as_value s.structures (judge h s a)) (as_value s.structures (judge h s b))
+      binary_judged h s.structures at (operation_of word) (value_in s (judge h s a)) (value_in s (judge h s b))
   judge h s (expression at n (Assign word a b)) =
-      nested h at (by_sign h s.structures at (assignment_of word) (target_judged h s.structures (place_of a) (may_be_place a) (judge h s a)) (as_value s.structures (judge h s b)))
+      nested h at (by_sign h s.structures at (assignment_of word) (target_in h s a (judge h s a)) (value_in s (judge h s b)))
   judge h s (expression at n (Conditional c a b)) =
-      conditional_judged h at (as_value s.structures (judge h s c)) (as_value s.structures (judge h s a)) (as_value s.structures (judge h s b))
+      conditional_judged h at (value_in s (judge h s c)) (value_in s (judge h s a)) (value_in s (judge h s b))
   -- a call: of a name, or of something else
   judge h s (expression at n (Call e all)) =
       for_name (called_name e)
       (λ f. let callee : Callee = callee_of (named s f.name) f.name in
       operand_call h at callee (call_judged h at f.place callee (count_of all) (judge_arguments h s (wanted_of (wants_of callee) (count_of all)) 0 no_arguments all)))
       (other_call h at (judge h s e) (judge_arguments h s [] 0 no_arguments all))
-  judge h s (expression at n (Index a i)) = index_judged h s.structures at (as_value s.structures (judge h s a)) (as_value s.structures (judge h s i))
+  judge h s (expression at n (Index a i)) = index_judged h s.structures at (value_in s (judge h s a)) (value_in s (judge h s i))
   judge h s (expression at n (Member e name)) = member_judged s.structures at name.name (judge h s e)
-  judge h s (expression at n (Arrow e name)) = arrow_judged s.structures at name.name (as_value s.structures (judge h s e))
-  judge h s (expression at n (Cast t e)) = judge_cast h s at (judge_type h s t) (judge h s e) e
-  judge h s (expression at n (SizeofExpression e)) = size_judged s.structures at (judge h s e)
-  judge h s (expression at n (SizeofType t)) = type_size_judged s.structures at (judge_type h s t)
+  judge h s (expression at n (Arrow e name)) = arrow_judged s.structures at name.name (value_in s (judge h s e))
+  judge h s (expression at n (Cast t e)) = judge_cast h s at (judge_type h (evaluating s) t) (judge h s e) e
+  judge h s (expression at n (SizeofExpression e)) = size_judged s.structures at (judge h (unevaluated s) e)
+  judge h s (expression at n (SizeofType t)) = type_size_judged s.structures at (judge_type h (evaluating s) t)
   judge h s (expression at n (Comma all)) = comma_judged h at (judge_arguments h s [] 0 no_arguments all)
 
   -- arguments from the left, after those before
   pub judge_arguments : Keep → PlainScope → List Wanted → ℕ → Listed → Expressions At → Listed
   judge_arguments h s wanted i k NoExpressions = k
   judge_arguments h s wanted i k (MoreExpressions e rest) =
-      judge_arguments h s wanted (i + 1) (with_argument h k (argument_judged (slice_get wanted i) (as_value s.structures (judge h s e)))) rest
+      judge_arguments h s wanted (i + 1) (with_argument h k (argument_judged (slice_get wanted i) (value_in s (judge h s e)))) rest
 
   -- a cast to a type of an operand, of which it is known what is found in it: that of a call of `malloc` or `calloc` is an allocation
   pub judge_cast : Keep → PlainScope → At → Judged Shape → Judged PlainOperand → Expression At → Judged PlainOperand
@@ -436,16 +445,16 @@ abbrev mutual
   pub judge_allocation : Keep → PlainScope → Site → Judged Shape → Library → Judged PlainOperand → Expressions At → Judged PlainOperand
   judge_allocation h s site t Malloc j (MoreExpressions e NoExpressions) = judge_bytes h s site t j e
   judge_allocation h s site t Calloc j (MoreExpressions e (MoreExpressions size NoExpressions)) =
-      cleared_judged h s.structures site t j (place_of e) (as_value s.structures (judge h s e)) (place_of size) (judge_size h s size)
+      cleared_judged h s.structures site t j (place_of e) (value_in s (judge h s e)) (place_of size) (judge_size h (evaluating s) size)
   judge_allocation h s site t f j all = other_allocation h site t j
 
   -- an allocation of a number of bytes
   pub judge_bytes : Keep → PlainScope → Site → Judged Shape → Judged PlainOperand → Expression At → Judged PlainOperand
-  judge_bytes h s site t j (expression at n (SizeofType element)) = one_element h s.structures site t at (judge_type h s element)
+  judge_bytes h s site t j (expression at n (SizeofType element)) = one_element h s.structures site t at (judge_type h (evaluating s) element)
   judge_bytes h s site t j (expression at n (Binary word a b)) =
       product_judged h s.structures site t j at (is_star word)
-      (record { at = place_of a; size = judge_size h s a; value = as_value s.structures (judge h s a) })
-      (record { at = place_of b; size = judge_size h s b; value = as_value s.structures (judge h s b) })
+      (record { at = place_of a; size = judge_size h (evaluating s) a; value = value_in s (judge h s a) })
+      (record { at = place_of b; size = judge_size h (evaluating s) b; value = value_in s (judge h s b) })
   judge_bytes h s site t j e = other_allocation h site t j
 
   -- what is found in the type of a `sizeof`, where the tree is one

@@ -138,7 +138,7 @@ abbrev pub address_found : At → PlainOperand → Ruled PlainOperand
 address_found at (a_value v) = refused subset.NoAddress at
 address_found at (a_place kind p) =
     if is_sensor_kind kind then refused subset.NoAddress at else Ok (a_value (value at (pointer false (place_type p)) (address p)))
-address_found at (a_function b) = refused subset.BadPointer b
+address_found at (a_function b) = refused subset.BadPointer at
 
 -- ## Assignments
 

@@ -37,12 +37,14 @@ pub record Binding : Type 0 where
   pub what : Meaning
 
 -- a scope: the structures that are declared; the names and the tags in the open blocks, in the order in which they were declared;
--- and how many of both stood where each block inside the outermost one was opened, in order
+-- how many of both stood where each block inside the outermost one was opened, in order; and whether an expression that stands
+-- there is evaluated, which the operand of a `sizeof` isn't (C99 6.5.3.4p2)
 pub record PlainScope : Type 0 where
   pub structures : List PlainStructure
   pub names : List Binding
   pub tags : List Binding
   pub floors : List (ℕ × ℕ)
+  pub evaluated : Bool
 
 -- what the last declared of the names with this spelling stands for, or what was found before
 abbrev pub last_named : Option Meaning → Text → List Binding → Option Meaning
@@ -59,7 +61,7 @@ tagged s name = last_named None name s.tags
 
 -- no types, and one open block without names
 abbrev pub empty_scope : PlainScope
-empty_scope = record { structures = []; names = []; tags = []; floors = [] }
+empty_scope = record { structures = []; names = []; tags = []; floors = []; evaluated = true }
 
 -- a block is opened
 abbrev pub entered : PlainScope → PlainScope
@@ -79,7 +81,15 @@ left s = record s {
 
 -- all names and tags are forgotten, and the structures stay: each root begins with no names (C99 6.2.1p4)
 abbrev pub without_names : PlainScope → PlainScope
-without_names s = record { structures = s.structures; names = []; tags = []; floors = [] }
+without_names s = record { structures = s.structures; names = []; tags = []; floors = []; evaluated = true }
+
+-- the same names, where expressions aren't evaluated
+abbrev pub unevaluated : PlainScope → PlainScope
+unevaluated s = record s { evaluated = false }
+
+-- the same names, where expressions are evaluated
+abbrev pub evaluating : PlainScope → PlainScope
+evaluating s = record s { evaluated = true }
 
 -- a name is declared in the innermost block
 abbrev pub declared : PlainScope → Text → Meaning → PlainScope

@@ -7,7 +7,7 @@ ghost use Rattle.p10_core.specs.Views.{plain_value, plain_values};
 ghost use Rattle.p10_elabx.specs.First.{only_first, on, pair, lift, nothing_said};
 ghost use Rattle.p10_syn.specs.Built.{identifier_of};
 ghost use Rattle.p10_elabx.specs.Views.{meaning_of};
-ghost use Rattle.p10_elabx.specs.PlainScopes.{plain_scope};
+ghost use Rattle.p10_elabx.specs.PlainScopes.{scope_in};
 ghost use Rattle.p10_elabx.specs.Judging.{memory_called, is_memory};
 ghost use Rattle.p10_elabx.specs.Calls.{of_type, no_arguments, callee_of, undeclared, wants_of, wanted_of, library_wants, library_result, pointer_value, wanted_value, argument_judged, with_value, with_argument, call_problem, call_value, is_assert, is_allocator, is_counted, with_problem, call_judged, operand_call, other_call};
 ghost use Rattle.p10_elabx.specs.Built.{plain_callee, plain_wanted, plain_wants, plain_listed, ruled_operand, ruled_value, ruled_values, judged_operand, judged_value};
@@ -19,7 +19,7 @@ use crate::names::library_named;
 use crate::operand::Operand;
 use crate::operators::fitted;
 use crate::problem::Problem;
-use crate::scope::Scope;
+use crate::situation::Situation;
 use crate::values::converted;
 use p10_base::{At, SubsetCode};
 use p10_core::{CType, Library, Value, is_null};
@@ -436,12 +436,18 @@ fn both_refused(
 }
 
 /// The library function for memory that is called by a name, if it is one, and the place of the name.
-pub fn memory_called(scope: &Scope<'_>, name: Option<Identifier<'_>>) -> Option<(Library, At)>
-    ensures { result ≡ memory_called (plain_scope scope.now) (option_map identifier_of name.entry) }
+pub fn memory_called(
+    situation: Situation<'_, '_>,
+    name: Option<Identifier<'_>>,
+) -> Option<(Library, At)>
+    ensures { result ≡ memory_called (scope_in situation.entry) (option_map identifier_of name.entry) }
 {
     match name {
         None => None,
-        Some(name) => match memory_function(&callee_of(scope.named(name.text), name.text)) {
+        Some(name) => match memory_function(&callee_of(
+            situation.scope.named(name.text),
+            name.text,
+        )) {
             Some(function) => Some((function, name.at)),
             None => None,
         },

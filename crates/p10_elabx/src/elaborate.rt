@@ -8,9 +8,9 @@ ghost use Rattle.p10_elabx.specs.PlainScopes.{plain_scope};
 ghost use Rattle.p10_elabx.specs.Judging.{judge};
 ghost use Rattle.p10_elabx.specs.Answers.{Answers, AnswersOne};
 
+use crate::evaluated::judge_value;
 use crate::problem::Problem;
 use crate::scope::Scope;
-use crate::walk::judge_value;
 use p10_core::Value;
 use p10_syn::Expr;
 use std::alloc::Global;

@@ -1,8 +1,8 @@
 //! What is found in trees, with what counts for the order of evaluation (C99 6.5p3).
 
 ghost use Rattle.std.specs.Prelude.{◌≡◌, ◌&&◌, ◌||◌, [], ◌∷◌, if◌then◌else◌};
-ghost use Rattle.p10_elabx.specs.First.{only_first, problems, joined, also, refused_where, lift};
-ghost use Rattle.p10_elabx.specs.Built.{judged_operand, judged_target, judged_form, ruled_operand, ruled_target, ruled_form, ruled_shape};
+ghost use Rattle.p10_elabx.specs.First.{only_first, problems, joined, also, if_evaluated, refused_where, lift};
+ghost use Rattle.p10_elabx.specs.Built.{judged_operand, judged_value, judged_target, judged_form, ruled_operand, ruled_target, ruled_form, ruled_shape};
 
 use crate::operand::{Operand, PlaceKind};
 use crate::problem::{Problem, least};
@@ -54,6 +54,29 @@ pub fn unordered<A, B>(a: &Judged<A>, b: &Judged<B>) -> bool
     ensures { result ≡ ((a.now.acts && (b.now.acts || b.now.reads)) || ((a.now.acts || a.now.reads) && b.now.acts)) }
 {
     (a.acts && (b.acts || b.reads)) || ((a.acts || a.reads) && b.acts)
+}
+
+/// What is found in a value, with what counts for the order of evaluation if it is evaluated.
+pub fn value_if_evaluated(evaluated: bool, j: Judged<Value>) -> Judged<Value>
+    ensures { judged_value result ≡ if_evaluated evaluated (judged_value j) }
+{
+    let Judged { found, acts, reads } = j;
+    let acts = evaluated && acts;
+    let reads = evaluated && reads;
+    Judged { found, acts, reads }
+}
+
+/// What is found in a target, with what counts for the order of evaluation if it is evaluated.
+pub fn target_if_evaluated(
+    evaluated: bool,
+    j: Judged<(PlaceKind, Place)>,
+) -> Judged<(PlaceKind, Place)>
+    ensures { judged_target result ≡ if_evaluated evaluated (judged_target j) }
+{
+    let Judged { found, acts, reads } = j;
+    let acts = evaluated && acts;
+    let reads = evaluated && reads;
+    Judged { found, acts, reads }
 }
 
 /// A row on the form of an operand.

@@ -23,6 +23,7 @@ mod calls;
 mod casts;
 mod declarators;
 mod elaborate;
+mod evaluated;
 mod forms;
 mod judged;
 pub mod laws;
@@ -39,6 +40,7 @@ mod rows;
 mod scope;
 mod shape;
 mod signs;
+mod situation;
 mod sizes;
 mod targets;
 mod trees;
@@ -54,6 +56,7 @@ pub use callee::{Callee, Wants};
 pub use calls::{call_judged, callee_of, wanted_of};
 pub use declarators::{declarator_place, has_const_word, other_word};
 pub use elaborate::{ElabFault, value};
+pub use evaluated::{judge, judge_arguments, judge_target, judge_value};
 pub use judged::{Judged, Listed, joined};
 pub use literals::strings_value;
 pub use named::Named;
@@ -68,8 +71,5 @@ pub use sizes::known_size;
 pub use targets::{by_sign, step_judged};
 pub use type_names::{specified_type, specifiers_at, specifiers_judged, typedef_rule};
 pub use values::{any_value, as_value, converted};
-pub use walk::{
-    judge, judge_arguments, judge_declarator, judge_parameters, judge_target, judge_type,
-    judge_value,
-};
+pub use walk::{judge_declarator, judge_parameters, judge_type};
 pub use words::{Said, is_bad_mixture, said_of};

@@ -6,7 +6,7 @@ ghost use Rattle.p10_core.specs.WholePrograms.{AreWholeStructures};
 ghost use Rattle.p10_syn.specs.Trees.{expression_row};
 ghost use Rattle.p10_syn.specs.Built.{expression_of};
 ghost use Rattle.p10_elabx.specs.First.{only_first};
-ghost use Rattle.p10_elabx.specs.PlainScopes.{plain_scope};
+ghost use Rattle.p10_elabx.specs.PlainScopes.{plain_scope, scope_in};
 ghost use Rattle.p10_elabx.specs.Judging.{cast_judged, other_allocation, judge, judge_cast, judge_size};
 ghost use Rattle.p10_elabx.specs.private.Walking.{memory_call, allocation_call};
 ghost use Rattle.p10_elabx.specs.private.Numbers.{plain_bytes, bytes_in};
@@ -26,6 +26,7 @@ use crate::problem::Problem;
 use crate::scope::Scope;
 use crate::shape::Shape;
 use crate::signs::is_star;
+use crate::situation::Situation;
 use crate::walk::{judge, judge_arguments, judge_type, judge_value};
 use p10_base::{At, SubsetCode};
 use p10_core::Library;
@@ -36,16 +37,16 @@ use std::alloc::{AllocError, Global};
 #[cycle(judge)]
 pub fn judge_cast(
     alloc: Global,
-    scope: &Scope<'_>,
+    situation: Situation<'_, '_>,
     e: &Expr<'_>,
     at: At,
     shape: Result<Shape, Option<Problem>>,
 ) -> Result<Judged<Operand>, AllocError>
-    requires { AreWholeStructures (plain_scope scope.now).structures }
-    ensures { IfOk result (λ j. judged_operand j ≡ judge_cast only_first (plain_scope scope.now) at (judged_shape shape) (judge only_first (plain_scope scope.now) (expression_of e.now)) (expression_of e.now)) }
+    requires { AreWholeStructures (scope_in situation).structures }
+    ensures { IfOk result (λ j. judged_operand j ≡ judge_cast only_first (scope_in situation.entry) at (judged_shape shape) (judge only_first (scope_in situation.entry) (expression_of e.now)) (expression_of e.now)) }
 {
     match &e.form {
-        Form::Call(f, all) => match memory_called(scope, called_name(f)) {
+        Form::Call(f, all) => match memory_called(situation, called_name(f)) {
             Some(called) => {
                 let (function, name_at) = called;
                 let site = Site {
@@ -53,16 +54,16 @@ pub fn judge_cast(
                     call_at: e.at,
                     name_at,
                 };
-                let seen = judge_allocation(alloc, scope, all, site, function, shape)?;
+                let seen = judge_allocation(alloc, situation, all, site, function, shape)?;
                 Ok(seen)
             }
             None => {
-                let seen = plain_cast(alloc, scope, e, at, shape)?;
+                let seen = plain_cast(alloc, situation, e, at, shape)?;
                 Ok(seen)
             }
         },
         _ => {
-            let seen = plain_cast(alloc, scope, e, at, shape)?;
+            let seen = plain_cast(alloc, situation, e, at, shape)?;
             Ok(seen)
         }
     }
@@ -72,53 +73,53 @@ pub fn judge_cast(
 #[cycle(judge)]
 fn plain_cast(
     alloc: Global,
-    scope: &Scope<'_>,
+    situation: Situation<'_, '_>,
     e: &Expr<'_>,
     at: At,
     shape: Result<Shape, Option<Problem>>,
 ) -> Result<Judged<Operand>, AllocError>
-    requires { AreWholeStructures (plain_scope scope.now).structures }
-    ensures { IfOk result (λ j. judged_operand j ≡ cast_judged only_first (plain_scope scope.now).structures at (judged_shape shape) (judge only_first (plain_scope scope.now) (expression_of e.now))) }
+    requires { AreWholeStructures (scope_in situation).structures }
+    ensures { IfOk result (λ j. judged_operand j ≡ cast_judged only_first (scope_in situation.entry).structures at (judged_shape shape) (judge only_first (scope_in situation.entry) (expression_of e.now))) }
 {
-    let operand = judge(alloc, scope, e)?;
-    cast_judged(alloc, &scope.types, at, shape, operand)
+    let operand = judge(alloc, situation, e)?;
+    cast_judged(alloc, &situation.scope.types, at, shape, operand)
 }
 
 /// What is found in an allocation under a cast.
 #[cycle(judge)]
 fn judge_allocation(
     alloc: Global,
-    scope: &Scope<'_>,
+    situation: Situation<'_, '_>,
     all: &[Expr<'_>],
     site: Site,
     function: Library,
     shape: Result<Shape, Option<Problem>>,
 ) -> Result<Judged<Operand>, AllocError>
-    requires { AreWholeStructures (plain_scope scope.now).structures }
-    ensures { IfOk result (λ j. judged_operand j ≡ allocation_call only_first (plain_scope scope.now) site (judged_shape shape) function (expression_row (map expression_of all.now))) }
+    requires { AreWholeStructures (scope_in situation).structures }
+    ensures { IfOk result (λ j. judged_operand j ≡ allocation_call only_first (scope_in situation.entry) site (judged_shape shape) function (expression_row (map expression_of all.now))) }
 {
     match function {
         Library::Malloc => {
             if all.len() == 1 {
-                let seen = judge_bytes(alloc, scope, all, site, shape)?;
+                let seen = judge_bytes(alloc, situation, all, site, shape)?;
                 Ok(seen)
             } else {
-                let seen = other_memory(alloc, scope, all, site, function, shape)?;
+                let seen = other_memory(alloc, situation, all, site, function, shape)?;
                 Ok(seen)
             }
         }
         Library::Calloc => {
             if all.len() == 2 {
-                let seen = judge_cleared(alloc, scope, all, site, shape)?;
+                let seen = judge_cleared(alloc, situation, all, site, shape)?;
                 Ok(seen)
             } else {
-                let seen = other_memory(alloc, scope, all, site, function, shape)?;
+                let seen = other_memory(alloc, situation, all, site, function, shape)?;
                 Ok(seen)
             }
         }
         Library::Assert | Library::CAssert | Library::Getchar | Library::Putchar | Library::Free =>
             {
-                let seen = other_memory(alloc, scope, all, site, function, shape)?;
+                let seen = other_memory(alloc, situation, all, site, function, shape)?;
                 Ok(seen)
             }
     }
@@ -128,18 +129,18 @@ fn judge_allocation(
 #[cycle(judge)]
 fn other_memory(
     alloc: Global,
-    scope: &Scope<'_>,
+    situation: Situation<'_, '_>,
     all: &[Expr<'_>],
     site: Site,
     function: Library,
     shape: Result<Shape, Option<Problem>>,
 ) -> Result<Judged<Operand>, AllocError>
-    requires { AreWholeStructures (plain_scope scope.now).structures }
-    ensures { IfOk result (λ j. judged_operand j ≡ other_allocation only_first site (judged_shape shape) (memory_call only_first (plain_scope scope.now) site function (expression_row (map expression_of all.now)))) }
+    requires { AreWholeStructures (scope_in situation).structures }
+    ensures { IfOk result (λ j. judged_operand j ≡ other_allocation only_first site (judged_shape shape) (memory_call only_first (scope_in situation.entry) site function (expression_row (map expression_of all.now)))) }
 {
     let callee = Callee::Library(function);
     let count = all.len();
-    let list = judge_arguments(alloc, scope, all, wanted_of(&callee, count))?;
+    let list = judge_arguments(alloc, situation, all, wanted_of(&callee, count))?;
     let seen = call_judged(alloc, site.call_at, site.name_at, &callee, count, list)?;
     Ok(other_allocation(site, shape, seen))
 }
@@ -148,18 +149,18 @@ fn other_memory(
 #[cycle(judge)]
 fn judge_cleared(
     alloc: Global,
-    scope: &Scope<'_>,
+    situation: Situation<'_, '_>,
     all: &[Expr<'_>],
     site: Site,
     shape: Result<Shape, Option<Problem>>,
 ) -> Result<Judged<Operand>, AllocError>
-    requires structures { AreWholeStructures (plain_scope scope.now).structures }
+    requires structures { AreWholeStructures (scope_in situation).structures }
     requires two { length all.now ≡ 2 }
-    ensures { IfOk result (λ j. judged_operand j ≡ allocation_call only_first (plain_scope scope.now) site (judged_shape shape) Calloc (expression_row (map expression_of all.now))) }
+    ensures { IfOk result (λ j. judged_operand j ≡ allocation_call only_first (scope_in situation.entry) site (judged_shape shape) Calloc (expression_row (map expression_of all.now))) }
 {
     let number = &all[0];
     let last = &all[1];
-    let size = judge_size(alloc, scope, last)?;
+    let size = judge_size(alloc, situation.scope, last)?;
     match size {
         Some(element) => {
             let elements = Elements {
@@ -171,12 +172,19 @@ fn judge_cleared(
                 },
                 size_at: last.at,
             };
-            let count = judge_value(alloc, scope, number)?;
-            let seen = counted_elements(alloc, &scope.types, elements, shape, element, count)?;
+            let count = judge_value(alloc, situation, number)?;
+            let seen = counted_elements(
+                alloc,
+                &situation.scope.types,
+                elements,
+                shape,
+                element,
+                count,
+            )?;
             Ok(seen)
         }
         None => {
-            let seen = other_memory(alloc, scope, all, site, Library::Calloc, shape)?;
+            let seen = other_memory(alloc, situation, all, site, Library::Calloc, shape)?;
             Ok(seen)
         }
     }
@@ -186,24 +194,24 @@ fn judge_cleared(
 #[cycle(judge)]
 fn judge_bytes(
     alloc: Global,
-    scope: &Scope<'_>,
+    situation: Situation<'_, '_>,
     all: &[Expr<'_>],
     site: Site,
     shape: Result<Shape, Option<Problem>>,
 ) -> Result<Judged<Operand>, AllocError>
-    requires structures { AreWholeStructures (plain_scope scope.now).structures }
+    requires structures { AreWholeStructures (scope_in situation).structures }
     requires one { length all.now ≡ 1 }
-    ensures { IfOk result (λ j. judged_operand j ≡ allocation_call only_first (plain_scope scope.now) site (judged_shape shape) Malloc (expression_row (map expression_of all.now))) }
+    ensures { IfOk result (λ j. judged_operand j ≡ allocation_call only_first (scope_in situation.entry) site (judged_shape shape) Malloc (expression_row (map expression_of all.now))) }
 {
     let e = &all[0];
-    let bytes = judge_number(alloc, scope, e)?;
+    let bytes = judge_number(alloc, situation, e)?;
     match bytes {
         Bytes::Size(element) => {
-            let seen = one_element(alloc, &scope.types, site, shape, e.at, element)?;
+            let seen = one_element(alloc, &situation.scope.types, site, shape, e.at, element)?;
             Ok(seen)
         }
         Bytes::Sizes(left, right) => {
-            let seen = two_sizes(alloc, &scope.types, site, shape, left, right)?;
+            let seen = two_sizes(alloc, &situation.scope.types, site, shape, left, right)?;
             Ok(seen)
         }
         Bytes::Elements(size_at, element, count) => {
@@ -216,11 +224,18 @@ fn judge_bytes(
                 },
                 size_at,
             };
-            let seen = counted_elements(alloc, &scope.types, elements, shape, element, count)?;
+            let seen = counted_elements(
+                alloc,
+                &situation.scope.types,
+                elements,
+                shape,
+                element,
+                count,
+            )?;
             Ok(seen)
         }
         Bytes::Other => {
-            let seen = other_memory(alloc, scope, all, site, Library::Malloc, shape)?;
+            let seen = other_memory(alloc, situation, all, site, Library::Malloc, shape)?;
             Ok(seen)
         }
     }
@@ -228,21 +243,25 @@ fn judge_bytes(
 
 /// What is found in a number of bytes, by its form.
 #[cycle(judge)]
-fn judge_number(alloc: Global, scope: &Scope<'_>, e: &Expr<'_>) -> Result<Bytes, AllocError>
-    requires { AreWholeStructures (plain_scope scope.now).structures }
-    ensures { IfOk result (λ b. plain_bytes b ≡ bytes_in only_first (plain_scope scope.now) (expression_of e.now)) }
+fn judge_number(
+    alloc: Global,
+    situation: Situation<'_, '_>,
+    e: &Expr<'_>,
+) -> Result<Bytes, AllocError>
+    requires { AreWholeStructures (scope_in situation).structures }
+    ensures { IfOk result (λ b. plain_bytes b ≡ bytes_in only_first (scope_in situation.entry) (expression_of e.now)) }
 {
     match &e.form {
         Form::SizeofType(t) => {
-            let element = judge_type(alloc, scope, t)?;
+            let element = judge_type(alloc, situation.scope, t)?;
             Ok(Bytes::Size(element))
         }
         Form::Binary(sign, a, b) => {
             let a = &**a;
             let b = &**b;
             if is_star(*sign) {
-                let left = judge_size(alloc, scope, a)?;
-                let right = judge_size(alloc, scope, b)?;
+                let left = judge_size(alloc, situation.scope, a)?;
+                let right = judge_size(alloc, situation.scope, b)?;
                 match (left, right) {
                     (Some(left), Some(right)) => {
                         let left = SizeOf {
@@ -256,11 +275,11 @@ fn judge_number(alloc: Global, scope: &Scope<'_>, e: &Expr<'_>) -> Result<Bytes,
                         Ok(Bytes::Sizes(left, right))
                     }
                     (None, Some(element)) => {
-                        let count = judge_value(alloc, scope, a)?;
+                        let count = judge_value(alloc, situation, a)?;
                         Ok(Bytes::Elements(b.at, element, count))
                     }
                     (Some(element), None) => {
-                        let count = judge_value(alloc, scope, b)?;
+                        let count = judge_value(alloc, situation, b)?;
                         Ok(Bytes::Elements(a.at, element, count))
                     }
                     (None, None) => Ok(Bytes::Other),

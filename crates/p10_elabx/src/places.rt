@@ -114,7 +114,7 @@ pub fn address_found(
             let ty = pointer_to(alloc, &p.ty)?;
             Ok(Ok(Operand::Value(Value::address(alloc, at, ty, p)?)))
         }
-        Operand::Function(at) => Ok(Err(Some(Problem {
+        Operand::Function(_) => Ok(Err(Some(Problem {
             code: SubsetCode::BadPointer,
             at,
         }))),

@@ -5,11 +5,10 @@ ghost use Rattle.p10_core.specs.WholePrograms.{AreWholeStructures};
 ghost use Rattle.p10_syn.specs.Trees.{expression_row, parameter_row};
 ghost use Rattle.p10_syn.specs.Built.{identifier_of, expression_of, kind_of, declarator_of, parameter_of};
 ghost use Rattle.p10_elabx.specs.First.{only_first, lift};
-ghost use Rattle.p10_elabx.specs.Operands.{as_value};
 ghost use Rattle.p10_elabx.specs.Calls.{no_arguments};
-ghost use Rattle.p10_elabx.specs.PlainScopes.{plain_scope};
+ghost use Rattle.p10_elabx.specs.PlainScopes.{plain_scope, scope_in};
 ghost use Rattle.p10_elabx.specs.TypeNames.{no_parameters};
-ghost use Rattle.p10_elabx.specs.Judging.{target_judged, place_of, may_be_place, judge, judge_arguments, judge_type, judge_declarator, judge_parameters};
+ghost use Rattle.p10_elabx.specs.Judging.{value_in, target_in, judge, judge_arguments, judge_type, judge_declarator, judge_parameters};
 ghost use Rattle.p10_elabx.specs.private.Walking.{named_call, one_parameter};
 ghost use Rattle.p10_elabx.specs.Built.{plain_wants, plain_listed, judged_operand, judged_value, judged_target, judged_shape, ruled_types, ruled_named};
 
@@ -25,7 +24,7 @@ use crate::forms::{
     arrow_judged, binary_judged, conditional_judged, index_judged, member_judged, size_judged,
     unary_by_sign,
 };
-use crate::judged::{Judged, Listed};
+use crate::judged::{Judged, Listed, target_if_evaluated, value_if_evaluated};
 use crate::literals::{character_found, number_found, strings_found};
 use crate::memory::judge_cast;
 use crate::names::{called_name, name_found};
@@ -37,6 +36,7 @@ use crate::problem::Problem;
 use crate::scope::Scope;
 use crate::shape::{Made, Shape};
 use crate::signs::{assignment_of, operation_of, step_of};
+use crate::situation::Situation;
 use crate::targets::{by_sign, nested, step_judged, target_judged};
 use crate::trees::{may_be_place, plainly};
 use crate::type_names::specifiers_judged;
@@ -48,14 +48,24 @@ use std::alloc::{AllocError, Global};
 
 /// What is found in an expression.
 #[cycle(judge)]
-pub fn judge(alloc: Global, scope: &Scope<'_>, e: &Expr<'_>) -> Result<Judged<Operand>, AllocError>
-    requires { AreWholeStructures (plain_scope scope.now).structures }
-    ensures { IfOk result (λ j. judged_operand j ≡ judge only_first (plain_scope scope.now) (expression_of e.now)) }
+pub fn judge(
+    alloc: Global,
+    situation: Situation<'_, '_>,
+    e: &Expr<'_>,
+) -> Result<Judged<Operand>, AllocError>
+    requires { AreWholeStructures (scope_in situation).structures }
+    ensures { IfOk result (λ j. judged_operand j ≡ judge only_first (scope_in situation.entry) (expression_of e.now)) }
 {
     let at = e.at;
     match &e.form {
         Form::Name(name) => {
-            let found = name_found(alloc, at, name.at, name.text, scope.named(name.text))?;
+            let found = name_found(
+                alloc,
+                at,
+                name.at,
+                name.text,
+                situation.scope.named(name.text),
+            )?;
             Ok(plainly(found))
         }
         Form::Number(text) => Ok(plainly(number_found(at, text))),
@@ -65,70 +75,91 @@ pub fn judge(alloc: Global, scope: &Scope<'_>, e: &Expr<'_>) -> Result<Judged<Op
             Ok(plainly(found))
         }
         Form::Unary(sign, a) => {
-            let operand = judge(alloc, scope, a)?;
-            unary_by_sign(alloc, &scope.types, at, *sign, may_be_place(a), operand)
+            let operand = judge(alloc, situation, a)?;
+            unary_by_sign(
+                alloc,
+                &situation.scope.types,
+                at,
+                *sign,
+                may_be_place(a),
+                operand,
+            )
         }
         Form::Step(_, sign, a) => {
-            let target = judge_target(alloc, scope, a)?;
-            let step = step_judged(alloc, &scope.types, at, step_of(*sign), target)?;
+            let target = judge_target(alloc, situation, a)?;
+            let step = step_judged(alloc, &situation.scope.types, at, step_of(*sign), target)?;
             Ok(nested(at, step))
         }
         Form::Binary(sign, a, b) => {
-            let left = judge_value(alloc, scope, a)?;
-            let right = judge_value(alloc, scope, b)?;
-            binary_judged(alloc, &scope.types, at, operation_of(*sign), left, right)
+            let left = judge_value(alloc, situation, a)?;
+            let right = judge_value(alloc, situation, b)?;
+            binary_judged(
+                alloc,
+                &situation.scope.types,
+                at,
+                operation_of(*sign),
+                left,
+                right,
+            )
         }
         Form::Assign(sign, a, b) => {
-            let target = judge_target(alloc, scope, a)?;
-            let value = judge_value(alloc, scope, b)?;
-            let form = by_sign(alloc, &scope.types, at, assignment_of(*sign), target, value)?;
+            let target = judge_target(alloc, situation, a)?;
+            let value = judge_value(alloc, situation, b)?;
+            let form = by_sign(
+                alloc,
+                &situation.scope.types,
+                at,
+                assignment_of(*sign),
+                target,
+                value,
+            )?;
             Ok(nested(at, form))
         }
         Form::Cond(c, a, b) => {
-            let test = judge_value(alloc, scope, c)?;
-            let left = judge_value(alloc, scope, a)?;
-            let right = judge_value(alloc, scope, b)?;
+            let test = judge_value(alloc, situation, c)?;
+            let left = judge_value(alloc, situation, a)?;
+            let right = judge_value(alloc, situation, b)?;
             conditional_judged(alloc, at, test, left, right)
         }
         Form::Call(f, all) => match called_name(f) {
             Some(name) => {
-                let seen = judge_call(alloc, scope, all, at, name)?;
+                let seen = judge_call(alloc, situation, all, at, name)?;
                 Ok(seen)
             }
             None => {
-                let called = judge(alloc, scope, f)?;
-                let list = judge_arguments(alloc, scope, all, Wants::Nothing)?;
+                let called = judge(alloc, situation, f)?;
+                let list = judge_arguments(alloc, situation, all, Wants::Nothing)?;
                 Ok(other_call(at, called, list))
             }
         },
         Form::Index(a, b) => {
-            let base = judge_value(alloc, scope, a)?;
-            let index = judge_value(alloc, scope, b)?;
-            index_judged(alloc, &scope.types, at, base, index)
+            let base = judge_value(alloc, situation, a)?;
+            let index = judge_value(alloc, situation, b)?;
+            index_judged(alloc, &situation.scope.types, at, base, index)
         }
         Form::Member(a, name) => {
-            let whole = judge(alloc, scope, a)?;
-            member_judged(alloc, &scope.types, at, name.text, whole)
+            let whole = judge(alloc, situation, a)?;
+            member_judged(alloc, &situation.scope.types, at, name.text, whole)
         }
         Form::Arrow(a, name) => {
-            let pointer = judge_value(alloc, scope, a)?;
-            arrow_judged(alloc, &scope.types, at, name.text, pointer)
+            let pointer = judge_value(alloc, situation, a)?;
+            arrow_judged(alloc, &situation.scope.types, at, name.text, pointer)
         }
         Form::Cast(t, a) => {
-            let shape = judge_type(alloc, scope, t)?;
-            let seen = judge_cast(alloc, scope, a, at, shape)?;
+            let shape = judge_type(alloc, situation.scope, t)?;
+            let seen = judge_cast(alloc, situation, a, at, shape)?;
             Ok(seen)
         }
         Form::SizeofExpr(a) => {
-            let operand = judge(alloc, scope, a)?;
-            Ok(size_judged(&scope.types, at, operand))
+            let operand = judge(alloc, situation.unevaluated(), a)?;
+            Ok(size_judged(&situation.scope.types, at, operand))
         }
         Form::SizeofType(t) => {
-            let shape = judge_type(alloc, scope, t)?;
-            Ok(type_size_judged(&scope.types, at, shape))
+            let shape = judge_type(alloc, situation.scope, t)?;
+            Ok(type_size_judged(&situation.scope.types, at, shape))
         }
         Form::Comma(all) => {
-            let list = judge_arguments(alloc, scope, all, Wants::Nothing)?;
+            let list = judge_arguments(alloc, situation, all, Wants::Nothing)?;
             Ok(comma_judged(at, list))
         }
     }
@@ -138,44 +169,46 @@ pub fn judge(alloc: Global, scope: &Scope<'_>, e: &Expr<'_>) -> Result<Judged<Op
 #[cycle(judge)]
 pub fn judge_value(
     alloc: Global,
-    scope: &Scope<'_>,
+    situation: Situation<'_, '_>,
     e: &Expr<'_>,
 ) -> Result<Judged<Value>, AllocError>
-    requires { AreWholeStructures (plain_scope scope.now).structures }
-    ensures { IfOk result (λ j. judged_value j ≡ as_value (plain_scope scope.now).structures (judge only_first (plain_scope scope.now) (expression_of e.now))) }
+    requires { AreWholeStructures (scope_in situation).structures }
+    ensures { IfOk result (λ j. judged_value j ≡ value_in (scope_in situation.entry) (judge only_first (scope_in situation.entry) (expression_of e.now))) }
 {
-    let seen = judge(alloc, scope, e)?;
-    as_value(alloc, &scope.types, seen)
+    let seen = judge(alloc, situation, e)?;
+    let value = as_value(alloc, &situation.scope.types, seen)?;
+    Ok(value_if_evaluated(situation.evaluated, value))
 }
 
 /// What is found in the target of an assignment or a step.
 #[cycle(judge)]
 pub fn judge_target(
     alloc: Global,
-    scope: &Scope<'_>,
+    situation: Situation<'_, '_>,
     e: &Expr<'_>,
 ) -> Result<Judged<(PlaceKind, Place)>, AllocError>
-    requires { AreWholeStructures (plain_scope scope.now).structures }
-    ensures { IfOk result (λ j. judged_target j ≡ target_judged only_first (plain_scope scope.now).structures (place_of (expression_of e.now)) (may_be_place (expression_of e.now)) (judge only_first (plain_scope scope.now) (expression_of e.now))) }
+    requires { AreWholeStructures (scope_in situation).structures }
+    ensures { IfOk result (λ j. judged_target j ≡ target_in only_first (scope_in situation.entry) (expression_of e.now) (judge only_first (scope_in situation.entry) (expression_of e.now))) }
 {
-    let seen = judge(alloc, scope, e)?;
-    Ok(target_judged(&scope.types, e.at, may_be_place(e), seen))
+    let seen = judge(alloc, situation, e)?;
+    let target = target_judged(&situation.scope.types, e.at, may_be_place(e), seen);
+    Ok(target_if_evaluated(situation.evaluated, target))
 }
 
 /// What is found in arguments, or in operands of the comma operator.
 #[cycle(judge)]
 pub fn judge_arguments(
     alloc: Global,
-    scope: &Scope<'_>,
+    situation: Situation<'_, '_>,
     all: &[Expr<'_>],
     wants: Wants<'_>,
 ) -> Result<Listed, AllocError>
-    requires { AreWholeStructures (plain_scope scope.now).structures }
-    ensures { IfOk result (λ k. plain_listed k ≡ judge_arguments only_first (plain_scope scope.now) (plain_wants wants.entry) 0 no_arguments (expression_row (map expression_of all.now))) }
+    requires { AreWholeStructures (scope_in situation).structures }
+    ensures { IfOk result (λ k. plain_listed k ≡ judge_arguments only_first (scope_in situation.entry) (plain_wants wants.entry) 0 no_arguments (expression_row (map expression_of all.now))) }
 {
     let mut list = no_arguments(alloc);
     for (i, e) in all.iter().enumerate() {
-        let value = judge_value(alloc, scope, e)?;
+        let value = judge_value(alloc, situation, e)?;
         let argument = argument_judged(alloc, wanted_at(wants, i), value)?;
         list = with_argument(list, argument)?;
     }
@@ -186,17 +219,17 @@ pub fn judge_arguments(
 #[cycle(judge)]
 fn judge_call(
     alloc: Global,
-    scope: &Scope<'_>,
+    situation: Situation<'_, '_>,
     all: &[Expr<'_>],
     at: At,
     name: Identifier<'_>,
 ) -> Result<Judged<Operand>, AllocError>
-    requires { AreWholeStructures (plain_scope scope.now).structures }
-    ensures { IfOk result (λ j. judged_operand j ≡ named_call only_first (plain_scope scope.now) at (identifier_of name.entry) (expression_row (map expression_of all.now))) }
+    requires { AreWholeStructures (scope_in situation).structures }
+    ensures { IfOk result (λ j. judged_operand j ≡ named_call only_first (scope_in situation.entry) at (identifier_of name.entry) (expression_row (map expression_of all.now))) }
 {
-    let callee = callee_of(scope.named(name.text), name.text);
+    let callee = callee_of(situation.scope.named(name.text), name.text);
     let count = all.len();
-    let list = judge_arguments(alloc, scope, all, wanted_of(&callee, count))?;
+    let list = judge_arguments(alloc, situation, all, wanted_of(&callee, count))?;
     let seen = call_judged(alloc, at, name.at, &callee, count, list)?;
     Ok(operand_call(at, &callee, seen))
 }
@@ -250,7 +283,14 @@ pub fn judge_declarator(
             judge_declarator(alloc, scope, inner, name_at, Made::Array, shape)
         }
         Declarator::Array(_, inner, _, Some(length)) => {
-            let length = judge_value(alloc, scope, length)?;
+            let length = judge_value(
+                alloc,
+                Situation {
+                    scope,
+                    evaluated: true,
+                },
+                length,
+            )?;
             let shape = array_judged(alloc, &scope.types, name_at, made, length, shape)?;
             judge_declarator(alloc, scope, inner, name_at, Made::Array, shape)
         }

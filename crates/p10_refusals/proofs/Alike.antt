@@ -45,6 +45,10 @@ pub followed : {A C : Type 0} (R : C → C → Type 0) {p q : Passed A} (f g : O
     R (f p.made p.after) (g q.made q.after)
 followed R {p = p} {q = q} f g a go = subst (λ m. R (f p.made p.after) (g m q.after)) a.made (go p.made)
 
+-- the same is made, and something alike stands after it
+pub alike_with : {A : Type 0} {p q : Passed A} {s t : PlainStanding} → AlikePassed A p q → Alike s t → AlikePassed A (record { made = p.made; after = s }) (record { made = q.made; after = t })
+alike_with a b = record { made = a.made; after = b }
+
 -- ## Steps
 
 pub alike_passed : {A : Type 0} {s t : PlainStanding} (a : A) → Alike s t → AlikePassed A (passed a s) (passed a t)

@@ -19,10 +19,10 @@ use Rattle.p10_elabd.specs.Standing.{PlainStanding, Passed, passed}
 use Rattle.p10_elabd.specs.Words.{none_allowed, word_row}
 use Rattle.p10_elabd.specs.Tagged.{structure_made, ended}
 use Rattle.p10_elabd.specs.Members.{member_declared}
-use Rattle.p10_elabd.specs.Shapes.{PlainParameter, DeclaredType, of_type, name_in, place_or, pointer_declared, element_declared, result_declared, parameter_declared, function_declared}
+use Rattle.p10_elabd.specs.Shapes.{PlainParameter, DeclaredType, of_type, name_in, place_or, declares_function, pointer_declared, element_declared, function_inside, result_declared, parameter_declared, function_declared}
 use Rattle.p10_elabd.specs.Declaring.{both_named, word_passed, stored_by, type_specified, unless_union, tag_passed, enumeration_by_name, one_enumerator_passed, enumerators_passed, first_constant, enumeration_passed, begun_with, with_parameter, parameter_added, is_no_parameter, based, with_declared_parameter, specifiers_passed, specifier_passed, structure_passed, members_passed, member_passed, fields_passed, field_passed, declarator_passed, all_parameters_passed, only_parameter_passed, parameters_passed, one_parameter_passed, specified}
-use Rattle.p10_refusals.proofs.Alike.{Alike, AlikePassed, with_kept, for_alike, followed, alike_passed, alike_nothing, alike_made, alike_map, alike_refusing, alike_noted, alike_where}
-use Rattle.p10_refusals.proofs.Shaping.{alike_declaring, alike_row, alike_pointer, alike_element, alike_array, alike_open, alike_result, alike_parameter, alike_among, alike_function}
+use Rattle.p10_refusals.proofs.Alike.{Alike, AlikePassed, with_kept, for_alike, followed, alike_with, alike_passed, alike_nothing, alike_made, alike_map, alike_refusing, alike_noted, alike_where}
+use Rattle.p10_refusals.proofs.Shaping.{alike_declaring, alike_row, alike_pointer, alike_element, alike_array, alike_open, alike_inside, alike_result, alike_parameter, alike_among, alike_function}
 use Rattle.p10_refusals.proofs.Tagging.{AlikeBegun, alike_structure_named, alike_enumeration_named, alike_anew, alike_begun, alike_ended, alike_structure_made, alike_with_enumeration, alike_enumeration_begun, alike_member, alike_width, alike_with_member, alike_enumerator}
 
 -- ## Pieces
@@ -87,8 +87,9 @@ alike_based u a = alike_made (option_map of_type u) a
 alike_declared_parameter : {j k : Passed DeclaredType} (i : ℕ) (before after : Option (List PlainParameter)) (at : At) (d : Declarator At) → before ≡ after → AlikePassed DeclaredType j k →
     AlikePassed (List PlainParameter) (with_declared_parameter every i before at d j) (with_declared_parameter only_first i after at d k)
 alike_declared_parameter i before after at d e a =
-    let u = followed (AlikePassed PlainType) (parameter_declared every at (place_or at (name_in d)) (declarator_place d)) (parameter_declared only_first at (place_or at (name_in d)) (declarator_place d)) a
-    (λ m. alike_parameter at (place_or at (name_in d)) (declarator_place d) m a.after) in
+    let b = alike_refusing (declares_function d) subset.BadPointer (declarator_place d) a.after in
+    let u = followed (AlikePassed PlainType) (parameter_declared every at (place_or at (name_in d))) (parameter_declared only_first at (place_or at (name_in d))) (alike_with a b)
+    (λ m. alike_parameter at (place_or at (name_in d)) m b) in
     record {
       made = λ n. parameter_added (e n) at (name_in d) (u.made n);
       after = followed Alike (λ m s. with_parameter every i (name_in d) m s) (λ m s. with_parameter only_first i (name_in d) m s) u (λ m. alike_with_parameter i (name_in d) m u.after);
@@ -164,8 +165,9 @@ mutual
   alike_field {p = p} {q = q} u (field at d width) a =
       let name_at : At = place_or (declarator_place d) (name_in d) in
       let j = alike_declarator name_at d (alike_based u (alike_width (declarator_place d) width a.after)) in
+      let b = alike_refusing (declares_function d) subset.IncompleteType name_at j.after in
       alike_with_member name_at p.made q.made (name_in d) a.made
-      (followed (AlikePassed PlainType) (member_declared every name_at) (member_declared only_first name_at) j (λ m. alike_member name_at m j.after))
+      (followed (AlikePassed PlainType) (member_declared every name_at) (member_declared only_first name_at) (alike_with j b) (λ m. alike_member name_at m b))
 
   pub alike_declarator : {p q : Passed DeclaredType} (name_at : At) (d : Declarator At) → AlikePassed DeclaredType p q → AlikePassed DeclaredType (declarator_passed every name_at p d) (declarator_passed only_first name_at q d)
   alike_declarator name_at (Named name) a = a
@@ -180,7 +182,7 @@ mutual
       alike_declarator name_at d (alike_array e (followed (AlikePassed PlainType) (element_declared every name_at) (element_declared only_first name_at) a (λ m. alike_element name_at m a.after)))
   alike_declarator name_at (Function at d parentheses all more) a =
       let r = followed (AlikePassed PlainType) (result_declared every at name_at) (result_declared only_first at name_at) a (λ m. alike_result at name_at m a.after) in
-      alike_declarator name_at d (alike_function_by r (alike_all_parameters parentheses all (alike_among (alike_refusing more subset.NoPrototype parentheses r.after))))
+      alike_declarator name_at d (alike_function_by r (alike_all_parameters parentheses all (alike_among (alike_inside name_at d (alike_refusing more subset.NoPrototype parentheses r.after)))))
 
   alike_all_parameters : {s t : PlainStanding} (at : At) (all : Parameters At) → Alike s t → AlikePassed (List PlainParameter) (all_parameters_passed every s at all) (all_parameters_passed only_first t at all)
   alike_all_parameters at NoParameters a = alike_nothing (alike_refusing true subset.NoPrototype at a)

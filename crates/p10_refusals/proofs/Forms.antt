@@ -18,7 +18,7 @@ use Rattle.p10_elabx.specs.Operators.{target_found, assigned, updated}
 use Rattle.p10_elabx.specs.Calls.{Callee, of_library, Wanted, wanted_value, wants_of, wanted_of, Listed, no_arguments, with_value, argument_judged, with_argument, call_problem, call_value, is_counted, with_problem, call_judged}
 use Rattle.p10_elabx.specs.Judging.{judge, judge_arguments, count_of, called_name, assignment_of, step_of, may_be_place, place_of, target_judged, assignment_judged, counts_as_read, counts_as_act, with_read, update_judged, one_at, step_judged, by_sign}
 use Rattle.p10_elabx.proofs.Firsts.{kept_on, kept_pair, or_same, tied_on_part, tied_on_parts, tied_also, unordered_same}
-use Rattle.p10_elabx.proofs.Ties.{tied, tied_value}
+use Rattle.p10_elabx.proofs.Ties.{tied, tied_if, tied_value}
 use Rattle.p10_elabd.specs.Standing.{PlainStanding}
 use Rattle.p10_elabd.specs.Expressions.{value_found}
 use Rattle.p10_elabd.specs.Tags.{scope_of_expression}
@@ -102,7 +102,7 @@ tied_more j j' k k' s t = record {
 tied_arguments : (s : PlainScope) (wanted : List Wanted) (i : ℕ) (j k : Listed) (all : Expressions At) → TiedList j k → TiedList (judge_arguments every s wanted i j all) (judge_arguments only_first s wanted i k all)
 tied_arguments s wanted i j k NoExpressions t = t
 tied_arguments s wanted i j k (MoreExpressions e rest) t =
-    tied_arguments s wanted (i + 1) _ _ rest (tied_more j k _ _ t (tied_argument (slice_get wanted i) _ _ (tied_value s.structures _ _ (tied s e))))
+    tied_arguments s wanted (i + 1) _ _ rest (tied_more j k _ _ t (tied_argument (slice_get wanted i) _ _ (tied_if s.evaluated _ _ (tied_value s.structures _ _ (tied s e)))))
 
 tied_problem : {A : Type 0} (o : Option Problem) (j k : Judged A) → Tied A j k → Tied A (with_problem every o j) (with_problem only_first o k)
 tied_problem None j k t = t

@@ -19,12 +19,12 @@ use Rattle.p10_elabd.specs.Words.{storage_of, is_volatile}
 use Rattle.p10_elabd.specs.declared.site.Site.{Site}
 use Rattle.p10_elabd.specs.declared.site.Storage.{Storage}
 use Rattle.p10_elabd.specs.declared.site.Storage.TheVariants as storage_is
-use Rattle.p10_elabd.specs.Shapes.{DeclaredType, of_type, of_open_array, of_function, name_in}
+use Rattle.p10_elabd.specs.Shapes.{DeclaredType, of_type, of_open_array, of_function, name_in, declares_function}
 use Rattle.p10_elabd.specs.Initializers.{elements_given}
 use Rattle.p10_elabd.specs.declared.lifetime.Lifetime.{Lifetime}
 use Rattle.p10_elabd.specs.declared.lifetime.Lifetime.TheVariants as life_is
 use Rattle.p10_heads.specs.Heads.{number_at}
-use Rattle.p10_elabs.specs.Locals.{Frame, Local, Done, with_standing, done_in, refusing_in, opened, closed, volatile_noted, declares_sensors, allowed_by, is_alone, sensors_noted, specified_in, makes_sensors, no_initializer, unknown_in, typedef_passed, counted_array, filled_array, object_type, brackets_of, initialized_by}
+use Rattle.p10_elabs.specs.Locals.{Frame, Local, Done, with_standing, done_in, refusing_in, opened, closed, volatile_noted, declares_sensors, allowed_by, is_alone, sensors_noted, specified_in, makes_sensors, no_initializer, unknown_in, typedef_of, typedef_passed, counted_array, filled_array, object_type, brackets_of, initialized_by}
 use Rattle.p10_elabs.specs.LocalDeclarations.{Declaring, is_frame_variable, one_more, with_variable, variable_item, variable_of_type, variable_where, variable_passed, with_object, object_item, object_of_type, object_where, object_passed, no_items, declared_object, prototype_passed, by_storage, is_prototype, local_named, local_declarators, declared_locally}
 use Rattle.p10_refusals.proofs.Alike.{Alike, AlikePassed, with_kept, followed, alike_passed, alike_nothing, alike_refusing, alike_where_in, alike_scoped}
 use Rattle.p10_refusals.proofs.Shaping.{alike_declaring}
@@ -59,11 +59,14 @@ alike_no_initializer (Some i) a = (alike_surplus i a).after
 pub alike_unknown : {s t : PlainStanding} (name : Identifier At) → Alike s t → Alike (unknown_in every name s) (unknown_in only_first name t)
 alike_unknown name a = alike_declaring name unknown_name a
 
+alike_typedef_of : {s t : PlainStanding} (name : Identifier At) (o : Option DeclaredType) → Alike s t → Alike (typedef_of every name o s) (typedef_of only_first name o t)
+alike_typedef_of name None a = alike_unknown name a
+alike_typedef_of name (Some (of_type u)) a = alike_declaring name (named_type u) a
+alike_typedef_of name (Some (of_open_array u)) a = alike_unknown name (alike_refusing true subset.IncompleteType name.place a)
+alike_typedef_of name (Some (of_function f)) a = alike_unknown name a
+
 pub alike_typedef : {s t : PlainStanding} (name : Identifier At) (d : Declarator At) (o : Option DeclaredType) → Alike s t → Alike (typedef_passed every name d o s) (typedef_passed only_first name d o t)
-alike_typedef name d None a = alike_unknown name a
-alike_typedef name d (Some (of_type u)) a = alike_declaring name (named_type u) a
-alike_typedef name d (Some (of_open_array u)) a = alike_unknown name (alike_refusing true subset.IncompleteType name.place a)
-alike_typedef name d (Some (of_function f)) a = alike_unknown name (alike_refusing true subset.BadSpecifier (declarator_place d) a)
+alike_typedef name d o a = alike_typedef_of name o (alike_refusing (declares_function d) subset.BadSpecifier (declarator_place d) a)
 
 alike_counted : {s t : PlainStanding} (brackets : At) (u : PlainType) (n : ℕ) → Alike s t → AlikePassed PlainType (counted_array every brackets u n s) (counted_array only_first brackets u n t)
 alike_counted brackets u n a =

@@ -4,7 +4,7 @@ use Rattle.p10_base.specs.Words.{Text}
 use Rattle.p10_base.specs.declared.at.At.{At}
 use Rattle.p10_base.specs.declared.codes.SubsetCode.{SubsetCode}
 use Rattle.p10_base.specs.declared.codes.SubsetCode.TheVariants as subset
-use Rattle.p10_syn.specs.Trees.{Identifier, Qualifier, Expression}
+use Rattle.p10_syn.specs.Trees.{Identifier, Qualifier, Expression, Declarator, Named, Unnamed, Pointer, Parenthesised, Array, Function}
 use Rattle.p10_core.specs.Types.{PlainType, void, pointer, array, structure}
 use Rattle.p10_core.specs.Rows.{is_void, is_complete}
 use Rattle.p10_elabx.specs.declared.problem.Problem.{Problem}
@@ -17,7 +17,7 @@ use Rattle.p10_elabd.specs.Blocks.{is_taken, with_name, declaring}
 use Rattle.p10_elabd.specs.Words.{by_row}
 use Rattle.p10_elabd.specs.Tags.{scope_of_expression}
 use Rattle.p10_elabd.specs.Expressions.{value_found}
-use Rattle.p10_elabd.specs.Shapes.{PlainParameter, DeclaredType, of_type, of_open_array, of_function, pointed_to, pointer_declared, element_type, element_declared, array_with, array_declared, open_declared, result_type, result_declared, plain_parameter_type, parameter_type, parameter_declared, among_parameters, function_declared}
+use Rattle.p10_elabd.specs.Shapes.{PlainParameter, DeclaredType, of_type, of_open_array, of_function, pointed_to, pointer_declared, element_type, element_declared, array_with, array_declared, open_declared, function_inside, result_type, result_declared, plain_parameter_type, parameter_type, parameter_declared, among_parameters, function_declared}
 use Rattle.p10_refusals.proofs.Alike.{Alike, AlikePassed, with_kept, for_alike, for_passed, alike_passed, alike_nothing, alike_map, alike_refusing, alike_refusing_in, alike_noted, alike_where, alike_where_in, alike_scoped}
 use Rattle.p10_refusals.proofs.Values.{alike_expression, kept_value}
 
@@ -40,7 +40,7 @@ alike_pointed : {s t : PlainStanding} (at name_at : At) (constant : Bool) (d : D
 alike_pointed at name_at constant (of_type u) a =
     alike_where (is_void u) (alike_nothing (alike_refusing true subset.BadPointer at a)) (alike_passed (of_type (pointer constant u)) a)
 alike_pointed at name_at constant (of_open_array u) a = alike_nothing (alike_refusing true subset.IncompleteType name_at a)
-alike_pointed at name_at constant (of_function f) a = alike_nothing (alike_refusing true subset.BadPointer at a)
+alike_pointed at name_at constant (of_function f) a = alike_nothing a
 
 -- by the word that isn't `const`
 alike_pointer_by : {s t : PlainStanding} (at name_at : At) (qualifiers : List (Qualifier At)) (target : Option DeclaredType) (o : Option At) → other_word qualifiers ≡ o → Alike s t →
@@ -60,7 +60,8 @@ alike_pointer at name_at qualifiers target a = alike_pointer_by at name_at quali
 alike_element_type : {s t : PlainStanding} (name_at : At) (d : DeclaredType) → Alike s t → AlikePassed PlainType (element_type every name_at d s) (element_type only_first name_at d t)
 alike_element_type name_at (of_type u) a =
     alike_where_in (λ x. is_complete x.structures u) a (alike_passed u a) (alike_nothing (alike_refusing true subset.IncompleteType name_at a))
-alike_element_type name_at d a = alike_nothing (alike_refusing true subset.IncompleteType name_at a)
+alike_element_type name_at (of_open_array u) a = alike_nothing (alike_refusing true subset.IncompleteType name_at a)
+alike_element_type name_at (of_function f) a = alike_nothing a
 
 pub alike_element : {s t : PlainStanding} (name_at : At) (o : Option DeclaredType) → Alike s t → AlikePassed PlainType (element_declared every name_at o s) (element_declared only_first name_at o t)
 alike_element name_at None a = alike_nothing a
@@ -80,11 +81,20 @@ alike_open a = alike_map (λ o. option_map of_open_array o) a
 
 -- ## Functions
 
+pub alike_inside : {s t : PlainStanding} (name_at : At) (d : Declarator At) → Alike s t → Alike (function_inside every name_at d s) (function_inside only_first name_at d t)
+alike_inside name_at (Named name) a = a
+alike_inside name_at (Unnamed at) a = a
+alike_inside name_at (Pointer at qualifiers d) a = alike_refusing true subset.BadPointer at a
+alike_inside name_at (Parenthesised at d) a = alike_inside name_at d a
+alike_inside name_at (Array at d brackets length) a = alike_refusing true subset.IncompleteType name_at a
+alike_inside name_at (Function at d parentheses all more) a = alike_refusing true subset.IncompleteType name_at a
+
 alike_result_type : {s t : PlainStanding} (at name_at : At) (d : DeclaredType) → Alike s t → AlikePassed PlainType (result_type every at name_at d s) (result_type only_first at name_at d t)
 alike_result_type at name_at (of_type (structure c n)) a = alike_nothing (alike_refusing true subset.StructurePassed at a)
 alike_result_type at name_at (of_type (array c u n)) a = alike_nothing (alike_refusing true subset.IncompleteType name_at a)
 alike_result_type at name_at (of_type u) a = alike_passed u a
-alike_result_type at name_at d a = alike_nothing (alike_refusing true subset.IncompleteType name_at a)
+alike_result_type at name_at (of_open_array u) a = alike_nothing (alike_refusing true subset.IncompleteType name_at a)
+alike_result_type at name_at (of_function f) a = alike_nothing a
 
 pub alike_result : {s t : PlainStanding} (at name_at : At) (o : Option DeclaredType) → Alike s t → AlikePassed PlainType (result_declared every at name_at o s) (result_declared only_first at name_at o t)
 alike_result at name_at None a = alike_nothing a
@@ -96,16 +106,16 @@ alike_plain_parameter at name_at (array c u n) a = alike_passed (pointer false u
 alike_plain_parameter at name_at (void c) a = alike_nothing (alike_refusing true subset.IncompleteType name_at a)
 alike_plain_parameter at name_at u a = alike_passed u a
 
-alike_parameter_type : {s t : PlainStanding} (at name_at declarator : At) (d : DeclaredType) → Alike s t →
-    AlikePassed PlainType (parameter_type every at name_at declarator d s) (parameter_type only_first at name_at declarator d t)
-alike_parameter_type at name_at declarator (of_type u) a = alike_plain_parameter at name_at u a
-alike_parameter_type at name_at declarator (of_open_array u) a = alike_passed (pointer false u) a
-alike_parameter_type at name_at declarator (of_function f) a = alike_nothing (alike_refusing true subset.BadPointer declarator a)
+alike_parameter_type : {s t : PlainStanding} (at name_at : At) (d : DeclaredType) → Alike s t →
+    AlikePassed PlainType (parameter_type every at name_at d s) (parameter_type only_first at name_at d t)
+alike_parameter_type at name_at (of_type u) a = alike_plain_parameter at name_at u a
+alike_parameter_type at name_at (of_open_array u) a = alike_passed (pointer false u) a
+alike_parameter_type at name_at (of_function f) a = alike_nothing a
 
-pub alike_parameter : {s t : PlainStanding} (at name_at declarator : At) (o : Option DeclaredType) → Alike s t →
-    AlikePassed PlainType (parameter_declared every at name_at declarator o s) (parameter_declared only_first at name_at declarator o t)
-alike_parameter at name_at declarator None a = alike_nothing a
-alike_parameter at name_at declarator (Some d) a = alike_parameter_type at name_at declarator d a
+pub alike_parameter : {s t : PlainStanding} (at name_at : At) (o : Option DeclaredType) → Alike s t →
+    AlikePassed PlainType (parameter_declared every at name_at o s) (parameter_declared only_first at name_at o t)
+alike_parameter at name_at None a = alike_nothing a
+alike_parameter at name_at (Some d) a = alike_parameter_type at name_at d a
 
 pub alike_among : {s t : PlainStanding} → Alike s t → Alike (among_parameters s) (among_parameters t)
 alike_among a = alike_scoped (λ x. entered x) a

@@ -3,7 +3,7 @@ use Rattle.std.specs.Prelude.{map}
 use Rattle.p10_syn.specs.Trees.{expression_row, parameter_row}
 use Rattle.p10_syn.specs.Built.{expression_of, parameter_of}
 use Rattle.p10_elabx.specs.First.{only_first, lift}
-use Rattle.p10_elabx.specs.PlainScopes.{plain_scope}
+use Rattle.p10_elabx.specs.PlainScopes.{plain_scope, scope_in}
 use Rattle.p10_elabx.specs.Calls.{no_arguments}
 use Rattle.p10_elabx.specs.TypeNames.{no_parameters}
 use Rattle.p10_elabx.specs.Judging.{judge_arguments, judge_parameters}
@@ -12,8 +12,8 @@ use Rattle.p10_elabx.proofs.+judge.Given as goal
 
 abbrev pub invariant-walk::judge_arguments-loop-i : goal.invariant-walk::judge_arguments-loop-i
 invariant-walk::judge_arguments-loop-i l =
-    judge_arguments only_first (plain_scope l.scope) (plain_wants l.wants) l.i (plain_listed l.list) (expression_row (map expression_of (drop l.i l.all)))
-    ≡ judge_arguments only_first (plain_scope l.scope) (plain_wants l.wants) 0 no_arguments (expression_row (map expression_of l.all))
+    judge_arguments only_first (scope_in l.situation) (plain_wants l.wants) l.i (plain_listed l.list) (expression_row (map expression_of (drop l.i l.all)))
+    ≡ judge_arguments only_first (scope_in l.situation) (plain_wants l.wants) 0 no_arguments (expression_row (map expression_of l.all))
 
 abbrev pub invariant-walk::judge_parameters-loop-parameter : goal.invariant-walk::judge_parameters-loop-parameter
 invariant-walk::judge_parameters-loop-parameter l =

@@ -42,8 +42,8 @@ parameters_passed-loop-one-preserved t c =
 pub declarator_passed-returns-in_ok-made-in-Function : goal.declarator_passed-returns-in_ok-made-in-Function
 declarator_passed-returns-in_ok-made-in-Function t c =
     let parts = c.in-Function in
-    function_arm c.args.name_at (told (option_map plain_declared c.args.given) c.args.standing.now) _ _ c.args.d.now c.deref-in-Function-2.result.now parts.at parts.inner parts.parentheses parts.all parts.more c.deref-in-Function.result.now _ _
-    parts.is c.deref-in-Function.ensures.value c.deref-in-Function-2.ensures c.result_declared-gives.ensures c.refuse_where.ensures c.in_ok-given-in-Function.ensures c.in_ok-made-in-Function.ensures
+    function_arm c.args.name_at (told (option_map plain_declared c.args.given) c.args.standing.now) _ _ c.args.d.now c.deref-in-Function-3.result.now c.deref-in-Function.result.now parts.at parts.inner parts.parentheses parts.all parts.more c.deref-in-Function-2.result.now _ _ _
+    parts.is c.deref-in-Function-2.ensures.value c.deref-in-Function-3.ensures c.deref-in-Function.ensures c.result_declared-gives.ensures c.refuse_where.ensures c.function_inside.ensures c.in_ok-given-in-Function.ensures c.in_ok-made-in-Function.ensures
 
 pub structure_passed-returns-then-count-eq0 : goal.structure_passed-returns-then-count-eq0
 structure_passed-returns-then-count-eq0 t c =
@@ -67,6 +67,6 @@ all_parameters_passed-returns-in_ok-parameters-in-Some t c =
 -- parameters are below the declarator that has them
 pub declarator_passed-function_passed-requires : goal.declarator_passed-function_passed-requires
 declarator_passed-function_passed-requires t c = (
-  (first_of (search (rules, the_lemmas), search (rules, the_lemmas, c.deref-in-Function.ensures.value), search rules, grind (arith, common_steps))),
+  (first_of (search (rules, the_lemmas), search (rules, the_lemmas, c.deref-in-Function-2.ensures.value), search rules, grind (arith, common_steps))),
   tt,
 )
