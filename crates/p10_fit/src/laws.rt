@@ -1,0 +1,13 @@
+//! What follows from the definitions.
+
+ghost use Rattle.p10_fit.specs.Laws.{FitSpeaks, SpeakingFits};
+
+/// A certificate that is told nowhere has a claim for each function that speaks of it, and no other.
+pub fn fit_speaks()
+    ensures { FitSpeaks }
+{}
+
+/// A certificate with a claim for each function that speaks of it, and no other, is told nowhere.
+pub fn speaking_fits()
+    ensures { SpeakingFits }
+{}
