@@ -6,3 +6,4 @@ pub mod BothSides
 pub mod Hulls
 pub mod Changing
 pub mod Walking
+pub mod HullEntries

@@ -1,12 +1,12 @@
 -- What it is that an environment describes what the variables of an open frame hold (an abstract value's meaning).
-use Rattle.std.specs.Prelude.{◌≡◌, ℕ, ℤ, pos, ◌-ℤ◌, List, slice_get, Option, Some, None, IfSome}
+use Rattle.std.specs.Prelude.{◌≡◌, ◌≢◌, ℕ, true, ℤ, pos, ◌-ℤ◌, List, slice_get, Option, Some, None, IfSome}
 use Rattle.p10_range.specs.Ranges.{Interval, IsMember, IsWithin}
 use Rattle.p10_range.specs.Rows.{values_of}
 use Rattle.p10_core.specs.Constants.{integer_of}
 use Rattle.p10_core.specs.Typed.{PlainVariable}
 use Rattle.p10_meaning.specs.declared.pointers.Scalar.{Scalar}
 use Rattle.p10_meaning.specs.declared.pointers.Scalar.TheVariants.{Int}
-use Rattle.p10_meaning.specs.Values.{Held, holds}
+use Rattle.p10_meaning.specs.Values.{Held, holds, stands}
 use Rattle.p10_absx.specs.Abstract.{Offset, Abstract}
 use Rattle.p10_absx.specs.Environments.{Environment, known}
 
@@ -50,10 +50,12 @@ abbrev pub DescribesOne : List Held → Interval → ℕ → Abstract → Option
 DescribesOne head all n a (Some z) = HoldsNumber head a z
 DescribesOne head all n a None = HoldsUnset all n a
 
--- variable n is there, and what is known of it describes what it holds
+-- variable n is there, it stands in the frame itself and not for an object, and what is known of it describes what it holds
 pub record DescribesVariable (variables : List PlainVariable) (head held : List Held) (n : ℕ) (a : Abstract) : Type 0 where
   pub variable : PlainVariable
   pub there : slice_get variables n ≡ Some variable
+  pub frame : variable.frame ≡ true
+  pub no_object : (o : ℕ) → slice_get held n ≢ Some (stands o)
   pub describes : DescribesOne head (values_of (integer_of variable.type)) n a (set_to held n)
 
 -- an environment describes what the variables of a frame hold, where the innermost loop's head had others: whatever is known of a

@@ -6,6 +6,7 @@ pub mod Comparing
 pub mod Assessing
 pub mod Entering
 pub mod Assuming
+pub mod Branches
 pub mod Describing
 pub mod Trails
 pub mod Examples

@@ -86,6 +86,14 @@ impl Env {
         }
     }
 
+    /// The environment at the entry of a function of which nothing is claimed: each integer frame parameter has any value of its
+    /// type.
+    pub fn start(alloc: Global, function: &Func<'_>) -> Result<Env, AllocError>
+        ensures { IfOk result (λ env. env ≡ record { values = entry_of_function None (plain_function function.now); outer = [] }) }
+    {
+        Env::entry_of(alloc, function, None)
+    }
+
     /// The environment at the entry of a function.
     fn entry_of(
         alloc: Global,

@@ -3,10 +3,11 @@
 ghost use Rattle.std.specs.Prelude.{◌≡◌, ℕ, [], ◌∷◌, map, reverse, slice_get, slice_set, Some, IfOk, OnOk, vec_capacity};
 ghost use Rattle.std.specs.Option.{option_map};
 ghost use Rattle.p10_absx.specs.Abstract.{abstract_of};
-ghost use Rattle.p10_absx.specs.Environments.{known, learned, out_of_scope};
+ghost use Rattle.p10_absx.specs.Environments.{known, learned, hull_environment};
 ghost use Rattle.p10_absx.specs.private.Kept.{IsTrail, Changed, taken_back};
 
 use crate::abs::Abs;
+use crate::branches::hull_entries;
 use crate::notes::{Entry, Note};
 use std::alloc::{AllocError, Global};
 use std::marker::Model;
@@ -37,6 +38,7 @@ impl Model for Env {
 
 impl Env {
     ghost use Rattle.p10_absx.specs.Trails.{known_in_entries, back, branched, with_values};
+    ghost use Rattle.p10_absx.specs.Branches.{unbranched};
 
     /// An environment of these entries, without a branch.
     pub(crate) fn of_entries(alloc: Global, entries: Vec<Entry>) -> Env
@@ -105,6 +107,14 @@ impl Env {
                 noted: 0,
             })?;
         }
+        Ok(Env::of_entries(alloc, entries))
+    }
+
+    /// The hull of two environments: a variable is in scope where it is in both.
+    pub fn hull_with(&self, alloc: Global, other: &Env) -> Result<Env, AllocError>
+        ensures { IfOk result (λ env. env ≡ unbranched (hull_environment self.now.values other.now.values)) }
+    {
+        let entries = hull_entries(alloc, self.entries.as_slice(), other.entries.as_slice())?;
         Ok(Env::of_entries(alloc, entries))
     }
 }

@@ -19,6 +19,7 @@
 
 mod abs;
 mod assess;
+mod branches;
 mod changes;
 mod compared;
 mod comparing;
@@ -26,10 +27,15 @@ mod entry;
 mod env;
 mod found;
 pub mod laws;
+mod naming;
 mod notes;
 mod operators;
 mod rows;
 mod states;
 
 pub use abs::Abs;
+pub use comparing::turned;
 pub use env::Env;
+pub use operators::{
+    binary_value, converted, hull_abstract, lies_within, only_range, values, whole_type,
+};

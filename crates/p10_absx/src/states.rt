@@ -26,7 +26,7 @@ pub struct Sides {
 }
 
 /// What is known of a variable where it is one of two.
-fn hull_entry(a: Option<Abs>, b: Option<Abs>) -> Option<Abs>
+pub fn hull_entry(a: Option<Abs>, b: Option<Abs>) -> Option<Abs>
     ensures { option_map abstract_of result ≡ hull_entry_of (option_map abstract_of a) (option_map abstract_of b) }
 {
     match (a, b) {

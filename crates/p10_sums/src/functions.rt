@@ -1,6 +1,7 @@
 //! What one function costs, without memory.
 
-ghost use Rattle.std.specs.Prelude.{◌≡◌, ◌+◌, map, option_map, option_copied, slice_get, sum, Some, take, false};
+ghost use Rattle.std.specs.Prelude.{◌≡◌, ◌+◌, min, map, option_map, option_copied, slice_get, sum, Some, take, false};
+ghost use Rattle.p10_base.specs.declared.report.TheConstants.Limit.{MOST_SUM};
 ghost use Rattle.p10_core.specs.Typed.{statements_list, statements_of_list};
 ghost use Rattle.p10_core.specs.Views.{plain_program, plain_value, plain_statement, plain_statements, plain_function, plain_variable};
 ghost use Rattle.p10_core.specs.WholePrograms.{AreWholeStructures, IsWholeProgram};
@@ -31,6 +32,19 @@ pub fn sum_of(program: &Program<'_>, certificate: &Cert, function: u32) -> Resul
     ensures { result ≡ limited (sum_at (plain_program program.now) (claims_of certificate.now).funcs function) }
 {
     limited_sum(program, certificate.funcs.as_slice(), function as usize)
+}
+
+/// What the function with a number costs, as [`sum_of`] has it, where each sum over 10^18 counts as 10^18 + 1. It takes no memory.
+#[tactic(auto, unfolding(crate::specs::private::Totals::capped_sum, crate::specs::private::Tallies::capped))]
+pub fn capped_sum_of(program: &Program<'_>, certificate: &Cert, function: usize) -> FuncSum
+    requires program { IsWholeProgram (plain_program program.now) }
+    ensures steps { result.steps ≡ min (sum_at (plain_program program.now) (claims_of certificate.now).funcs function).steps (MOST_SUM + 1) }
+    ensures calls { result.calls ≡ min (sum_at (plain_program program.now) (claims_of certificate.now).funcs function).calls (MOST_SUM + 1) }
+    ensures bytes { result.bytes ≡ min (sum_at (plain_program program.now) (claims_of certificate.now).funcs function).bytes (MOST_SUM + 1) }
+    ensures alloc { result.alloc ≡ (sum_at (plain_program program.now) (claims_of certificate.now).funcs function).alloc }
+    ensures turn { result.turn ≡ min (sum_at (plain_program program.now) (claims_of certificate.now).funcs function).turn (MOST_SUM + 1) }
+{
+    sum_at(program, certificate.funcs.as_slice(), function)
 }
 
 /// What the function with a number costs, or M9.

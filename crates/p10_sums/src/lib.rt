@@ -1,6 +1,7 @@
 //! What functions cost under a certificate's claims: steps, nested calls, bytes of frames, and whether they allocate or free.
 //!
-//! Entry points: [`sums`] for all functions of a program; [`sum_of`] for one, without memory. So a function
+//! Entry points: [`sums`] for all functions of a program; [`sum_of`] for one, without memory, and [`capped_sum_of`], which says
+//! which of its sums is over the limit. So a function
 //! `int f(int n) { return n + 1; }` has 5 steps, 1 call and 4 bytes: its entry, the `return`, the operator, the read and
 //! the constant.
 //! The definitions in `specs/` have a line for each row of the table of steps (`Costs.antt`), and know no limit; numbers are
@@ -21,5 +22,5 @@ mod values;
 mod widths;
 
 pub use counted::sums;
-pub use functions::sum_of;
+pub use functions::{capped_sum_of, sum_of};
 pub use sum::{FuncSum, SumFault, Sums};
