@@ -1,0 +1,4 @@
+-- How the code comes to what the public definitions say.
+pub mod Firsts
+pub mod Shortfalls
+pub mod Ranked
