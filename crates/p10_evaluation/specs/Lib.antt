@@ -1,0 +1,3 @@
+-- The definitions that the contracts of this crate cite, each on those above it.
+pub mod Claimed
+pub mod Laws
