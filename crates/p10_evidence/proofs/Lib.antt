@@ -1,0 +1,3 @@
+pub mod LoopSearch
+pub mod Trials
+pub mod Standing
