@@ -1,0 +1,22 @@
+-- Lemmas, by subject.
+pub mod Computed
+pub mod Alone
+pub mod SmallAnswers
+pub mod Filling
+pub mod Trying
+pub mod Turning
+pub mod LoopForms
+pub mod BlockForms
+pub mod Judging
+pub mod Lacking
+pub mod Called
+pub mod SameValues
+pub mod SamePasses
+pub mod SameLoops
+pub mod OneResult
+pub mod SameCosts
+pub mod SteadyCosts
+pub mod ViolationOrder
+pub mod OneClaims
+pub mod OneAnswer
+pub mod SameBounds

@@ -1,0 +1,4 @@
+-- What only the clauses of private functions cite: how the code comes to what is promised.
+pub mod Trying
+pub mod Looking
+pub mod Judging

@@ -1,0 +1,44 @@
+//! Bounds for a program: what a certificate can claim of its loops and functions without being told.
+//!
+//! ```c
+//! int main(void) {
+//!     int s = 0;
+//!     for (uint8_t i = 0; i < 10; i++) {     // loop 0 up 1 10 turns 10
+//!         s += 2;
+//!     }
+//!     return s;                              // steps 121, 1 call, 5 bytes
+//! }
+//! ```
+//!
+//! Entry points: [`bound_rules`], the violations for which a program has no certificate; [`function_found`], the loops and the result of
+//! one function; and [`candidates`], the ranks that are tried for a loop.
+//!
+//! The definitions stand in `specs/`: which ranks a loop's guard offers (`Candidates.antt`), which of them stands by itself
+//! (`Trials.antt`), the walk that finds the claims of a function's loops in text order (`Loops.antt`), what is claimed of functions
+//! (`Functions.antt`), and what is answered of a program: violations, a limit, or one certificate (`Answers.antt`). What they say
+//! of small programs is proved by computation ([`laws`]).
+//! That a certificate which is found bounds every run is left to the crates that check certificates.
+#![tactic(auto)]
+
+mod changing;
+mod claims;
+mod course;
+mod entering;
+mod entry;
+mod functions;
+mod guard;
+pub mod laws;
+mod order;
+mod results;
+mod rounds;
+mod search;
+mod standing;
+mod trial;
+mod violations;
+mod walk;
+
+pub use entry::LoopEntry;
+pub use functions::{FunctionFound, any_value, function_found};
+pub use guard::{Candidate, candidates};
+pub use search::LoopsFound;
+pub use violations::bound_rules;
