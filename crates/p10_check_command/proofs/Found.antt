@@ -5,21 +5,26 @@ use Rattle.std.specs.List.{Contains, dedup}
 use Rattle.std.specs.List.Sorted.{IsSorted}
 use Rattle.std.proofs.lemmas.List.Elements.{Contains-append_cases, Contains-append_left, Contains-append_right}
 use Rattle.p10_base.specs.declared.at.At.{At}
+use Rattle.p10_base.specs.declared.span.Span.{Span}
+use Rattle.p10_base.specs.declared.report.Sub.{Sub}
 use Rattle.p10_base.specs.declared.report.Violation.{Violation}
 use Rattle.p10_base.specs.Gathered.{Gathered}
 use Rattle.p10_base.specs.Order.{violation_cmp}
 use Rattle.p10_syn.specs.Trees.{External}
 use Rattle.p10_core.specs.Typed.{PlainProgram}
+use Rattle.p10_cert.specs.Claims.{Claims}
 use Rattle.p10_front.specs.declared.reading.Reading.{Reading}
 use Rattle.p10_front.specs.Answers.{reading_of, trees_of, typed_of}
 use Rattle.p10_front.specs.Readings.{PlainReading, Reads}
 use Rattle.p10_pprules.specs.Violations as directives
 use Rattle.p10_pprules.proofs.Ordered.{same, strictly_sorted, still_exact}
 use Rattle.p10_userules.specs.Violations as uses
-use Rattle.p10_flowrules.specs.FlowRows as flow
+use Rattle.p10_flowrules.specs.FlowRows.{ViolatesFlow}
+use Rattle.p10_finder.specs.Answers.{HasViolations, HaveResults, LacksBoundAt, ViolatesBounds, no_bound, flow}
+use Rattle.p10_finder.specs.Laws.{SameLoopsLackBounds}
 use Rattle.p10_warn.specs.Violations as warnings
 use Rattle.p10_check_command.specs.declared.report.Report.{Report}
-use Rattle.p10_check_command.specs.Reports.{AreViolations, IsReport, BreaksProgramRow, by_flow, by_use, by_warning, IsReported, in_directives, in_trees, in_program}
+use Rattle.p10_check_command.specs.Reports.{AreViolations, IsReport, BreaksProgramRow, by_flow, by_bound, by_use, by_warning, IsReported, in_directives, in_trees, in_program}
 use Rattle.p10_check_command.specs.private.Telling.{BreaksRowOfSome, BreaksTreeRow}
 use Rattle.p10_check_command.proofs.DirectiveRows.{violates_there}
 
@@ -46,17 +51,24 @@ joined xs ys ys' zs zs' all is second third = is ∙ ap (λ l. (xs ++ l) ++ zs')
 
 -- ## Programs
 
-pub program_rows : (p : PlainProgram) (flows used warned all : List Violation) → all ≡ (flows ++ used) ++ warned → ((v : Violation) → Contains flows v ↔ flow.ViolatesFlow p v.sub v.span)
+-- 1.3, 2.1, 2.2 and 3.1
+bound_rows : (p : PlainProgram) (c : Claims) (v : Violation) (sub : Sub) (span : Span) → HaveResults p c → v.sub ≡ sub → v.span ≡ span → ViolatesBounds p c sub span → BreaksProgramRow p v
+bound_rows p c v sub span right sub_is span_is (no_bound at lacks) = by_bound c right (subst (λ s. LacksBoundAt p c s) (sym span_is) lacks) sub_is
+bound_rows p c v sub span right sub_is span_is (flow row at breaks) = by_flow (subst (λ s. ViolatesFlow p s v.span) (sym sub_is) (subst (λ s. ViolatesFlow p row s) (sym span_is) breaks))
+
+pub program_rows : (p : PlainProgram) (bounds used warned all : List Violation) → all ≡ (bounds ++ used) ++ warned → SameLoopsLackBounds → HasViolations p bounds
     → ((v : Violation) → Contains used v ↔ uses.Violates p v.sub v.span) → ((v : Violation) → Contains warned v ↔ warnings.Violates p v.sub v.span) → (v : Violation) → Contains all v ↔ BreaksProgramRow p v
-program_rows p flows used warned all is flows_are used_are warned_are v = (λ held. stands (in_three flows used warned all v is held), λ breaks. of_three flows used warned all v is (listed breaks))
+program_rows p bounds used warned all is same_loops has used_are warned_are v = (λ held. stands (in_three bounds used warned all v is held), λ breaks. of_three bounds used warned all v is (listed breaks))
   where
-    stands : Contains flows v ⊎ (Contains used v ⊎ Contains warned v) → BreaksProgramRow p v
-    stands (inl held) = by_flow ((flows_are v).0 held)
+    stands : Contains bounds v ⊎ (Contains used v ⊎ Contains warned v) → BreaksProgramRow p v
+    stands (inl held) = bound_rows p has.claims v v.sub v.span has.right refl refl ((has.all.exact v).0 held)
     stands (inr (inl held)) = by_use ((used_are v).0 held)
     stands (inr (inr held)) = by_warning ((warned_are v).0 held)
 
-    listed : BreaksProgramRow p v → Contains flows v ⊎ (Contains used v ⊎ Contains warned v)
-    listed (by_flow breaks) = inl ((flows_are v).1 breaks)
+    listed : BreaksProgramRow p v → Contains bounds v ⊎ (Contains used v ⊎ Contains warned v)
+    listed (by_flow breaks) = inl ((has.all.exact v).1 (flow v.sub v.span breaks))
+    listed (by_bound c right lacks is) =
+        inl ((has.all.exact v).1 (subst (λ s. ViolatesBounds p has.claims s v.span) (sym is) (no_bound v.span (same_loops p c has.claims v.span right has.right lacks))))
     listed (by_use breaks) = inr (inl ((used_are v).1 breaks))
     listed (by_warning breaks) = inr (inr ((warned_are v).1 breaks))
 

@@ -9,6 +9,7 @@ use Rattle.p10_base.specs.Gathered.{Gathered}
 use Rattle.p10_base.specs.Order.{violation_cmp}
 use Rattle.p10_syn.specs.Trees.{External}
 use Rattle.p10_core.specs.Typed.{PlainProgram}
+use Rattle.p10_cert.specs.Claims.{Claims}
 use Rattle.p10_expand.specs.declared.expanded.Obeyed.{Obeyed as ObeyedLine}
 use Rattle.p10_expand.specs.Plain.{PlainObeyed, plain_obeyed}
 use Rattle.p10_front.specs.Readings.{PlainReading, Reads}
@@ -16,6 +17,7 @@ use Rattle.p10_pprules.specs.Violations as directives
 use Rattle.p10_synrules.specs.Violations as trees
 use Rattle.p10_userules.specs.Violations as uses
 use Rattle.p10_flowrules.specs.FlowRows as flow
+use Rattle.p10_finder.specs.Answers.{HaveResults, LacksBoundAt, bound_row}
 use Rattle.p10_warn.specs.Violations as warnings
 use Rattle.p10_check_command.specs.declared.report.Report.{Report}
 
@@ -29,6 +31,8 @@ pub record BreaksDirectiveRow (lines : List PlainObeyed) (v : Violation) : Type 
 pub data BreaksProgramRow (p : PlainProgram) (v : Violation) : Type 0 where
   -- 1.3, 2.2 and 3.1: calls, the task loop, and allocation
   by_flow : flow.ViolatesFlow p v.sub v.span → BreaksProgramRow p v
+  -- 2.1: a loop other than the task loop of which no bound is found, where of each function the result is claimed that is found
+  by_bound : (c : Claims) → HaveResults p c → LacksBoundAt p c v.span → v.sub ≡ bound_row → BreaksProgramRow p v
   -- 6.1 to 7.2: how objects and results are used
   by_use : uses.Violates p v.sub v.span → BreaksProgramRow p v
   -- 10.1 to 10.8: what compilers warn of

@@ -10,7 +10,8 @@ ghost use Rattle.p10_check_command.specs.private.Telling.{BreaksRowOfSome, Break
 
 use p10_base::{ListBuf, Sources, Violation};
 use p10_core::Program;
-use p10_flowrules::flow_rules;
+use p10_finder::bound_rules;
+use p10_finder::laws::same_loops_lack_bounds;
 use p10_front::Reading;
 use p10_pprules::pp_rules;
 use p10_syn::Unit;
@@ -81,7 +82,8 @@ fn in_program(alloc: Global, program: &Option<Program<'_>>) -> Result<Vec<Violat
 fn of_program(alloc: Global, program: &Program<'_>) -> Result<Vec<Violation>, AllocError>
     ensures { IfOk result (λ found. (v : Violation) → Contains found.items v ↔ BreaksProgramRow (plain_program program.now) v) }
 {
-    let mut found = flow_rules(alloc, program)?;
+    same_loops_lack_bounds();
+    let mut found = bound_rules(alloc, program)?;
     let uses = use_rules(alloc, program)?;
     found.extend_from_slice(uses.as_slice())?;
     let warned = warnings(alloc, program)?;

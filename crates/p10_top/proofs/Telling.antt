@@ -5,6 +5,15 @@ use Rattle.std.proofs.KnownBytes.{Appends-nil}
 use Rattle.p10_base.specs.Gathered.{Gathered}
 use Rattle.p10_base.specs.Words.{Text}
 use Rattle.p10_world.specs.Files.{Named}
+use Rattle.p10_base.specs.declared.report.Bounds.{Bounds}
+use Rattle.p10_core.specs.Typed.{PlainProgram}
+use Rattle.p10_core.specs.WholePrograms.{IsWholeProgram}
+use Rattle.p10_meaning.specs.Runs.{Within}
+use Rattle.p10_cert.specs.Claims.{Claims}
+use Rattle.p10_pass.specs.Passing as passing
+use Rattle.p10_check.specs.declared.verdict.Verdict.TheVariants as verdicts
+use Rattle.p10_check.specs.Conditions.{verdict_by}
+use Rattle.p10_soundness.specs.Laws.{CertificatesAcceptedByRangesBoundRuns}
 use Rattle.p10_report.specs.Stops.{StopsWithin}
 use Rattle.p10_report.proofs.Stopping.{TakesFront-stop}
 use Rattle.p10_command.specs.declared.trouble.Trouble.TheVariants.{Read, Memory}
@@ -13,7 +22,6 @@ use Rattle.p10_command.specs.declared.reading.Unread.TheVariants as reading
 use Rattle.p10_command.specs.Saying.{Saying}
 use Rattle.p10_command.specs.Seen.{Seen, SeenInput}
 use Rattle.p10_command.specs.Told.{Told, Stopped}
-use Rattle.p10_first.proofs.Costs.{accepted_is_within}
 use Rattle.p10_words.specs.declared.command.Command.{Command}
 use Rattle.p10_words.specs.declared.command.Command.TheVariants as command
 use Rattle.p10_words.specs.declared.command.Usage.{Usage}
@@ -25,9 +33,9 @@ use Rattle.p10_check_command.specs.Answers as check
 use Rattle.p10_run_command.specs.declared.command.RunCommand.{RunCommand}
 use Rattle.p10_run_command.specs.Answers as run
 use Rattle.p10_verify_command.specs.declared.answer.Answer.{Answer}
-use Rattle.p10_verify_command.specs.declared.answer.Answer.TheVariants.{Ungathered, AbsentCertificate, Unread, NotBuilt, CertificateTooLong, BadCertificate, Failing, Accepted, Trouble}
+use Rattle.p10_verify_command.specs.declared.answer.Answer.TheVariants.{Ungathered, AbsentCertificate, Unread, CertificateTooLong, BadCertificate, Failing, Accepted, Trouble}
 use Rattle.p10_verify_command.specs.Names.{Names}
-use Rattle.p10_verify_command.specs.Answers.{IsRight}
+use Rattle.p10_verify_command.specs.Answers.{HasVerdict, IsRight}
 use Rattle.p10_verify_command.specs.Told.{SaysRight, status_of}
 use Rattle.p10_top.specs.Headline.{BoundsRuns, Verified}
 use Rattle.p10_top.specs.Told.{MaySay, SaysFor, for_none, for_command, for_any}
@@ -99,46 +107,53 @@ unread_is_none usage.Memory status is zero = omega (arith, zero, is (λ six. ome
 
 -- ## The headline
 
-accepted : (files : List Named) (before after : ℕ) (names : Names) (g : Gathered) (answer : Answer) → status_of answer ≡ 0 → IsRight (record { held = Some files; faults_before = before; faults_after = after }) names g answer → BoundsRuns names files
-accepted files before after names g (Accepted bounds) zero (tokens, p, c, judges, accepts, total) = record {
+-- the bounds of a certificate that is accepted are its total
+bounds_are : (total bounds : Bounds) (first : Option passing.Failing) → verdicts.Accepted bounds ≡ verdict_by total first → bounds ≡ total
+bounds_are total bounds None is = cc
+bounds_are total bounds (Some e) is = absurd (cc)
+
+stays_within : CertificatesAcceptedByRangesBoundRuns → (p : PlainProgram) → IsWholeProgram p → (c : Claims) (bounds : Bounds) → HasVerdict p c (verdicts.Accepted bounds) → Within p c.total
+stays_within law p whole c bounds v = subst (λ (b : Bounds). Within p b) (bounds_are c.total bounds v.first v.is) (law p whole c bounds v)
+
+accepted : CertificatesAcceptedByRangesBoundRuns → (files : List Named) (before after : ℕ) (names : Names) (g : Gathered) (answer : Answer) → status_of answer ≡ 0 → IsRight (record { held = Some files; faults_before = before; faults_after = after }) names g answer → BoundsRuns names files
+accepted law files before after names g (Accepted bounds) zero (p, c, judges) = record {
   sources = g;
   gathers = judges.program.gathers;
-  tokens = tokens;
-  are_tokens = judges.program.cut;
+  reading = judges.program.is.reading;
   program = p;
-  spells = judges.program.spell;
+  read = judges.program.is.read;
+  whole = judges.program.is.whole;
   claims = c;
   certificate_given = judges.certificate.given;
   is_certificate = judges.is_certificate;
-  within = accepted_is_within p c accepts;
+  within = stays_within law p judges.program.is.whole c bounds judges.has_verdict;
 }
-accepted files before after names g (Failing k at) zero right = absurd (omega (arith, zero))
-accepted files before after names g (Ungathered (gathering.AbsentRoot place)) zero right = absurd (omega (arith, zero))
-accepted files before after names g (Ungathered (gathering.Refused refusal)) zero right = absurd (omega (arith, zero))
-accepted files before after names g (Ungathered (gathering.Over limit)) zero right = absurd (omega (arith, zero))
-accepted files before after names g AbsentCertificate zero right = absurd (omega (arith, zero))
-accepted files before after names g (Unread (reading.Refused refusal)) zero right = absurd (omega (arith, zero))
-accepted files before after names g (Unread (reading.Over limit)) zero right = absurd (omega (arith, zero))
-accepted files before after names g NotBuilt zero right = absurd (omega (arith, zero))
-accepted files before after names g CertificateTooLong zero right = absurd (omega (arith, zero))
-accepted files before after names g (BadCertificate line) zero right = absurd (omega (arith, zero))
-accepted files before after names g (Trouble Read) zero right = absurd (omega (arith, zero))
-accepted files before after names g (Trouble Memory) zero right = absurd (omega (arith, zero))
+accepted law files before after names g (Failing k at) zero right = absurd (omega (arith, zero))
+accepted law files before after names g (Ungathered (gathering.AbsentRoot place)) zero right = absurd (omega (arith, zero))
+accepted law files before after names g (Ungathered (gathering.Refused refusal)) zero right = absurd (omega (arith, zero))
+accepted law files before after names g (Ungathered (gathering.Over limit)) zero right = absurd (omega (arith, zero))
+accepted law files before after names g AbsentCertificate zero right = absurd (omega (arith, zero))
+accepted law files before after names g (Unread (reading.Refused refusal)) zero right = absurd (omega (arith, zero))
+accepted law files before after names g (Unread (reading.Over limit)) zero right = absurd (omega (arith, zero))
+accepted law files before after names g CertificateTooLong zero right = absurd (omega (arith, zero))
+accepted law files before after names g (BadCertificate line) zero right = absurd (omega (arith, zero))
+accepted law files before after names g (Trouble Read) zero right = absurd (omega (arith, zero))
+accepted law files before after names g (Trouble Memory) zero right = absurd (omega (arith, zero))
 
-says_zero : (files : List Named) (before after : ℕ) (names : Names) (saying : Saying) → SaysRight names (record { held = Some files; faults_before = before; faults_after = after }) saying → saying.status ≡ 0 → BoundsRuns names files
-says_zero files before after names saying says zero = accepted files before after names says.sources says.answer (ap (λ (s : Saying). s.status) (sym says.said) ∙ zero) says.is_right
+says_zero : CertificatesAcceptedByRangesBoundRuns → (files : List Named) (before after : ℕ) (names : Names) (saying : Saying) → SaysRight names (record { held = Some files; faults_before = before; faults_after = after }) saying → saying.status ≡ 0 → BoundsRuns names files
+says_zero law files before after names saying says zero = accepted law files before after names says.sources says.answer (ap (λ (s : Saying). s.status) (sym says.said) ∙ zero) says.is_right
 
 -- what is said with status 0 to `verify` is that its certificate is accepted
-by_line : (words : List Text) (files : List Named) (before after : ℕ) (input : SeenInput) (saying : Saying) → MaySay words (record { held = Some files; faults_before = before; faults_after = after }) input saying → saying.status ≡ 0 → Verified words files
-by_line words files before after input saying (for_none none said) zero names is = absurd (none (command.Verify names.directories names.certificate names.sources) is)
-by_line words files before after input saying (for_command c line says) zero names is =
-    says_zero files before after names saying
+by_line : CertificatesAcceptedByRangesBoundRuns → (words : List Text) (files : List Named) (before after : ℕ) (input : SeenInput) (saying : Saying) → MaySay words (record { held = Some files; faults_before = before; faults_after = after }) input saying → saying.status ≡ 0 → Verified words files
+by_line law words files before after input saying (for_none none said) zero names is = absurd (none (command.Verify names.directories names.certificate names.sources) is)
+by_line law words files before after input saying (for_command c line says) zero names is =
+    says_zero law files before after names saying
     (subst (λ (d : Command). SaysFor d (record { held = Some files; faults_before = before; faults_after = after }) input saying) (one_command words c (command.Verify names.directories names.certificate names.sources) line is) says) zero
-by_line words files before after input saying (for_any said) zero names is = absurd (omega (arith, ap (λ (s : Saying). s.status) said, zero))
+by_line law words files before after input saying (for_any said) zero names is = absurd (omega (arith, ap (λ (s : Saying). s.status) said, zero))
 
-pub verified : (held : Option (List Named)) (before after : ℕ) (words : List Text) (input : SeenInput) (out_old out_new err_old err_new : Option (List ℕ)) (status : ℕ) → (status ≢ 6 → Told (MaySay words (record { held = held; faults_before = before; faults_after = after }) input) out_old out_new err_old err_new status) →
+pub verified : CertificatesAcceptedByRangesBoundRuns → (held : Option (List Named)) (before after : ℕ) (words : List Text) (input : SeenInput) (out_old out_new err_old err_new : Option (List ℕ)) (status : ℕ) → (status ≢ 6 → Told (MaySay words (record { held = held; faults_before = before; faults_after = after }) input) out_old out_new err_old err_new status) →
     status ≡ 0 → IfSome held (Verified words)
-verified None before after words input out_old out_new err_old err_new status told zero = tt
-verified (Some files) before after words input out_old out_new err_old err_new status told zero =
+verified law None before after words input out_old out_new err_old err_new status told zero = tt
+verified law (Some files) before after words input out_old out_new err_old err_new status told zero =
     let t = told (λ six. omega (arith, zero, six)) in
-    by_line words files before after input t.saying t.may (sym t.status_is ∙ zero)
+    by_line law words files before after input t.saying t.may (sym t.status_is ∙ zero)

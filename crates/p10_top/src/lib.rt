@@ -18,6 +18,7 @@ ghost use Rattle.p10_top.specs.private.Unread.{saying_without_command};
 use p10_check_command::{CheckCommand, check};
 use p10_report::{put_out_of_memory, put_usage};
 use p10_run_command::{RunCommand, run};
+use p10_soundness::laws::accepted_certificates_bound_every_run;
 use p10_verify_command::{VerifyCommand, verify};
 use p10_words::{Command, Usage, read_words};
 use p10_world::{Files, Sink, Source};
@@ -50,7 +51,7 @@ pub fn p10_main<F: Files, I: Source, O: Sink, E: Sink>(
     out: &mut O,
     err: &mut E,
 ) -> u8
-    // An accepted certificate bounds every run of the source's program.
+    // An accepted certificate bounds every run of the sources' program.
     ensures headline { result ≡ 0 → IfSome (F.held files.old) (Verified (map string_bytes words.now)) }
 
     // The status and both texts are those of a right answer.
@@ -70,6 +71,8 @@ pub fn p10_main<F: Files, I: Source, O: Sink, E: Sink>(
     ensures held { F.held files.new ≡ F.held files.old }
     ensures input { IsNoRunLine (map string_bytes words.now) → input.new ≡ input.old }
 {
+    // The law that the headline rests on.
+    accepted_certificates_bound_every_run();
     match read_words(alloc, words) {
         Ok(command) => obey(alloc, command, files, input, out, err),
         Err(fault) => tell_unread(fault, err),

@@ -12,14 +12,17 @@ use Rattle.p10_command.specs.declared.gathering.Ungathered as why
 use Rattle.p10_command.specs.declared.trouble.Trouble as problem
 use Rattle.p10_command.specs.declared.trouble.Trouble.TheVariants.{Read, Memory}
 use Rattle.p10_command.specs.Gathering.{AreGathered}
-use Rattle.p10_first.specs.Certificate.{certificate_text}
+use Rattle.p10_core.specs.Typed.{PlainProgram}
+use Rattle.p10_cert.specs.Certificate.{certificate_text}
+use Rattle.p10_check.specs.declared.verdict.Verdict.{Verdict}
+use Rattle.p10_check.specs.declared.verdict.Verdict.TheVariants as verdicts
 use Rattle.p10_verify_command.specs.declared.answer.Answer.{Answer}
-use Rattle.p10_verify_command.specs.declared.answer.Answer.TheVariants.{Ungathered, AbsentCertificate, Unread, NotBuilt, CertificateTooLong, BadCertificate, Failing, Accepted, Trouble}
+use Rattle.p10_verify_command.specs.declared.answer.Answer.TheVariants.{Ungathered, AbsentCertificate, Unread, CertificateTooLong, BadCertificate, Failing, Accepted, Trouble}
 use Rattle.p10_verify_command.specs.Names.{Names}
 use Rattle.p10_verify_command.specs.Loading.{Gives, IsHeld, IsLonger}
-use Rattle.p10_verify_command.specs.Answers.{HasCertificate, setting_of, certificate_limit}
+use Rattle.p10_verify_command.specs.Answers.{HasCertificate, HaveProgram, Judges, setting_of, certificate_limit}
 use Rattle.p10_verify_command.specs.private.Deciding.{Answered, IsFront, Decides}
-use Rattle.p10_verify_command.specs.private.Judging.{IsJudged}
+use Rattle.p10_verify_command.specs.private.Judging.{IsClaimed, IsJudged}
 
 -- ## Files up to a limit
 
@@ -79,28 +82,29 @@ has_certificate held names bytes wanted front short same =
     let given : HasCertificate held names bytes = record { given = is_short held names.certificate certificate_limit bytes front short; short = short } in
     subst (λ (b : List ℕ). HasCertificate held names b) same given
 
+judges_by : (held : Option (List Named)) (names : Names) (g : Gathered) (p : PlainProgram) (bytes : List ℕ) (v : Verdict) → Gathers (setting_of held names) g → IsFront held names.certificate certificate_limit bytes → HaveProgram g p →
+    (claimed : IsClaimed p bytes v) → Judges held names g p claimed.claims v
+judges_by held names g p bytes v gathers front have claimed = record {
+  program = record { gathers = gathers; is = have };
+  certificate = has_certificate held names bytes (certificate_text claimed.claims) front claimed.short claimed.text_is;
+  is_certificate = claimed.is_certificate;
+  has_verdict = claimed.has;
+}
+
 judged_by : (held : Option (List Named)) (names : Names) (g : Gathered) (bytes : List ℕ) (answer : Answer) → Gathers (setting_of held names) g → IsFront held names.certificate certificate_limit bytes → IsJudged g bytes answer → Decides held names g answer
-judged_by held names g bytes NotBuilt gathers front none =
-    record { is_right = (gathers, is_held held names.certificate certificate_limit bytes front, none); can_be_told = tt }
 judged_by held names g bytes (Unread u) gathers front unread =
     record { is_right = (gathers, is_held held names.certificate certificate_limit bytes front, unread.0); can_be_told = unread.1 }
-judged_by held names g bytes CertificateTooLong gathers front (words, root, (p, spell, long)) =
-    record { is_right = (words, p, record { gathers = gathers; cut = root; spell = spell }, is_long held names.certificate certificate_limit bytes front long); can_be_told = tt }
-judged_by held names g bytes (BadCertificate line) gathers front (words, root, (p, spell, (short, wrong))) =
-    record { is_right = (words, p, bytes, record { gathers = gathers; cut = root; spell = spell }, has_certificate held names bytes bytes front short refl, wrong); can_be_told = tt }
-judged_by held names g bytes (Failing k at) gathers front (words, root, (p, spell, (c, short, text_is, is_certificate, fails, at_is))) =
-    record {
-      is_right = (words, p, c, record { program = record { gathers = gathers; cut = root; spell = spell }; certificate = has_certificate held names bytes (certificate_text c) front short text_is; is_certificate = is_certificate }, fails, at_is);
-      can_be_told = tt;
-    }
-judged_by held names g bytes (Accepted bounds) gathers front (words, root, (p, spell, (c, short, text_is, is_certificate, accepts, total))) =
-    record {
-      is_right = (words, p, c, record { program = record { gathers = gathers; cut = root; spell = spell }; certificate = has_certificate held names bytes (certificate_text c) front short text_is; is_certificate = is_certificate }, accepts, total);
-      can_be_told = tt;
-    }
-judged_by held names g bytes (Ungathered u) gathers front (words, root, are) = absurd are.2
-judged_by held names g bytes AbsentCertificate gathers front (words, root, are) = absurd are.2
-judged_by held names g bytes (Trouble trouble) gathers front (words, root, are) = absurd are.2
+judged_by held names g bytes CertificateTooLong gathers front (p, have, long) =
+    record { is_right = (p, record { gathers = gathers; is = have }, is_long held names.certificate certificate_limit bytes front long); can_be_told = tt }
+judged_by held names g bytes (BadCertificate line) gathers front (p, have, (short, wrong)) =
+    record { is_right = (p, bytes, record { gathers = gathers; is = have }, has_certificate held names bytes bytes front short refl, wrong); can_be_told = tt }
+judged_by held names g bytes (Failing k at) gathers front (p, have, claimed) =
+    record { is_right = (p, claimed.claims, judges_by held names g p bytes (verdicts.Refused k at) gathers front have claimed); can_be_told = tt }
+judged_by held names g bytes (Accepted bounds) gathers front (p, have, claimed) =
+    record { is_right = (p, claimed.claims, judges_by held names g p bytes (verdicts.Accepted bounds) gathers front have claimed); can_be_told = tt }
+judged_by held names g bytes (Ungathered u) gathers front (p, have, none) = absurd none
+judged_by held names g bytes AbsentCertificate gathers front (p, have, none) = absurd none
+judged_by held names g bytes (Trouble trouble) gathers front (p, have, none) = absurd none
 
 pub decides_judged : (held later : Option (List Named)) (names : Names) (g : Gathered) (bytes read : List ℕ) (answer : Answer) → Gathers (setting_of held names) g → later ≡ held → IsFront later names.certificate certificate_limit bytes → read ≡ bytes →
     IsJudged g read answer → Decides held names g answer
@@ -116,7 +120,6 @@ pub seen_later : (held : Option (List Named)) (before after : ℕ) (names : Name
 seen_later held before after names g (Ungathered u) decides = record { is_right = decides.is_right; can_be_told = decides.can_be_told }
 seen_later held before after names g AbsentCertificate decides = record { is_right = decides.is_right; can_be_told = decides.can_be_told }
 seen_later held before after names g (Unread u) decides = record { is_right = decides.is_right; can_be_told = decides.can_be_told }
-seen_later held before after names g NotBuilt decides = record { is_right = decides.is_right; can_be_told = decides.can_be_told }
 seen_later held before after names g CertificateTooLong decides = record { is_right = decides.is_right; can_be_told = decides.can_be_told }
 seen_later held before after names g (BadCertificate line) decides = record { is_right = decides.is_right; can_be_told = decides.can_be_told }
 seen_later held before after names g (Failing k at) decides = record { is_right = decides.is_right; can_be_told = decides.can_be_told }

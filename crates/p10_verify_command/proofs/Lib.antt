@@ -1,5 +1,5 @@
 -- The lemmas of this crate, by subject.
-pub mod Sources
+pub mod Judging
 pub mod Deciding
 pub mod Answering
 pub mod OneAnswer

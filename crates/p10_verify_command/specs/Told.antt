@@ -1,18 +1,13 @@
 -- What is said for an answer: the status of the program, and the texts on its two outputs.
 use Rattle.std.specs.Prelude.{ℕ, ◌≡◌, List, []}
-use Rattle.p10_base.specs.Codes.{subset_refusal}
-use Rattle.p10_base.specs.declared.codes.SubsetCode.TheVariants as code
-use Rattle.p10_base.specs.declared.report.Refusal.{Refusal}
 use Rattle.p10_base.specs.declared.report.TheConstants.Limit.{CERTIFICATE_BYTES}
-use Rattle.p10_base.specs.declared.span.Span.{Span}
 use Rattle.p10_base.specs.Gathered.{Gathered}
-use Rattle.p10_report.specs.Lines.{accepted_line, failing_line, limit_line, refusal_line}
+use Rattle.p10_report.specs.Lines.{accepted_line, failing_line, limit_line}
 use Rattle.p10_report.specs.Messages.{absent_line, bad_certificate_line}
 use Rattle.p10_command.specs.Saying.{Saying, ungathered_line, ungathered_status, unread_line, unread_status, trouble_line, trouble_status}
 use Rattle.p10_command.specs.Seen.{Seen}
-use Rattle.p10_first.specs.Conditions.{number_of_condition}
 use Rattle.p10_verify_command.specs.declared.answer.Answer.{Answer}
-use Rattle.p10_verify_command.specs.declared.answer.Answer.TheVariants.{Ungathered, AbsentCertificate, Unread, NotBuilt, CertificateTooLong, BadCertificate, Failing, Accepted, Trouble}
+use Rattle.p10_verify_command.specs.declared.answer.Answer.TheVariants.{Ungathered, AbsentCertificate, Unread, CertificateTooLong, BadCertificate, Failing, Accepted, Trouble}
 use Rattle.p10_verify_command.specs.Names.{Names}
 use Rattle.p10_verify_command.specs.Answers.{IsRight}
 
@@ -21,24 +16,15 @@ abbrev pub status_of : Answer → ℕ
 status_of (Ungathered why) = ungathered_status why
 status_of AbsentCertificate = 9
 status_of (Unread why) = unread_status why
-status_of NotBuilt = 3
 status_of CertificateTooLong = 8
 status_of (BadCertificate line) = 4
 status_of (Failing k at) = 1
 status_of (Accepted bounds) = 0
 status_of (Trouble trouble) = trouble_status trouble
 
--- the place of sources that are no program that can be verified yet: the beginning of the first root
-abbrev pub beginning : Span
-beginning = record { file = 0; start = 0; end = 0 }
-
--- the refusal S0 of sources that are no program that can be verified yet
-abbrev pub not_built : Refusal
-not_built = subset_refusal code.NotBuilt beginning
-
 -- the text on the output, where the sources are these
 abbrev pub out_text : Gathered → Answer → List ℕ
-out_text sources (Failing k at) = failing_line sources (number_of_condition k) at
+out_text sources (Failing k at) = failing_line sources k at
 out_text sources (Accepted bounds) = accepted_line bounds
 out_text sources answer = []
 
@@ -47,7 +33,6 @@ abbrev pub err_text : Names → Gathered → Answer → List ℕ
 err_text names sources (Ungathered why) = ungathered_line names.sources sources why
 err_text names sources AbsentCertificate = absent_line names.certificate
 err_text names sources (Unread why) = unread_line sources why
-err_text names sources NotBuilt = refusal_line sources not_built
 err_text names sources CertificateTooLong = limit_line CERTIFICATE_BYTES
 err_text names sources (BadCertificate line) = bad_certificate_line line
 err_text names sources (Trouble trouble) = trouble_line trouble

@@ -4,7 +4,6 @@ ghost use Rattle.std.specs.Prelude.{◌≡◌};
 
 use p10_base::{Bounds, Span};
 use p10_command::{Trouble, Ungathered, Unread};
-use p10_first::Condition;
 
 /// An answer to `verify`, in the order in which they are tried; trouble may come before any.
 #[derive(Clone, Copy, Debug)]
@@ -15,14 +14,12 @@ pub enum Answer {
     AbsentCertificate,
     /// The sources are no program.
     Unread(Unread),
-    /// The sources are a program, but of no form that can be verified yet.
-    NotBuilt,
     /// The certificate is over its limit.
     CertificateTooLong,
     /// The text is no certificate's, from this line on.
     BadCertificate(u64),
-    /// A condition doesn't hold, and this is the first; it is reported at this place.
-    Failing(Condition, Span),
+    /// The condition with this number doesn't hold, and it is the first; it is reported at this place.
+    Failing(u8, Span),
     /// All conditions hold, and these are the bounds of every run.
     Accepted(Bounds),
     /// A read failed, or memory is wanting.
@@ -39,7 +36,6 @@ impl Answer {
         match self {
             Answer::Accepted(_) => 0,
             Answer::Failing(..) => 1,
-            Answer::NotBuilt => 3,
             Answer::BadCertificate(_) => 4,
             Answer::CertificateTooLong => 8,
             Answer::AbsentCertificate => 9,

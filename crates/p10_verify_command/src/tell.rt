@@ -9,19 +9,10 @@ ghost use Rattle.p10_verify_command.specs.private.Deciding.{CanBeTold};
 
 use crate::answer::Answer;
 use crate::command::VerifyCommand;
-use p10_base::{Limit, Refusal, Sources, Span, SubsetCode};
+use p10_base::{Limit, Sources};
 use p10_command::{put_trouble, put_ungathered, put_unread};
-use p10_report::{
-    put_absent, put_accepted, put_bad_certificate, put_failing, put_limit, put_refusal,
-};
+use p10_report::{put_absent, put_accepted, put_bad_certificate, put_failing, put_limit};
 use p10_world::{Sink, SinkFault};
-
-/// Where sources are refused that are no program that can be verified yet.
-const BEGINNING: Span = Span {
-    file: 0,
-    start: 0,
-    end: 0,
-};
 
 /// Writes both texts of an answer.
 ///
@@ -45,14 +36,9 @@ pub fn tell<O: Sink, E: Sink>(
         Answer::Ungathered(why) => put_ungathered(err, command.sources.as_slice(), sources, why),
         Answer::AbsentCertificate => put_absent(err, command.certificate.as_str()),
         Answer::Unread(why) => put_unread(err, sources, why),
-        Answer::NotBuilt => put_refusal(
-            err,
-            sources,
-            &Refusal::subset(SubsetCode::NotBuilt, BEGINNING),
-        ),
         Answer::CertificateTooLong => put_limit(err, Limit::CERTIFICATE_BYTES),
         Answer::BadCertificate(line) => put_bad_certificate(err, *line),
-        Answer::Failing(condition, at) => put_failing(out, sources, condition.number(), *at),
+        Answer::Failing(condition, at) => put_failing(out, sources, *condition, *at),
         Answer::Accepted(bounds) => put_accepted(out, bounds),
         Answer::Trouble(trouble) => put_trouble(err, *trouble),
     }

@@ -1,5 +1,0 @@
-use Rattle.p10_first.proofs.Timed as lemma
-use Rattle.p10_first.proofs.laws.steps_change_no_stop.Goals as goal
-
-pub returns : goal.returns
-returns c = lemma.steps_change_no_stop
