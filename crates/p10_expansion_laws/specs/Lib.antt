@@ -2,3 +2,5 @@
 pub mod Groups
 pub mod Chosen
 pub mod Samples
+pub mod Existing
+pub mod Staying
