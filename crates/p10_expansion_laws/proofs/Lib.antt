@@ -1,4 +1,4 @@
--- Lemmas by subject: which lines are obeyed; what there is; which names stay.
+-- Lemmas by subject: which lines are obeyed; what there is; which names stay; where words stand.
 pub mod Standing
 pub mod Marks
 pub mod Unbroken
@@ -13,3 +13,4 @@ pub mod FilesThere
 pub mod Slots
 pub mod GatheringEnds
 pub mod Staying
+pub mod Placed

@@ -4,3 +4,4 @@ pub mod Chosen
 pub mod Samples
 pub mod Existing
 pub mod Staying
+pub mod Placed

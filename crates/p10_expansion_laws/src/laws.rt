@@ -2,6 +2,7 @@
 
 ghost use Rattle.p10_expansion_laws.specs.Chosen.{FilesGiveChosenGroups};
 ghost use Rattle.p10_expansion_laws.specs.Existing.{GatheringEnds, ProgramsExpand, WordsEnd};
+ghost use Rattle.p10_expansion_laws.specs.Placed.{WordsStandAtUses};
 ghost use Rattle.p10_expansion_laws.specs.Samples.{SmallConditionalsByHand};
 ghost use Rattle.p10_expansion_laws.specs.Staying.{NamesStayUncalled};
 
@@ -36,4 +37,10 @@ pub fn gathering_ends()
 /// Where the name of a function-like macro is left by a replacement, no `(` followed it when it was met (C99 6.10.3p10).
 pub fn names_stay_uncalled()
     ensures { NamesStayUncalled }
+{}
+
+/// Each word of the replacement of a run of words is one of the run, or stands at the place of an outermost use: of a name in the
+/// run that began a use when it was met.
+pub fn words_stand_at_uses()
+    ensures { WordsStandAtUses }
 {}
