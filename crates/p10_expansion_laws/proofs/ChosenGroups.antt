@@ -14,8 +14,8 @@ use Rattle.p10_expand.specs.Skips.{is_obeyed, stand_behind, stand_of_group, stan
 use Rattle.p10_expand.specs.Conditionals.{Judged, Holds, Fails, Exceeds, is_defined, refusal_of}
 use Rattle.p10_expand.specs.Obeying.{State, Ended, Goes, Refuses, Passes, Next, On, Enter, End, File, listed, passed, breaks_at, judged_next, ConditionGives, Does, Acts, ObeyedGives, LineGives}
 use Rattle.p10_expand.specs.Expands.{Layout, GoesOn, Follows, LinesGive, IncludeGives}
-use Rattle.p10_expansion_laws.specs.Groups.{PassedLine, Groups, open_behind, open_after}
-use Rattle.p10_expansion_laws.specs.Chosen.{holds, passed_line, LineGivesAfter, LinesGiveAfter, FilesGiveChosenGroups}
+use Rattle.p10_expansion_laws.specs.Groups.{PassedLine, Groups, open_after_line, open_after}
+use Rattle.p10_expansion_laws.specs.Chosen.{condition_holds, passed_line, LineGivesAfter, LinesGiveAfter, FilesGiveChosenGroups}
 use Rattle.p10_expansion_laws.proofs.Standing.{Agrees, Belongs, obeyed_alike, skipped_on, opens_on, elif_on, else_on, closes_on, plain_on, plain_skipped}
 use Rattle.p10_expansion_laws.proofs.Marks.{mark_of_directive, mark_is}
 use Rattle.p10_expansion_laws.proofs.Unbroken.{Unbroken, unbroken_first, Passed, passed_on, text_passed, if_true, if_false}
@@ -43,15 +43,15 @@ match_no P false e q = q
 
 -- in both ways the same comes of a line with this mark, and what stands behind it agrees with the open conditionals
 abbrev Alike : Mark → List Groups → Next → Next → Type 0
-Alike part open' (On stand s) (On other t) = (s ≡ t) × Agrees (open_behind part (holds other) open') stand
-Alike part open' (Enter number built_in s) other = (other ≡ Enter number built_in s) × Agrees (open_behind part true open') Obeyed
+Alike part open' (On stand s) (On other t) = (s ≡ t) × Agrees (open_after_line part (condition_holds other) open') stand
+Alike part open' (Enter number built_in s) other = (other ≡ Enter number built_in s) × Agrees (open_after_line part true open') Obeyed
 Alike part open' (End ended) other = other ≡ End ended
 Alike part open' _ _ = ⊥
 
 -- what stands behind a line agrees with the open conditionals
 abbrev Settles : Mark → List Groups → Next → Type 0
-Settles part open' (On stand s) = Agrees (open_behind part (holds stand) open') stand
-Settles part open' (Enter number built_in s) = Agrees (open_behind part true open') Obeyed
+Settles part open' (On stand s) = Agrees (open_after_line part (condition_holds stand) open') stand
+Settles part open' (Enter number built_in s) = Agrees (open_after_line part true open') Obeyed
 Settles part open' (End ended) = Unit {0}
 
 alike : (part : Mark) (open' : List Groups) (next : Next) → Settles part open' next → Alike part open' next next
@@ -75,12 +75,12 @@ record Known (part : Mark) (open' : List Groups) (stand : Stand) : Type 0 where
   belongs : Belongs part open'
   obeyed : is_obeyed stand part ≡ true
 
-judged_settles : (part : Mark) (open' : List Groups) (s : State) (judged : Judged) → ((truth : Bool) → Agrees (open_behind part (holds (stand_of_group truth)) open') (stand_of_group truth)) → Settles part open' (judged_next s judged)
+judged_settles : (part : Mark) (open' : List Groups) (s : State) (judged : Judged) → ((truth : Bool) → Agrees (open_after_line part (condition_holds (stand_of_group truth)) open') (stand_of_group truth)) → Settles part open' (judged_next s judged)
 judged_settles part open' s (Holds truth left) each = each truth
 judged_settles part open' s (Fails refusal) each = tt
 judged_settles part open' s Exceeds each = tt
 
-condition_settles : (digits : Digits) (part : Mark) (open' : List Groups) (line condition : List Word) (s : State) (next : Next) → ((truth : Bool) → Agrees (open_behind part (holds (stand_of_group truth)) open') (stand_of_group truth)) →
+condition_settles : (digits : Digits) (part : Mark) (open' : List Groups) (line condition : List Word) (s : State) (next : Next) → ((truth : Bool) → Agrees (open_after_line part (condition_holds (stand_of_group truth)) open') (stand_of_group truth)) →
     ConditionGives digits line condition s next → Settles part open' next
 condition_settles digits part open' line condition s next each (judged, judges, is) = settles_is part open' next (judged_next s judged) is (judged_settles part open' s judged each)
 
@@ -224,7 +224,7 @@ module _ (g : Gathered) (digits : Digits) (file : File) (before : List PassedLin
       let other_is : passed file Obeyed (length before) line s ≡ On (stand_behind Obeyed part) s = if_false _ _ _ e in
       let x : Passed file before (DirectiveLine line) pieces = passed_on file before (DirectiveLine line) pieces unbroken e in
       let here : Alike part (open_after before) (On (stand_behind stand part) s) (On (stand_behind Obeyed part) s) =
-      (refl, skipped_on (open_after before) stand part agrees x.belongs skipped (holds (stand_behind Obeyed part))) in
+      (refl, skipped_on (open_after before) stand part agrees x.belongs skipped (condition_holds (stand_behind Obeyed part))) in
       record {
         to = λ next p. (On (stand_behind Obeyed part) s, sym other_is, subst (λ next. Alike part (open_after before) next (On (stand_behind Obeyed part) s)) (sym (p ∙ is)) here, reached x next);
         from = λ other q. (On (stand_behind stand part) s, sym is, subst (λ other. Alike part (open_after before) (On (stand_behind stand part) s) other) (sym (q ∙ other_is)) here, x);
@@ -294,7 +294,7 @@ module _ (g : Gathered) (layout : Layout) (more : ℕ) (file : File) where
       Follows (IncludeGives g layout more) (λ stand s ended. LinesGive g layout (IncludeGives g layout more) file stand (suc (length before)) pieces s ended) next ended →
       Follows (IncludeGives g layout more) (λ stand s ended. ByLines (passed_line piece stand ∷ before) pieces s ended) other ended
   follow_to before piece pieces (On stand s) (On after t) ended (e, agrees) x each p =
-      each (passed_line piece after) stand t ended agrees (x.next (holds after)) (subst (λ s. ByStand stand (passed_line piece after ∷ before) pieces s ended) e p)
+      each (passed_line piece after) stand t ended agrees (x.next (condition_holds after)) (subst (λ s. ByStand stand (passed_line piece after ∷ before) pieces s ended) e p)
   follow_to before piece pieces (On stand s) (Enter number built_in t) ended p x each q = absurd p
   follow_to before piece pieces (On stand s) (End other) ended p x each q = absurd p
   follow_to before piece pieces (Enter number built_in s) other ended (e, agrees) x each (within, gives, goes) =
@@ -308,7 +308,7 @@ module _ (g : Gathered) (layout : Layout) (more : ℕ) (file : File) where
       Follows (IncludeGives g layout more) (λ stand s ended. ByLines (passed_line piece stand ∷ before) pieces s ended) other ended →
       Follows (IncludeGives g layout more) (λ stand s ended. LinesGive g layout (IncludeGives g layout more) file stand (suc (length before)) pieces s ended) next ended
   follow_from before piece pieces (On stand s) (On after t) ended (e, agrees) x each p =
-      subst (λ s. ByStand stand (passed_line piece after ∷ before) pieces s ended) (sym e) (each (passed_line piece after) stand t ended agrees (x.next (holds after)) p)
+      subst (λ s. ByStand stand (passed_line piece after ∷ before) pieces s ended) (sym e) (each (passed_line piece after) stand t ended agrees (x.next (condition_holds after)) p)
   follow_from before piece pieces (On stand s) (Enter number built_in t) ended p x each q = absurd p
   follow_from before piece pieces (On stand s) (End other) ended p x each q = absurd p
   follow_from before piece pieces (Enter number built_in s) other ended (e, agrees) x each p =

@@ -10,7 +10,7 @@ use Rattle.p10_macros.specs.Table.{Table, macro_named}
 use Rattle.p10_macros.specs.Uses.{Sourced, written, Arguments, Use, Stays, Wrong, Calls, opens, closes, separates, depth_behind, word_before, argument_before, arguments_in, fitting, fitted, called, use_as, use_by, use_of, given, replacement}
 use Rattle.p10_macros.specs.Endings.{Ending, Gives, Refused, TooMany, behind_word}
 use Rattle.p10_macros.specs.Ends.{Ends, EndsAll, Follows, no_words, word_stays, use_refused, use_replaced, replacement_made, replacement_too_long, values_refused, values_too_long}
-use Rattle.p10_expansion_laws.specs.Staying.{Comes, there, past_word, past_use}
+use Rattle.p10_expansion_laws.specs.Staying.{AreMet, there, past_word, past_use}
 use Rattle.p10_expansion_laws.specs.Placed.{IsOwn, IsAtUse, WordsStandAtUses}
 
 -- ## Words after a use
@@ -84,7 +84,7 @@ module _ (P : Sourced → Type 0) where
 
 -- ## Where replacement comes
 
-comes_on : {table : Table} {words those last : List Sourced} → Comes table words those → Comes table those last → Comes table words last
+comes_on : {table : Table} {words those last : List Sourced} → AreMet table words those → AreMet table those last → AreMet table words last
 comes_on there more = more
 comes_on (past_word is comes) more = past_word is (comes_on comes more)
 comes_on (past_use is ends comes) more = past_use is ends (comes_on comes more)
@@ -100,14 +100,14 @@ module _ (table : Table) (words : List Word) where
   AllPlaced TooMany = Unit {0}
 
   -- what a use of a placed name gives stands at the place of an outermost use
-  given_placed : (name : Sourced) (following : List Sourced) (plain : PlainMacro) (arguments : List (List Sourced)) (rest : List Sourced) → Placed name → Comes table (map written words) (name ∷ following) →
+  given_placed : (name : Sourced) (following : List Sourced) (plain : PlainMacro) (arguments : List (List Sourced)) (rest : List Sourced) → Placed name → AreMet table (map written words) (name ∷ following) →
       use_of table name following ≡ Calls plain arguments rest → (part : Sourced) → Placed (given plain name part)
   given_placed name following plain arguments rest (inl own) comes calls part =
       inr (record {
         name = own.word;
         among = own.among;
         following = following;
-        comes = subst (λ n. Comes table (map written words) (n ∷ following)) own.same comes;
+        comes = subst (λ n. AreMet table (map written words) (n ∷ following)) own.same comes;
         plain = plain;
         arguments = arguments;
         rest = rest;
@@ -134,7 +134,7 @@ module _ (table : Table) (words : List Word) where
 
 mutual
   all_placed : {table : Table} {outer : Option Span} {those : List Sourced} {left : ℕ} {ending : Ending (List Sourced)} (words : List Word) → Ends table outer those left ending →
-      AllByRecursion (Placed table words) those → Comes table (map written words) those → AllPlaced table words ending
+      AllByRecursion (Placed table words) those → AreMet table (map written words) those → AllPlaced table words ending
   all_placed words no_words each comes = tt
   all_placed {table} words (word_stays {word = word} {words = others} {behind = behind} is ends gives) each comes =
       subst (AllPlaced table words) (sym gives) (word_placed table words word behind each.0 (all_placed words ends each.1 (comes_on comes (past_word is there))))
@@ -143,7 +143,7 @@ mutual
 
   follows_placed : {table : Table} {outer within : Option Span} {plain : PlainMacro} {arguments : List (List Sourced)} {rest : List Sourced} {left : ℕ} {values : Ending (List (List Sourced))} {ending : Ending (List Sourced)}
       (words : List Word) (name : Sourced) (others : List Sourced) → use_of table name others ≡ Calls plain arguments rest → EndsAll table within arguments left values → Follows table outer plain name rest values ending →
-      AllByRecursion (Placed table words) (name ∷ others) → Comes table (map written words) (name ∷ others) → AllPlaced table words ending
+      AllByRecursion (Placed table words) (name ∷ others) → AreMet table (map written words) (name ∷ others) → AllPlaced table words ending
   follows_placed {table} {plain = plain} {arguments = arguments} {rest = rest} words name others is ends (replacement_made {values = made} costs more) each comes =
       let after : AllByRecursion (Placed table words) rest = subst (EachRest (Placed table words)) is (rest_each (Placed table words) table name others each.1) in
       let front : AllByRecursion (Placed table words) (replacement plain name made) = each_given (Placed table words) plain name _ (given_placed table words name others plain arguments rest each.0 comes is) in

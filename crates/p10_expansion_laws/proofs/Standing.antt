@@ -6,8 +6,8 @@ use Rattle.p10_direct.specs.declared.mark.Mark.TheVariants.{Opens, Elif, Else, C
 use Rattle.p10_expand.specs.declared.expansion.stand.Stand.{Stand}
 use Rattle.p10_expand.specs.declared.expansion.stand.Stand.TheVariants.{Obeyed, Skipped}
 use Rattle.p10_expand.specs.Skips.{is_obeyed, stand_behind, stand_of_group, stand_of_else}
-use Rattle.p10_expansion_laws.specs.Groups.{Groups, outer_of, open_behind, none_holds, is_chosen, are_chosen, is_obeyed_in}
-use Rattle.p10_expansion_laws.specs.Chosen.{holds}
+use Rattle.p10_expansion_laws.specs.Groups.{Groups, outer_of, open_after_line, none_holds, is_chosen, are_chosen, is_obeyed_in}
+use Rattle.p10_expansion_laws.specs.Chosen.{condition_holds}
 
 -- a group of the conditional was chosen
 abbrev some_holds : Groups → Bool
@@ -142,7 +142,7 @@ some_more true groups e = refl
 some_more false groups e = e
 
 -- after a line that isn't obeyed
-pub skipped_on : (open' : List Groups) (stand : Stand) (mark : Mark) → Agrees open' stand → Belongs mark open' → is_obeyed stand mark ≡ false → (h : Bool) → Agrees (open_behind mark h open') (stand_behind stand mark)
+pub skipped_on : (open' : List Groups) (stand : Stand) (mark : Mark) → Agrees open' stand → Belongs mark open' → is_obeyed stand mark ≡ false → (h : Bool) → Agrees (open_after_line mark h open') (stand_behind stand mark)
 skipped_on open' Obeyed Opens p fits e h = absurd cc
 skipped_on [] Obeyed Elif p fits e h = absurd fits
 skipped_on (groups ∷ outer) Obeyed Elif p fits e h =
@@ -166,14 +166,14 @@ skipped_on (groups ∷ outer) (Skipped chosen (suc inner)) Plain p fits e h = p
 
 -- after an obeyed `#if`
 pub opens_on : (open' : List Groups) (stand : Stand) → Agrees open' stand → is_obeyed stand Opens ≡ true → (truth : Bool) →
-    Agrees (open_behind Opens (holds (stand_of_group truth)) open') (stand_of_group truth)
+    Agrees (open_after_line Opens (condition_holds (stand_of_group truth)) open') (stand_of_group truth)
 opens_on open' Obeyed p e true = p
 opens_on open' Obeyed p e false = (refl, refl, p)
 opens_on open' (Skipped chosen inner) p e truth = absurd (not_both _ (opens_skipped chosen inner) e)
 
 -- after an obeyed `#elif`
 pub elif_on : (open' : List Groups) (stand : Stand) → Agrees open' stand → is_obeyed stand Elif ≡ true → (truth : Bool) →
-    Agrees (open_behind Elif (holds (stand_of_group truth)) open') (stand_of_group truth)
+    Agrees (open_after_line Elif (condition_holds (stand_of_group truth)) open') (stand_of_group truth)
 elif_on open' Obeyed p e truth = absurd cc
 elif_on [] (Skipped chosen inner) p e truth = absurd p
 elif_on (groups ∷ outer) (Skipped true zero) p e truth = absurd cc
@@ -183,7 +183,7 @@ elif_on (groups ∷ outer) (Skipped chosen (suc inner)) p e truth = absurd (not_
 
 -- after an obeyed `#else`
 pub else_on : (open' : List Groups) (stand : Stand) → Agrees open' stand → Belongs Else open' → is_obeyed stand Else ≡ true → (h : Bool) →
-    Agrees (open_behind Else h open') (stand_of_else stand)
+    Agrees (open_after_line Else h open') (stand_of_else stand)
 else_on [] Obeyed p fits e h = absurd fits
 else_on (groups ∷ outer) Obeyed p fits e h =
     let some = chosen_holds groups (and_left (is_chosen groups) (are_chosen outer) p) in
@@ -194,7 +194,7 @@ else_on (groups ∷ outer) (Skipped false zero) p fits e h = ap (λ b. not b && 
 else_on (groups ∷ outer) (Skipped chosen (suc inner)) p fits e h = absurd (not_both _ (inner_skipped chosen inner Else) e)
 
 -- after an obeyed `#endif`
-pub closes_on : (open' : List Groups) (stand : Stand) → Agrees open' stand → is_obeyed stand Closes ≡ true → (h : Bool) → Agrees (open_behind Closes h open') Obeyed
+pub closes_on : (open' : List Groups) (stand : Stand) → Agrees open' stand → is_obeyed stand Closes ≡ true → (h : Bool) → Agrees (open_after_line Closes h open') Obeyed
 closes_on open' Obeyed p e h = sym (outer_in_all open' p)
 closes_on [] (Skipped chosen inner) p e h = absurd p
 closes_on (groups ∷ outer) (Skipped chosen zero) p e h = p.2

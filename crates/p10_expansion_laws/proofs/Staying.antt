@@ -8,7 +8,7 @@ use Rattle.p10_macros.specs.Table.{Table, macro_named}
 use Rattle.p10_macros.specs.Uses.{Sourced, Use, Stays, Wrong, Calls, Arguments, opens, arguments_in, called, fitted, fitting, use_of, use_by, use_as, replacement}
 use Rattle.p10_macros.specs.Endings.{Ending, Gives, Refused, TooMany, behind_word}
 use Rattle.p10_macros.specs.Ends.{Ends, EndsAll, Follows, no_words, word_stays, use_refused, use_replaced, replacement_made, replacement_too_long, values_refused, values_too_long}
-use Rattle.p10_expansion_laws.specs.Staying.{Comes, there, past_word, past_use, NamesFunction, IsCalled, WasMet, NamesStayUncalled}
+use Rattle.p10_expansion_laws.specs.Staying.{AreMet, there, past_word, past_use, NamesFunction, IsCalled, WasMet, NamesStayUncalled}
 
 -- ## A called name is a use
 
@@ -56,12 +56,12 @@ AllMet table words (Refused number at) = Unit {0}
 AllMet table words TooMany = Unit {0}
 
 -- what was met from words to which replacement comes was met from the first ones
-met_from : (table : Table) (words those made : List Sourced) → ((last : List Sourced) → Comes table those last → Comes table words last) → AllByRecursion (WasMet table those) made → AllByRecursion (WasMet table words) made
+met_from : (table : Table) (words those made : List Sourced) → ((last : List Sourced) → AreMet table those last → AreMet table words last) → AllByRecursion (WasMet table those) made → AllByRecursion (WasMet table words) made
 met_from table words those [] comes met = tt
 met_from table words those (word ∷ made) comes met =
     (record { following = met.0.following; comes = comes (word ∷ met.0.following) met.0.comes; stays = met.0.stays }, met_from table words those made comes met.1)
 
-ending_from : (table : Table) (words those : List Sourced) (ending : Ending (List Sourced)) → ((last : List Sourced) → Comes table those last → Comes table words last) → AllMet table those ending → AllMet table words ending
+ending_from : (table : Table) (words those : List Sourced) (ending : Ending (List Sourced)) → ((last : List Sourced) → AreMet table those last → AreMet table words last) → AllMet table those ending → AllMet table words ending
 ending_from table words those (Gives made remaining) comes met = met_from table words those made comes met
 ending_from table words those (Refused number at) comes met = tt
 ending_from table words those TooMany comes met = tt

@@ -6,7 +6,7 @@ use Rattle.p10_direct.specs.declared.mark.Mark.TheVariants.{Opens, Elif, Else, C
 use Rattle.p10_direct.specs.Lines.{Piece, TextRun}
 use Rattle.p10_direct.specs.Balance.{mark_of, open_before, is_before_else, is_break, first_break_of, first_unbalanced}
 use Rattle.p10_expand.specs.Obeying.{File, is_place, breaks_at}
-use Rattle.p10_expansion_laws.specs.Groups.{PassedLine, Groups, with_group, outer_of, open_behind, open_after}
+use Rattle.p10_expansion_laws.specs.Groups.{PassedLine, Groups, with_group, outer_of, open_after_line, open_after}
 use Rattle.p10_expansion_laws.proofs.Standing.{Belongs}
 
 -- the marks of these lines
@@ -44,24 +44,24 @@ mapped_some : (o : Option Bool) (had : Bool) → option_map (λ h. true) o ≡ S
 mapped_some None had e = absurd (none_some e)
 mapped_some (Some other) had e = (other, refl)
 
-open_behind_mark : (mark : Mark) (n : ℕ) (h : Bool) (marks : List Mark) (open' : List Groups) → ((n : ℕ) (had : Bool) → open_before n marks ≡ Some had → IsOpen n open') →
-    (had : Bool) → open_before n (mark ∷ marks) ≡ Some had → IsOpen n (open_behind mark h open')
-open_behind_mark Opens zero h marks open' each had e = tt
-open_behind_mark Opens (suc n) h marks open' each had e = each n had e
-open_behind_mark Elif zero h marks open' each had e = open_group zero h open' (each zero had e)
-open_behind_mark Elif (suc n) h marks open' each had e = open_group (suc n) h open' (each (suc n) had e)
-open_behind_mark Else zero h marks open' each had e =
+open_by_mark : (mark : Mark) (n : ℕ) (h : Bool) (marks : List Mark) (open' : List Groups) → ((n : ℕ) (had : Bool) → open_before n marks ≡ Some had → IsOpen n open') →
+    (had : Bool) → open_before n (mark ∷ marks) ≡ Some had → IsOpen n (open_after_line mark h open')
+open_by_mark Opens zero h marks open' each had e = tt
+open_by_mark Opens (suc n) h marks open' each had e = each n had e
+open_by_mark Elif zero h marks open' each had e = open_group zero h open' (each zero had e)
+open_by_mark Elif (suc n) h marks open' each had e = open_group (suc n) h open' (each (suc n) had e)
+open_by_mark Else zero h marks open' each had e =
     let some = mapped_some (open_before zero marks) had e in
     open_group zero true open' (each zero some.0 some.1)
-open_behind_mark Else (suc n) h marks open' each had e = open_group (suc n) true open' (each (suc n) had e)
-open_behind_mark Closes zero h marks open' each had e = open_outer zero open' (each (suc zero) had e)
-open_behind_mark Closes (suc n) h marks open' each had e = open_outer (suc n) open' (each (suc (suc n)) had e)
-open_behind_mark Plain zero h marks open' each had e = each zero had e
-open_behind_mark Plain (suc n) h marks open' each had e = each (suc n) had e
+open_by_mark Else (suc n) h marks open' each had e = open_group (suc n) true open' (each (suc n) had e)
+open_by_mark Closes zero h marks open' each had e = open_outer zero open' (each (suc zero) had e)
+open_by_mark Closes (suc n) h marks open' each had e = open_outer (suc n) open' (each (suc (suc n)) had e)
+open_by_mark Plain zero h marks open' each had e = each zero had e
+open_by_mark Plain (suc n) h marks open' each had e = each (suc n) had e
 
 is_open : (before : List PassedLine) (n : ℕ) (had : Bool) → open_before n (marks_of before) ≡ Some had → IsOpen n (open_after before)
 is_open [] n had e = absurd (none_some e)
-is_open (line ∷ before) n had e = open_behind_mark line.mark n line.holds (marks_of before) (open_after before) (is_open before) had e
+is_open (line ∷ before) n had e = open_by_mark line.mark n line.holds (marks_of before) (open_after before) (is_open before) had e
 
 -- ## The next line
 

@@ -12,13 +12,13 @@ use Rattle.p10_expand.specs.Expands.{Layout, Includes, Follows, LinesGive, Inclu
 use Rattle.p10_expansion_laws.specs.Groups.{PassedLine, is_obeyed_after}
 
 -- whether the condition of a line holds, by where the line after it stands
-abbrev pub holds : Stand → Bool
-holds Obeyed = true
-holds (Skipped chosen inner) = false
+abbrev pub condition_holds : Stand → Bool
+condition_holds Obeyed = true
+condition_holds (Skipped chosen inner) = false
 
 -- the line, where the one after it stands there
 abbrev pub passed_line : Piece → Stand → PassedLine
-passed_line piece stand = record { mark = mark_of piece; holds = holds stand }
+passed_line piece stand = record { mark = mark_of piece; holds = condition_holds stand }
 
 -- what comes of a line or a run of text of a file after these lines: one that isn't obeyed does nothing, unless it breaks the structure of the
 -- file's conditionals

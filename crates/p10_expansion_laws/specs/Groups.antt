@@ -28,17 +28,17 @@ outer_of [] = []
 outer_of (groups ∷ outer) = outer
 
 -- the conditionals that are open after a line with this mark and condition; an `#else` is a group whose condition holds
-abbrev pub open_behind : Mark → Bool → List Groups → List Groups
-open_behind Opens holds open' = (holds ∷ []) ∷ open'
-open_behind Elif holds open' = with_group holds open'
-open_behind Else holds open' = with_group true open'
-open_behind Closes holds open' = outer_of open'
-open_behind Plain holds open' = open'
+abbrev pub open_after_line : Mark → Bool → List Groups → List Groups
+open_after_line Opens holds open' = (holds ∷ []) ∷ open'
+open_after_line Elif holds open' = with_group holds open'
+open_after_line Else holds open' = with_group true open'
+open_after_line Closes holds open' = outer_of open'
+open_after_line Plain holds open' = open'
 
 -- the conditionals that are open after these lines, of which the last comes first; the innermost comes first
 abbrev pub open_after : List PassedLine → List Groups
 open_after [] = []
-open_after (line ∷ before) = open_behind line.mark line.holds (open_after before)
+open_after (line ∷ before) = open_after_line line.mark line.holds (open_after before)
 
 -- ## Groups
 

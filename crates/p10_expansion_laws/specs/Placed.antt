@@ -7,7 +7,7 @@ use Rattle.p10_macros.specs.Table.{Table}
 use Rattle.p10_macros.specs.Uses.{Sourced, written, use_of, Calls}
 use Rattle.p10_macros.specs.Endings.{Gives}
 use Rattle.p10_macros.specs.Ends.{Ends}
-use Rattle.p10_expansion_laws.specs.Staying.{Comes}
+use Rattle.p10_expansion_laws.specs.Staying.{AreMet}
 
 -- a word of these words as it was written: it comes from no macro
 pub record IsOwn (words : List Word) (sourced : Sourced) : Type 0 where
@@ -20,7 +20,7 @@ pub record IsAtUse (table : Table) (words : List Word) (sourced : Sourced) : Typ
   pub name : Word
   pub among : Contains words name
   pub following : List Sourced
-  pub comes : Comes table (map written words) (written name ∷ following)
+  pub comes : AreMet table (map written words) (written name ∷ following)
   pub plain : PlainMacro
   pub arguments : List (List Sourced)
   pub rest : List Sourced

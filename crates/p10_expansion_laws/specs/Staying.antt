@@ -13,12 +13,12 @@ use Rattle.p10_macros.specs.Ends.{Ends, EndsAll}
 
 -- replacement, from left to right, comes from these words to those: a word that begins no use is passed, and a use is replaced, and then its
 -- replacement is looked through with the words after it (C99 6.10.3.4p1)
-pub data Comes (table : Table) : List Sourced → List Sourced → Type 0 where
-  there : {words : List Sourced} → Comes table words words
-  past_word : {word : Sourced} {words those : List Sourced} → use_of table word words ≡ Stays → Comes table words those → Comes table (word ∷ words) those
+pub data AreMet (table : Table) : List Sourced → List Sourced → Type 0 where
+  there : {words : List Sourced} → AreMet table words words
+  past_word : {word : Sourced} {words those : List Sourced} → use_of table word words ≡ Stays → AreMet table words those → AreMet table (word ∷ words) those
   past_use : {word : Sourced} {words rest those : List Sourced} {plain : PlainMacro} {arguments values : List (List Sourced)} {outer : Option Span} {left remaining : ℕ} →
-      use_of table word words ≡ Calls plain arguments rest → EndsAll table outer arguments left (Gives values remaining) → Comes table (replacement plain word values ++ rest) those →
-      Comes table (word ∷ words) those
+      use_of table word words ≡ Calls plain arguments rest → EndsAll table outer arguments left (Gives values remaining) → AreMet table (replacement plain word values ++ rest) those →
+      AreMet table (word ∷ words) those
 
 -- ## Names that stay
 
@@ -38,7 +38,7 @@ IsCalled (word ∷ words) = opens word.word ≡ true
 -- a word of these words' replacement was met there: before the words that followed it then; no `(` followed the name of a function-like macro
 pub record WasMet (table : Table) (words : List Sourced) (word : Sourced) : Type 0 where
   pub following : List Sourced
-  pub comes : Comes table words (word ∷ following)
+  pub comes : AreMet table words (word ∷ following)
   pub stays : NamesFunction table word → IsCalled following → ⊥
 
 -- each word that a replacement gives was met, and where it is the name of a function-like macro no `(` followed it then
