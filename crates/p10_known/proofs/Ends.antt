@@ -1,5 +1,5 @@
 -- Ends of statements whose ranges are of their types: the rules for parts in order.
-use Rattle.std.proofs.Common.{◌≡◌, ℕ, Bool, true, false, List, Option, Some, None}
+use Rattle.std.proofs.Common.{Bool, true, false, List, Option, Some, None}
 use Rattle.std.specs.Prelude.{if◌then◌else◌, IfSome}
 use Rattle.std.specs.Option.{option_map}
 use Rattle.p10_base.specs.declared.span.Span.{Span}
@@ -8,7 +8,7 @@ use Rattle.p10_range.specs.Laws.{IsOfType}
 use Rattle.p10_core.specs.Types.{PlainType}
 use Rattle.p10_core.specs.Typed.{PlainStatements, PlainVariable}
 use Rattle.p10_core.specs.Constants.{integer_of}
-use Rattle.p10_absx.specs.Environments.{Environment, hull_reached}
+use Rattle.p10_absx.specs.Environments.{Environment}
 use Rattle.p10_pass.specs.Scopes.{left_scope}
 use Rattle.p10_pass.specs.Passing.{Left, nowhere, reached, where_going, hull_range, followed, and_then_pass, beside, with_calls, as_block}
 use Rattle.p10_known.specs.Typing.{AreOfTypes, MaybeOfTypes, EndsOfTypes}

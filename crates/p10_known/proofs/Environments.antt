@@ -1,14 +1,14 @@
 -- Environments whose ranges are of their variables' types stay so.
 use Rattle.std.proofs.Common.{◌≡◌, ℕ, zero, suc, ◌+◌, Bool, true, false, List, [], ◌∷◌, Option, Some, None, refl, sym, ap, ◌∙◌, subst, arith, inl, inr}
-use Rattle.std.specs.Prelude.{slice_get, ◌⊎◌, if◌then◌else◌, nat_eq, is_some}
+use Rattle.std.specs.Prelude.{slice_get, ◌⊎◌, if◌then◌else◌, nat_eq}
 use Rattle.std.specs.Option.{option_map}
 use Rattle.std.proofs.lemmas.Bool.{eqb-true, eqb-false}
 use Rattle.std.proofs.lemmas.Option.{same_Some}
 use Rattle.p10_int.specs.declared.types.IntType.{IntType}
-use Rattle.p10_range.specs.Ranges.{Interval, meet_of, from_to}
+use Rattle.p10_range.specs.Ranges.{Interval, meet_of}
 use Rattle.p10_core.specs.Constants.{integer_of}
-use Rattle.p10_core.specs.Typed.{PlainStatement, statement, declare, PlainStatements, no_statements, more_statements, PlainVariable}
-use Rattle.p10_absx.specs.Abstract.{Abstract, only_range, whole_type}
+use Rattle.p10_core.specs.Typed.{statement, declare, PlainStatements, no_statements, more_statements, PlainVariable}
+use Rattle.p10_absx.specs.Abstract.{Abstract, whole_type}
 use Rattle.p10_absx.specs.Environments.{Environment, known_in, known, learned, out_of_scope, hull_entry, hull_environment, hull_reached}
 use Rattle.p10_absx.specs.Comparing.{met_with, side_met}
 use Rattle.p10_absx.proofs.Entries.{got_after, get_other}

@@ -1,20 +1,17 @@
 -- Assignments, declarations, returns and rounds of loops keep ranges of their types.
 use Rattle.std.proofs.Common.{◌≡◌, ℕ, zero, suc, Bool, true, false, List, [], ◌∷◌, Option, Some, None, refl, sym, ap, ◌∙◌, subst}
-use Rattle.std.specs.Prelude.{slice_get, if◌then◌else◌, is_some, is_none, nat_eq, ◌&&◌, IfSome}
+use Rattle.std.specs.Prelude.{slice_get, if◌then◌else◌, is_some, nat_eq, ◌&&◌, IfSome}
 use Rattle.std.specs.List.{AllByRecursion}
-use Rattle.std.specs.Option.{option_map, option_and_then}
+use Rattle.std.specs.Option.{option_map}
 use Rattle.std.proofs.lemmas.Bool.{eqb-true}
 use Rattle.std.proofs.lemmas.Option.{same_Some}
 use Rattle.p10_base.specs.declared.span.Span.{Span}
-use Rattle.p10_int.specs.declared.types.IntType.{IntType}
 use Rattle.p10_int.specs.declared.operators.BinOp.{BinOp}
-use Rattle.p10_range.specs.Ranges.{Interval}
 use Rattle.p10_range.specs.Laws.{IsOfType}
-use Rattle.p10_core.specs.declared.statements.LoopHead.{LoopHead}
 use Rattle.p10_core.specs.declared.statements.LoopKeyword.{LoopKeyword}
 use Rattle.p10_core.specs.declared.statements.LoopKeyword.TheVariants.{While, Do, For}
 use Rattle.p10_core.specs.Types.{PlainType}
-use Rattle.p10_core.specs.Typed.{PlainValue, type_of, PlainPlace, place, place_type, variable, global, literal, index, member, dereference, PlainItem, PlainWritten, one_scalar, scalars_of_text, PlainInitializer, not_initialized, single, copied, listed, PlainLabels, PlainVariable, PlainFunction, PlainProgram}
+use Rattle.p10_core.specs.Typed.{PlainValue, type_of, PlainPlace, place, place_type, variable, global, literal, index, member, dereference, PlainItem, PlainWritten, one_scalar, scalars_of_text, PlainInitializer, not_initialized, single, copied, listed, PlainVariable, PlainFunction, PlainProgram}
 use Rattle.p10_core.specs.Constants.{integer_of}
 use Rattle.p10_core.specs.Rows.{is_integer}
 use Rattle.p10_core.specs.Whole.{Surroundings, IsVariable, IsWholeValue, IsWholePlace}
@@ -22,17 +19,16 @@ use Rattle.p10_core.specs.WholePrograms.{IsWholeInitializer, IsMaybeTest}
 use Rattle.p10_cert.specs.Claims.{Value, Var, Loop, Claims}
 use Rattle.p10_absx.specs.Abstract.{Abstract, whole_type}
 use Rattle.p10_absx.specs.Environments.{Environment, known, learned, hull_reached}
-use Rattle.p10_absx.specs.Operators.{converted_abstract, binary_abstract}
+use Rattle.p10_absx.specs.Operators.{converted_abstract}
 use Rattle.p10_absx.specs.Assessing.{assess, known_where, abstract_value}
 use Rattle.p10_pass.specs.Arguments.{has_value, failing_in, failing_at}
-use Rattle.p10_pass.specs.Scopes.{offsets_restored}
-use Rattle.p10_pass.specs.Claiming.{range_claimed, own_offset, head_of, no_claim, claim_or_none, loop_claimed}
-use Rattle.p10_pass.specs.Passing.{Left, Manner, nowhere, reached, where_going, and_then_pass, stored, before_update, set_value, updated_value, value_passed, items_passed, integer_declared, other_declared, declared, range_returned, value_returned, Tested, tested_in, tested_reached, Round, round_of, loop_left, switch_left}
-use Rattle.p10_known.specs.Typing.{AreOfTypes, MaybeOfTypes, EndsOfTypes, LineOfType, LinesOfTypes, LoopsOfTypes, ResultsOfTypes}
+use Rattle.p10_pass.specs.Claiming.{range_claimed, own_offset, head_of, loop_claimed}
+use Rattle.p10_pass.specs.Passing.{Left, Manner, nowhere, reached, where_going, stored, before_update, set_value, updated_value, value_passed, items_passed, integer_declared, other_declared, declared, range_returned, value_returned, Tested, tested_in, tested_reached, Round, round_of}
+use Rattle.p10_known.specs.Typing.{AreOfTypes, MaybeOfTypes, EndsOfTypes, LineOfType, LinesOfTypes, ResultsOfTypes}
 use Rattle.p10_known.proofs.Ranges.{all_of_type, Has, MaybeHas, IsSome, converted_of_type, binary_of_type, some_has, then_has}
-use Rattle.p10_known.proofs.Environments.{learned_types, reached_types, changed_types, restored_types}
-use Rattle.p10_known.proofs.Values.{same_kind, IsSeen, Sees, FoundOf, value_has, where_types, found_of_type}
-use Rattle.p10_known.proofs.Ends.{nowhere_ends, reached_ends, calls_ends, going_ends, then_ends, map_types, if_types}
+use Rattle.p10_known.proofs.Environments.{learned_types, reached_types, changed_types}
+use Rattle.p10_known.proofs.Values.{same_kind, IsSeen, Sees, value_has, where_types, found_of_type}
+use Rattle.p10_known.proofs.Ends.{nowhere_ends, reached_ends, calls_ends, going_ends, then_ends, if_types}
 
 -- ## Heads of loops
 

@@ -1,6 +1,6 @@
 -- What operators give on ranges of types are ranges of types.
-use Rattle.std.proofs.Common.{◌≡◌, Bool, true, false, Option, Some, None, refl, sym, subst, arith, ℤ, pos, neg_ℤ, ◌≤ℤ◌}
-use Rattle.std.specs.Prelude.{◌&&◌, if◌then◌else◌, int_le, IfSome}
+use Rattle.std.proofs.Common.{◌≡◌, Bool, true, false, Option, Some, None, refl, sym, subst, arith, ℤ, pos}
+use Rattle.std.specs.Prelude.{◌&&◌, if◌then◌else◌, IfSome}
 use Rattle.std.specs.Option.{option_map, option_and_then}
 use Rattle.std.proofs.lemmas.Int.{ints, clamps}
 use Rattle.p10_int.specs.declared.types.IntType.{IntType}
@@ -17,7 +17,7 @@ use Rattle.p10_range.proofs.Ends.{hull_least}
 use Rattle.p10_range.proofs.Growing.{within_itself, inhabited_gives}
 use Rattle.p10_range.proofs.Holding.{met}
 use Rattle.p10_range.proofs.Typed.{typed, typed_unary, typed_conversion}
-use Rattle.p10_absx.specs.Abstract.{Offset, Abstract, only_range, whole_type, hull_abstract}
+use Rattle.p10_absx.specs.Abstract.{Offset, Abstract, only_range, whole_type}
 use Rattle.p10_absx.specs.Operators.{all_types, converted_range, converted_abstract, unary_offset, unary_abstract, is_right_operand, binary_offset, binary_abstract}
 use Rattle.p10_absx.proofs.Nearness.{both_true, within_in}
 

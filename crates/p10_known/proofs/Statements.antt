@@ -1,26 +1,23 @@
 -- A pass over whole statements keeps ranges of their types.
 use Rattle.std.proofs.Common.{◌≡◌, ℕ, suc, Bool, true, false, List, ◌∷◌, ◌++◌, Option, Some, None, refl, sym, ap, ◌∙◌, subst}
-use Rattle.std.specs.Prelude.{slice_get, if◌then◌else◌, is_some, is_none}
+use Rattle.std.specs.Prelude.{slice_get, if◌then◌else◌, is_none}
 use Rattle.std.specs.Option.{option_map}
 use Rattle.p10_core.specs.declared.statements.LoopHead.{LoopHead}
-use Rattle.p10_core.specs.declared.statements.LoopKeyword.{LoopKeyword}
-use Rattle.p10_core.specs.Types.{PlainType}
-use Rattle.p10_core.specs.Typed.{PlainValue, type_of, place_type, PlainLabels, PlainStatement, statement, PlainStatementForm, set, update, copy, evaluate, asserts, declare, declare_static, block, if_then, if_else, loop, switch, break, continue, return, empty, mark, PlainStatements, no_statements, more_statements, PlainVariable, PlainFunction, PlainProgram}
+use Rattle.p10_core.specs.Typed.{place_type, PlainLabels, PlainStatement, statement, set, update, copy, evaluate, asserts, declare, declare_static, block, if_then, if_else, loop, switch, break, continue, return, empty, mark, PlainStatements, no_statements, more_statements, PlainVariable, PlainFunction, PlainProgram}
 use Rattle.p10_core.specs.Constants.{integer_of}
-use Rattle.p10_core.specs.Whole.{SeenVariable, SeenFunction, Surroundings}
-use Rattle.p10_core.specs.WholePrograms.{Region, is_among, seen_variable, seen_function, around, after, after_all, IsMaybeTest, IsWholeStatement, AreWholeStatements}
+use Rattle.p10_core.specs.Whole.{SeenVariable, SeenFunction}
+use Rattle.p10_core.specs.WholePrograms.{Region, is_among, seen_variable, seen_function, around, after, after_all, IsWholeStatement, AreWholeStatements}
 use Rattle.p10_cert.specs.Claims.{Value, Loop, Claims}
 use Rattle.p10_meaning.specs.Sound.{region_at}
 use Rattle.p10_absx.specs.Environments.{Environment, hull_reached}
-use Rattle.p10_absx.specs.Assessing.{assess, known_where, abstract_value}
 use Rattle.p10_pass.specs.Arguments.{has_value, failing_in, failing_at}
-use Rattle.p10_pass.specs.Scopes.{form_assigns, offsets_restored}
+use Rattle.p10_pass.specs.Scopes.{offsets_restored}
 use Rattle.p10_pass.specs.Claiming.{head_of, loop_claimed}
-use Rattle.p10_pass.specs.Passing.{Left, Manner, nowhere, reached, where_going, and_then_pass, as_block, by_claim, Round, round_of, loop_left, is_labelled, switch_left, pass_statement, pass_statements, pass_from}
+use Rattle.p10_pass.specs.Passing.{Left, Manner, nowhere, where_going, as_block, by_claim, Round, loop_left, is_labelled, switch_left, pass_statement, pass_statements, pass_from}
 use Rattle.p10_known.specs.Typing.{AreOfTypes, MaybeOfTypes, EndsOfTypes, LoopsOfTypes, ResultsOfTypes}
 use Rattle.p10_known.specs.Laws.{PassesKeepTypes}
 use Rattle.p10_known.proofs.Environments.{reached_types, forgotten_types, restored_types}
-use Rattle.p10_known.proofs.Values.{same_kind, IsSeen, IsCalled, Sees}
+use Rattle.p10_known.proofs.Values.{same_kind, Sees}
 use Rattle.p10_known.proofs.Ends.{nowhere_ends, reached_ends, followed_ends, beside_ends, calls_ends, going_ends, then_ends, map_types, block_ends, if_types, if_ends}
 use Rattle.p10_known.proofs.Parts.{head_types, loop_lines, known_types, set_types, updated_types, passed_ends, declared_ends, returned_ends, RoundOfTypes, round_types}
 

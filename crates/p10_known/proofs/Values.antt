@@ -10,7 +10,7 @@ use Rattle.p10_int.specs.declared.operators.BinOp.{BinOp}
 use Rattle.p10_int.specs.declared.operators.BinOp.TheVariants.{Ne}
 use Rattle.p10_int.specs.declared.operators.UnOp.{UnOp}
 use Rattle.p10_int.specs.declared.operators.UnOp.TheVariants.{Plus, Neg, Not, Com}
-use Rattle.p10_range.specs.Ranges.{Interval, from_to}
+use Rattle.p10_range.specs.Ranges.{from_to}
 use Rattle.p10_range.specs.Laws.{IsOfType}
 use Rattle.p10_core.specs.declared.typed.Library.{Library}
 use Rattle.p10_core.specs.declared.typed.Library.TheVariants.{Assert, CAssert, Getchar, Putchar, Malloc, Calloc, Free}
@@ -19,11 +19,11 @@ use Rattle.p10_core.specs.declared.typed.LogicOp.TheVariants.{And, Or}
 use Rattle.p10_core.specs.Types.{PlainType, void, integer, pointer, array, structure, bare, unqualified, PlainStructure}
 use Rattle.p10_core.specs.Typed.{PlainValue, value, PlainForm, constant, read, sense, address, decay, convert, cast, unary, binary, logic, conditional, call, built_in, type_of, PlainPlace, place, place_type, variable, global, literal, index, member, dereference, PlainValues, no_values, more_values, PlainVariable, PlainFunction, PlainProgram}
 use Rattle.p10_core.specs.Constants.{integer_of}
-use Rattle.p10_core.specs.Rows.{Row, row_where, conditional_row, same, is_integer}
+use Rattle.p10_core.specs.Rows.{Row, row_where, conditional_row, same}
 use Rattle.p10_core.specs.Whole.{SeenVariable, SeenFunction, Surroundings, ConditionalAgrees, CallsLibrary, IsWholeValue, IsWholeForm, IsWholePlace, AreWholeValues}
 use Rattle.p10_cert.specs.Claims.{Claims}
-use Rattle.p10_absx.specs.Abstract.{Abstract, only_range, whole_type}
-use Rattle.p10_absx.specs.Environments.{Environment, known, hull_reached}
+use Rattle.p10_absx.specs.Abstract.{Abstract, whole_type}
+use Rattle.p10_absx.specs.Environments.{Environment, known}
 use Rattle.p10_absx.specs.Comparing.{is_comparison, contrary, allowed, turned, Side, side_met, compared}
 use Rattle.p10_absx.specs.Assessing.{Assessed, a_scalar, a_test, tested_abstract, value_found, as_side, zero_side, known_where, any_of, variable_read, place_read, converted_side, converted_found, unary_assessed, comparison_found, are_integers, arithmetic_found, binary_found, logic_found, hull_found, without_offset, conditional_found, call_claimed, library_assessed, assess, assess_form, assess_only}
 use Rattle.p10_known.specs.Typing.{AreOfTypes, MaybeOfTypes, ResultsOfTypes}
