@@ -1,0 +1,5 @@
+//! What derivation gives is accepted.
+#![tactic(auto)]
+
+/// Nothing yet.
+pub fn nothing_yet() {}
