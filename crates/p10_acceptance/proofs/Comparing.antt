@@ -48,7 +48,7 @@ part_row r a w = by_test (int_le r.low r.high) refl
     by_test false e = tt
     by_test true e = (of_le r.low r.high e, w)
 
-meet_part : (a b : Interval) → IfSome (meet_of a b) (λ r. IsInhabited r × IsWithin r a)
+pub meet_part : (a b : Interval) → IfSome (meet_of a b) (λ r. IsInhabited r × IsWithin r a)
 meet_part a b = part_row (met a b) a (record { from_low = omega (arith, ints, clamps); to_high = omega (arith, ints, clamps) })
 
 -- ## Comparisons

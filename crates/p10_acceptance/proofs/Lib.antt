@@ -4,3 +4,9 @@ pub mod Operating
 pub mod Comparing
 pub mod Assessing
 pub mod Values
+pub mod Shrinking
+pub mod Calling
+pub mod Ends
+pub mod Fitting
+pub mod Rounds
+pub mod Statements

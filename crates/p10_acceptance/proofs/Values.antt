@@ -11,11 +11,11 @@ use Rattle.p10_range.specs.Rows.{values_of}
 use Rattle.p10_range.specs.Laws.{IsOfType}
 use Rattle.p10_core.specs.declared.typed.Library.{Library}
 use Rattle.p10_core.specs.declared.typed.Library.TheVariants.{Assert, CAssert, Getchar, Putchar, Malloc, Calloc, Free}
-use Rattle.p10_core.specs.Types.{PlainType, void, integer, pointer, array, structure, unqualified}
+use Rattle.p10_core.specs.Types.{PlainType, void, integer, pointer, array, structure, unqualified, bare}
 use Rattle.p10_core.specs.Typed.{PlainValue, value, PlainForm, constant, read, sense, address, decay, convert, cast, unary, binary, logic, conditional, call, built_in, PlainPlace, place, place_type, variable, global, literal, index, member, dereference, PlainValues, no_values, more_values, type_of, PlainVariable}
 use Rattle.p10_core.specs.Constants.{integer_of}
 use Rattle.p10_core.specs.Rows.{Row, conditional_row, int_type, same, usual_row}
-use Rattle.p10_core.specs.Whole.{SeenVariable, Surroundings, IsConstant, IsVariable, Reads, ConditionalAgrees, Calls, CallsLibrary, IsWholeValue, IsWholeForm, IsWholePlace, AreWholeValues}
+use Rattle.p10_core.specs.Whole.{SeenVariable, SeenFunction, Surroundings, IsConstant, IsVariable, Reads, ConditionalAgrees, Calls, CallsLibrary, IsWholeValue, IsWholeForm, IsWholePlace, AreWholeValues}
 use Rattle.p10_cert.specs.Claims.{Claims}
 use Rattle.p10_absx.specs.Abstract.{Abstract, only_range}
 use Rattle.p10_absx.specs.Environments.{Environment, known}
@@ -58,7 +58,7 @@ pub record IsSeen (variables : List PlainVariable) (n : ℕ) (x : SeenVariable) 
 
 -- what is claimed of the results of calls has values of their types
 abbrev pub AreTyped : Surroundings → Option Claims → Type 0
-AreTyped s c = (t : PlainType) (n : ℕ) (vs : PlainValues) → Calls s t n vs → IsOfType (integer_of t) (call_claimed c n (integer_of t))
+AreTyped s c = (t : PlainType) (n : ℕ) (x : SeenFunction) → s.function_at n ≡ Some x → bare s.structures t ≡ bare s.structures x.result → IsOfType (integer_of t) (call_claimed c n (integer_of t))
 
 abbrev pub AreSeen : List PlainVariable → Surroundings → Type 0
 AreSeen variables s = (n : ℕ) (x : SeenVariable) → s.variable_at n ≡ Some x → IsSeen variables n x
@@ -115,7 +115,7 @@ module _ (variables : List PlainVariable) (s : Surroundings) (seen : AreSeen var
         choice_fits variables t (integer_of (type_of v)) env wide (assess c v env) (assess None v wide) (λ env. assess c a env) (λ env. assess c b env) (λ env. assess None a env) (λ env. assess None b env) h (assess_fits v i.0 env wide h)
         (λ e w n. subst (λ (kind : IntType). AssessedFits variables kind (assess c a e) (assess None a w)) kinds.left_is (assess_fits a i.1 e w n))
         (λ e w n. subst (λ (kind : IntType). AssessedFits variables kind (assess c b e) (assess None b w)) kinds.right_is (assess_fits b i.2 e w n))
-    form_fits t (call span n arguments) i env wide h = let k = typed t n arguments i.1 in value_fits variables t _ _ (k, k.1)
+    form_fits t (call span n arguments) i env wide h = let k = typed t n i.1.seen i.1.there i.1.result_is in value_fits variables t _ _ (k, k.1)
     form_fits t (built_in span f arguments) i env wide h = built_fits t f arguments i.0 i.1 env wide h
 
     built_fits : (t : PlainType) (f : Library) (vs : PlainValues) → AreWholeValues s vs → CallsLibrary s t f vs → (env wide : Environment) → Narrower variables env wide →
