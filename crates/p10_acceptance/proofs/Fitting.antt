@@ -32,6 +32,10 @@ pub record ClaimFits (variables : List PlainVariable) (Stands : ℕ → Environm
   pub on_back : ranges_hold_reached claim variables (trial (head_of claim variables entry)).back ≡ true
   pub ranked : (claim.rank ≡ Task) ⊎ Stands number entry
 
+-- a statement that may stand in a clause of a `for`
+abbrev pub is_plain : PlainStatement → Bool
+is_plain s = is_variable_declaration s || is_expression s
+
 module _ (variables : List PlainVariable) (calls : Option Claims) (loops : Option (List Loop)) (result : Option Value) (Stands : ℕ → Environment → Type 0) where
   abbrev pub m : Manner
   m = record { calls = calls; loops = loops; result = result; variables = variables }
@@ -79,10 +83,6 @@ module _ (variables : List PlainVariable) (calls : Option Claims) (loops : Optio
         IfSome entered (λ e. Fitted x e) × FromFitted labels (suc k) rest env (where_going entered (λ env. pass_statement m x env)).normal
 
   -- ## Clauses of loops
-
-  -- a statement that may stand in a clause of a `for`
-  abbrev pub is_plain : PlainStatement → Bool
-  is_plain s = is_variable_declaration s || is_expression s
 
   -- no state leaves statements by a `break` or a `continue`
   pub record NoJumps (l : Left) : Type 0 where

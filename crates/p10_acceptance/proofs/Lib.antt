@@ -10,3 +10,7 @@ pub mod Ends
 pub mod Fitting
 pub mod Rounds
 pub mod Statements
+pub mod Alike
+pub mod Claims
+pub mod Trials
+pub mod Walk

@@ -207,7 +207,7 @@ module _ (variables : List PlainVariable) where
   in_range zero v (x ∷ xs) e = omega arith
   in_range (suc n) v (x ∷ xs) e = let h = in_range n v xs e in omega (arith, h)
 
-  learned_fair : (env : Environment) (n : ℕ) (a : Abstract) → Fair env → ((v : PlainVariable) → slice_get variables n ≡ Some v → IsOfType (integer_of v.type) a.range) → Fair (learned env n a)
+  pub learned_fair : (env : Environment) (n : ℕ) (a : Abstract) → Fair env → ((v : PlainVariable) → slice_get variables n ≡ Some v → IsOfType (integer_of v.type) a.range) → Fair (learned env n a)
   learned_fair env n a f t = record {
     long = let e = set_long env n (Some a) in let l = f.long in omega (arith, e, l);
     typed = λ m x v e there. elim (known_cases env n m a x e) [

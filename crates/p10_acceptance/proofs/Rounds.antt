@@ -66,7 +66,7 @@ claimed_at claim i (u ∷ variables) (Some b ∷ env) (suc n) j v a h there e s 
     let both = and_parts (is_within b.range (range_claimed claim.vars i (integer_of u.type))) (ranges_hold claim (suc i) variables env) h in
     claimed_at claim (suc i) variables env n j v a both.1 there e (omega (arith, s))
 
-some_is : (o : Option Abstract) → is_some o ≡ true → (a : Abstract) × (o ≡ Some a)
+pub some_is : (o : Option Abstract) → is_some o ≡ true → (a : Abstract) × (o ≡ Some a)
 some_is None e = absurd cc
 some_is (Some a) e = (a, refl)
 
@@ -126,16 +126,16 @@ module _ (variables : List PlainVariable) (calls : Option Claims) (loops : Optio
     pub backs : a.body.backs ≡ []
     pub weak : Each WeakStands a.body.weak
 
-  module _ (tested : Option PlainValue) (third : PlainStatements) (body : PlainStatement) (head : Environment) (fair : Fair variables head) (knows : KnowsNumbers variables head)
+  module _ (tested : Option PlainValue) (third : PlainStatements) (body : PlainStatement) (head wider : Environment) (narrow : Narrower variables head wider) (knows : KnowsNumbers variables head)
       (test_fits : (e w : Environment) → Narrower variables e w → TestsFit (tested_in m tested e) (tested_in t tested w))
       (third_fits : (e w : Environment) → KnowsNumbers variables e → Narrower variables e w → Fit (pass_statements m third e) (pass_statements t third w))
       (body_scoped : (e : Environment) → Scoped variables nothing head e → EndsScoped variables nothing e (pass_statement m body e)) where
     while_fits : ((e w : Environment) → (tested_in m tested head).truth ≡ Some e → Narrower variables e w → Fit (pass_statement m body e) (pass_statement t body w)) →
-        RoundFits (round_of m While tested (λ env. pass_statements m third env) (λ env. pass_statement m body env) head) (round_of t While tested (λ env. pass_statements t third env) (λ env. pass_statement t body env) head)
+        RoundFits (round_of m While tested (λ env. pass_statements m third env) (λ env. pass_statement m body env) head) (round_of t While tested (λ env. pass_statements t third env) (λ env. pass_statement t body env) wider)
     while_fits body_fits =
-        let tests = test_fits head head (narrower_itself variables head fair) in
+        let tests = test_fits head wider narrow in
         let one : Tested = tested_in m tested head in
-        let other : Tested = tested_in t tested head in
+        let other : Tested = tested_in t tested wider in
         let b : Left = where_going one.truth (λ env. pass_statement m body env) in
         let wb : Left = where_going other.truth (λ env. pass_statement t body env) in
         let inner : Fit b wb = going_fit variables kind WeakStands one.truth other.truth (λ env. pass_statement m body env) (λ env. pass_statement t body env) tests.truth (λ e w q n. body_fits e w q n) in
@@ -159,11 +159,11 @@ module _ (variables : List PlainVariable) (calls : Option Claims) (loops : Optio
     late_tests (Some e) None h = absurd h
     late_tests (Some e) (Some w) h = test_fits e w h
 
-    do_fits : Fit (pass_statement m body head) (pass_statement t body head) →
-        RoundFits (round_of m Do tested (λ env. pass_statements m third env) (λ env. pass_statement m body env) head) (round_of t Do tested (λ env. pass_statements t third env) (λ env. pass_statement t body env) head)
+    do_fits : Fit (pass_statement m body head) (pass_statement t body wider) →
+        RoundFits (round_of m Do tested (λ env. pass_statements m third env) (λ env. pass_statement m body env) head) (round_of t Do tested (λ env. pass_statements t third env) (λ env. pass_statement t body env) wider)
     do_fits inner =
         let b : Left = pass_statement m body head in
-        let wb : Left = pass_statement t body head in
+        let wb : Left = pass_statement t body wider in
         let tests = late_tests (hull_reached b.normal b.continues) (hull_reached wb.normal wb.continues) (hull_narrower variables b.normal b.continues wb.normal wb.continues inner.normal inner.continues) in record {
           back = tests.truth;
           exits = hull_narrower variables (tested_reached m tested (hull_reached b.normal b.continues)).contrary b.breaks (tested_reached t tested (hull_reached wb.normal wb.continues)).contrary wb.breaks tests.contrary inner.breaks;
@@ -174,12 +174,12 @@ module _ (variables : List PlainVariable) (calls : Option Claims) (loops : Optio
           weak = inner.weak;
         }
 
-    -- a round from one head
+    -- a round from a narrower head
     pub round_fits : (keyword : LoopKeyword) → ((e w : Environment) → entered variables calls loops result Stands keyword tested head ≡ Some e → Narrower variables e w → Fit (pass_statement m body e) (pass_statement t body w)) →
-        RoundFits (round_of m keyword tested (λ env. pass_statements m third env) (λ env. pass_statement m body env) head) (trial_round variables calls loops result Stands keyword tested third body head)
+        RoundFits (round_of m keyword tested (λ env. pass_statements m third env) (λ env. pass_statement m body env) head) (trial_round variables calls loops result Stands keyword tested third body wider)
     round_fits While h = while_fits h
     round_fits For h = let w = while_fits h in record { back = w.back; exits = w.exits; names = w.names; returned = w.returned; entries = w.entries; backs = w.backs; weak = w.weak }
-    round_fits Do h = do_fits (h head head refl (narrower_itself variables head fair))
+    round_fits Do h = do_fits (h head wider refl narrow)
 
   -- ## The head of a loop
 

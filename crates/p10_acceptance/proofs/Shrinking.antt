@@ -472,3 +472,23 @@ module _ (n : ℕ) where
     exits_under For tested third body a d head =
         let b = going_under (known head n) (tested_in m tested head).truth (λ env. pass_statement m body env) (tested_truth tested head) (λ e. statement_under body a d e) in
         reached_under (tested_in m tested head).contrary (where_going (tested_in m tested head).truth (λ env. pass_statement m body env)).breaks (known head n) (tested_contrary tested head) b.breaks
+
+    late_truth : (tested : Option PlainValue) (o : Option Environment) (a : Option Abstract) → MaybeUnder o a → MaybeUnder (tested_reached m tested o).truth a
+    late_truth tested None a h = tt
+    late_truth tested (Some e) a h = maybe_trans (tested_in m tested e).truth e a (tested_truth tested e) h
+
+    -- where a round goes back, no more is known of it either
+    pub back_under : (keyword : LoopKeyword) (tested : Option PlainValue) (third : PlainStatements) (body : PlainStatement) → any_assigns n third ≡ false → is_among n (declared_of third) ≡ false → assigns n body ≡ false → is_among n (declared_in body) ≡ false → (head : Environment) →
+        MaybeUnder (round_of m keyword tested (λ env. pass_statements m third env) (λ env. pass_statement m body env) head).back (known head n)
+    back_under Do tested third body e f a d head =
+        let b = statement_under body a d head in
+        let l : Left = pass_statement m body head in
+        late_truth tested (hull_reached l.normal l.continues) (known head n) (reached_under l.normal l.continues (known head n) b.normal b.continues)
+    back_under While tested third body e f a d head =
+        let l : Left = where_going (tested_in m tested head).truth (λ env. pass_statement m body env) in
+        let b = going_under (known head n) (tested_in m tested head).truth (λ env. pass_statement m body env) (tested_truth tested head) (λ e. statement_under body a d e) in
+        (going_under (known head n) (hull_reached l.normal l.continues) (λ env. pass_statements m third env) (reached_under l.normal l.continues (known head n) b.normal b.continues) (λ x. statements_under third e f x)).normal
+    back_under For tested third body e f a d head =
+        let l : Left = where_going (tested_in m tested head).truth (λ env. pass_statement m body env) in
+        let b = going_under (known head n) (tested_in m tested head).truth (λ env. pass_statement m body env) (tested_truth tested head) (λ e. statement_under body a d e) in
+        (going_under (known head n) (hull_reached l.normal l.continues) (λ env. pass_statements m third env) (reached_under l.normal l.continues (known head n) b.normal b.continues) (λ x. statements_under third e f x)).normal

@@ -16,11 +16,12 @@ use Rattle.p10_core.specs.declared.statements.LoopHead.{LoopHead}
 use Rattle.p10_core.specs.declared.statements.LoopKeyword.{LoopKeyword}
 use Rattle.p10_core.specs.declared.statements.LoopKeyword.TheVariants.{While, Do, For}
 use Rattle.p10_core.specs.Types.{PlainType, integer, unqualified}
+use Rattle.p10_core.specs.Sizes.{scalars_of}
 use Rattle.p10_core.specs.Constants.{integer_of}
 use Rattle.p10_core.specs.Rows.{is_integer, is_pointer}
 use Rattle.p10_core.specs.Typed.{PlainValue, type_of, PlainPlace, place, place_type, variable, global, literal, index, member, dereference, PlainItem, PlainWritten, one_scalar, scalars_of_text, PlainInitializer, not_initialized, single, copied, listed, PlainLabels, PlainStatement, statement, PlainStatementForm, set, update, copy, evaluate, asserts, declare, declare_static, block, if_then, if_else, loop, switch, break, continue, return, empty, mark, PlainStatements, no_statements, more_statements, statements_list, PlainVariable, PlainFunction, PlainProgram}
 use Rattle.p10_core.specs.Whole.{SeenVariable, IsVariable, IsWholeValue, IsWholePlace, Surroundings}
-use Rattle.p10_core.specs.WholePrograms.{Region, is_among, seen_variable, surroundings_of, around, after, after_all, IsSingle, AreWholeItems, IsWholeWritten, IsWholeInitializer, Declares, IsTest, IsMaybeTest, is_declaration, AreClauses, IsWholeStatement, AreWholeStatements, declared_in, declared_of}
+use Rattle.p10_core.specs.WholePrograms.{Region, is_among, seen_variable, surroundings_of, around, after, after_all, IsSingle, AreWholeItems, IsWholeWritten, width_of_written, IsWholeInitializer, Declares, IsTest, IsMaybeTest, is_declaration, AreClauses, IsWholeStatement, AreWholeStatements, declared_in, declared_of}
 use Rattle.p10_cert.specs.Claims.{Value, Loop, Claims}
 use Rattle.p10_absx.specs.Abstract.{Abstract, whole_type}
 use Rattle.p10_absx.specs.Environments.{Environment, known, learned, hull_reached}
@@ -49,7 +50,7 @@ pub record IsIn (p : PlainProgram) (f : PlainFunction) (r : Region) : Type 0 whe
   pub program_is : r.program ≡ p
   pub function_is : r.function ≡ f
 
-in_after : (p : PlainProgram) (f : PlainFunction) (r : Region) (x : PlainStatement) → IsIn p f r → IsIn p f (after r x)
+pub in_after : (p : PlainProgram) (f : PlainFunction) (r : Region) (x : PlainStatement) → IsIn p f r → IsIn p f (after r x)
 in_after p f r (statement at (declare n i)) h = record { program_is = h.program_is; function_is = h.function_is }
 in_after p f r (statement at (set q v)) h = h
 in_after p f r (statement at (update kind op t q v)) h = h
@@ -68,7 +69,7 @@ in_after p f r (statement at (return keyword v)) h = h
 in_after p f r (statement at empty) h = h
 in_after p f r (statement at (mark kind)) h = h
 
-in_after_all : (p : PlainProgram) (f : PlainFunction) (r : Region) (xs : PlainStatements) → IsIn p f r → IsIn p f (after_all r xs)
+pub in_after_all : (p : PlainProgram) (f : PlainFunction) (r : Region) (xs : PlainStatements) → IsIn p f r → IsIn p f (after_all r xs)
 in_after_all p f r no_statements h = h
 in_after_all p f r (more_statements x rest) h = in_after_all p f (after r x) rest (in_after p f r x h)
 
@@ -121,7 +122,7 @@ module _ (p : PlainProgram) (f : PlainFunction) (calls : Option Claims) (typed :
     finds : (v : PlainValue) → IsWholeValue (around r) v → (env wide : Environment) → Narrower variables env wide → Fits (integer_of (type_of v)) (abstract_value calls env v) (abstract_value None wide v)
     finds v i env wide n = abstract_fits variables (around r) (seen_in p f r h) calls (typed_in r h) v i env wide n
 
-    tests : (truth : Bool) (v : PlainValue) → IsWholeValue (around r) v → (env wide : Environment) → Narrower variables env wide → MaybeNarrower variables (known_where truth env (assess calls v env)) (known_where truth wide (assess None v wide))
+    pub tests : (truth : Bool) (v : PlainValue) → IsWholeValue (around r) v → (env wide : Environment) → Narrower variables env wide → MaybeNarrower variables (known_where truth env (assess calls v env)) (known_where truth wide (assess None v wide))
     tests truth v i env wide n = truth_narrower variables (around r) (seen_in p f r h) calls (typed_in r h) truth v i env wide n
 
     no_call : (v : PlainValue) → IsWholeValue (around r) v → (env : Environment) → Fair variables env → failing_in calls v env ≡ []
@@ -161,9 +162,9 @@ module _ (p : PlainProgram) (f : PlainFunction) (calls : Option Claims) (typed :
 
     -- ## Initialisers
 
-    items_fit : (scalars : List PlainType) (from : ℕ) (items : List PlainItem) → AreWholeItems (around r) scalars from items → (env wide : Environment) → Narrower variables env wide → Fine (items_passed m items env) (items_passed t items wide)
-    items_fit scalars from [] i env wide n = reaches_fit variables kind Good (Some env) (Some wide) n
-    items_fit scalars from (item ∷ items) i env wide n = first item.written i.1 (λ e w k. items_fit scalars _ items i.2 e w k)
+    items_fit : (scalars : List PlainType) (items : List PlainItem) (from : ℕ) → AreWholeItems (around r) scalars from items → (env wide : Environment) → Narrower variables env wide → Fine (items_passed m items env) (items_passed t items wide)
+    items_fit scalars [] from i env wide n = reaches_fit variables kind Good (Some env) (Some wide) n
+    items_fit scalars (item ∷ items) from i env wide n = first item.written i.1 (λ e w k. items_fit scalars items (item.scalar + width_of_written item.written) i.2 e w k)
       where
         first : (written : PlainWritten) → IsWholeWritten (around r) (drop item.scalar scalars) written → ((e w : Environment) → Narrower variables e w → Fine (items_passed m items e) (items_passed t items w)) →
             Fine (items_passed m (record item { written = written } ∷ items) env) (items_passed t (record item { written = written } ∷ items) wide)
@@ -174,7 +175,7 @@ module _ (p : PlainProgram) (f : PlainFunction) (calls : Option Claims) (typed :
     other_fits u not_initialized i env wide n = reaches_fit variables kind Good (Some env) (Some wide) n
     other_fits u (single v) i env wide n = passed_fits v i.whole env wide n
     other_fits u (copied q) i env wide n = calls_fit variables kind Good (failing_at calls q env) (failing_at None q wide) _ _ (no_call_at q i.whole env n.fair) (reaches_fit variables kind Good (Some env) (Some wide) n)
-    other_fits u (listed at items) i env wide n = items_fit _ 0 items i.whole env wide n
+    other_fits u (listed at items) i env wide n = items_fit (scalars_of (around r).structures u) items 0 i.whole env wide n
 
     learned_whole : (n : ℕ) (v : PlainVariable) → slice_get variables n ≡ Some v → (a b : Abstract) (env wide : Environment) → Narrower variables env wide → IsOfType (integer_of v.type) a.range → IsWithin a.range b.range → Narrower variables (learned env n a) (learned wide n b)
     learned_whole n v there a b env wide k i w = learned_both variables env wide n a b k (let s = inside n v variables there in let l = k.fair.long in omega (arith, s, l))
@@ -220,22 +221,22 @@ module _ (p : PlainProgram) (f : PlainFunction) (calls : Option Claims) (typed :
         at true (Some a) k = record { normal = tt; breaks = tt; continues = tt; returned = subst (λ (x : IntType). IsOfType x a.range) (ap integer_of e ∙ same_kind f.result) k.0; arguments = refl; entries = refl; backs = refl; weak = tt }
         at false a k = record { normal = tt; breaks = tt; continues = tt; returned = tt; arguments = refl; entries = refl; backs = refl; weak = tt }
 
-    maybe_tests : (tested : Option PlainValue) → IsMaybeTest (around r) tested → (e w : Environment) → Narrower variables e w → TestsFit variables calls loops result kind Stands (tested_in m tested e) (tested_in t tested w)
+    pub maybe_tests : (tested : Option PlainValue) → IsMaybeTest (around r) tested → (e w : Environment) → Narrower variables e w → TestsFit variables calls loops result kind Stands (tested_in m tested e) (tested_in t tested w)
     maybe_tests None i e w n = record { truth = n; contrary = tt; names = refl }
     maybe_tests (Some v) i e w n = record { truth = tests true v i.whole e w n; contrary = tests false v i.whole e w n; names = no_call v i.whole e n.fair }
 
-  if_known : (o : Option Environment) (P : Environment → Type 0) (e : Environment) → IfSome o P → o ≡ Some e → P e
+  pub if_known : (o : Option Environment) (P : Environment → Type 0) (e : Environment) → IfSome o P → o ≡ Some e → P e
   if_known None P e h q = absurd (none-some _ q)
   if_known (Some d) P e h q = subst P (same_Some _ _ q) h
 
-  fair_is : (o q : Option Environment) (e : Environment) → MaybeNarrower variables o q → o ≡ Some e → Fair variables e
+  pub fair_is : (o q : Option Environment) (e : Environment) → MaybeNarrower variables o q → o ≡ Some e → Fair variables e
   fair_is None q e h k = absurd (none-some _ k)
   fair_is (Some d) None e h k = absurd h
   fair_is (Some d) (Some w) e h k = subst (λ (x : Environment). Fair variables x) (same_Some _ _ k) h.fair
 
   -- ## Branches
 
-  truth_scope : (truth : Bool) (v : PlainValue) (env : Environment) → KnowsNumbers variables env → MaybeScoped variables nothing env (known_where truth env (assess calls v env))
+  pub truth_scope : (truth : Bool) (v : PlainValue) (env : Environment) → KnowsNumbers variables env → MaybeScoped variables nothing env (known_where truth env (assess calls v env))
   truth_scope true v env k = truth_scoped variables calls loops result (Some v) env k
   truth_scope false v env k = contrary_scoped variables calls loops result (Some v) env k
 
@@ -254,7 +255,7 @@ module _ (p : PlainProgram) (f : PlainFunction) (calls : Option Claims) (typed :
   under_by (Some x) (Some y) None l s u = absurd u
   under_by (Some x) (Some y) (Some z) l s u = within_trans x.range y.range z.range l u
 
-  entered_scope : (keyword : LoopKeyword) (tested : Option PlainValue) (head : Environment) → KnowsNumbers variables head → MaybeScoped variables nothing head (entered variables calls loops result Stands keyword tested head)
+  pub entered_scope : (keyword : LoopKeyword) (tested : Option PlainValue) (head : Environment) → KnowsNumbers variables head → MaybeScoped variables nothing head (entered variables calls loops result Stands keyword tested head)
   entered_scope While tested head k = truth_scoped variables calls loops result tested head k
   entered_scope For tested head k = truth_scoped variables calls loops result tested head k
   entered_scope Do tested head k = scoped_here variables nothing head k
@@ -282,7 +283,7 @@ module _ (p : PlainProgram) (f : PlainFunction) (calls : Option Claims) (typed :
     abbrev assigned : ℕ → Bool
     assigned k = form_assigns k (loop head first tested third body)
 
-    inner : Region
+    abbrev inner : Region
     inner = after_all r first
 
     f_left : Left
@@ -337,7 +338,7 @@ module _ (p : PlainProgram) (f : PlainFunction) (calls : Option Claims) (typed :
       fair_head = head_fair variables calls loops result kind Stands claim head.number assigned (trial_round variables calls loops result Stands head.keyword tested third body) entry entry_fair fits
 
       round : RoundFits variables calls loops result kind Stands (round_of m head.keyword tested (λ env. pass_statements m third env) (λ env. pass_statement m body env) at_head) (trial_round variables calls loops result Stands head.keyword tested third body at_head)
-      round = round_fits variables calls loops result kind Stands tested third body at_head fair_head head_knows (maybe_tests inner (in_after_all p f r first h) tested i.1) third_fits
+      round = round_fits variables calls loops result kind Stands tested third body at_head at_head (narrower_itself variables at_head fair_head) head_knows (maybe_tests inner (in_after_all p f r first h) tested i.1) third_fits
           (λ e s. ends_wider variables (λ k. declares_here k body) nothing e (pass_statement m body e) (λ k o. not_here k body i.5) (statement_scoped variables calls loops result (record inner { in_loop = true }) body i.3 e (before_at e s)))
           head.keyword
           (λ e w q k. body_fits e w (before_at e (maybe_is variables nothing at_head (entered variables calls loops result Stands head.keyword tested at_head) e (entered_scope head.keyword tested at_head head_knows) q)) k (if_known _ _ e inside q))
@@ -380,26 +381,26 @@ module _ (p : PlainProgram) (f : PlainFunction) (calls : Option Claims) (typed :
     pub statement_fits : (r : Region) → IsIn p f r → (x : PlainStatement) → IsWholeStatement r x → (env wide : Environment) → IsBefore variables (declared_in x) env → Narrower variables env wide → Fitted variables calls loops result Stands x env →
         Fine (pass_statement m x env) (pass_statement t x wide)
     statement_fits r h (statement at (set q v)) i env wide b n g =
-        calls_fit variables kind Good (failing_at calls q env ++ failing_in calls v env) _ _ _ (no_names (failing_at calls q env) (failing_in calls v env) (no_call_at r h q i.place env n.fair) (no_call r h v i.value env n.fair))
+        calls_fit variables kind Good (failing_at calls q env ++ failing_in calls v env) (failing_at None q wide ++ failing_in None v wide) _ _ (no_names (failing_at calls q env) (failing_in calls v env) (no_call_at r h q i.place env n.fair) (no_call r h v i.value env n.fair))
         (reaches_fit variables kind Good _ _ (set_narrower variables q (place_kind r h q i.place) (type_of v) (ap integer_of i.type_is ∙ same_kind (place_type q)) (abstract_value calls env v) (abstract_value None wide v) env wide n (finds r h v i.value env wide n)))
-    statement_fits r h (statement at (update step op u q v)) i env wide b n g =
-        calls_fit variables kind Good (failing_at calls q env ++ failing_in calls v env) _ _ _ (no_names (failing_at calls q env) (failing_in calls v env) (no_call_at r h q i.place env n.fair) (no_call r h v i.value env n.fair))
+    statement_fits r h (statement at (update how op u q v)) i env wide b n g =
+        calls_fit variables kind Good (failing_at calls q env ++ failing_in calls v env) (failing_at None q wide ++ failing_in None v wide) _ _ (no_names (failing_at calls q env) (failing_in calls v env) (no_call_at r h q i.place env n.fair) (no_call r h v i.value env n.fair))
         (reaches_fit variables kind Good _ _ (updated_narrower variables op u q (place_kind r h q i.place) (integer_of (type_of v)) (abstract_value calls env v) (abstract_value None wide v) env wide b.knows n (finds r h v i.value env wide n)))
     statement_fits r h (statement at (copy q s)) i env wide b n g =
-        calls_fit variables kind Good (failing_at calls q env ++ failing_at calls s env) _ _ _ (no_names (failing_at calls q env) (failing_at calls s env) (no_call_at r h q i.target env n.fair) (no_call_at r h s i.source.whole env n.fair))
+        calls_fit variables kind Good (failing_at calls q env ++ failing_at calls s env) (failing_at None q wide ++ failing_at None s wide) _ _ (no_names (failing_at calls q env) (failing_at calls s env) (no_call_at r h q i.target env n.fair) (no_call_at r h s i.source.whole env n.fair))
         (reaches_fit variables kind Good (Some env) (Some wide) n)
     statement_fits r h (statement at (evaluate v)) i env wide b n g = passed_fits r h v i env wide n
-    statement_fits r h (statement at (asserts there v)) i env wide b n g = calls_fit variables kind Good (failing_in calls v env) _ _ _ (no_call r h v i.whole env n.fair) (reaches_fit variables kind Good _ _ (tests r h true v i.whole env wide n))
+    statement_fits r h (statement at (asserts there v)) i env wide b n g = calls_fit variables kind Good (failing_in calls v env) (failing_in None v wide) _ _ (no_call r h v i.whole env n.fair) (reaches_fit variables kind Good _ _ (tests r h true v i.whole env wide n))
     statement_fits r h (statement at (declare k initializer)) i env wide b n g =
         let there : slice_get variables k ≡ Some i.variable = ap (λ (x : PlainFunction). slice_get x.variables k) (sym h.function_is) ∙ i.there in
         declared_fits (record r { scope = k ∷ r.scope }) (record { program_is = h.program_is; function_is = h.function_is }) k i.variable there (slice_get variables k) there initializer i.initializer env wide n
     statement_fits r h (statement at (declare_static k)) i env wide b n g = reaches_fit variables kind Good (Some env) (Some wide) n
     statement_fits r h (statement at (block xs)) i env wide b n g = block_fit variables kind Good xs _ _ (statements_fit r h xs i env wide b n g)
-    statement_fits r h (statement at (if_then v x)) i env wide b n g = calls_fit variables kind Good (failing_in calls v env) _ _ _ (no_call r h v i.0.whole env n.fair)
+    statement_fits r h (statement at (if_then v x)) i env wide b n g = calls_fit variables kind Good (failing_in calls v env) (failing_in None v wide) _ _ (no_call r h v i.0.whole env n.fair)
         (beside_fit variables kind Good _ (reached (known_where false env (assess calls v env))) _ (reached (known_where false wide (assess None v wide)))
         (branch r h x true v i.0.whole env wide b n g (λ e w c k l. statement_fits r h x i.1 e w c k l))
         (reaches_fit variables kind Good _ _ (tests r h false v i.0.whole env wide n)))
-    statement_fits r h (statement at (if_else v x y)) i env wide b n g = calls_fit variables kind Good (failing_in calls v env) _ _ _ (no_call r h v i.0.whole env n.fair)
+    statement_fits r h (statement at (if_else v x y)) i env wide b n g = calls_fit variables kind Good (failing_in calls v env) (failing_in None v wide) _ _ (no_call r h v i.0.whole env n.fair)
         (beside_fit variables kind Good _ _ _ _
         (branch r h x true v i.0.whole env wide (before_left variables (declared_in x) (declared_in y) env b) n g.0 (λ e w c k l. statement_fits r h x i.1 e w c k l))
         (branch r h y false v i.0.whole env wide (before_right variables (declared_in x) (declared_in y) env b) n g.1 (λ e w c k l. statement_fits r h y i.2 e w c k l)))
@@ -410,12 +411,12 @@ module _ (p : PlainProgram) (f : PlainFunction) (calls : Option Claims) (typed :
         (all_fitted variables calls loops result Stands third (third_plain variables calls loops result Stands head.keyword first tested third i.4) e))
         (λ e w c k l. statement_fits (record (after_all r first) { in_loop = true }) (let j = in_after_all p f r first h in record { program_is = j.program_is; function_is = j.function_is }) body i.3 e w c k l)
         loops g
-    statement_fits r h (statement at (switch keyword v labels (statement there (block xs)))) i env wide b n g = calls_fit variables kind Good (failing_in calls v env) _ _ _ (no_call r h v i.0.whole env n.fair)
+    statement_fits r h (statement at (switch keyword v labels (statement there (block xs)))) i env wide b n g = calls_fit variables kind Good (failing_in calls v env) (failing_in None v wide) _ _ (no_call r h v i.0.whole env n.fair)
         (if_going variables kind Good (has_value calls v env) (has_value None v wide) _ _ (has_wider r h v i.0.whole env wide n)
         (λ e. switch_fits variables kind Good labels env wide (as_block xs (pass_from m labels 0 xs env None)) (as_block xs (pass_from t labels 0 xs wide None)) n
         (block_fit variables kind Good xs (pass_from m labels 0 xs env None) (pass_from t labels 0 xs wide None)
         (from_fit labels (record r { in_switch = true }) (record { program_is = h.program_is; function_is = h.function_is }) 0 xs i.1 i.0.declares_nothing env wide b n None None tt tt (g e)))))
-    statement_fits r h (statement at (switch keyword v labels body)) i env wide b n g = calls_fit variables kind Good (failing_in calls v env) _ _ _ (no_call r h v i.0.whole env n.fair)
+    statement_fits r h (statement at (switch keyword v labels body)) i env wide b n g = calls_fit variables kind Good (failing_in calls v env) (failing_in None v wide) _ _ (no_call r h v i.0.whole env n.fair)
         (if_going variables kind Good (has_value calls v env) (has_value None v wide) (reached (Some env)) (reached (Some wide)) (has_wider r h v i.0.whole env wide n) (λ e. reaches_fit variables kind Good (Some env) (Some wide) n))
     statement_fits r h (statement at break) i env wide b n g = record { normal = tt; breaks = n; continues = tt; returned = tt; arguments = refl; entries = refl; backs = refl; weak = tt }
     statement_fits r h (statement at continue) i env wide b n g = record { normal = tt; breaks = tt; continues = n; returned = tt; arguments = refl; entries = refl; backs = refl; weak = tt }
