@@ -51,15 +51,16 @@ module _ (variables : List PlainVariable) (result : IntType) (Stands : Weakness 
     pub continues : MaybeNarrower variables a.continues b.continues
     pub returned : IfSome a.returned (IsOfType result)
     pub arguments : a.arguments ≡ []
+    pub results : a.results ≡ []
     pub entries : a.entries ≡ []
     pub backs : a.backs ≡ []
     pub weak : Each Stands a.weak
 
   pub nowhere_fits : (b : Left) → EndsFit nowhere b
-  nowhere_fits b = record { normal = tt; breaks = tt; continues = tt; returned = tt; arguments = refl; entries = refl; backs = refl; weak = tt }
+  nowhere_fits b = record { normal = tt; breaks = tt; continues = tt; returned = tt; arguments = refl; results = refl; entries = refl; backs = refl; weak = tt }
 
   pub reaches_fit : (o p : Option Environment) → MaybeNarrower variables o p → EndsFit (reached o) (reached p)
-  reaches_fit o p h = record { normal = h; breaks = tt; continues = tt; returned = tt; arguments = refl; entries = refl; backs = refl; weak = tt }
+  reaches_fit o p h = record { normal = h; breaks = tt; continues = tt; returned = tt; arguments = refl; results = refl; entries = refl; backs = refl; weak = tt }
 
   pub calls_fit : (names others : List Span) (a b : Left) → names ≡ [] → EndsFit a b → EndsFit (with_calls names a) (with_calls others b)
   calls_fit names others a b e h = record {
@@ -68,6 +69,7 @@ module _ (variables : List PlainVariable) (result : IntType) (Stands : Weakness 
     continues = h.continues;
     returned = h.returned;
     arguments = no_names names a.arguments e h.arguments;
+    results = h.results;
     entries = h.entries;
     backs = h.backs;
     weak = h.weak;
@@ -80,6 +82,7 @@ module _ (variables : List PlainVariable) (result : IntType) (Stands : Weakness 
     continues = hull_narrower variables a.continues b.continues c.continues d.continues h.continues k.continues;
     returned = range_typed result a.returned b.returned h.returned k.returned;
     arguments = no_names a.arguments b.arguments h.arguments k.arguments;
+    results = no_names a.results b.results h.results k.results;
     entries = no_names a.entries b.entries h.entries k.entries;
     backs = no_names a.backs b.backs h.backs k.backs;
     weak = each_both Stands a.weak b.weak h.weak k.weak;
@@ -92,6 +95,7 @@ module _ (variables : List PlainVariable) (result : IntType) (Stands : Weakness 
     continues = hull_narrower variables a.continues b.continues c.continues d.continues h.continues k.continues;
     returned = range_typed result a.returned b.returned h.returned k.returned;
     arguments = no_names a.arguments b.arguments h.arguments k.arguments;
+    results = no_names a.results b.results h.results k.results;
     entries = no_names a.entries b.entries h.entries k.entries;
     backs = no_names a.backs b.backs h.backs k.backs;
     weak = each_both Stands a.weak b.weak h.weak k.weak;
@@ -140,6 +144,7 @@ module _ (variables : List PlainVariable) (result : IntType) (Stands : Weakness 
     continues = maybe_left xs a.continues b.continues h.continues;
     returned = h.returned;
     arguments = h.arguments;
+    results = h.results;
     entries = h.entries;
     backs = h.backs;
     weak = h.weak;
@@ -163,6 +168,7 @@ module _ (variables : List PlainVariable) (result : IntType) (Stands : Weakness 
     continues = h.continues;
     returned = h.returned;
     arguments = h.arguments;
+    results = h.results;
     entries = h.entries;
     backs = h.backs;
     weak = h.weak;

@@ -13,4 +13,10 @@ pub mod Statements
 pub mod Alike
 pub mod Claims
 pub mod Trials
+pub mod Found
 pub mod Walk
+pub mod Walking
+pub mod Beginning
+pub mod Bodies
+pub mod Results
+pub mod Functions

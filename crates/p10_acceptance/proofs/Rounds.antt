@@ -89,7 +89,7 @@ maybe_is variables but env None e s q = absurd (none-some _ q)
 maybe_is variables but env (Some d) e s q = subst (λ (x : Environment). Scoped variables but env x) (same_Some _ _ q) s
 
 -- no more is known, and something is
-under_is : (x y : Option Abstract) (a b : Abstract) → Under x y → x ≡ Some a → y ≡ Some b → IsWithin a.range b.range
+pub under_is : (x y : Option Abstract) (a b : Abstract) → Under x y → x ≡ Some a → y ≡ Some b → IsWithin a.range b.range
 under_is x y a b h e f = subst (λ (z : Option Abstract). Under (Some a) z) f (subst (λ (z : Option Abstract). Under z y) e h)
 
 lies_is : (x y : Option Abstract) (a b : Abstract) → LiesIn x y → x ≡ Some a → y ≡ Some b → IsWithin a.range b.range
@@ -122,6 +122,7 @@ module _ (variables : List PlainVariable) (calls : Option Claims) (loops : Optio
     pub exits : MaybeNarrower variables a.exits b.exits
     pub names : a.names ≡ []
     pub returned : IfSome a.body.returned (IsOfType kind)
+    pub results : a.body.results ≡ []
     pub entries : a.body.entries ≡ []
     pub backs : a.body.backs ≡ []
     pub weak : Each WeakStands a.body.weak
@@ -149,6 +150,7 @@ module _ (variables : List PlainVariable) (calls : Option Claims) (loops : Optio
           exits = hull_narrower variables one.contrary b.breaks other.contrary wb.breaks tests.contrary inner.breaks;
           names = no_names one.names (c.arguments ++ b.arguments) tests.names (no_names c.arguments b.arguments last.arguments inner.arguments);
           returned = inner.returned;
+          results = inner.results;
           entries = inner.entries;
           backs = inner.backs;
           weak = inner.weak;
@@ -169,6 +171,7 @@ module _ (variables : List PlainVariable) (calls : Option Claims) (loops : Optio
           exits = hull_narrower variables (tested_reached m tested (hull_reached b.normal b.continues)).contrary b.breaks (tested_reached t tested (hull_reached wb.normal wb.continues)).contrary wb.breaks tests.contrary inner.breaks;
           names = no_names b.arguments (tested_reached m tested (hull_reached b.normal b.continues)).names inner.arguments tests.names;
           returned = inner.returned;
+          results = inner.results;
           entries = inner.entries;
           backs = inner.backs;
           weak = inner.weak;
@@ -178,7 +181,7 @@ module _ (variables : List PlainVariable) (calls : Option Claims) (loops : Optio
     pub round_fits : (keyword : LoopKeyword) → ((e w : Environment) → entered variables calls loops result Stands keyword tested head ≡ Some e → Narrower variables e w → Fit (pass_statement m body e) (pass_statement t body w)) →
         RoundFits (round_of m keyword tested (λ env. pass_statements m third env) (λ env. pass_statement m body env) head) (trial_round variables calls loops result Stands keyword tested third body wider)
     round_fits While h = while_fits h
-    round_fits For h = let w = while_fits h in record { back = w.back; exits = w.exits; names = w.names; returned = w.returned; entries = w.entries; backs = w.backs; weak = w.weak }
+    round_fits For h = let w = while_fits h in record { back = w.back; exits = w.exits; names = w.names; returned = w.returned; results = w.results; entries = w.entries; backs = w.backs; weak = w.weak }
     round_fits Do h = do_fits (h head wider refl narrow)
 
   -- ## The head of a loop
@@ -329,6 +332,7 @@ module _ (variables : List PlainVariable) (calls : Option Claims) (loops : Optio
         continues = no_end f.continues j.continues;
         returned = range_typed kind f.returned turn.body.returned h.returned round.returned;
         arguments = no_names f.arguments turn.names h.arguments round.names;
+        results = no_names f.results turn.body.results h.results round.results;
         entries = no_names f.entries _ h.entries (no_names _ turn.body.entries (unless_true (ranges_hold claim 0 variables entry) head.span fits.at_entry) round.entries);
         backs = no_names f.backs _ h.backs (no_names _ turn.body.backs (unless_true (ranges_hold_reached claim variables turn.back) head.span (held_narrower claim variables at_head turn.back trial_turn.back round.back backs_scoped trial_backs fits.on_back)) round.backs);
         weak = each_both WeakStands f.weak _ h.weak (each_both WeakStands _ turn.body.weak (weak_stands claim head.number head.span entry turn fits.ranked) round.weak);

@@ -29,7 +29,7 @@ use Rattle.p10_absx.specs.Assessing.{assess, known_where, value_found, abstract_
 use Rattle.p10_pass.specs.Scopes.{form_assigns, any_assigns, left_scope, assigned_forgotten}
 use Rattle.p10_pass.specs.Claiming.{head_of, loop_claimed}
 use Rattle.p10_pass.specs.Arguments.{has_value, failing_in, failing_at}
-use Rattle.p10_pass.specs.Passing.{Manner, Weakness, Left, nowhere, reached, where_going, followed, and_then_pass, beside, with_calls, as_block, set_value, updated_value, value_passed, items_passed, integer_declared, other_declared, declared, range_returned, value_returned, by_claim, tested_in, round_of, loop_left, is_labelled, switch_left, pass_statement, pass_form, pass_statements, pass_switch, pass_from, trial_manner}
+use Rattle.p10_pass.specs.Passing.{Manner, Weakness, Left, nowhere, reached, where_going, followed, and_then_pass, beside, with_calls, as_block, set_value, updated_value, value_passed, items_passed, integer_declared, other_declared, declared, result_lies, range_returned, value_returned, by_claim, tested_in, round_of, loop_left, is_labelled, switch_left, pass_statement, pass_form, pass_statements, pass_switch, pass_from, trial_manner}
 use Rattle.p10_execution.specs.Scoping.{IsNumber, KnowsNumbers, IsBefore}
 use Rattle.p10_execution.proofs.TopDeclarations.{declares_here, declares_at_top, not_here, top_is_declared}
 use Rattle.p10_execution.proofs.ScopedEnds.{nothing, third_declares, Scoped, MaybeScoped, EndsScoped, scoped_here, scoped_same, ends_wider, going_scoped, reached_scoped, if_scoped, changed_scope, before_left, before_right, before_scoped, before_same, before_nothing, before_rest, before_body}
@@ -86,7 +86,7 @@ seen_in p f r h n x e = by_scope (is_among n r.scope) (slice_get r.function.vari
       type_is = sym (ap (λ (y : SeenVariable). y.type) (same_Some _ _ e));
     }
 
-module _ (p : PlainProgram) (f : PlainFunction) (calls : Option Claims) (typed : AreTyped (surroundings_of p) calls) (taken : MaybeTaken (surroundings_of p) calls) (loops : Option (List Loop)) (result : Option Value) (Stands : ℕ → Environment → Type 0) where
+module _ (p : PlainProgram) (f : PlainFunction) (calls : Option Claims) (typed : AreTyped (surroundings_of p) calls) (taken : MaybeTaken (surroundings_of p) calls) (loops : Option (List Loop)) (result : Option Value) (lies : (r : Interval) → result_lies result r ≡ true) (Stands : ℕ → Environment → Type 0) where
   abbrev pub variables : List PlainVariable
   variables = f.variables
 
@@ -218,8 +218,8 @@ module _ (p : PlainProgram) (f : PlainFunction) (calls : Option Claims) (typed :
       where
         at : (c : Bool) (a : Option Abstract) → Fits (integer_of (type_of v)) a (abstract_value None env v) → Fine (if c then range_returned m keyword a env else record nowhere { returns = Some env }) b
         at true None k = nowhere_fits variables kind Good b
-        at true (Some a) k = record { normal = tt; breaks = tt; continues = tt; returned = subst (λ (x : IntType). IsOfType x a.range) (ap integer_of e ∙ same_kind f.result) k.0; arguments = refl; entries = refl; backs = refl; weak = tt }
-        at false a k = record { normal = tt; breaks = tt; continues = tt; returned = tt; arguments = refl; entries = refl; backs = refl; weak = tt }
+        at true (Some a) k = record { normal = tt; breaks = tt; continues = tt; returned = subst (λ (x : IntType). IsOfType x a.range) (ap integer_of e ∙ same_kind f.result) k.0; arguments = refl; results = ap (λ (b : Bool). if b then [] else keyword ∷ []) (lies a.range); entries = refl; backs = refl; weak = tt }
+        at false a k = record { normal = tt; breaks = tt; continues = tt; returned = tt; arguments = refl; results = refl; entries = refl; backs = refl; weak = tt }
 
     pub maybe_tests : (tested : Option PlainValue) → IsMaybeTest (around r) tested → (e w : Environment) → Narrower variables e w → TestsFit variables calls loops result kind Stands (tested_in m tested e) (tested_in t tested w)
     maybe_tests None i e w n = record { truth = n; contrary = tt; names = refl }
@@ -267,6 +267,7 @@ module _ (p : PlainProgram) (f : PlainFunction) (calls : Option Claims) (typed :
     continues = no_end l.continues j.continues b.continues;
     returned = range_typed kind l.returned None h.returned tt;
     arguments = no_names l.arguments [] h.arguments refl;
+    results = no_names l.results [] h.results refl;
     entries = no_names l.entries [] h.entries refl;
     backs = no_names l.backs [] h.backs refl;
     weak = each_both Good l.weak [] h.weak tt;
@@ -418,9 +419,9 @@ module _ (p : PlainProgram) (f : PlainFunction) (calls : Option Claims) (typed :
         (from_fit labels (record r { in_switch = true }) (record { program_is = h.program_is; function_is = h.function_is }) 0 xs i.1 i.0.declares_nothing env wide b n None None tt tt (g e)))))
     statement_fits r h (statement at (switch keyword v labels body)) i env wide b n g = calls_fit variables kind Good (failing_in calls v env) (failing_in None v wide) _ _ (no_call r h v i.0.whole env n.fair)
         (if_going variables kind Good (has_value calls v env) (has_value None v wide) (reached (Some env)) (reached (Some wide)) (has_wider r h v i.0.whole env wide n) (λ e. reaches_fit variables kind Good (Some env) (Some wide) n))
-    statement_fits r h (statement at break) i env wide b n g = record { normal = tt; breaks = n; continues = tt; returned = tt; arguments = refl; entries = refl; backs = refl; weak = tt }
-    statement_fits r h (statement at continue) i env wide b n g = record { normal = tt; breaks = tt; continues = n; returned = tt; arguments = refl; entries = refl; backs = refl; weak = tt }
-    statement_fits r h (statement at (return keyword None)) i env wide b n g = record { normal = tt; breaks = tt; continues = tt; returned = tt; arguments = refl; entries = refl; backs = refl; weak = tt }
+    statement_fits r h (statement at break) i env wide b n g = record { normal = tt; breaks = n; continues = tt; returned = tt; arguments = refl; results = refl; entries = refl; backs = refl; weak = tt }
+    statement_fits r h (statement at continue) i env wide b n g = record { normal = tt; breaks = tt; continues = n; returned = tt; arguments = refl; results = refl; entries = refl; backs = refl; weak = tt }
+    statement_fits r h (statement at (return keyword None)) i env wide b n g = record { normal = tt; breaks = tt; continues = tt; returned = tt; arguments = refl; results = refl; entries = refl; backs = refl; weak = tt }
     statement_fits r h (statement at (return keyword (Some v))) i env wide b n g = calls_fit variables kind Good (failing_in calls v env) (failing_in None v wide) _ (value_returned t keyword v wide) (no_call r h v i.0 env n.fair)
         (returned_fits r h keyword v i.0 (i.2 ∙ ap (λ (x : PlainFunction). unqualified x.result) h.function_is) env (value_returned t keyword v wide) n.fair)
     statement_fits r h (statement at empty) i env wide b n g = reaches_fit variables kind Good (Some env) (Some wide) n

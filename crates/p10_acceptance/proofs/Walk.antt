@@ -72,7 +72,7 @@ kept_left [] ys j x e = absurd (none-some _ e)
 kept_left (y ∷ xs) ys zero x e = e
 kept_left (y ∷ xs) ys (suc j) x e = kept_left xs ys j x e
 
-last_one : {A : Type 0} (xs : List A) (x : A) → slice_get (xs ++ x ∷ []) (length xs) ≡ Some x
+pub last_one : {A : Type 0} (xs : List A) (x : A) → slice_get (xs ++ x ∷ []) (length xs) ≡ Some x
 last_one [] x = refl
 last_one (y ∷ xs) x = last_one xs x
 
@@ -80,7 +80,7 @@ no_left : {A : Type 0} (xs ys : List A) → xs ++ ys ≡ [] → xs ≡ []
 no_left [] ys e = refl
 no_left (x ∷ xs) ys e = absurd cc
 
-no_right : {A : Type 0} (xs ys : List A) → xs ++ ys ≡ [] → ys ≡ []
+pub no_right : {A : Type 0} (xs ys : List A) → xs ++ ys ≡ [] → ys ≡ []
 no_right [] ys e = e
 no_right (x ∷ xs) ys e = absurd cc
 
@@ -122,7 +122,7 @@ module _ (s : Search) where
         extends_same found _ (length (heads_in x) + length (heads_of rest)) (length (heads_in x ++ heads_of rest)) (sym (length-append (heads_in x) (heads_of rest)))
         (extends_trans found next _ (length (heads_in x)) (length (heads_of rest)) (extends depth x env found) (all_extend depth rest (known_after_statement s next x env) next))
 
-    from_extends : (depth : ℕ) (labels : PlainLabels) (k : ℕ) (xs : PlainStatements) (env before : Option Environment) (found : LoopsFound) → Extends found (loops_from s depth labels k xs env before found) (length (heads_of xs))
+    pub from_extends : (depth : ℕ) (labels : PlainLabels) (k : ℕ) (xs : PlainStatements) (env before : Option Environment) (found : LoopsFound) → Extends found (loops_from s depth labels k xs env before found) (length (heads_of xs))
     from_extends depth labels k no_statements env before found = extends_itself found
     from_extends depth labels k (more_statements x rest) env before found =
         let enters : Option Environment = if is_labelled k labels then hull_reached before env else before in
@@ -137,16 +137,16 @@ abbrev pub Numbered : ℕ → List LoopHead → Type 0
 Numbered k [] = Unit {0}
 Numbered k (h ∷ hs) = (h.number ≡ k) × Numbered (suc k) hs
 
-numbered_left : (k : ℕ) (xs ys : List LoopHead) → Numbered k (xs ++ ys) → Numbered k xs
+pub numbered_left : (k : ℕ) (xs ys : List LoopHead) → Numbered k (xs ++ ys) → Numbered k xs
 numbered_left k [] ys h = tt
 numbered_left k (x ∷ xs) ys h = (h.0, numbered_left (suc k) xs ys h.1)
 
-numbered_right : (k n : ℕ) (xs ys : List LoopHead) → n ≡ k + length xs → Numbered k (xs ++ ys) → Numbered n ys
+pub numbered_right : (k n : ℕ) (xs ys : List LoopHead) → n ≡ k + length xs → Numbered k (xs ++ ys) → Numbered n ys
 numbered_right k n [] ys e h = let q : k ≡ n = omega (arith, e) in subst (λ (i : ℕ). Numbered i ys) q h
 numbered_right k n (x ∷ xs) ys e h = numbered_right (suc k) n xs ys (omega (arith, e)) h.1
 
 -- claims of loops with such numbers are the same where a list goes on
-same_claims : (these those : List Loop) → ((j : ℕ) (l : Loop) → slice_get these j ≡ Some l → slice_get those j ≡ Some l) → (k : ℕ) (hs : List LoopHead) → k + length hs ≤ length these → Numbered k hs → Each (λ (h : LoopHead). loop_claimed those h.number ≡ loop_claimed these h.number) hs
+pub same_claims : (these those : List Loop) → ((j : ℕ) (l : Loop) → slice_get these j ≡ Some l → slice_get those j ≡ Some l) → (k : ℕ) (hs : List LoopHead) → k + length hs ≤ length these → Numbered k hs → Each (λ (h : LoopHead). loop_claimed those h.number ≡ loop_claimed these h.number) hs
 same_claims these those keeps k [] l n = tt
 same_claims these those keeps k (h ∷ hs) l n = (same, same_claims these those keeps (suc k) hs (omega (arith, l)) n.1)
   where
