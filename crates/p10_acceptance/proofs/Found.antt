@@ -2,6 +2,7 @@
 use Rattle.std.proofs.Common.{◌≡◌, ℕ, zero, suc, ◌+◌, ◌<◌, ◌≤◌, length, Bool, true, false, List, [], ◌∷◌, ◌++◌, Option, Some, None, refl, ap, sym, ◌∙◌, subst, inl, inr, arith}
 use Rattle.std.specs.Prelude.{slice_get, if◌then◌else◌, is_some, ◌||◌, ◌&&◌, ◌⊎◌, not, nat_lt, IfSome, IsSomeAnd}
 use Rattle.std.specs.Option.{option_map}
+use Rattle.std.specs.List.{list_all}
 use Rattle.std.proofs.lemmas.Option.{same_Some, none-some}
 use Rattle.std.proofs.lemmas.Bool.{and_parts, lt-ltb}
 use Rattle.std.proofs.lemmas.Int.{ints, clamps}
@@ -13,6 +14,8 @@ use Rattle.p10_range.specs.Ranges.{Interval, IsWithin, hull_of}
 use Rattle.p10_range.specs.Rows.{values_of}
 use Rattle.p10_range.specs.Laws.{IsOfType}
 use Rattle.p10_core.specs.declared.statements.LoopHead.{LoopHead}
+use Rattle.p10_core.specs.Types.{PlainType, void, integer, pointer, array, structure}
+use Rattle.p10_core.specs.Rows.{is_integer}
 use Rattle.p10_core.specs.Constants.{integer_of}
 use Rattle.p10_core.specs.Typed.{PlainValue, PlainStatement, statement, loop, PlainStatements, PlainVariable, PlainFunction, PlainProgram}
 use Rattle.p10_core.specs.WholePrograms.{Region, is_among, IsWholeStatement, declared_in, declared_of}
@@ -21,6 +24,7 @@ use Rattle.p10_cert.specs.declared.claims.Rank.TheVariants.{Up, Down, One, Task}
 use Rattle.p10_cert.specs.Claims.{Var, Loop, Claims}
 use Rattle.p10_absx.specs.Abstract.{Abstract, only_range, whole_type}
 use Rattle.p10_absx.specs.Environments.{Environment, known}
+use Rattle.p10_fit.specs.Fits.{kind_of_integer, frame_integer, counter_type, has_range, fits_rank, fits_variable}
 use Rattle.p10_pass.specs.Scopes.{form_assigns, assigns, any_assigns}
 use Rattle.p10_pass.specs.Claiming.{range_claimed, own_offset, head_of, ranges_hold, ranges_hold_reached, rank_in, enters_ranked, goes_back_ranked, is_enough}
 use Rattle.p10_pass.specs.Passing.{Failing, failing_if, Round, rank_fails}
@@ -34,9 +38,10 @@ use Rattle.p10_turns.specs.LoopParts.{LoopParts, loops_among}
 use Rattle.p10_turns.specs.Ranked.{is_ranked}
 use Rattle.p10_turns.specs.Evidence.{has_none, holds_by_ranges}
 use Rattle.p10_finder.specs.Candidates.{LoopEntry, Candidate, any_trial, one_candidate, candidates}
-use Rattle.p10_finder.specs.Trials.{Rounds, with_known, with_back, head_after, tried_head, lines_from, turns_of_rank, turns_from, claim_by, claim_of, stands_alone, first_standing, LoopFound, found_by, loop_found, task_found}
+use Rattle.p10_finder.specs.Trials.{Rounds, with_known, with_back, head_after, tried_head, is_whole_range, line_for, lines_from, turns_of_rank, turns_from, claim_by, claim_of, stands_alone, first_standing, LoopFound, found_by, loop_found, task_found}
 use Rattle.p10_finder.specs.Loops.{Search, assigned_in, loop_entry, entered_found}
 use Rattle.p10_acceptance.proofs.Narrowing.{within_itself, within_trans, whole_typed, hull_right, LiesIn, Fair, Narrower, MaybeNarrower, narrower_itself}
+use Rattle.p10_acceptance.proofs.Operating.{is_within_of}
 use Rattle.p10_acceptance.proofs.Shrinking.{Under, MaybeUnder, back_under}
 use Rattle.p10_acceptance.proofs.Ends.{Each, changed_fair, changed_narrower}
 use Rattle.p10_acceptance.proofs.Fitting.{ClaimFits}
@@ -256,3 +261,70 @@ module _ (p : PlainProgram) (f : PlainFunction) (Stands : ℕ → Environment �
             subst (λ (x : Loop). ClaimFits f.variables Stands x head.number assigned round entry) (sym same_claim)
             (ranked_fits claim k (subst (λ (x : Loop). x.turns ≤ MOST_SUM) same_claim (short ranked_found))
             (λ e. stands ranked_found (subst (λ (x : Loop). holds_by_ranges f.variables (record { head = head; first = first; tested = tested; third = third; body = body }) entry x ≡ true) (sym same_claim) e)))
+
+    -- ## What is claimed speaks of the function
+
+    module _ (scope : List ℕ) (in_scope : (n : ℕ) → is_some (known entry n) ≡ true → is_among n scope ≡ true) where
+      -- a variable that is known at entry may be spoken of
+      counter_known : (n : ℕ) → is_some (known entry n) ≡ true → (v : PlainVariable) × (slice_get f.variables n ≡ Some v) × (counter_type f scope n ≡ Some (integer_of v.type))
+      counter_known n e =
+          let number : IsNumber f.variables n = before.knows.each n e in
+          (number.variable, number.there, ap (λ b. if b then frame_integer (slice_get f.variables n) else None) (in_scope n e)
+          ∙ (ap frame_integer number.there ∙ (ap (λ b. if b then kind_of_integer number.variable.type else None) number.frame_is ∙ of_kind number.variable.type number.integer_is)))
+        where
+          of_kind : (t : PlainType) → is_integer t ≡ true → kind_of_integer t ≡ Some (integer_of t)
+          of_kind (integer c k) q = refl
+          of_kind (void c) q = absurd cc
+          of_kind (pointer c t) q = absurd cc
+          of_kind (array c t k) q = absurd cc
+          of_kind (structure c k) q = absurd cc
+
+      rank_speaks : (rank : Rank) → RankKnown entry rank → fits_rank f scope false rank ≡ true
+      rank_speaks (Up n bound) k = let c = counter_known n k in ap is_some c.2
+      rank_speaks (Down n bound) k = let c = counter_known n k in ap is_some c.2
+      rank_speaks One k = refl
+      rank_speaks Task k = absurd k
+
+      line_speaks : (o : Environment) → HeadHas f.variables assigned entry o → ((n : ℕ) → is_some (known o n) ≡ true → is_some (known entry n) ≡ true) → (n : ℕ) (a : Abstract) → known o n ≡ Some a → has_range (counter_type f scope n) (record { var = n; ends = a.range }) ≡ true
+      line_speaks o has back n a e =
+          let x = some_is (known entry n) (back n (ap is_some e)) in
+          let c = counter_known n (ap is_some x.1) in
+          let h = has n c.0 x.0 c.1 x.1 in
+          let same_entry : h.entry ≡ a = same_Some _ _ (sym h.there ∙ e) in
+          ap (λ (t : Option IntType). has_range t (record { var = n; ends = a.range })) c.2 ∙ is_within_of a.range (values_of (integer_of c.0.type)) (subst (λ (y : Abstract). IsWithin y.range (values_of (integer_of c.0.type))) same_entry h.typed.1)
+
+      all_both : (xs ys : List Var) → list_all (fits_variable f scope) xs ≡ true → list_all (fits_variable f scope) ys ≡ true → list_all (fits_variable f scope) (xs ++ ys) ≡ true
+      all_both [] ys h k = k
+      all_both (x ∷ xs) ys h k = let parts = and_parts (fits_variable f scope x) (list_all (fits_variable f scope) xs) h in ap (λ b. b && list_all (fits_variable f scope) (xs ++ ys)) parts.0 ∙ all_both xs ys parts.1 k
+
+      lines_speak : (i : ℕ) (vs : List PlainVariable) (o : Environment) → ((n : ℕ) (a : Abstract) → known o n ≡ Some a → has_range (counter_type f scope n) (record { var = n; ends = a.range }) ≡ true) → list_all (fits_variable f scope) (lines_from i vs o) ≡ true
+      lines_speak i [] o h = refl
+      lines_speak i (v ∷ vs) o h = all_both (line_for i (integer_of v.type) (known o i)) (lines_from (suc i) vs o) (one (known o i) refl) (lines_speak (suc i) vs o h)
+        where
+          one : (x : Option Abstract) → known o i ≡ x → list_all (fits_variable f scope) (line_for i (integer_of v.type) x) ≡ true
+          one None e = refl
+          one (Some a) e = at (is_whole_range (integer_of v.type) a.range)
+            where
+              at : (b : Bool) → list_all (fits_variable f scope) (if b then [] else record { var = i; ends = a.range } ∷ []) ≡ true
+              at true = refl
+              at false = ap (λ b. b && true) (h i a e)
+
+      head_lines : (back : Option Environment) → IfSome back (Fair f.variables) → list_all (fits_variable f scope) (lines_from 0 f.variables (head_after l back)) ≡ true
+      head_lines back k = lines_speak 0 f.variables (head_after l back) (line_speaks (head_after l back) (tried_has l assigned same fair back k) (λ n e. sym (changed_knows _ 0 f.variables entry n) ∙ e))
+
+      -- the claim of the loop may be made of it
+      pub record Speaks (task : Bool) (claim : Loop) : Type 0 where
+        pub depth_is : claim.depth ≡ depth
+        pub rank : fits_rank f scope task claim.rank ≡ true
+        pub vars : list_all (fits_variable f scope) claim.vars ≡ true
+
+      pub found_speaks : (task : Bool) (found : LoopFound) → found ≡ entered_found task head.span round l depth → found.unbounded ≡ [] → Speaks task found.claim
+      found_speaks true found is bounded = subst (λ (x : LoopFound). Speaks true x.claim) (sym is) (record { depth_is = refl; rank = refl; vars = head_lines (round any).back (back_fair any any_good.holds any_good.scope) })
+      found_speaks false found is bounded = by_candidate (first_standing round l depth (candidates l)) refl is
+        where
+          by_candidate : (o : Option Loop) → first_standing round l depth (candidates l) ≡ o → found ≡ found_by head.span l depth o → Speaks false found.claim
+          by_candidate None e q = let none : head.span ∷ [] ≡ [] = sym (ap (λ (x : LoopFound). x.unbounded) q) ∙ bounded in absurd cc
+          by_candidate (Some claim) e q =
+              let k : Stood l assigned same fair round depth claim = stood l assigned same fair round depth (candidates l) (candidates_good l assigned same fair) claim e in
+              subst (Speaks false) (sym (ap (λ (x : LoopFound). x.claim) q ∙ k.is))
+              (record { depth_is = refl; rank = rank_speaks k.candidate.rank k.good.ranked; vars = head_lines (round k.candidate.trial).back (back_fair k.candidate.trial k.good.holds k.good.scope) })

@@ -9,6 +9,7 @@ use Rattle.p10_base.specs.declared.report.TheConstants.Limit.{MOST_SUM}
 use Rattle.p10_range.specs.Ranges.{Interval, IsWithin, is_within, hull_of}
 use Rattle.p10_core.specs.declared.statements.LoopHead.{LoopHead}
 use Rattle.p10_core.specs.Types.{PlainType, void, integer, pointer, array, structure}
+use Rattle.p10_core.specs.Constants.{integer_of}
 use Rattle.p10_core.specs.Typed.{PlainVariable, PlainFunction, PlainProgram}
 use Rattle.p10_core.specs.WholePrograms.{region_of, parameter_types, surroundings_of, loops_of as heads_of, IsWholeProgram}
 use Rattle.p10_cert.specs.declared.claims.Rank.{Rank}
@@ -52,7 +53,7 @@ ranked_same k l e = at l.rank e
 holds_same : (k i : ℕ) (l : Loop) (vs : List PlainVariable) (env : Environment) → ranges_hold (record l { turns = k }) i vs env ≡ ranges_hold l i vs env
 holds_same k i l [] env = refl
 holds_same k i l (v ∷ vs) [] = refl
-holds_same k i l (v ∷ vs) (Some a ∷ env) = ap (λ b. is_within a.range (range_claimed l.vars i _) && b) (holds_same k (suc i) l vs env)
+holds_same k i l (v ∷ vs) (Some a ∷ env) = ap (λ b. is_within a.range (range_claimed l.vars i (integer_of v.type)) && b) (holds_same k (suc i) l vs env)
 holds_same k i l (v ∷ vs) (None ∷ env) = holds_same k (suc i) l vs env
 
 reached_same : (k : ℕ) (l : Loop) (vs : List PlainVariable) (o : Option Environment) → ranges_hold_reached (record l { turns = k }) vs o ≡ ranges_hold_reached l vs o

@@ -20,3 +20,5 @@ pub mod Beginning
 pub mod Bodies
 pub mod Results
 pub mod Functions
+pub mod Calls
+pub mod Sites

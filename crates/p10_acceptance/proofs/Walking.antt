@@ -48,7 +48,7 @@ use Rattle.p10_acceptance.proofs.Walk.{extends, all_extend, from_extends, last_o
 pub no_difference : Differs (λ r. Unit {0}) None None (λ l. l)
 no_difference = record { parts = λ a b h. (tt, tt); agree = λ r h. refl; lefts = λ m claim head assigned entry r. refl; heads = λ claim variables entry. refl }
 
-if_there : (o : Option Environment) (P : Environment → Type 0) → ((e : Environment) → o ≡ Some e → P e) → IfSome o P
+pub if_there : (o : Option Environment) (P : Environment → Type 0) → ((e : Environment) → o ≡ Some e → P e) → IfSome o P
 if_there None P h = tt
 if_there (Some e) P h = h e refl
 
@@ -83,7 +83,7 @@ module _ (p : PlainProgram) (f : PlainFunction) (c : Claims) (typed : AreTyped (
   AllIn xs e = AllFitted f.variables (Some c) (Some all) None Stands xs e
 
   -- the claims that are found are the first of all
-  abbrev Prefix : LoopsFound → Type 0
+  abbrev pub Prefix : LoopsFound → Type 0
   Prefix found = (j : ℕ) (l : Loop) → slice_get found.claims j ≡ Some l → slice_get all j ≡ Some l
 
   -- a loop stands at the place of its number
@@ -99,7 +99,7 @@ module _ (p : PlainProgram) (f : PlainFunction) (c : Claims) (typed : AreTyped (
     pub prefix : Prefix next
     pub bounded : next.unbounded ≡ []
 
-  same_pass : (r : Region) (x : PlainStatement) → IsWholeStatement r x → (found next : LoopsFound) → length next.claims ≡ length found.claims + length (heads_in x) → Numbered (length found.claims) (heads_in x) → Prefix next → (env : Environment) →
+  pub same_pass : (r : Region) (x : PlainStatement) → IsWholeStatement r x → (found next : LoopsFound) → length next.claims ≡ length found.claims + length (heads_in x) → Numbered (length found.claims) (heads_in x) → Prefix next → (env : Environment) →
       pass_statement (manner_after s next) x env ≡ pass_statement whole x env
   same_pass r x i found next count numbered prefix env = statement_alike (Some c) f.variables next.claims all None None (λ r. Unit {0}) (λ l. l) no_difference r x i
       (same_claims next.claims all prefix (length found.claims) (heads_in x) (omega (arith, count)) numbered) env (any_range (pass_statement (manner_after s next) x env).returned)
@@ -123,67 +123,70 @@ module _ (p : PlainProgram) (f : PlainFunction) (c : Claims) (typed : AreTyped (
     abbrev inner : Region
     inner = after_all r first
 
-    abbrev passed : LoopPassed
+    abbrev pub passed : LoopPassed
     passed = loop_passed s depth head first tested third body (Some env) found
 
-    abbrev lf : LoopFound
+    abbrev pub lf : LoopFound
     lf = reached_found (is_task task head.number) head.span (trial_rounds f.variables head.keyword tested third body) (loop_entry s (assigned_in s (loop head first tested third body)) tested) depth (known_at_entry s found first (Some env))
 
     before_first : IsBefore f.variables (declared_of first) env
     before_first = before_left f.variables (declared_of first) (declared_in body) env comes.before
 
-    there : slice_get all head.number ≡ Some lf.claim
+    pub there : slice_get all head.number ≡ Some lf.claim
     there =
         let e = extends s (suc depth) body passed.inside passed.found in
         comes.prefix head.number lf.claim (e.keeps head.number lf.claim (ap (slice_get (found.claims ++ lf.claim ∷ [])) comes.numbered.0 ∙ last_one found.claims lf.claim))
 
-    claim_is : loop_claimed all head.number ≡ lf.claim
+    pub claim_is : loop_claimed all head.number ≡ lf.claim
     claim_is = ap claim_or_none there
 
     module _ (entry : Environment) (is : (pass_statements whole first env).normal ≡ Some entry) where
-      at_entry : known_at_entry s found first (Some env) ≡ Some entry
+      pub at_entry : known_at_entry s found first (Some env) ≡ Some entry
       at_entry = ap (λ (a : Left). a.normal) (clauses_alike (Some c) f.variables found.claims all None None (λ r. Unit {0}) (λ l. l) no_difference first (first_plain f.variables (Some c) (Some all) None Stands head.keyword first tested third i.4) env) ∙ is
 
-      entry_scoped : Scoped f.variables (λ k. declares_at_top k first) env entry
+      pub entry_scoped : Scoped f.variables (λ k. declares_at_top k first) env entry
       entry_scoped = maybe_is f.variables (λ k. declares_at_top k first) env (pass_statements whole first env).normal entry (statements_scoped f.variables (Some c) (Some all) None r first i.0 env before_first).normal is
 
-      entry_fair : Fair f.variables entry
+      pub entry_fair : Fair f.variables entry
       entry_fair = fair_is p f (Some c) typed taken (Some all) None (λ r. refl) Stands (pass_statements whole first env).normal (pass_statements (trial_manner f.variables) first env).normal entry
           (statements_fit p f (Some c) typed taken (Some all) None (λ r. refl) Stands r h first i.0 env env before_first (narrower_itself f.variables env comes.fair)
           (all_fitted f.variables (Some c) (Some all) None Stands first (first_plain f.variables (Some c) (Some all) None Stands head.keyword first tested third i.4) env)).normal is
 
-      before_in : IsBefore f.variables (declared_in body) entry
+      pub before_in : IsBefore f.variables (declared_in body) entry
       before_in = before_body f.variables first (declared_in body) env entry comes.before entry_scoped
 
-      lf_is : lf ≡ entered_found (is_task task head.number) head.span (trial_rounds f.variables head.keyword tested third body) (loop_entry s (assigned_in s (loop head first tested third body)) tested entry) depth
+      pub lf_is : lf ≡ entered_found (is_task task head.number) head.span (trial_rounds f.variables head.keyword tested third body) (loop_entry s (assigned_in s (loop head first tested third body)) tested entry) depth
       lf_is = ap (λ o. reached_found (is_task task head.number) head.span (trial_rounds f.variables head.keyword tested third body) (loop_entry s (assigned_in s (loop head first tested third body)) tested) depth o) at_entry
 
-      bounded : lf.unbounded ≡ []
+      pub bounded : lf.unbounded ≡ []
       bounded = no_right found.unbounded lf.unbounded ((extends s (suc depth) body passed.inside passed.found).bounded comes.bounded)
 
-      fits : ClaimFits f.variables Stands lf.claim head.number assigned (trial_round f.variables (Some c) (Some all) None Stands head.keyword tested third body) entry
+      pub fits : ClaimFits f.variables Stands lf.claim head.number assigned (trial_round f.variables (Some c) (Some all) None Stands head.keyword tested third body) entry
       fits = found_fits p f Stands r h at head first tested third body i depth entry entry_fair before_in (is_task task head.number) lf lf_is bounded (λ e. short head.number lf.claim there e)
           (λ e k. stands head.number (record { head = head; first = first; tested = tested; third = third; body = body }) lf.claim comes.placed.0 there entry e k)
 
-      abbrev at_head : Environment
+      abbrev pub at_head : Environment
       at_head = head_of lf.claim f.variables entry
 
-      fair_head : Fair f.variables at_head
+      pub fair_head : Fair f.variables at_head
       fair_head = head_fair f.variables (Some c) (Some all) None (integer_of f.result) Stands lf.claim head.number assigned (trial_round f.variables (Some c) (Some all) None Stands head.keyword tested third body) entry entry_fair fits
 
-      head_knows : KnowsNumbers f.variables at_head
+      pub head_knows : KnowsNumbers f.variables at_head
       head_knows = (scoped_same f.variables nothing entry at_head before_in.knows (changed_scope f.variables _ entry)).knows
 
-      of_body : IsBefore f.variables (declared_in body) at_head
+      pub of_body : IsBefore f.variables (declared_in body) at_head
       of_body = before_same f.variables (declared_in body) entry at_head before_in (changed_scope f.variables _ entry)
 
-      entered_fair : (keyword : LoopKeyword) (e : Environment) → entered f.variables (Some c) (Some all) None Stands keyword tested at_head ≡ Some e → Fair f.variables e
+      pub entered_fair : (keyword : LoopKeyword) (e : Environment) → entered f.variables (Some c) (Some all) None Stands keyword tested at_head ≡ Some e → Fair f.variables e
       entered_fair Do e q = subst (λ (x : Environment). Fair f.variables x) (same_Some _ _ q) fair_head
       entered_fair While e q = fair_is p f (Some c) typed taken (Some all) None (λ r. refl) Stands _ _ e (maybe_tests p f (Some c) typed taken (Some all) None (λ r. refl) Stands inner (in_after_all p f r first h) tested i.1 at_head at_head (narrower_itself f.variables at_head fair_head)).truth q
       entered_fair For e q = fair_is p f (Some c) typed taken (Some all) None (λ r. refl) Stands _ _ e (maybe_tests p f (Some c) typed taken (Some all) None (λ r. refl) Stands inner (in_after_all p f r first h) tested i.1 at_head at_head (narrower_itself f.variables at_head fair_head)).truth q
 
+      pub inside_same : passed.inside ≡ entered f.variables (Some c) (Some all) None Stands head.keyword tested at_head
+      inside_same = ap (λ o. option_and_then (λ entry. known_in_body s head.keyword tested (head_of lf.claim f.variables entry)) o) at_entry ∙ inside_is head.keyword tested at_head
+
       inside : (e : Environment) → entered f.variables (Some c) (Some all) None Stands head.keyword tested at_head ≡ Some e → passed.inside ≡ Some e
-      inside e q = ap (λ o. option_and_then (λ entry. known_in_body s head.keyword tested (head_of lf.claim f.variables entry)) o) at_entry ∙ (inside_is head.keyword tested at_head ∙ q)
+      inside e q = inside_same ∙ q
 
       in_body : (e : Environment) → entered f.variables (Some c) (Some all) None Stands head.keyword tested at_head ≡ Some e → In body e
       in_body e q =
@@ -253,7 +256,7 @@ module _ (p : PlainProgram) (f : PlainFunction) (c : Claims) (typed : AreTyped (
     walk r h (statement at (loop head first tested third body)) i depth env found k =
         loop_walk r h at head first tested third body i depth env found (record { before = k.before; fair = k.fair; numbered = k.numbered; placed = k.placed; prefix = k.prefix; bounded = k.bounded })
         (λ e more z. walk (record (after_all r first) { in_loop = true }) (let j = in_after_all p f r first h in record { program_is = j.program_is; function_is = j.function_is }) body i.3 (suc depth) e more z)
-    walk r h (statement at (switch keyword v labels (statement there (block xs)))) i depth env found k = λ e.
+    walk r h (statement at (switch keyword v labels (statement within (block xs)))) i depth env found k = λ e.
         let same : loops_from s depth labels 0 xs (known_after_value s v (Some env)) None found ≡ loops_from s depth labels 0 xs (Some env) None found = ap (λ (b : Bool). loops_from s depth labels 0 xs (if b then Some env else None) None found) e in
         walk_from labels (record r { in_switch = true }) (record { program_is = h.program_is; function_is = h.function_is }) 0 xs i.1 i.0.declares_nothing depth env None found tt tt
         (record { before = k.before; fair = k.fair; numbered = k.numbered; placed = k.placed; prefix = subst Prefix same k.prefix; bounded = subst (λ (z : LoopsFound). z.unbounded ≡ []) same k.bounded })
