@@ -61,7 +61,7 @@ one_entry n parameters v a e = at (ltb n parameters) v.frame (is_integer v.type)
     at true false d below frame kind e = absurd (none-some _ e)
     at false c d below frame kind e = absurd (none-some _ e)
 
-parameter_known : (n parameters : ℕ) (vs : List PlainVariable) (k : ℕ) (a : Abstract) → known (entries_from n parameters [] vs) k ≡ Some a → IsParameter n parameters vs k a
+pub parameter_known : (n parameters : ℕ) (vs : List PlainVariable) (k : ℕ) (a : Abstract) → known (entries_from n parameters [] vs) k ≡ Some a → IsParameter n parameters vs k a
 parameter_known n parameters [] k a e = absurd (none-some _ e)
 parameter_known n parameters (v ∷ vs) zero a e =
     let h = one_entry n parameters v a e in
@@ -89,7 +89,7 @@ start_fair f = record {
       (subst (λ (x : PlainVariable). IsOfType (integer_of v.type) (values_of (integer_of x.type))) (sym same) (whole_typed (integer_of v.type)));
 }
 
-some_is : (o : Option Abstract) → is_some o ≡ true → (a : Abstract) × (o ≡ Some a)
+pub some_is : (o : Option Abstract) → is_some o ≡ true → (a : Abstract) × (o ≡ Some a)
 some_is None e = absurd cc
 some_is (Some a) e = (a, refl)
 

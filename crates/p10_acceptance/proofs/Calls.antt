@@ -105,15 +105,23 @@ module _ (p : PlainProgram) (f : PlainFunction) (P : ℕ → Type 0) (known : (n
     statement_calls r h (statement at (declare_static n)) i = (tt, tt)
     statement_calls r h (statement at (block xs)) i = (tt, statements_call r h xs i)
     statement_calls r h (statement at (if_then v x)) i = (tt, both_called P (nodes_of_value v) (nodes_of_statement x) (value_calls P (around r) (seen_at r h) v i.0.whole) (statement_calls r h x i.1))
-    statement_calls r h (statement at (if_else v x y)) i = (tt, both_called P (nodes_of_value v) (nodes_of_statement x ++ nodes_of_statement y) (value_calls P (around r) (seen_at r h) v i.0.whole)
-        (both_called P (nodes_of_statement x) (nodes_of_statement y) (statement_calls r h x i.1) (statement_calls r h y i.2)))
+    statement_calls r h (statement at (if_else v x y)) i = (
+      tt,
+      both_called P (nodes_of_value v) (nodes_of_statement x ++ nodes_of_statement y) (value_calls P (around r) (seen_at r h) v i.0.whole)
+          (both_called P (nodes_of_statement x) (nodes_of_statement y) (statement_calls r h x i.1) (statement_calls r h y i.2)),
+    )
     statement_calls r h (statement at (loop head first tested third body)) i =
-        let j = in_after_all p f r first h in
-        (tt, loop_calls P head.keyword (nodes_of_statements first) (nodes_of_maybe tested) (nodes_of_statements third) (nodes_of_statement body) (statements_call r h first i.0)
-        (maybe_calls P (around (after_all r first)) (seen_at (after_all r first) j) tested i.1) (statements_call (after_all r first) j third i.2)
-        (statement_calls (record (after_all r first) { in_loop = true }) (record { program_is = j.program_is; function_is = j.function_is }) body i.3))
-    statement_calls r h (statement at (switch keyword v labels body)) i = (tt, both_called P (nodes_of_value v) (nodes_of_statement body) (value_calls P (around r) (seen_at r h) v i.0.whole)
-        (statement_calls (record r { in_switch = true }) (record { program_is = h.program_is; function_is = h.function_is }) body i.1))
+        let j = in_after_all p f r first h in (
+          tt,
+          loop_calls P head.keyword (nodes_of_statements first) (nodes_of_maybe tested) (nodes_of_statements third) (nodes_of_statement body) (statements_call r h first i.0)
+              (maybe_calls P (around (after_all r first)) (seen_at (after_all r first) j) tested i.1) (statements_call (after_all r first) j third i.2)
+              (statement_calls (record (after_all r first) { in_loop = true }) (record { program_is = j.program_is; function_is = j.function_is }) body i.3),
+        )
+    statement_calls r h (statement at (switch keyword v labels body)) i = (
+      tt,
+      both_called P (nodes_of_value v) (nodes_of_statement body) (value_calls P (around r) (seen_at r h) v i.0.whole)
+          (statement_calls (record r { in_switch = true }) (record { program_is = h.program_is; function_is = h.function_is }) body i.1),
+    )
     statement_calls r h (statement at break) i = (tt, tt)
     statement_calls r h (statement at continue) i = (tt, tt)
     statement_calls r h (statement at (return keyword v)) i = (tt, return_calls P (around r) (seen_at r h) r.function.result v i)

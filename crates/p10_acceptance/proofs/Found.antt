@@ -268,9 +268,12 @@ module _ (p : PlainProgram) (f : PlainFunction) (Stands : ℕ → Environment �
       -- a variable that is known at entry may be spoken of
       counter_known : (n : ℕ) → is_some (known entry n) ≡ true → (v : PlainVariable) × (slice_get f.variables n ≡ Some v) × (counter_type f scope n ≡ Some (integer_of v.type))
       counter_known n e =
-          let number : IsNumber f.variables n = before.knows.each n e in
-          (number.variable, number.there, ap (λ b. if b then frame_integer (slice_get f.variables n) else None) (in_scope n e)
-          ∙ (ap frame_integer number.there ∙ (ap (λ b. if b then kind_of_integer number.variable.type else None) number.frame_is ∙ of_kind number.variable.type number.integer_is)))
+          let number : IsNumber f.variables n = before.knows.each n e in (
+            number.variable,
+            number.there,
+            ap (λ b. if b then frame_integer (slice_get f.variables n) else None) (in_scope n e)
+                ∙ (ap frame_integer number.there ∙ (ap (λ b. if b then kind_of_integer number.variable.type else None) number.frame_is ∙ of_kind number.variable.type number.integer_is)),
+          )
         where
           of_kind : (t : PlainType) → is_integer t ≡ true → kind_of_integer t ≡ Some (integer_of t)
           of_kind (integer c k) q = refl
@@ -303,11 +306,11 @@ module _ (p : PlainProgram) (f : PlainFunction) (Stands : ℕ → Environment �
         where
           one : (x : Option Abstract) → known o i ≡ x → list_all (fits_variable f scope) (line_for i (integer_of v.type) x) ≡ true
           one None e = refl
-          one (Some a) e = at (is_whole_range (integer_of v.type) a.range)
+          one (Some a) e = by_test (is_whole_range (integer_of v.type) a.range)
             where
-              at : (b : Bool) → list_all (fits_variable f scope) (if b then [] else record { var = i; ends = a.range } ∷ []) ≡ true
-              at true = refl
-              at false = ap (λ b. b && true) (h i a e)
+              by_test : (b : Bool) → list_all (fits_variable f scope) (if b then [] else record { var = i; ends = a.range } ∷ []) ≡ true
+              by_test true = refl
+              by_test false = ap (λ b. b && true) (h i a e)
 
       head_lines : (back : Option Environment) → IfSome back (Fair f.variables) → list_all (fits_variable f scope) (lines_from 0 f.variables (head_after l back)) ≡ true
       head_lines back k = lines_speak 0 f.variables (head_after l back) (line_speaks (head_after l back) (tried_has l assigned same fair back k) (λ n e. sym (changed_knows _ 0 f.variables entry n) ∙ e))

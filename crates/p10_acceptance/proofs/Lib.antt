@@ -22,3 +22,6 @@ pub mod Results
 pub mod Functions
 pub mod Calls
 pub mod Sites
+pub mod Speaking
+pub mod Summing
+pub mod Accepting

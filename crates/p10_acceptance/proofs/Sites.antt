@@ -204,14 +204,14 @@ module _ (p : PlainProgram) (f : PlainFunction) (c : Claims) (typed : AreTyped (
       )))
 
   -- a part of what is declared
-  part_here : {numbers fewer scope : List ℕ} (o : Option Environment) → ((e : Environment) → IsBefore f.variables numbers e → IsBefore f.variables fewer e) → MaybeHere numbers scope o → MaybeHere fewer scope o
-  part_here None h k = tt
-  part_here (Some e) h k = (h e k.0, k.1, k.2)
+  part_here : (numbers fewer scope : List ℕ) (o : Option Environment) → ((e : Environment) → IsBefore f.variables numbers e → IsBefore f.variables fewer e) → MaybeHere numbers scope o → MaybeHere fewer scope o
+  part_here numbers fewer scope None h k = tt
+  part_here numbers fewer scope (Some e) h k = (h e k.0, k.1, k.2)
 
   -- more is in scope
-  wider_here : {numbers scope : List ℕ} (x : PlainStatement) (o : Option Environment) → MaybeHere numbers scope o → MaybeHere numbers (in_scope_after scope x) o
-  wider_here x None k = tt
-  wider_here {numbers} {scope} x (Some e) k = (k.0, k.1, λ n z. scope_more x n scope (k.2 n z))
+  wider_here : (numbers scope : List ℕ) (x : PlainStatement) (o : Option Environment) → MaybeHere numbers scope o → MaybeHere numbers (in_scope_after scope x) o
+  wider_here numbers scope x None k = tt
+  wider_here numbers scope x (Some e) k = (k.0, k.1, λ n z. scope_more x n scope (k.2 n z))
 
   -- ## A loop
 
@@ -315,8 +315,8 @@ module _ (p : PlainProgram) (f : PlainFunction) (c : Claims) (typed : AreTyped (
         let next : LoopsFound = loops_in look depth x first found in
         let more = extends look depth y other next in
         let count = (extends look depth x first found).count in
-        let here_left : MaybeHere (declared_in x) scope o = part_here o (λ e. before_left f.variables (declared_in x) (declared_in y) e) k.here in
-        let here_right : MaybeHere (declared_in y) scope o = part_here o (λ e. before_right f.variables (declared_in x) (declared_in y) e) k.here in
+        let here_left : MaybeHere (declared_in x) scope o = part_here (declared_in x ++ declared_in y) (declared_in x) scope o (λ e. before_left f.variables (declared_in x) (declared_in y) e) k.here in
+        let here_right : MaybeHere (declared_in y) scope o = part_here (declared_in x ++ declared_in y) (declared_in y) scope o (λ e. before_right f.variables (declared_in x) (declared_in y) e) k.here in
         sites_both f task all (length found.claims) (length next.claims) (loop_sites_in depth scope x) (loop_sites_in depth scope y) (count ∙ ap (λ n. length found.claims + n) (sym (sites_count depth scope x)))
         (sites r h x i.1 depth scope first found (record {
           here = branch_here r h (declared_in x) scope true v i.0.whole o here_left;
@@ -348,14 +348,15 @@ module _ (p : PlainProgram) (f : PlainFunction) (c : Claims) (typed : AreTyped (
           placed = k.placed.1;
           prefix = k.prefix;
           unbounded = k.unbounded;
-        }) in
-        ((λ l e. subst (λ (x : Loop). fits_loop f task (record { depth = depth; head = head; scope = in_scope_after_all scope first }) x ≡ true) (same_Some _ _ (sym there ∙ e)) (site_fits depth (in_scope_after_all scope first) head lf.claim speaks.depth_is speaks.rank speaks.vars)),
-        subst (λ (d : ℕ). Fits (suc (length found.claims)) (loop_sites_in d (in_scope_after_all scope first) body)) deeper (subst (λ (n : ℕ). Fits n (loop_sites_in (suc depth) (in_scope_after_all scope first) body)) next inner))
+        }) in (
+          (λ l e. subst (λ (x : Loop). fits_loop f task (record { depth = depth; head = head; scope = in_scope_after_all scope first }) x ≡ true) (same_Some _ _ (sym there ∙ e)) (site_fits depth (in_scope_after_all scope first) head lf.claim speaks.depth_is speaks.rank speaks.vars)),
+          subst (λ (d : ℕ). Fits (suc (length found.claims)) (loop_sites_in d (in_scope_after_all scope first) body)) deeper (subst (λ (n : ℕ). Fits n (loop_sites_in (suc depth) (in_scope_after_all scope first) body)) next inner),
+        )
     form_sites r h at (switch keyword v labels body) i depth scope o found k = switch_sites labels (record r { in_switch = true }) (record { program_is = h.program_is; function_is = h.function_is }) body i.1 (λ e. i.0.declares_nothing) depth scope (known_after_value look v o) found
         (record { here = chosen_here (declared_in body) scope v o k.here; numbered = k.numbered; placed = k.placed; prefix = k.prefix; unbounded = k.unbounded })
     form_sites r h at form i depth scope o found k = tt
 
-    all_sites : (r : Region) → IsIn p f r → (xs : PlainStatements) → AreWholeStatements r xs → (depth : ℕ) (scope : List ℕ) (o : Option Environment) (found : LoopsFound) → Sited (declared_of xs) (heads_of xs) (loops_among xs) scope o found (loops_in_all look depth xs o found) →
+    pub all_sites : (r : Region) → IsIn p f r → (xs : PlainStatements) → AreWholeStatements r xs → (depth : ℕ) (scope : List ℕ) (o : Option Environment) (found : LoopsFound) → Sited (declared_of xs) (heads_of xs) (loops_among xs) scope o found (loops_in_all look depth xs o found) →
         Fits (length found.claims) (loop_sites_of depth scope xs)
     all_sites r h no_statements i depth scope o found k = tt
     all_sites r h (more_statements x rest) i depth scope o found k =
@@ -367,7 +368,7 @@ module _ (p : PlainProgram) (f : PlainFunction) (c : Claims) (typed : AreTyped (
         let places = each_left (Placed p f c typed taken task all Stands short stands) (loops_within x) (loops_among rest) k.placed in
         let prefix : Prefix p f c typed taken task all Stands short stands next = λ j l z. k.prefix j l (more.keeps j l z) in
         sites_both f task all (length found.claims) (length next.claims) (loop_sites_in depth scope x) (loop_sites_of depth (in_scope_after scope x) rest) (count ∙ ap (λ n. length found.claims + n) (sym (sites_count depth scope x)))
-        (sites r h x i.0 depth scope o found (record { here = part_here o (λ e. before_left f.variables (declared_in x) (declared_of rest) e) k.here; numbered = numbers; placed = places; prefix = prefix; unbounded = more.bounded k.unbounded }))
+        (sites r h x i.0 depth scope o found (record { here = part_here (declared_in x ++ declared_of rest) (declared_in x) scope o (λ e. before_left f.variables (declared_in x) (declared_of rest) e) k.here; numbered = numbers; placed = places; prefix = prefix; unbounded = more.bounded k.unbounded }))
         (all_sites (after r x) (in_after p f r x h) rest i.1 depth (in_scope_after scope x) later next (record {
           here = after_here r h x i.0 rest scope depth o found k.here numbers places prefix (more.bounded k.unbounded);
           numbered = numbered_right (length found.claims) (length next.claims) (heads_in x) (heads_of rest) count k.numbered;
@@ -402,10 +403,10 @@ module _ (p : PlainProgram) (f : PlainFunction) (c : Claims) (typed : AreTyped (
         let prefix : Prefix p f c typed taken task all Stands short stands next = λ j l z. k.prefix j l (more.keeps j l z) in
         let coming : MaybeHere (declared_in x ++ declared_of rest) scope enters = if_here (declared_in x ++ declared_of rest) scope (is_labelled n labels) (hull_reached before o) before (hull_here (declared_in x ++ declared_of rest) scope before o b k.here) b in
         sites_both f task all (length found.claims) (length next.claims) (loop_sites_in depth scope x) (loop_sites_of depth (in_scope_after scope x) rest) (count ∙ ap (λ n. length found.claims + n) (sym (sites_count depth scope x)))
-        (sites r h x i.0 depth scope enters found (record { here = part_here enters (λ e. before_left f.variables (declared_in x) (declared_of rest) e) coming; numbered = numbers; placed = places; prefix = prefix; unbounded = more.bounded k.unbounded }))
+        (sites r h x i.0 depth scope enters found (record { here = part_here (declared_in x ++ declared_of rest) (declared_in x) scope enters (λ e. before_left f.variables (declared_in x) (declared_of rest) e) coming; numbered = numbers; placed = places; prefix = prefix; unbounded = more.bounded k.unbounded }))
         (from_sites labels (after r x) (in_after p f r x h) (suc n) rest i.1 (All-tail (λ s. is_declaration s ≡ false) x (statements_list rest) d) depth (in_scope_after scope x) o later next
         (after_here r h x i.0 rest scope depth enters found coming numbers places prefix (more.bounded k.unbounded)) (record {
-          here = wider_here x o (part_here o (λ e. before_right f.variables (declared_in x) (declared_of rest) e) k.here);
+          here = wider_here (declared_of rest) scope x o (part_here (declared_in x ++ declared_of rest) (declared_of rest) scope o (λ e. before_right f.variables (declared_in x) (declared_of rest) e) k.here);
           numbered = numbered_right (length found.claims) (length next.claims) (heads_in x) (heads_of rest) count k.numbered;
           placed = each_right (Placed p f c typed taken task all Stands short stands) (loops_within x) (loops_among rest) k.placed;
           prefix = k.prefix;

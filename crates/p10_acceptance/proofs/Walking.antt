@@ -272,19 +272,21 @@ module _ (p : PlainProgram) (f : PlainFunction) (c : Claims) (typed : AreTyped (
         let early : IsBefore f.variables (declared_in x) env = before_left f.variables (declared_in x) (declared_of rest) env k.before in
         let numbers = numbered_left (length found.claims) (heads_in x) (heads_of rest) k.numbered in
         let prefix : Prefix next = λ j l z. k.prefix j l (more.keeps j l z) in
-        let one : In x env = walk r h x i.0 depth env found (record { before = early; fair = k.fair; numbered = numbers; placed = each_left Placed (loops_within x) (loops_among rest) k.placed; prefix = prefix; bounded = more.bounded k.bounded }) in
-        (one, if_there (pass_statement whole x env).normal (λ e. AllIn rest e) (λ e q.
-        let same : loops_in_all s depth rest (known_after_statement s next x (Some env)) next ≡ loops_in_all s depth rest (Some e) next =
-        ap (λ o. loops_in_all s depth rest o next) (ap (λ (a : Left). a.normal) (same_pass r x i.0 found next here.count numbers prefix env) ∙ q) in
-        walk_all (after r x) (in_after p f r x h) rest i.1 depth e next (record {
-          before = before_rest f.variables x rest env e k.before (maybe_is f.variables (λ j. declares_here j x) env (pass_statement whole x env).normal e (statement_scoped f.variables (Some c) (Some all) None r x i.0 env early).normal q);
-          fair = fair_is p f (Some c) typed taken (Some all) None (λ r. refl) Stands (pass_statement whole x env).normal (pass_statement (trial_manner f.variables) x env).normal e
-              (statement_fits p f (Some c) typed taken (Some all) None (λ r. refl) Stands r h x i.0 env env early (narrower_itself f.variables env k.fair) one).normal q;
-          numbered = numbered_right (length found.claims) (length next.claims) (heads_in x) (heads_of rest) here.count k.numbered;
-          placed = each_right Placed (loops_within x) (loops_among rest) k.placed;
-          prefix = subst Prefix same k.prefix;
-          bounded = subst (λ (z : LoopsFound). z.unbounded ≡ []) same k.bounded;
-        })))
+        let one : In x env = walk r h x i.0 depth env found (record { before = early; fair = k.fair; numbered = numbers; placed = each_left Placed (loops_within x) (loops_among rest) k.placed; prefix = prefix; bounded = more.bounded k.bounded }) in (
+          one,
+          if_there (pass_statement whole x env).normal (λ e. AllIn rest e) (λ e q.
+              let same : loops_in_all s depth rest (known_after_statement s next x (Some env)) next ≡ loops_in_all s depth rest (Some e) next =
+              ap (λ o. loops_in_all s depth rest o next) (ap (λ (a : Left). a.normal) (same_pass r x i.0 found next here.count numbers prefix env) ∙ q) in
+              walk_all (after r x) (in_after p f r x h) rest i.1 depth e next (record {
+                before = before_rest f.variables x rest env e k.before (maybe_is f.variables (λ j. declares_here j x) env (pass_statement whole x env).normal e (statement_scoped f.variables (Some c) (Some all) None r x i.0 env early).normal q);
+                fair = fair_is p f (Some c) typed taken (Some all) None (λ r. refl) Stands (pass_statement whole x env).normal (pass_statement (trial_manner f.variables) x env).normal e
+                    (statement_fits p f (Some c) typed taken (Some all) None (λ r. refl) Stands r h x i.0 env env early (narrower_itself f.variables env k.fair) one).normal q;
+                numbered = numbered_right (length found.claims) (length next.claims) (heads_in x) (heads_of rest) here.count k.numbered;
+                placed = each_right Placed (loops_within x) (loops_among rest) k.placed;
+                prefix = subst Prefix same k.prefix;
+                bounded = subst (λ (z : LoopsFound). z.unbounded ≡ []) same k.bounded;
+              })),
+        )
 
     walk_from : (labels : PlainLabels) (r : Region) → IsIn p f r → (n : ℕ) (xs : PlainStatements) → AreWholeStatements r xs → All (λ s. is_declaration s ≡ false) (statements_list xs) → (depth : ℕ) (env : Environment) (before : Option Environment) (found : LoopsFound) →
         MaybeScoped f.variables nothing env before → MaybeNarrower f.variables before before → Comes (declared_of xs) (heads_of xs) (loops_among xs) env found (loops_from s depth labels n xs (Some env) before found) → FromFitted f.variables (Some c) (Some all) None Stands labels n xs env before
@@ -317,13 +319,15 @@ module _ (p : PlainProgram) (f : PlainFunction) (c : Claims) (typed : AreTyped (
         going_fit f.variables (integer_of f.result) (λ w. Stands w.at w.entry) enters enters (λ env. pass_statement whole x env) (λ env. pass_statement (trial_manner f.variables) x env) fit
         (λ e w q l. statement_fits p f (Some c) typed taken (Some all) None (λ r. refl) Stands r h x i.0 e w (before_at e q) l (if_known p f (Some c) typed taken (Some all) None (λ r. refl) Stands enters (λ e. In x e) e one q)) in
         let same : loops_from s depth labels (suc n) rest (Some env) (known_after_statement s next x enters) next ≡ loops_from s depth labels (suc n) rest (Some env) later next =
-        ap (λ o. loops_from s depth labels (suc n) rest (Some env) o next) (after_same r x i.0 found next here.count numbers prefix enters) in
-        (one, walk_from labels (after r x) (in_after p f r x h) (suc n) rest i.1 (All-tail (λ s. is_declaration s ≡ false) x (statements_list rest) d) depth env later next
-        (item_scoped f.variables (Some c) (Some all) None r x i.0 plain env early enters scope).normal (maybe_itself f.variables later _ passed.normal) (record {
-          before = before_right f.variables (declared_in x) (declared_of rest) env k.before;
-          fair = k.fair;
-          numbered = numbered_right (length found.claims) (length next.claims) (heads_in x) (heads_of rest) here.count k.numbered;
-          placed = each_right Placed (loops_within x) (loops_among rest) k.placed;
-          prefix = subst Prefix same k.prefix;
-          bounded = subst (λ (z : LoopsFound). z.unbounded ≡ []) same k.bounded;
-        }))
+        ap (λ o. loops_from s depth labels (suc n) rest (Some env) o next) (after_same r x i.0 found next here.count numbers prefix enters) in (
+          one,
+          walk_from labels (after r x) (in_after p f r x h) (suc n) rest i.1 (All-tail (λ s. is_declaration s ≡ false) x (statements_list rest) d) depth env later next
+              (item_scoped f.variables (Some c) (Some all) None r x i.0 plain env early enters scope).normal (maybe_itself f.variables later _ passed.normal) (record {
+                before = before_right f.variables (declared_in x) (declared_of rest) env k.before;
+                fair = k.fair;
+                numbered = numbered_right (length found.claims) (length next.claims) (heads_in x) (heads_of rest) here.count k.numbered;
+                placed = each_right Placed (loops_within x) (loops_among rest) k.placed;
+                prefix = subst Prefix same k.prefix;
+                bounded = subst (λ (z : LoopsFound). z.unbounded ≡ []) same k.bounded;
+              }),
+        )
