@@ -20,6 +20,7 @@
 //! That a certificate which is found bounds every run is left to the crates that check certificates.
 #![tactic(auto)]
 
+mod calls;
 mod changing;
 mod claims;
 mod counting;
@@ -32,7 +33,6 @@ mod functions;
 mod guard;
 pub mod laws;
 mod limits;
-mod order;
 mod results;
 mod rounds;
 mod search;
