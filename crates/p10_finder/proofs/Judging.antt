@@ -29,17 +29,29 @@ one_more : {A B : Type 0} (f : A → B) (xs : List A) (k : ℕ) (x : A) → k < 
 one_more f xs k x inside is =
     ap (map f) (take_at_read xs k x inside).1 ∙ (map-append f (take k xs) (get_or xs k x ∷ []) ∙ ap (λ y. map f (take k xs) ++ f y ∷ []) (sym is))
 
--- one more parameter
-pub params_more : (params : List ValueClaim) (vars : List Variable) (k : ℕ) (p : ValueClaim) (v : Variable) → k < length params → k < length vars → p ≡ get_or params k p → v ≡ get_or vars k v → value_of p ≡ any_value (plain_type v.ty) →
-    map value_of (take k params) ≡ map (λ (x : PlainVariable). any_value x.type) (take k (map plain_variable vars)) → map value_of (take (k + 1) params) ≡ map (λ (x : PlainVariable). any_value x.type) (take (k + 1) (map plain_variable vars))
-params_more params vars k p v inside there p_is v_is same so-far =
+-- what may be claimed of one variable more
+variable_more : (vars : List Variable) (k : ℕ) (v : Variable) → k < length vars → v ≡ get_or vars k v →
+    map (λ (x : PlainVariable). any_value x.type) (take (k + 1) (map plain_variable vars)) ≡ map (λ (x : PlainVariable). any_value x.type) (take k (map plain_variable vars)) ++ any_value (plain_type v.ty) ∷ []
+variable_more vars k v there v_is =
     let got : slice_get (map plain_variable vars) k ≡ Some (plain_variable v) = get_map plain_variable vars k v (slice_get-get_or vars k v there ∙ ap Some (sym v_is)) in
     let below : k < length (map plain_variable vars) = let e : length (map plain_variable vars) ≡ length vars = length-map vars plain_variable in omega (arith, e, there) in
     let read : slice_get (map plain_variable vars) k ≡ Some (get_or (map plain_variable vars) k (plain_variable v)) = slice_get-get_or (map plain_variable vars) k (plain_variable v) below in
     let v_too : plain_variable v ≡ get_or (map plain_variable vars) k (plain_variable v) = cc in
-    one_more value_of params k p inside p_is ∙
-    (ap (λ l. l ++ value_of p ∷ []) so-far ∙ (ap (λ y. map (λ (x : PlainVariable). any_value x.type) (take k (map plain_variable vars)) ++ y ∷ []) same ∙
-    sym (one_more (λ (x : PlainVariable). any_value x.type) (map plain_variable vars) k (plain_variable v) below v_too)))
+    one_more (λ (x : PlainVariable). any_value x.type) (map plain_variable vars) k (plain_variable v) below v_too
+
+-- one more parameter
+pub params_more : (params : List ValueClaim) (vars : List Variable) (k : ℕ) (p : ValueClaim) (v : Variable) → k < length params → k < length vars → p ≡ get_or params k p → v ≡ get_or vars k v → value_of p ≡ any_value (plain_type v.ty) →
+    map value_of (take k params) ≡ map (λ (x : PlainVariable). any_value x.type) (take k (map plain_variable vars)) → map value_of (take (k + 1) params) ≡ map (λ (x : PlainVariable). any_value x.type) (take (k + 1) (map plain_variable vars))
+params_more params vars k p v inside there p_is v_is same so-far =
+    one_more value_of params k p inside p_is
+    ∙ (ap (λ l. l ++ value_of p ∷ []) so-far ∙ (ap (λ y. map (λ (x : PlainVariable). any_value x.type) (take k (map plain_variable vars)) ++ y ∷ []) same ∙ sym (variable_more vars k v there v_is)))
+
+-- one more that is put after the others
+pub params_put : (old new : List ValueClaim) (vars : List Variable) (k : ℕ) (p : ValueClaim) (v : Variable) → k < length vars → v ≡ get_or vars k v → value_of p ≡ any_value (plain_type v.ty) → new ≡ old ++ p ∷ [] →
+    map value_of old ≡ map (λ (x : PlainVariable). any_value x.type) (take k (map plain_variable vars)) → map value_of new ≡ map (λ (x : PlainVariable). any_value x.type) (take (k + 1) (map plain_variable vars))
+params_put old new vars k p v there v_is same put so-far =
+    ap (map value_of) put ∙ (map-append value_of old (p ∷ [])
+    ∙ (ap (λ l. l ++ value_of p ∷ []) so-far ∙ (ap (λ y. map (λ (x : PlainVariable). any_value x.type) (take k (map plain_variable vars)) ++ y ∷ []) same ∙ sym (variable_more vars k v there v_is))))
 
 -- so many of a list, or all of it
 take_least : {A : Type 0} (xs : List A) (n : ℕ) → take (min (length xs) n) xs ≡ take n xs
@@ -53,16 +65,22 @@ by_types : (vs : List PlainVariable) → map (λ (x : PlainVariable). any_value 
 by_types [] = refl
 by_types (v ∷ vs) = ap (λ l. any_value v.type ∷ l) (by_types vs)
 
+-- what may be claimed of all parameters
+pub types_all : (f : CodeFunc) (slice : List Variable) (count k : ℕ) → slice ≡ f.vars → count ≡ min (length slice) f.params → count ≤ k → k ≤ count →
+    map (λ (x : PlainVariable). any_value x.type) (take k (map plain_variable slice)) ≡ map any_value (parameter_types (plain_function f))
+types_all f slice count k is least low high =
+    let size : length (map plain_variable slice) ≡ length slice = length-map slice plain_variable in
+    let few : k ≡ min (length (map plain_variable slice)) f.params = omega (arith, least, low, high, size) in
+    ap (λ m. map (λ (x : PlainVariable). any_value x.type) (take m (map plain_variable slice))) few
+    ∙ (ap (map (λ (x : PlainVariable). any_value x.type)) (take_least (map plain_variable slice) f.params)
+    ∙ (by_types (take f.params (map plain_variable slice)) ∙ ap (λ (l : List Variable). map any_value (map (λ (x : PlainVariable). x.type) (take f.params (map plain_variable l)))) is))
+
 -- all parameters
 pub params_all : (params : List ValueClaim) (vars : List Variable) (f : CodeFunc) (slice : List Variable) (count k : ℕ) → slice ≡ f.vars → count ≡ min (length slice) f.params → length params ≡ count → count ≤ k → k ≤ count →
     map value_of (take k params) ≡ map (λ (x : PlainVariable). any_value x.type) (take k (map plain_variable slice)) → map value_of params ≡ map any_value (parameter_types (plain_function f))
 params_all params vars f slice count k is least each low high so-far =
     let all : take k params ≡ params = take_all k params (omega (arith, each, low)) in
-    let size : length (map plain_variable slice) ≡ length slice = length-map slice plain_variable in
-    let few : k ≡ min (length (map plain_variable slice)) f.params = omega (arith, least, low, high, size) in
-    sym (ap (map value_of) all) ∙ (so-far ∙ (ap (λ m. map (λ (x : PlainVariable). any_value x.type) (take m (map plain_variable slice))) few ∙
-    (ap (map (λ (x : PlainVariable). any_value x.type)) (take_least (map plain_variable slice) f.params) ∙
-    (by_types (take f.params (map plain_variable slice)) ∙ ap (λ (l : List Variable). map any_value (map (λ (x : PlainVariable). x.type) (take f.params (map plain_variable l)))) is))))
+    sym (ap (map value_of) all) ∙ (so-far ∙ types_all f slice count k is least low high)
 
 -- ## Cycles
 

@@ -2,3 +2,6 @@
 pub mod Trying
 pub mod Looking
 pub mod Judging
+pub mod Counting
+pub mod Limits
+pub mod Texts

@@ -22,22 +22,31 @@
 
 mod changing;
 mod claims;
+mod counting;
 mod course;
+mod derivation;
 mod entering;
 mod entry;
+mod found;
 mod functions;
 mod guard;
 pub mod laws;
+mod limits;
 mod order;
 mod results;
 mod rounds;
 mod search;
 mod standing;
+mod summed;
+mod text;
 mod trial;
+mod unsummed;
 mod violations;
 mod walk;
 
+pub use derivation::derive;
 pub use entry::LoopEntry;
+pub use found::{FinderFault, Found};
 pub use functions::{FunctionFound, any_value, function_found};
 pub use guard::{Candidate, candidates};
 pub use search::LoopsFound;

@@ -10,6 +10,7 @@ use crate::order::results_in_order;
 use crate::results::Judged;
 use p10_base::{Span, Sub, Violation};
 use p10_calls::call_graph;
+use p10_cert::Cert;
 use p10_core::Program;
 use p10_flowrules::flow_rules;
 use p10_graph::components;
@@ -20,16 +21,33 @@ use std::alloc::{AllocError, Global};
 pub fn bound_rules(alloc: Global, program: &Program<'_>) -> Result<Vec<Violation>, AllocError>
     ensures { IfOk result (λ found. HasViolations (plain_program program.now) found.items) }
 {
+    let judgement = judged(alloc, program)?;
+    Ok(judgement.violations)
+}
+
+/// A program's violations of these rows, and claims with its results.
+#[derive(Drop)]
+pub(crate) struct Judgement {
+    pub claims: Cert,
+    pub violations: Vec<Violation>,
+}
+
+/// The violations of a program, and the claims under which they were found.
+pub(crate) fn judged(alloc: Global, program: &Program<'_>) -> Result<Judgement, AllocError>
+    ensures right { IfOk result (λ found. HaveResults (plain_program program.now) (claims_of found.claims)) }
+    ensures all { IfOk result (λ found. AreViolations (plain_program program.now) (claims_of found.claims) found.violations.items) }
+{
     let graph = call_graph(alloc, program)?;
     let numbers = components(alloc, &graph)?;
     let claims = results_in_order(alloc, program, &graph, numbers.as_slice())?;
-    let judged = Judged {
+    let judged_claims = Judged {
         program,
         claims: &claims,
         graph: &graph,
         numbers: numbers.as_slice(),
     };
-    judged.violations(alloc)
+    let violations = judged_claims.violations(alloc)?;
+    Ok(Judgement { claims, violations })
 }
 
 impl Judged<'_, '_> {
