@@ -19,8 +19,9 @@ use Rattle.p10_command.specs.declared.trouble.Trouble.TheVariants.{Read, Memory}
 use Rattle.p10_command.specs.Saying.{Saying}
 use Rattle.p10_command.specs.Seen.{Seen}
 use Rattle.p10_command.specs.Told.{Told, Stopped}
+use Rattle.p10_command.proofs.OneOutput.{no_front}
 use Rattle.p10_derive_command.specs.Answers.{HasCause, derived_saying}
-use Rattle.p10_derive_command.specs.private.Telling.{IsSaid, IsTold, fault_saying}
+use Rattle.p10_derive_command.specs.private.Telling.{IsSaid, fault_saying}
 
 -- ## What may be said
 
@@ -46,27 +47,6 @@ has_cause result Read seen is rises = rises is
 has_cause result Memory seen is rises = tt
 
 -- ## On the error output
-
-nothing_taken : (sink : Option (List ℕ)) (text : List ℕ) → text ≡ [] → Appends sink sink text
-nothing_taken sink text none = subst (λ (t : List ℕ). Appends sink sink t) (sym none) (Appends-nil sink)
-
-no_front : (sink : Option (List ℕ)) (text : List ℕ) → text ≡ [] → TakesFront sink sink text
-no_front sink text none = record { front = []; back = []; parts = none; taken = Appends-nil sink }
-
-pub told_line : (may : Saying → Type 0) (saying : Saying) (out err_old err_new : Option (List ℕ)) (given : ℕ) → may saying → saying.out ≡ [] → IsTold saying.status saying.err err_old err_new given → Told may out out err_old err_new given
-told_line may saying out err_old err_new given is none told = record {
-  saying = saying;
-  may = is;
-  status_is = told.status_is;
-  taken = record { on_out = nothing_taken out saying.out none; on_err = told.taken };
-}
-
-pub stopped_line : (may : Saying → Type 0) (saying : Saying) (out err_old err_new : Option (List ℕ)) → may saying → saying.out ≡ [] → StopsWithin err_old err_new saying.err → Stopped may out out err_old err_new
-stopped_line may saying out err_old err_new is none stopped = record {
-  saying = saying;
-  may = is;
-  taken = record { on_out = no_front out saying.out none; on_err = TakesFront-stop err_old err_new saying.err stopped };
-}
 
 -- nothing is said on the output where nothing is derived
 pub no_output : (fault : FinderFault) → (fault_saying fault).out ≡ []

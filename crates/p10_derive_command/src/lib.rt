@@ -25,11 +25,10 @@ mod program;
 mod tell;
 
 pub use command::DeriveCommand;
-use p10_command::{GatheredRoots, gather_roots};
+use p10_command::{GatheredRoots, gather_roots, tell_trouble, tell_ungathered};
 use p10_world::{Files, Sink};
 use program::derive_sources;
 use std::alloc::Global;
-use tell::{tell_trouble, tell_ungathered};
 
 /// Obeys the command: tells on `out` the certificate that is derived of the sources' program, and all else on `err`. Gives the
 /// status with which the program exits.
@@ -58,15 +57,10 @@ pub fn derive<F: Files, O: Sink, E: Sink>(
 
     ensures held { F.held files.new ≡ F.held files.old }
 {
-    let gathered = gather_roots(
-        alloc,
-        files,
-        command.sources.as_slice(),
-        command.directories.as_slice(),
-    );
-    match gathered {
+    let roots = command.sources.as_slice();
+    match gather_roots(alloc, files, roots, command.directories.as_slice()) {
         Ok(GatheredRoots::All(sources)) => derive_sources(alloc, &sources, out, err),
-        Ok(GatheredRoots::Stopped(why, sources)) => tell_ungathered(command, &sources, &why, err),
+        Ok(GatheredRoots::Stopped(why, sources)) => tell_ungathered(roots, &sources, &why, err),
         Err(trouble) => tell_trouble(trouble, err),
     }
 }

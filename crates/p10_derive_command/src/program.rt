@@ -11,9 +11,9 @@ ghost use Rattle.p10_derive_command.specs.declared.command.DeriveCommand.{Derive
 ghost use Rattle.p10_derive_command.specs.Answers.{setting_of, SaysRight};
 ghost use Rattle.p10_derive_command.specs.private.Telling.{Comes};
 
-use crate::tell::{tell_end, tell_trouble, tell_unread};
+use crate::tell::tell_end;
 use p10_base::Sources;
-use p10_command::{ReadSources, Trouble, read_sources, release};
+use p10_command::{ReadSources, Trouble, read_sources, release, tell_trouble, tell_unread};
 use p10_finder::{FinderFault, Found};
 use p10_front::Reading;
 use p10_world::Sink;

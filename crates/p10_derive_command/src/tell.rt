@@ -10,63 +10,16 @@ ghost use Rattle.p10_report.specs.Violations.{violation_lines};
 ghost use Rattle.p10_cert.specs.Certificate.{certificate_text};
 ghost use Rattle.p10_cert.specs.Claims.{claims_of};
 ghost use Rattle.p10_finder.specs.Finding.{derived_of};
-ghost use Rattle.p10_command.specs.Gathering.{CanBeTold};
-ghost use Rattle.p10_command.specs.Reading.{HasCode};
-ghost use Rattle.p10_command.specs.Saying.{trouble_line, trouble_status, ungathered_line, ungathered_status, unread_line, unread_status};
-ghost use Rattle.p10_command.specs.Told.{Told, Stopped};
+ghost use Rattle.p10_command.specs.Told.{IsTold, Told, Stopped};
 ghost use Rattle.p10_derive_command.specs.Answers.{derived_saying};
-ghost use Rattle.p10_derive_command.specs.private.Telling.{end_saying, fault_saying, IsSaid, IsTold};
+ghost use Rattle.p10_derive_command.specs.private.Telling.{end_saying, fault_saying, IsSaid};
 
-use crate::command::DeriveCommand;
 use p10_base::{Limit, Sources, Violation};
 use p10_cert::{Cert, write};
-use p10_command::{Trouble, Ungathered, Unread, put_trouble, put_ungathered, put_unread};
+use p10_command::{Trouble, tell_trouble};
 use p10_finder::{FinderFault, Found};
 use p10_report::{put_limit, put_violations};
 use p10_world::Sink;
-
-/// Tells why the sources of the command aren't gathered, and gives the status of the program.
-pub fn tell_ungathered<E: Sink>(
-    command: &DeriveCommand,
-    sources: &Sources,
-    why: &Ungathered,
-    err: &mut E,
-) -> u8
-    requires { CanBeTold command.now.sources why.now }
-    ensures told { result ≢ 6 → IsTold (ungathered_status why.now) (ungathered_line command.now.sources sources.now why.now) (E.taken err.old) (E.taken err.new) result }
-    ensures stopped { result ≡ 6 → StopsWithin (E.taken err.old) (E.taken err.new) (ungathered_line command.now.sources sources.now why.now) }
-    ensures write { result ≡ 6 → Rose (E.faults err.old) (E.faults err.new) }
-{
-    match put_ungathered(err, command.sources.as_slice(), sources, why) {
-        Ok(()) => why.status(),
-        Err(_) => 6,
-    }
-}
-
-/// Tells why the gathered sources are no program, and gives the status of the program.
-pub fn tell_unread<E: Sink>(sources: &Sources, why: &Unread, err: &mut E) -> u8
-    requires { HasCode why.now }
-    ensures told { result ≢ 6 → IsTold (unread_status why.now) (unread_line sources.now why.now) (E.taken err.old) (E.taken err.new) result }
-    ensures stopped { result ≡ 6 → StopsWithin (E.taken err.old) (E.taken err.new) (unread_line sources.now why.now) }
-    ensures write { result ≡ 6 → Rose (E.faults err.old) (E.faults err.new) }
-{
-    match put_unread(err, sources, why) {
-        Ok(()) => why.status(),
-        Err(_) => 6,
-    }
-}
-
-/// Tells that a read has failed or memory is out, and gives the status of the program.
-pub fn tell_trouble<E: Sink>(trouble: Trouble, err: &mut E) -> u8
-    ensures told { result ≢ 6 → IsTold (trouble_status trouble) (trouble_line trouble) (E.taken err.old) (E.taken err.new) result }
-    ensures stopped { result ≡ 6 → StopsWithin (E.taken err.old) (E.taken err.new) (trouble_line trouble) }
-    ensures write { result ≡ 6 → Rose (E.faults err.old) (E.faults err.new) }
-{
-    match put_trouble(err, trouble) {
-        Ok(()) => trouble.status(),
-        Err(_) => 6,
-    }
-}
 
 /// Tells what has come of derivation, and gives the status of the program.
 pub fn tell_end<O: Sink, E: Sink>(

@@ -1,6 +1,5 @@
 -- What comes of derivation, and what parts of the code say of it.
-use Rattle.std.specs.Prelude.{◌≡◌, ℕ, List, Option, Result, Ok, Err}
-use Rattle.std.specs.Io.KnownBytes.{Appends}
+use Rattle.std.specs.Prelude.{◌≡◌, Result, Ok, Err}
 use Rattle.p10_base.specs.Gathered.{Gathered}
 use Rattle.p10_core.specs.Typed.{PlainProgram}
 use Rattle.p10_finder.specs.declared.found.Found.{Found}
@@ -11,11 +10,6 @@ use Rattle.p10_finder.specs.Finding.{derived_of, IsFault}
 use Rattle.p10_command.specs.declared.trouble.Trouble.TheVariants.{Memory}
 use Rattle.p10_command.specs.Saying.{Saying}
 use Rattle.p10_derive_command.specs.Answers.{derived_saying, limit_saying, trouble_saying}
-
--- a line was told on the error output, all of it, and this is its status
-pub record IsTold (status : ℕ) (line : List ℕ) (err_old err_new : Option (List ℕ)) (given : ℕ) : Type 0 where
-  pub status_is : given ≡ status
-  pub taken : Appends err_old err_new line
 
 -- this alone is said
 abbrev pub IsSaid : Saying → Saying → Type 0

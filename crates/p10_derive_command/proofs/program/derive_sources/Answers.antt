@@ -3,8 +3,9 @@ use Rattle.p10_command.specs.declared.trouble.Trouble.TheVariants.{Memory}
 use Rattle.p10_derive_command.specs.Answers.{SaysRight, unread, troubled, unread_saying, trouble_saying}
 use Rattle.p10_derive_command.specs.private.Telling.{end_saying}
 use Rattle.p10_derive_command.proofs.Deriving.{reading_is_right, whole_program}
-use Rattle.p10_derive_command.proofs.Sources.{are_program, are_unread}
-use Rattle.p10_derive_command.proofs.Telling.{said_right, stopped_right, told_line, stopped_line}
+use Rattle.p10_command.proofs.Sources.{are_program, are_unread}
+use Rattle.p10_command.proofs.OneOutput.{told_line, stopped_line}
+use Rattle.p10_derive_command.proofs.Telling.{said_right, stopped_right}
 use Rattle.p10_derive_command.proofs.program.derive_sources.Goals as goal
 
 pub derive_reading-end-requires : goal.derive_reading-end-requires

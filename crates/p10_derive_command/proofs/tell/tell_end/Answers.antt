@@ -4,7 +4,8 @@ use Rattle.p10_finder.specs.declared.found.FinderFault.{FinderFault}
 use Rattle.p10_finder.specs.Finding.{derived_of}
 use Rattle.p10_derive_command.specs.Answers.{derived_saying}
 use Rattle.p10_derive_command.specs.private.Telling.{IsSaid, end_saying, fault_saying}
-use Rattle.p10_derive_command.proofs.Telling.{no_output, said_right, stopped_right, told_line, stopped_line}
+use Rattle.p10_command.proofs.OneOutput.{told_line, stopped_line}
+use Rattle.p10_derive_command.proofs.Telling.{no_output, said_right, stopped_right}
 use Rattle.p10_derive_command.proofs.tell.tell_end.Goals as goal
 
 pub returns-in-Ok-clause-told : goal.returns-in-Ok-clause-told
