@@ -26,11 +26,12 @@ use Rattle.p10_check.specs.Places.{place_if, places_from, name_at}
 use Rattle.p10_check.specs.Shapes.{has_some, wrong_main, has_hidden_effect, late_names, hidden_effects}
 use Rattle.p10_check.specs.Accepting.{Holds}
 use Rattle.p10_check.proofs.Holding.{holding_accepts}
+use Rattle.p10_soundness.proofs.Sound.{accepted_by_ranges_bound}
 use Rattle.p10_finder.specs.Trials.{counted}
 use Rattle.p10_finder.specs.Functions.{any_value, loops_of, with_turn_steps}
 use Rattle.p10_finder.specs.Answers.{ViolatesBounds, no_bound, flow, AreClaims, IsCertified}
 use Rattle.p10_finder.proofs.OneClaims.{claims_have_results}
-use Rattle.p10_acceptance.specs.Laws.{DerivedCertificatesHold, DerivedCertificatesAreAccepted}
+use Rattle.p10_acceptance.specs.Laws.{DerivedCertificatesHold, DerivedCertificatesAreAccepted, DerivedCertificatesBoundRuns}
 use Rattle.p10_acceptance.proofs.Results.{is_there, there_below, mapped_at, claim_there}
 use Rattle.p10_acceptance.proofs.Functions.{ranked_same, function_holds}
 use Rattle.p10_acceptance.proofs.Calls.{none_passes, ranks_hold}
@@ -166,3 +167,6 @@ derived_hold p whole c k = all_hold p whole c k
 
 pub derived_are_accepted : DerivedCertificatesAreAccepted
 derived_are_accepted p whole c k = holding_accepts (stands_by_ranges p) p c (all_hold p whole c k)
+
+pub derived_bound : DerivedCertificatesBoundRuns
+derived_bound p whole c k = accepted_by_ranges_bound p whole c c.total (derived_are_accepted p whole c k)
