@@ -1,6 +1,6 @@
 use Rattle.p10_core.specs.Views.{plain_program}
-use Rattle.p10_verify_command.proofs.Judging.{weighed, wrong_line, too_long}
-use Rattle.p10_verify_command.proofs.judge.weigh.Goals as goal
+use Rattle.p10_judge.proofs.Weighed.{weighed, wrong_line, too_long}
+use Rattle.p10_judge.proofs.weighing.weigh.Goals as goal
 
 pub returns-in-Ok : goal.returns-in-Ok
 returns-in-Ok c = weighed (plain_program c.args.program.now) c.args.certificate.now c.in-Ok.claims c.try_conditions.result c.in-Ok.ensures c.try_conditions.ensures
