@@ -1,5 +1,5 @@
 -- What a sink took of lines that are written one after the other.
-use Rattle.std.proofs.Common.{◌≡◌, ℕ, List, [], ◌++◌, refl, sym, ap, subst, ◌∙◌, append_assoc, append-nil}
+use Rattle.std.proofs.Common.{◌≡◌, ℕ, List, [], ◌++◌, sym, ap, subst, ◌∙◌, append_assoc, append-nil}
 use Rattle.std.specs.Prelude.{Option, Some, None, Result, Ok, Err, OnErr, OnOk}
 use Rattle.std.specs.Io.KnownBytes.{Appends}
 use Rattle.std.proofs.KnownBytes.{Appends-nil, Appends-trans}
@@ -36,30 +36,7 @@ front_before old new first rest whole part e = record {
   taken = part.taken;
 }
 
--- ## A text that is written part by part
-
--- of a text all but the rest was taken
-pub record Written (old new : Option (List ℕ)) (whole rest : List ℕ) : Type 0 where
-  pub done : List ℕ
-  pub parts : whole ≡ done ++ rest
-  pub taken : Appends old new done
-
-pub none_written : (old : Option (List ℕ)) (whole : List ℕ) → Written old old whole whole
-none_written old whole = record { done = []; parts = refl; taken = Appends-nil old }
-
-pub more_written : (old middle new : Option (List ℕ)) (whole before first rest : List ℕ) → Written old middle whole before → before ≡ first ++ rest → Appends middle new first → Written old new whole rest
-more_written old middle new whole before first rest written is taken = record {
-  done = written.done ++ first;
-  parts = written.parts ∙ ap (λ t. written.done ++ t) is ∙ sym (append_assoc written.done first rest);
-  taken = Appends-trans old middle new written.done first written.taken taken;
-}
-
-pub all_written : (old new : Option (List ℕ)) (whole rest : List ℕ) → Written old new whole rest → rest ≡ [] → Appends old new whole
-all_written old new whole rest written none = subst (λ (t : List ℕ). Appends old new t) (sym (written.parts ∙ ap (λ t. written.done ++ t) none ∙ append-nil written.done)) written.taken
-
-pub stopped_writing : (old middle new : Option (List ℕ)) (whole before first rest : List ℕ) → Written old middle whole before → before ≡ first ++ rest → TakesFront middle new first → TakesFront old new whole
-stopped_writing old middle new whole before first rest written is front =
-    front_after old middle new written.done first rest whole written.taken front (written.parts ∙ ap (λ t. written.done ++ t) is)
+-- ## A text that is written in two parts
 
 -- the first text was taken, and then the second, or a prefix of it
 pub both_taken : {T E : Type 0} (r : Result T E) (old middle new : Option (List ℕ)) (first second whole : List ℕ) → Appends old middle first → whole ≡ first ++ second → OnOk r (Appends middle new second) → OnOk r (Appends old new whole)

@@ -1,12 +1,11 @@
 -- How a report is told: its status and its text.
 use Rattle.std.specs.Prelude.{ℕ, List, [], ◌∷◌, ◌++◌, codes, Bool, true, false, Option, Some, None}
-use Rattle.std.specs.List.{flat_map}
 use Rattle.p10_base.specs.declared.report.Refusal.{Refusal}
 use Rattle.p10_base.specs.declared.report.Violation.{Violation}
 use Rattle.p10_base.specs.Gathered.{Gathered}
 use Rattle.p10_report.specs.Json.{json_text}
 use Rattle.p10_report.specs.Lines.{refusal_line}
-use Rattle.p10_report.specs.Violations.{violation_line}
+use Rattle.p10_report.specs.Violations.{violation_lines}
 use Rattle.p10_check_command.specs.declared.report.Report.{Report}
 
 -- the status: 3 with a refusal, else 1 where something breaks a rule, and 0 where nothing does
@@ -17,10 +16,6 @@ status_with (v ∷ violations) None = 1
 
 abbrev pub report_status : Report → ℕ
 report_status report = status_with report.violations report.refusal
-
--- the lines of violations, one after the other
-abbrev pub violation_lines : Gathered → List Violation → List ℕ
-violation_lines g violations = flat_map (violation_line g) violations
 
 -- the line of a refusal, if there is one
 abbrev pub refusal_lines : Gathered → Option Refusal → List ℕ

@@ -2,7 +2,6 @@
 
 ghost use Rattle.std.specs.Prelude.{◌≡◌, ◌≢◌, ◌⊎◌, ◌≤◌, ◌<◌, ◌++◌, [], codes, length, slice_index_or, OnErr, OnOk};
 ghost use Rattle.std.specs.Io.KnownBytes.{Appends};
-ghost use Rattle.p10_base.specs.declared.report.Violation.{Violation};
 ghost use Rattle.p10_world.specs.Faults.{Rose};
 ghost use Rattle.p10_world.specs.Sink.{TakesFront};
 ghost use Rattle.p10_report.specs.Json.{IsPrintable};
@@ -13,14 +12,14 @@ ghost use Rattle.p10_command.specs.Gathering.{CanBeTold};
 ghost use Rattle.p10_command.specs.Saying.{trouble_line, trouble_status};
 ghost use Rattle.p10_command.specs.Told.{Told, Stopped};
 ghost use Rattle.p10_check_command.specs.Answers.{report_saying, gathering_saying};
-ghost use Rattle.p10_check_command.specs.Texts.{json_line, refusal_lines, report_lines, report_status, violation_lines};
+ghost use Rattle.p10_check_command.specs.Texts.{json_line, refusal_lines, report_lines, report_status};
 ghost use Rattle.p10_check_command.specs.private.Telling.{IsOrNoMemory};
 
 use crate::command::CheckCommand;
 use crate::report::Report;
-use p10_base::{Limit, Refusal, Sources, Violation};
+use p10_base::{Limit, Refusal, Sources};
 use p10_command::{Trouble, Ungathered, put_trouble};
-use p10_report::{json, put_absent, put_limit, put_refusal, put_violation};
+use p10_report::{json, put_absent, put_limit, put_refusal, put_violations};
 use p10_world::{Sink, SinkFault};
 use std::alloc::Global;
 
@@ -158,29 +157,6 @@ fn put_report<O: Sink>(out: &mut O, sources: &Sources, report: &Report) -> Resul
 {
     put_violations(out, sources, report.violations.as_slice())?;
     put_refusal_line(out, sources, report.refusal)
-}
-
-/// Writes the lines of violations.
-///
-/// # Errors
-///
-/// A fault only where the sink's count of faults rose; it then took a prefix of the lines.
-fn put_violations<O: Sink>(
-    out: &mut O,
-    sources: &Sources,
-    violations: &[Violation],
-) -> Result<(), SinkFault>
-    ensures ok { OnOk result (Appends (O.taken out.old) (O.taken out.new) (violation_lines sources.now violations.now)) }
-    ensures front { OnErr result (TakesFront (O.taken out.old) (O.taken out.new) (violation_lines sources.now violations.now)) }
-    ensures failed { OnErr result (Rose (O.faults out.old) (O.faults out.new)) }
-    ensures count { O.faults out.old ≤ O.faults out.new }
-{
-    let mut rest = violations;
-    while let Some((violation, others)) = rest.split_first() {
-        put_violation(out, sources, violation)?;
-        rest = others;
-    }
-    Ok(())
 }
 
 /// Writes the line of a refusal, if there is one.

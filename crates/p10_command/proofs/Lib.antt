@@ -1,4 +1,6 @@
 -- The lemmas of this crate, by subject.
 pub mod Stopped
 pub mod Answered
+pub mod Sources
+pub mod OneOutput
 pub mod Once

@@ -14,6 +14,11 @@ pub record BothTakeFronts (out_old out_new err_old err_new : Option (List ℕ)) 
   pub on_out : TakesFront out_old out_new out
   pub on_err : TakesFront err_old err_new err
 
+-- a line was told on the error output, all of it, and this is its status
+pub record IsTold (status : ℕ) (line : List ℕ) (err_old err_new : Option (List ℕ)) (given : ℕ) : Type 0 where
+  pub status_is : given ≡ status
+  pub taken : Appends err_old err_new line
+
 -- the status and both texts of something that may be said were given, and nothing else
 pub record Told (may_be_said : Saying → Type 0) (out_old out_new err_old err_new : Option (List ℕ)) (status : ℕ) : Type 0 where
   pub saying : Saying

@@ -16,7 +16,7 @@ use Rattle.p10_finder.proofs.OneClaims.{claims_have_results, one_claims}
 -- ## Violations
 
 -- what is violated under some claims with the program's results is so under others
-violates_same : (p : PlainProgram) (c d : Claims) → HaveResults p c → HaveResults p d → (sub : Sub) (span : Span) → ViolatesBounds p c sub span → ViolatesBounds p d sub span
+pub violates_same : (p : PlainProgram) (c d : Claims) → HaveResults p c → HaveResults p d → (sub : Sub) (span : Span) → ViolatesBounds p c sub span → ViolatesBounds p d sub span
 violates_same p c d first second _ _ (no_bound span l) = no_bound span (lacks_same p c d span first second l)
 violates_same p c d first second _ _ (flow sub span v) = flow sub span v
 

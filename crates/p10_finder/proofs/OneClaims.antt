@@ -75,18 +75,23 @@ module _ (fs gs : List Func) where
       let more = effects_same rest h.1 in
       λ i. (node_manages_memory n || one i) || more i
 
+  -- two sums by the same loops, with so many steps of a turn
+  pub one_sum : (p : PlainProgram) (task : Option ℕ) (f : PlainFunction) (loops : List Loop) (t : ℕ) → EachCalled (OneClaim fs gs) (nodes_of_statements f.body)
+      → sum_under (counting_under p f.variables fs (map (with_turn_steps t) loops)) task f ≡ sum_under (counting_under p f.variables gs (map (with_turn_steps t) loops)) task f
+  one_sum p task f loops t h =
+      let steps = steps_steady p f.variables fs gs loops task f h in
+      let turns = turns_steady p f.variables fs gs loops task f h in
+      let depth = depth_same f h in
+      let effect = effects_same (nodes_of_statements f.body) h in
+      λ i. record { steps = steps.same t i; calls = (depth i).calls; bytes = (depth i).bytes; alloc = effect i; turn = turns.same t i }
+
   -- two sums by the same loops, each with its own steps of a turn
   sums_same : (p : PlainProgram) (task : Option ℕ) (f : PlainFunction) (loops : List Loop) (s t : FuncSum) → EachCalled (OneClaim fs gs) (nodes_of_statements f.body)
       → s ≡ sum_under (counting_under p f.variables fs (map (with_turn_steps (counted s.turn)) loops)) task f → t ≡ sum_under (counting_under p f.variables gs (map (with_turn_steps (counted t.turn)) loops)) task f → s ≡ t
   sums_same p task f loops s t h first second =
-      let steps = steps_steady p f.variables fs gs loops task f h in
       let turns = turns_steady p f.variables fs gs loops task f h in
       let turn : counted s.turn ≡ counted t.turn = one_number _ _ s.turn t.turn turns (ap (λ (q : FuncSum). q.turn) first) (ap (λ (q : FuncSum). q.turn) second) in
-      let depth = depth_same f h in
-      let effect = effects_same (nodes_of_statements f.body) h in
-      let middle : sum_under (counting_under p f.variables fs (map (with_turn_steps (counted s.turn)) loops)) task f ≡ sum_under (counting_under p f.variables gs (map (with_turn_steps (counted s.turn)) loops)) task f =
-      λ i. record { steps = steps.same (counted s.turn) i; calls = (depth i).calls; bytes = (depth i).bytes; alloc = effect i; turn = turns.same (counted s.turn) i } in
-      first ∙ (middle ∙ (ap (λ n. sum_under (counting_under p f.variables gs (map (with_turn_steps n) loops)) task f) turn ∙ sym second))
+      first ∙ (one_sum p task f loops (counted s.turn) h ∙ (ap (λ n. sum_under (counting_under p f.variables gs (map (with_turn_steps n) loops)) task f) turn ∙ sym second))
 
 -- ## Claims
 

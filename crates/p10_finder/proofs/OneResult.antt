@@ -140,13 +140,13 @@ fewer_left marked n (suc k) low none = fewer_at marked n k low none (λ below. f
 -- ## Results
 
 -- where nothing is claimed, the same is said
-none_same : (x y : Option Func) → x ≡ None → y ≡ None → SayTheSame x y
+pub none_same : (x y : Option Func) → x ≡ None → y ≡ None → SayTheSame x y
 none_same x y first second = record {
   params = ap claims_on first ∙ sym (ap claims_on second);
   result = λ kind. ap (result_claimed kind) first ∙ sym (ap (result_claimed kind) second);
 }
 
-some_same : (x y : Option Func) (a b : Func) → x ≡ Some a → y ≡ Some b → a.params ≡ b.params → a.result ≡ b.result → SayTheSame x y
+pub some_same : (x y : Option Func) (a b : Func) → x ≡ Some a → y ≡ Some b → a.params ≡ b.params → a.result ≡ b.result → SayTheSame x y
 some_same x y a b first second params result = record {
   params = ap claims_on first ∙ (params ∙ sym (ap claims_on second));
   result = λ kind. ap (result_claimed kind) first ∙ ((λ i. result_claimed kind (Some (record a { result = result i }))) ∙ ((λ i. result_claimed kind (Some (record a { result = b.result }))) ∙ sym (ap (result_claimed kind) second)));

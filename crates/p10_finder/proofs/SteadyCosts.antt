@@ -282,3 +282,11 @@ one_number a b m n h first second = at h.kind
     at : IsFixed a ⊎ IsRising a → counted m ≡ counted n
     at (inl f) = ap counted (first ∙ (f (counted m) (counted n) ∙ (h.same (counted n) ∙ sym second)))
     at (inr up) = greatest (MOST_SUM + 1) m (a (counted m)) first (up (counted m)) ∙ sym (greatest (MOST_SUM + 1) n (a (counted n)) (second ∙ sym (h.same (counted n))) (up (counted n)))
+
+-- a number that is made of the greatest makes itself again
+pub own_number : (a : ℕ → ℕ) → IsFixed a ⊎ IsRising a → counted (a (counted (a (MOST_SUM + 1)))) ≡ counted (a (MOST_SUM + 1))
+own_number a (inl f) = ap counted (f (counted (a (MOST_SUM + 1))) (MOST_SUM + 1))
+own_number a (inr up) = ap (λ n. counted (a n)) (greatest (MOST_SUM + 1) (a (MOST_SUM + 1)) (up (MOST_SUM + 1)))
+  where
+    greatest : (k x : ℕ) → k < x → min x k ≡ k
+    greatest k x over = omega (arith, over)

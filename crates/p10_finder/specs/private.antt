@@ -2,3 +2,8 @@
 pub mod Trying
 pub mod Looking
 pub mod Judging
+pub mod Counting
+pub mod Limits
+pub mod Texts
+pub mod Levels
+pub mod Settling

@@ -20,24 +20,33 @@
 //! That a certificate which is found bounds every run is left to the crates that check certificates.
 #![tactic(auto)]
 
+mod calls;
 mod changing;
 mod claims;
+mod counting;
 mod course;
+mod derivation;
 mod entering;
 mod entry;
+mod found;
 mod functions;
 mod guard;
 pub mod laws;
-mod order;
+mod limits;
 mod results;
 mod rounds;
 mod search;
 mod standing;
+mod summed;
+mod text;
 mod trial;
+mod unsummed;
 mod violations;
 mod walk;
 
+pub use derivation::derive;
 pub use entry::LoopEntry;
+pub use found::{FinderFault, Found};
 pub use functions::{FunctionFound, any_value, function_found};
 pub use guard::{Candidate, candidates};
 pub use search::LoopsFound;

@@ -1,3 +1,4 @@
 -- Lemmas for this crate and those above it.
 pub mod Stopping
+pub mod Written
 pub mod Values

@@ -1,5 +1,6 @@
 -- The rows of Holzmann's rules ("The Power of Ten", 2006), and the lines in which violations are told.
 use Rattle.std.specs.Prelude.{ℕ, ◌==◌, Bool, ◌&&◌, List, [], ◌∷◌, codes, if◌then◌else◌, decimal}
+use Rattle.std.specs.List.{flat_map}
 use Rattle.p10_base.specs.declared.report.Sub.{Sub}
 use Rattle.p10_base.specs.declared.report.Violation.{Violation}
 use Rattle.p10_base.specs.Gathered.{Gathered}
@@ -78,3 +79,7 @@ violated_part sub = codes ": rule " then row_number sub then row_text_part sub
 -- the line of a violation: FILE:LINE:COLUMN: rule RULE.ROW: TEXT
 unfoldable pub violation_line : Gathered → Violation → List ℕ
 violation_line g v = place_text g v.span then violated_part v.sub
+
+-- the lines of violations, one after the other
+abbrev pub violation_lines : Gathered → List Violation → List ℕ
+violation_lines g violations = flat_map (violation_line g) violations

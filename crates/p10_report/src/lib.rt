@@ -4,9 +4,9 @@
 //! [`put_accepted`], [`put_failing`] and [`put_limit`] tell what was found in the sources and the certificate;
 //! [`put_returned`], [`put_turns`], [`put_assertion_failed`], [`put_undefined`] and [`put_steps_spent`] how a run has ended;
 //! [`put_usage`], [`put_absent`], [`put_bad_certificate`], [`put_read_fault`] and [`put_out_of_memory`] tell
-//! why there is nothing to tell of them. [`put_violation`] tells a violation of a rule, and [`json`] gives the text of a
-//! whole report as JSON, which takes memory. Invariant: what a sink took of a line is always the line's front, and all of
-//! it at `Ok`. A line is written in several pieces, so the `wrote` of a fault counts bytes of the last
+//! why there is nothing to tell of them. [`put_violation`] tells a violation of a rule, [`put_violations`] one on each line,
+//! and [`json`] gives the text of a whole report as JSON, which takes memory. Invariant: what a sink took of a line is always
+//! the line's front, and all of it at `Ok`. A line is written in several pieces, so the `wrote` of a fault counts bytes of the last
 //! piece alone. Which line is told, and to which sink, is left to the crates above.
 #![tactic(auto)]
 
@@ -23,7 +23,7 @@ pub use messages::{put_absent, put_bad_certificate, put_out_of_memory, put_read_
 use p10_base::{Bounds, Limit, Refusal, Sources, Span};
 use p10_world::{Sink, SinkFault};
 use pieces::{put_at, put_bytes, put_depths, put_labelled, put_place, put_reason, put_refused};
-pub use rows::put_violation;
+pub use rows::{put_violation, put_violations};
 
 mod endings;
 mod json_report;

@@ -4,7 +4,7 @@ ghost use Rattle.std.specs.Prelude.{◌≡◌, ◌≤◌, map, OnErr, OnOk};
 ghost use Rattle.std.specs.Io.KnownBytes.{Appends};
 ghost use Rattle.p10_world.specs.Faults.{Rose};
 ghost use Rattle.p10_report.specs.Stops.{StopsWithin};
-ghost use Rattle.p10_report.specs.Violations.{row_number, row_text, row_text_part, row_with_text, text_among, violated_part, violation_line};
+ghost use Rattle.p10_report.specs.Violations.{row_number, row_text, row_text_part, row_with_text, text_among, violated_part, violation_line, violation_lines};
 
 use crate::pieces::{put_bytes, put_labelled, put_place};
 use itoa::Buffer;
@@ -30,6 +30,31 @@ pub fn put_violation<O: Sink>(out: &mut O, s: &Sources, v: &Violation) -> Result
 {
     put_place(out, s, v.span)?;
     put_violated(out, v.sub)
+}
+
+/// Writes the lines of violations in their order, as [`put_violation`] writes each.
+///
+/// The sink took all lines whole at `Ok`.
+///
+/// # Errors
+///
+/// A fault only where the sink's count of faults rose; it then took a prefix of the lines.
+pub fn put_violations<O: Sink>(
+    out: &mut O,
+    s: &Sources,
+    violations: &[Violation],
+) -> Result<(), SinkFault>
+    ensures ok { OnOk result (Appends (O.taken out.old) (O.taken out.new) (violation_lines s.now violations.now)) }
+    ensures stopped { OnErr result (StopsWithin (O.taken out.old) (O.taken out.new) (violation_lines s.now violations.now)) }
+    ensures failed { OnErr result (Rose (O.faults out.old) (O.faults out.new)) }
+    ensures count { O.faults out.old ≤ O.faults out.new }
+{
+    let mut rest = violations;
+    while let Some((violation, others)) = rest.split_first() {
+        put_violation(out, s, violation)?;
+        rest = others;
+    }
+    Ok(())
 }
 
 /// Writes which row is violated, and ends the line.

@@ -1,5 +1,5 @@
 -- The words of a command, and what is named in them.
-use Rattle.std.proofs.Common.{◌≡◌, ℕ, ◌≤◌, ◌^◌, List, [], ◌∷◌, length, ap, arith, Option, Some, None}
+use Rattle.std.proofs.Common.{ℕ, ◌≤◌, ◌^◌, List, length, ap, arith, Option, Some, None}
 use Rattle.p10_base.specs.Words.{Text}
 use Rattle.p10_words.specs.declared.command.Command.{Command}
 use Rattle.p10_words.specs.declared.command.Command.TheVariants as command
@@ -21,6 +21,9 @@ pub few_sources : (words : List Text) (c : Command) → IsCommandLine words c �
 few_sources words (command.Check directories json sources) is =
     let check = is.rest.1 in
     omega (arith, few_files _ is.words check.options sources check.split.splits, ap length is.begins, is.few)
+few_sources words (command.Derive directories sources) is =
+    let derive = is.rest.1 in
+    omega (arith, few_files _ is.words derive.options sources derive.split.splits, ap length is.begins, is.few)
 few_sources words (command.Verify directories certificate sources) is =
     let verify = is.rest.1 in
     omega (arith, few_files _ is.words verify.options sources verify.split.splits, ap length is.begins, is.few)
@@ -35,11 +38,13 @@ number_is_small (Some text) standard n small is = is.small
 -- a command asks for no more than 10^18 turns
 pub few_turns : (words : List Text) (c : Command) → IsCommandLine words c → turns_asked c ≤ 10 ^ 18
 few_turns words (command.Check directories json sources) is = omega arith
+few_turns words (command.Derive directories sources) is = omega arith
 few_turns words (command.Verify directories certificate sources) is = omega arith
 few_turns words (command.Run directories steps turns deny sources) is = number_is_small _ 1 turns (omega arith) is.rest.1.has_turns
 
 -- the words of a `run` are one
 pub no_run : (words : List Text) (c : Command) → IsCommandLine words c → IsNoRunLine words → IsNoRun c
 no_run words (command.Check directories json sources) is none = tt
+no_run words (command.Derive directories sources) is none = tt
 no_run words (command.Verify directories certificate sources) is none = tt
 no_run words (command.Run directories steps turns deny sources) is none = none (record { directories = directories; steps = steps; turns = turns; deny = deny; sources = sources }) is

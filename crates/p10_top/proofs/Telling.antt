@@ -1,5 +1,5 @@
 -- What may be said, and what a status of 0 promises.
-use Rattle.std.proofs.Common.{◌≡◌, ◌≢◌, ℕ, List, [], refl, sym, ◌∙◌, ap, subst, arith, Option, Some, None, IfSome, Result, Ok, Err}
+use Rattle.std.proofs.Common.{◌≡◌, ◌≢◌, ℕ, List, [], refl, sym, ◌∙◌, ap, subst, arith, Option, Some, None, IfSome, Result, Err}
 use Rattle.std.specs.Io.KnownBytes.{Appends}
 use Rattle.std.proofs.KnownBytes.{Appends-nil}
 use Rattle.p10_base.specs.Gathered.{Gathered}
@@ -27,13 +27,13 @@ use Rattle.p10_words.specs.declared.command.Command.TheVariants as command
 use Rattle.p10_words.specs.declared.command.Usage.{Usage}
 use Rattle.p10_words.specs.declared.command.Usage.TheVariants as usage
 use Rattle.p10_words.specs.Commands.{IsCommandLine}
-use Rattle.p10_words.proofs.Deciding.{one_command}
+use Rattle.p10_words.proofs.OneCommand.{one_command}
 use Rattle.p10_judge.specs.declared.judgement.Judgement.TheVariants as judgement
 use Rattle.p10_judge.specs.Judging.{HasVerdict}
 use Rattle.p10_check_command.specs.declared.command.CheckCommand.{CheckCommand}
-use Rattle.p10_check_command.specs.Answers as check
+use Rattle.p10_derive_command.specs.declared.command.DeriveCommand.{DeriveCommand}
 use Rattle.p10_run_command.specs.declared.command.RunCommand.{RunCommand}
-use Rattle.p10_run_command.specs.Answers as run
+use Rattle.p10_verify_command.specs.declared.command.VerifyCommand.{VerifyCommand}
 use Rattle.p10_verify_command.specs.declared.answer.Answer.{Answer}
 use Rattle.p10_verify_command.specs.declared.answer.Answer.TheVariants.{Ungathered, AbsentCertificate, Unread, Judged, Trouble}
 use Rattle.p10_verify_command.specs.Names.{Names}
@@ -51,23 +51,25 @@ told_command words c seen input out_old out_new err_old err_new status is told =
 pub stopped_command : (words : List Text) (c : Command) (seen : Seen) (input : SeenInput) (out_old out_new err_old err_new : Option (List ℕ)) → IsCommandLine words c → Stopped (SaysFor c seen input) out_old out_new err_old err_new → Stopped (MaySay words seen input) out_old out_new err_old err_new
 stopped_command words c seen input out_old out_new err_old err_new is stopped = record { saying = stopped.saying; may = for_command c is stopped.may; taken = stopped.taken }
 
--- what is told of a run is told of its command
-pub told_run : (c : Command) (r : RunCommand) (seen : Seen) (input : SeenInput) (out_old out_new err_old err_new : Option (List ℕ)) (status : ℕ) → c ≡ command.Run r.directories r.steps r.turns r.deny r.sources →
-    Told (run.SaysRight r seen input) out_old out_new err_old err_new status → Told (SaysFor c seen input) out_old out_new err_old err_new status
-told_run c r seen input out_old out_new err_old err_new status is told = subst (λ (d : Command). Told (SaysFor d seen input) out_old out_new err_old err_new status) (sym is) told
+-- the command that a crate obeys
+abbrev pub of_check : CheckCommand → Command
+of_check check = command.Check check.directories check.json check.sources
 
-pub stopped_run : (c : Command) (r : RunCommand) (seen : Seen) (input : SeenInput) (out_old out_new err_old err_new : Option (List ℕ)) → c ≡ command.Run r.directories r.steps r.turns r.deny r.sources →
-    Stopped (run.SaysRight r seen input) out_old out_new err_old err_new → Stopped (SaysFor c seen input) out_old out_new err_old err_new
-stopped_run c r seen input out_old out_new err_old err_new is stopped = subst (λ (d : Command). Stopped (SaysFor d seen input) out_old out_new err_old err_new) (sym is) stopped
+abbrev pub of_derive : DeriveCommand → Command
+of_derive derive = command.Derive derive.directories derive.sources
 
--- and what is told of a check
-pub told_check : (c : Command) (k : CheckCommand) (seen : Seen) (input : SeenInput) (out_old out_new err_old err_new : Option (List ℕ)) (status : ℕ) → c ≡ command.Check k.directories k.json k.sources →
-    Told (check.SaysRight k seen) out_old out_new err_old err_new status → Told (SaysFor c seen input) out_old out_new err_old err_new status
-told_check c k seen input out_old out_new err_old err_new status is told = subst (λ (d : Command). Told (SaysFor d seen input) out_old out_new err_old err_new status) (sym is) told
+abbrev pub of_verify : VerifyCommand → Command
+of_verify verify = command.Verify verify.directories verify.certificate verify.sources
 
-pub stopped_check : (c : Command) (k : CheckCommand) (seen : Seen) (input : SeenInput) (out_old out_new err_old err_new : Option (List ℕ)) → c ≡ command.Check k.directories k.json k.sources →
-    Stopped (check.SaysRight k seen) out_old out_new err_old err_new → Stopped (SaysFor c seen input) out_old out_new err_old err_new
-stopped_check c k seen input out_old out_new err_old err_new is stopped = subst (λ (d : Command). Stopped (SaysFor d seen input) out_old out_new err_old err_new) (sym is) stopped
+abbrev pub of_run : RunCommand → Command
+of_run run = command.Run run.directories run.steps run.turns run.deny run.sources
+
+-- what is told of that one is told of the command
+pub told_of : (c d : Command) (seen : Seen) (input : SeenInput) (out_old out_new err_old err_new : Option (List ℕ)) (status : ℕ) → c ≡ d → Told (SaysFor d seen input) out_old out_new err_old err_new status → Told (SaysFor c seen input) out_old out_new err_old err_new status
+told_of c d seen input out_old out_new err_old err_new status is told = subst (λ (e : Command). Told (SaysFor e seen input) out_old out_new err_old err_new status) (sym is) told
+
+pub stopped_of : (c d : Command) (seen : Seen) (input : SeenInput) (out_old out_new err_old err_new : Option (List ℕ)) → c ≡ d → Stopped (SaysFor d seen input) out_old out_new err_old err_new → Stopped (SaysFor c seen input) out_old out_new err_old err_new
+stopped_of c d seen input out_old out_new err_old err_new is stopped = subst (λ (e : Command). Stopped (SaysFor e seen input) out_old out_new err_old err_new) (sym is) stopped
 
 -- ## No command
 

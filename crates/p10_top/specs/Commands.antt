@@ -2,7 +2,7 @@
 use Rattle.std.specs.Prelude.{ℕ, List}
 use Rattle.p10_base.specs.Words.{Text}
 use Rattle.p10_words.specs.declared.command.Command.{Command}
-use Rattle.p10_words.specs.declared.command.Command.TheVariants.{Check, Verify, Run}
+use Rattle.p10_words.specs.declared.command.Command.TheVariants.{Check, Derive, Verify, Run}
 use Rattle.p10_words.specs.Commands.{IsCommandLine}
 use Rattle.p10_run_command.specs.declared.command.RunCommand.{RunCommand}
 use Rattle.p10_run_command.specs.Command.{IsRunLine}
@@ -23,17 +23,20 @@ IsNoCommand words = (command : Command) → IsCommandLine words command → ⊥
 -- the sources of a command
 abbrev pub sources_of : Command → List Text
 sources_of (Check directories json sources) = sources
+sources_of (Derive directories sources) = sources
 sources_of (Verify directories certificate sources) = sources
 sources_of (Run directories steps turns deny sources) = sources
 
 -- the most turns that a command asks for
 abbrev pub turns_asked : Command → ℕ
 turns_asked (Check directories json sources) = 0
+turns_asked (Derive directories sources) = 0
 turns_asked (Verify directories certificate sources) = 0
 turns_asked (Run directories steps turns deny sources) = turns
 
 -- a command that isn't `run`
 abbrev pub IsNoRun : Command → Type 0
 IsNoRun (Check directories json sources) = Unit {0}
+IsNoRun (Derive directories sources) = Unit {0}
 IsNoRun (Verify directories certificate sources) = Unit {0}
 IsNoRun (Run directories steps turns deny sources) = ⊥

@@ -5,9 +5,10 @@ use Rattle.p10_command.specs.Saying.{Saying}
 use Rattle.p10_command.specs.Seen.{Seen, SeenInput}
 use Rattle.p10_report.specs.Messages.{out_of_memory_line, usage_line}
 use Rattle.p10_words.specs.declared.command.Command.{Command}
-use Rattle.p10_words.specs.declared.command.Command.TheVariants.{Check, Verify, Run}
+use Rattle.p10_words.specs.declared.command.Command.TheVariants.{Check, Derive, Verify, Run}
 use Rattle.p10_words.specs.Commands.{IsCommandLine}
 use Rattle.p10_check_command.specs.Answers as check
+use Rattle.p10_derive_command.specs.Answers as derive
 use Rattle.p10_run_command.specs.Answers as run
 use Rattle.p10_verify_command.specs.Told as verify
 use Rattle.p10_top.specs.Commands.{IsNoCommand}
@@ -23,6 +24,7 @@ memory_saying = record { status = 7; out = []; err = out_of_memory_line }
 -- what is right to say to a command, by what is seen of files and input
 abbrev pub SaysFor : Command → Seen → SeenInput → Saying → Type 0
 SaysFor (Check directories json sources) seen input saying = check.SaysRight (record { directories = directories; json = json; sources = sources }) seen saying
+SaysFor (Derive directories sources) seen input saying = derive.SaysRight (record { directories = directories; sources = sources }) seen saying
 SaysFor (Verify directories certificate sources) seen input saying = verify.SaysRight (record { directories = directories; certificate = certificate; sources = sources }) seen saying
 SaysFor (Run directories steps turns deny sources) seen input saying = run.SaysRight (record { directories = directories; steps = steps; turns = turns; deny = deny; sources = sources }) seen input saying
 

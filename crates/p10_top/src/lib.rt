@@ -15,15 +15,18 @@ ghost use Rattle.p10_top.specs.Headline.{Verified};
 ghost use Rattle.p10_top.specs.Told.{MaySay, SaysFor};
 ghost use Rattle.p10_top.specs.private.Unread.{saying_without_command};
 
-use p10_check_command::{CheckCommand, check};
+use commands::{check_command, derive_command, run_command, verify_command};
+use p10_check_command::check;
+use p10_derive_command::derive;
 use p10_report::{put_out_of_memory, put_usage};
-use p10_run_command::{RunCommand, run};
+use p10_run_command::run;
 use p10_soundness::laws::accepted_certificates_bound_every_run;
-use p10_verify_command::{VerifyCommand, verify};
+use p10_verify_command::verify;
 use p10_words::{Command, Usage, read_words};
 use p10_world::{Files, Sink, Source};
 use std::alloc::Global;
 
+mod commands;
 pub mod laws;
 #[cfg(test)]
 mod tests;
@@ -34,13 +37,16 @@ mod tests;
 /// breaks a rule in the sources and why they are refused; all else is told on `err`. `DIRECTORIES` are joined by `:`, and
 /// included files are looked for in them. Nothing is read of `input` by this command.
 ///
+/// `derive [--include DIRECTORIES] SOURCE..` tells on `out` the certificate that is derived of the sources' program; the violations for
+/// which there is none, and all else, are told on `err`. Nothing is read of `input`.
+///
 /// `verify [--include DIRECTORIES] --cert CERTIFICATE SOURCE..` tells on `out` whether the certificate bounds every run of the
 /// sources' program; all else is told on `err`. Nothing is read of `input` by this command either.
 ///
 /// `run [--include DIRECTORIES] [--steps N] [--turns N] [--deny N] SOURCE..` runs the sources' program on `input` and `out`, and tells
 /// on `err` how it has ended, or why there is none. Other commands can't be obeyed yet, and are none.
 ///
-/// The statuses: 0 no rule broken, accepted or run to its end, 1 a rule is broken or a condition doesn't hold, 2 no command, 3 the source is refused, 4 no
+/// The statuses: 0 no rule broken, derived, accepted or run to its end, 1 a rule is broken or a condition doesn't hold, 2 no command, 3 the source is refused, 4 no
 /// certificate, 5 a read failed, 6 a write failed, 7 out of memory, 8 a limit is passed, 9 a file is
 /// absent, 10 an assertion has failed, 11 an undefined operation, 12 no step is left.
 pub fn p10_main<F: Files, I: Source, O: Sink, E: Sink>(
@@ -104,43 +110,27 @@ fn obey<F: Files, I: Source, O: Sink, E: Sink>(
 {
     match command {
         Command::Check {
-            dirs: directories,
+            dirs,
             json,
             files: sources,
-        } => {
-            let command = CheckCommand {
-                directories,
-                json,
-                sources,
-            };
-            check(alloc, &command, files, out, err)
-        }
-        Command::Verify {
-            dirs: directories,
-            cert: certificate,
+        } => check(alloc, &check_command(dirs, json, sources), files, out, err),
+        Command::Derive {
+            dirs,
             files: sources,
-        } => {
-            let command = VerifyCommand {
-                directories,
-                certificate,
-                sources,
-            };
-            verify(alloc, &command, files, out, err)
-        }
+        } => derive(alloc, &derive_command(dirs, sources), files, out, err),
+        Command::Verify {
+            dirs,
+            cert,
+            files: sources,
+        } => verify(alloc, &verify_command(dirs, cert, sources), files, out, err),
         Command::Run {
-            dirs: directories,
+            dirs,
             steps,
             turns,
             deny,
             files: sources,
         } => {
-            let command = RunCommand {
-                directories,
-                steps,
-                turns,
-                deny,
-                sources,
-            };
+            let command = run_command(dirs, steps, turns, deny, sources);
             run(alloc, &command, files, input, out, err)
         }
     }

@@ -13,6 +13,8 @@ const VERIFY: [&str; 4] = ["verify", "--cert", "a.p10", "a.c"];
 
 const CHECK: [&str; 2] = ["check", "a.c"];
 
+const DERIVE: [&str; 2] = ["derive", "a.c"];
+
 const TWICE: [&str; 5] = ["verify", "--cert", "a.p10", "a.c", "a.c"];
 
 /// `int main(void) { return 0; }` takes three steps: one each for the entry, the statement and the
@@ -91,7 +93,7 @@ type Row = (
     &'static str,
 );
 
-static ROWS: [Row; 19] = [
+static ROWS: [Row; 22] = [
     (&["verify", "a.c"], BOTH, &[], 0, 2, USAGE),
     (&VERIFY, BOTH, &[3], 2, 0, ACCEPTED),
     (&VERIFY, ONE_MORE, &[], 2, 1, TOO_FEW_STEPS),
@@ -116,6 +118,10 @@ static ROWS: [Row; 19] = [
     (&CHECK, BOTH, &[2], 1, 1, UNASSERTED),
     (&CHECK, BOTH, &[1], 1, 5, READ_FAULT),
     (&CHECK, NEITHER, &[], 1, 9, ABSENT_SOURCE),
+    // Nor does a derivation, which finds the same.
+    (&DERIVE, BOTH, &[2], 1, 0, CERTIFICATE),
+    (&DERIVE, BOTH, &[1], 1, 5, READ_FAULT),
+    (&DERIVE, NEITHER, &[], 1, 9, ABSENT_SOURCE),
 ];
 
 /// The status and both texts of a run, and after how many bytes the outputs fail.

@@ -8,10 +8,10 @@ use Rattle.p10_words.specs.declared.command.Usage.{Usage}
 use Rattle.p10_words.specs.declared.command.Usage.TheVariants.{Refused, Memory}
 use Rattle.p10_base.specs.Words.{Text}
 use Rattle.p10_words.specs.CommandLines.{value_of}
-use Rattle.p10_words.specs.Commands.{check_options, verify_options, run_options, IsRestOf}
+use Rattle.p10_words.specs.Commands.{check_options, derive_options, verify_options, run_options, IsRestOf}
 use Rattle.p10_words.specs.private.Parsing.{file_id, some_list, Matched, IsParse}
-use Rattle.p10_words.specs.private.Deciding.{has_files, IsCheckOf, IsVerifyOf, IsRunOf, Answers}
-use Rattle.p10_words.proofs.Deciding.{check_is, check_from, no_check, verify_is, verify_from, no_verify, run_is, run_from, no_run}
+use Rattle.p10_words.specs.private.Deciding.{has_files, IsCheckOf, IsDeriveOf, IsVerifyOf, IsRunOf, Answers}
+use Rattle.p10_words.proofs.Deciding.{check_is, check_from, no_check, derive_is, derive_from, no_derive, verify_is, verify_from, no_verify, run_is, run_from, no_run}
 
 -- an answer by another condition that is the same
 carried : (P Q : Command → Type 0) (r : Result Command Usage) → ((c : Command) → P c → Q c) → ((c : Command) → Q c → P c) → Answers P r → Answers Q r
@@ -48,6 +48,28 @@ check_without words m h k c v =
 pub check_lost : (words : List Text) (u : Usage) → IsParse check_options words (Err u) → Answers (λ c. IsRestOf c (codes "check") words) (Err u)
 check_lost words Refused n = λ c v. no_check words c n v
 check_lost words Memory n = tt
+
+-- ---- `derive`
+pub derive_done : (words : List Text) (m : ArgMatches) (include : Option Text) (files : List Text) (r : Result Command Usage) → Matched derive_options words m
+    → include ≡ first_value (found_of m) (codes "include") → Some files ≡ option_map raw_values (matched_of (found_of m) file_id)
+    → Answers (IsDeriveOf include files) r → Answers (λ c. IsRestOf c (codes "derive") words) r
+derive_done words m include files r h i k a =
+    let s = h.split in
+    let there : IsDeriveOf include files ≡ IsDeriveOf (value_of s.options (codes "include")) s.files =
+    ap (λ (o : Option Text). IsDeriveOf o files) (i ∙ h.reads.options (codes "include") refl)
+    ∙ ap (λ (l : List Text). IsDeriveOf (value_of s.options (codes "include")) l) (sym (some_files s.files files (sym (k ∙ h.reads.files)))) in
+    carried (IsDeriveOf (value_of s.options (codes "include")) s.files) (λ c. IsRestOf c (codes "derive") words) r
+    (λ c v. derive_is words s c h.scanned h.once v) (λ c v. derive_from words s c h.scanned v) (subst (λ (P : Command → Type 0). Answers P r) there a)
+
+pub derive_without : (words : List Text) (m : ArgMatches) → Matched derive_options words m → None ≡ option_map raw_values (matched_of (found_of m) file_id) → (c : Command) → IsRestOf c (codes "derive") words → ⊥
+derive_without words m h k c v =
+    let none = no_files h.split.files (sym (k ∙ h.reads.files)) in
+    let some = subst (λ (l : List Text). has_files l ≡ true) none (derive_from words h.split c h.scanned v).some in
+    cc
+
+pub derive_lost : (words : List Text) (u : Usage) → IsParse derive_options words (Err u) → Answers (λ c. IsRestOf c (codes "derive") words) (Err u)
+derive_lost words Refused n = λ c v. no_derive words c n v
+derive_lost words Memory n = tt
 
 -- ---- `verify`
 pub verify_done : (words : List Text) (m : ArgMatches) (include cert : Option Text) (files : List Text) (r : Result Command Usage) → Matched verify_options words m

@@ -2,11 +2,14 @@
 use Rattle.std.proofs.Common.{◌≡◌, refl, codes, true}
 use Rattle.clap.specs.Simple.{App, with_rule}
 use Rattle.clap.proofs.OnLiterals.{clap_on_literals}
-use Rattle.p10_words.specs.Commands.{check_options, verify_options, run_options}
+use Rattle.p10_words.specs.Commands.{check_options, derive_options, verify_options, run_options}
 use Rattle.p10_words.specs.private.Parsing.{bare, option_asked, files_asked, IsAsked, are_askable}
 
 abbrev pub check_app : App
 check_app = with_rule (with_rule (with_rule (bare (codes "check")) (option_asked (codes "include"))) (option_asked (codes "format"))) files_asked
+
+abbrev pub derive_app : App
+derive_app = with_rule (with_rule (bare (codes "derive")) (option_asked (codes "include"))) files_asked
 
 abbrev pub verify_app : App
 verify_app = with_rule (with_rule (with_rule (bare (codes "verify")) (option_asked (codes "include"))) (option_asked (codes "cert"))) files_asked
@@ -20,6 +23,10 @@ pub check_asked : IsAsked check_app check_options
 unfolding clap_on_literals
 check_asked = record { simple = refl; free = refl; no_binary_name = refl; subs = refl; rules = refl; overrides = refl; wants_help = refl; wants_subcommand = refl }
 
+pub derive_asked : IsAsked derive_app derive_options
+unfolding clap_on_literals
+derive_asked = record { simple = refl; free = refl; no_binary_name = refl; subs = refl; rules = refl; overrides = refl; wants_help = refl; wants_subcommand = refl }
+
 pub verify_asked : IsAsked verify_app verify_options
 unfolding clap_on_literals
 verify_asked = record { simple = refl; free = refl; no_binary_name = refl; subs = refl; rules = refl; overrides = refl; wants_help = refl; wants_subcommand = refl }
@@ -30,6 +37,9 @@ run_asked = record { simple = refl; free = refl; no_binary_name = refl; subs = r
 
 pub check_askable : are_askable check_options ≡ true
 check_askable = refl
+
+pub derive_askable : are_askable derive_options ≡ true
+derive_askable = refl
 
 pub verify_askable : are_askable verify_options ≡ true
 verify_askable = refl

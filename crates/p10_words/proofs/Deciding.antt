@@ -7,17 +7,15 @@ use Rattle.std.specs.Str.Parse.{IsNumeral}
 use Rattle.std.proofs.lemmas.Fmt.{decimal_is_IsNumeral}
 use Rattle.clap.specs.Lexer.{long_of}
 use Rattle.p10_words.specs.declared.command.Command.{Command}
-use Rattle.p10_words.specs.declared.command.Command.TheVariants.{Check, Verify, Run}
+use Rattle.p10_words.specs.declared.command.Command.TheVariants.{Check, Derive, Verify, Run}
 use Rattle.p10_base.specs.Words.{Text}
 use Rattle.p10_words.specs.CommandLines.{Given, AreGivenOnce, value_of, directories_in, HasNumber, HasFormat}
-use Rattle.p10_words.specs.Commands.{check_options, verify_options, run_options, IsSplit, AreDirectories, IsCheck, IsRun, IsRestOf}
-use Rattle.p10_words.specs.Laws.{LinesAreOneCommand}
+use Rattle.p10_words.specs.Commands.{check_options, derive_options, verify_options, run_options, IsSplit, AreDirectories, IsCheck, IsDerive, IsRun, IsRestOf}
 use Rattle.p10_words.specs.private.Scanning.{Split, is_among, is_name, scan, scan_value, scan_word, scan_long, with_option, with_file}
 use Rattle.p10_words.specs.private.Parsing.{are_askable, IsNoSplit}
-use Rattle.p10_words.specs.private.Deciding.{is_given_name, has_directories, has_files, IsCheckOf, IsVerifyOf, IsRunOf}
+use Rattle.p10_words.specs.private.Deciding.{is_given_name, has_directories, has_files, IsCheckOf, IsDeriveOf, IsVerifyOf, IsRunOf}
 use Rattle.p10_words.proofs.Rows.{same_text, text_same}
-use Rattle.p10_words.proofs.Asked.{check_askable, verify_askable, run_askable}
-use Rattle.p10_words.proofs.Numbers.{same_number}
+use Rattle.p10_words.proofs.Asked.{check_askable, derive_askable, verify_askable, run_askable}
 use Rattle.p10_words.proofs.Splitting.{and_left, and_right, all_named, all_names, read_so, split_so}
 
 and_both : (a b : Bool) → a ≡ true → b ≡ true → a && b ≡ true
@@ -160,6 +158,31 @@ check_is words sp c e g v =
       },
     )
 
+-- ---- `derive`
+by_derive : (n : Text) (P : Text → Type 0) → is_among derive_options n ≡ true → P (codes "include") → P n
+by_derive n P a i = by_test (bytes_eq (codes "include") n) refl a
+  where
+    by_test : (x : Bool) → bytes_eq (codes "include") n ≡ x → x || false ≡ true → P n
+    by_test true p e = subst P (same_text (codes "include") n p) i
+    by_test false p e = absurd cc
+
+pub derive_is : (words : List Text) (sp : Split) (c : Command) → scan derive_options None words ≡ Some sp → AreGivenOnce [] sp.options
+    → IsDeriveOf (value_of sp.options (codes "include")) sp.files c → IsRestOf c (codes "derive") words
+unfolding Known
+derive_is words sp c e g v =
+    let value = and_left (is_given_name (value_of sp.options (codes "include"))) (list_all is_name (directories_in (value_of sp.options (codes "include")))) v.directories in
+    let parts = and_right (is_given_name (value_of sp.options (codes "include"))) (list_all is_name (directories_in (value_of sp.options (codes "include")))) v.directories in
+    let options = all_pass derive_options [] sp.options g ((known derive_options words).0 sp e) (λ n a. by_derive n (λ m. is_given_name (value_of sp.options m) ≡ true) a value) in
+    let names = and_both (list_all (λ (o : Given). is_name o.1) sp.options) (list_all is_name sp.files) options (files_named sp.files v.some) in
+    subst (λ (x : Command). IsRestOf x (codes "derive") words) (sym v.is) (
+      refl,
+      record {
+        options = sp.options;
+        split = record { splits = split_so derive_options words sp e names; once = g; some = files_some sp.files v.some };
+        include = record { are = refl; names = all_names (directories_in (value_of sp.options (codes "include"))) parts };
+      },
+    )
+
 -- ---- `verify`
 by_verify : (n : Text) (P : Text → Type 0) → is_among verify_options n ≡ true → P (codes "include") → P (codes "cert") → P n
 by_verify n P a i c = by_tests (bytes_eq (codes "include") n) (bytes_eq (codes "cert") n) refl refl a
@@ -189,12 +212,12 @@ verify_is words sp c e g v =
     )
 
 -- what is read of the words of a split
-record Read (names words : List Text) (options : List Given) (files : List Text) : Type 0 where
-  scanned : scan names None words ≡ Some (record { options = options; files = files })
-  options_named : list_all (λ (o : Given). is_name o.1) options ≡ true
-  files_are : has_files files ≡ true
+pub record Read (names words : List Text) (options : List Given) (files : List Text) : Type 0 where
+  pub scanned : scan names None words ≡ Some (record { options = options; files = files })
+  pub options_named : list_all (λ (o : Given). is_name o.1) options ≡ true
+  pub files_are : has_files files ≡ true
 
-read : (names words : List Text) (options : List Given) (files : List Text) → are_askable names ≡ true → IsSplit names words options files → Read names words options files
+pub read : (names words : List Text) (options : List Given) (files : List Text) → are_askable names ≡ true → IsSplit names words options files → Read names words options files
 read names words options files k s =
     let r = read_so names words options files k s.splits in
     record {
@@ -221,7 +244,7 @@ verify_of options words directories certificate files s d e =
       is = ap (λ (l : List Text). Verify l certificate files) d.are;
     }
 
-same_split : (o : Option Split) (i j : Split) → o ≡ Some i → o ≡ Some j → i ≡ j
+pub same_split : (o : Option Split) (i j : Split) → o ≡ Some i → o ≡ Some j → i ≡ j
 same_split o i j e f = let w = sym e ∙ f in cc
 
 check_of : (words directories : List Text) (json : Bool) (files : List Text) (r : IsCheck words directories json files)
@@ -243,6 +266,7 @@ check_from words sp (Check directories json files) e r =
     let same = same_split _ _ _ (read check_options words v.options files check_askable v.split).scanned e in
     subst (λ (x : Split). IsCheckOf (value_of x.options (codes "include")) (value_of x.options (codes "format")) x.files (Check directories json files)) same
     (check_of words directories json files v)
+check_from words sp (Derive directories files) e r = let f = r.0 in absurd cc
 check_from words sp (Verify directories certificate files) e r = let f = r.0 in absurd cc
 check_from words sp (Run directories steps turns deny files) e r = let f = r.0 in absurd cc
 
@@ -251,8 +275,36 @@ no_check words (Check directories json files) n r =
     let v = r.1 in
     let s = read_so check_options words v.options files check_askable v.split.splits in
     n (record { options = v.options; files = files }) s.scanned v.split.once s.names_alone
+no_check words (Derive directories files) n r = let f = r.0 in cc
 no_check words (Verify directories certificate files) n r = let f = r.0 in cc
 no_check words (Run directories steps turns deny files) n r = let f = r.0 in cc
+
+-- no word is the names of both commands: they end with the same letters but one, where `cc` meets a bound
+pub derive_or_verify : codes "derive" ≡ codes "verify" → ⊥
+derive_or_verify same = let t : bytes_eq (codes "verify") (codes "derive") ≡ true = subst (λ (v : Text). bytes_eq v (codes "derive") ≡ true) same (text_same (codes "derive")) in absurd cc
+
+derive_of : (words directories files : List Text) (r : IsDerive words directories files) → IsDeriveOf (value_of r.options (codes "include")) files (Derive directories files)
+derive_of words directories files r =
+    let q = read derive_options words r.options files derive_askable r.split in
+    record { directories = has_all r.options directories q.options_named r.include; some = q.files_are; is = ap (λ (l : List Text). Derive l files) r.include.are }
+
+pub derive_from : (words : List Text) (sp : Split) (c : Command) → scan derive_options None words ≡ Some sp → IsRestOf c (codes "derive") words → IsDeriveOf (value_of sp.options (codes "include")) sp.files c
+derive_from words sp (Derive directories files) e r =
+    let v = r.1 in
+    let same = same_split _ _ _ (read derive_options words v.options files derive_askable v.split).scanned e in
+    subst (λ (x : Split). IsDeriveOf (value_of x.options (codes "include")) x.files (Derive directories files)) same (derive_of words directories files v)
+derive_from words sp (Check directories json files) e r = let f = r.0 in absurd cc
+derive_from words sp (Verify directories certificate files) e r = absurd (derive_or_verify r.0)
+derive_from words sp (Run directories steps turns deny files) e r = let f = r.0 in absurd cc
+
+pub no_derive : (words : List Text) (c : Command) → IsNoSplit derive_options words → IsRestOf c (codes "derive") words → ⊥
+no_derive words (Derive directories files) n r =
+    let v = r.1 in
+    let s = read_so derive_options words v.options files derive_askable v.split.splits in
+    n (record { options = v.options; files = files }) s.scanned v.split.once s.names_alone
+no_derive words (Check directories json files) n r = let f = r.0 in cc
+no_derive words (Verify directories certificate files) n r = derive_or_verify r.0
+no_derive words (Run directories steps turns deny files) n r = let f = r.0 in cc
 
 pub verify_from : (words : List Text) (sp : Split) (c : Command) → scan verify_options None words ≡ Some sp → IsRestOf c (codes "verify") words
     → IsVerifyOf (value_of sp.options (codes "include")) (value_of sp.options (codes "cert")) sp.files c
@@ -263,6 +315,7 @@ verify_from words sp (Verify directories certificate files) e r =
     (verify_of v.options words directories certificate files v.split v.include v.cert)
 verify_from words sp (Run directories steps turns deny files) e r = let f = r.0 in absurd cc
 verify_from words sp (Check directories json files) e r = let f = r.0 in absurd cc
+verify_from words sp (Derive directories files) e r = absurd (derive_or_verify (sym r.0))
 
 pub no_verify : (words : List Text) (c : Command) → IsNoSplit verify_options words → IsRestOf c (codes "verify") words → ⊥
 no_verify words (Verify directories certificate files) n r =
@@ -271,6 +324,7 @@ no_verify words (Verify directories certificate files) n r =
     n (record { options = v.options; files = files }) s.scanned v.split.once s.names_alone
 no_verify words (Run directories steps turns deny files) n r = let f = r.0 in cc
 no_verify words (Check directories json files) n r = let f = r.0 in cc
+no_verify words (Derive directories files) n r = derive_or_verify (sym r.0)
 
 -- ---- `run`
 by_run : (n : Text) (P : Text → Type 0) → is_among run_options n ≡ true → P (codes "include") → P (codes "steps") → P (codes "turns") → P (codes "deny") → P n
@@ -340,6 +394,7 @@ run_from words sp (Run directories steps turns deny files) e r =
     let same = same_split _ _ _ (read run_options words v.options files run_askable v.split).scanned e in
     subst (λ (x : Split). IsRunOf (value_of x.options (codes "include")) (value_of x.options (codes "steps")) (value_of x.options (codes "turns")) (value_of x.options (codes "deny")) x.files (Run directories steps turns deny files)) same
     (run_of words directories steps turns deny files v)
+run_from words sp (Derive directories files) e r = let f = r.0 in absurd cc
 run_from words sp (Verify directories certificate files) e r = let f = r.0 in absurd cc
 run_from words sp (Check directories json files) e r = let f = r.0 in absurd cc
 
@@ -348,80 +403,6 @@ no_run words (Run directories steps turns deny files) n r =
     let v = r.1 in
     let s = read_so run_options words v.options files run_askable v.split.splits in
     n (record { options = v.options; files = files }) s.scanned v.split.once s.names_alone
+no_run words (Derive directories files) n r = let f = r.0 in cc
 no_run words (Verify directories certificate files) n r = let f = r.0 in cc
 no_run words (Check directories json files) n r = let f = r.0 in cc
-
--- ---- a line is one command
-split_of : List Given → List Text → Split
-split_of options files = record { options = options; files = files }
-
-one_split : (names words : List Text) (os ps : List Given) (fs gs : List Text) → are_askable names ≡ true → IsSplit names words os fs → IsSplit names words ps gs → split_of os fs ≡ split_of ps gs
-unfolding split_of
-one_split names words os ps fs gs k s t = same_split _ _ _ (read names words os fs k s).scanned (read names words ps gs k t).scanned
-
-same_value : (o : Option Text) (p : Option Text) (c d : Text) → o ≡ p → o ≡ Some c → p ≡ Some d → c ≡ d
-same_value o p c d e f g = let w = sym f ∙ e ∙ g in cc
-
-two_formats : codes "text" ≡ codes "json" → ⊥
-two_formats same = let t : bytes_eq (codes "json") (codes "text") ≡ true = subst (λ (v : Text). bytes_eq v (codes "text") ≡ true) same (text_same (codes "text")) in absurd cc
-
--- a value is one format at most
-same_format : (o : Option Text) (this that : Bool) → HasFormat o this → HasFormat o that → this ≡ that
-same_format None this that i j = i ∙ sym j
-same_format (Some value) this that (inl i) (inl j) = i.1 ∙ sym j.1
-same_format (Some value) this that (inr i) (inr j) = i.1 ∙ sym j.1
-same_format (Some value) this that (inl i) (inr j) = absurd (two_formats (sym i.0 ∙ j.0))
-same_format (Some value) this that (inr i) (inl j) = absurd (two_formats (sym j.0 ∙ i.0))
-
-value_in : Text → Split → Option Text
-value_in name s = value_of s.options name
-
-one_rest : (a b : Command) (word : Text) (words : List Text) → IsRestOf a word words → IsRestOf b word words → a ≡ b
-unfolding value_in split_of
-one_rest (Check d b f) (Check e c g) word words i j =
-    let v = i.1 in
-    let w = j.1 in
-    let same = one_split check_options words v.options w.options f g check_askable v.split w.split in
-    let files : f ≡ g = ap (λ (x : Split). x.files) same in
-    let dirs : d ≡ e = v.include.are ∙ ap (λ (x : Split). directories_in (value_in (codes "include") x)) same ∙ sym w.include.are in
-    let json : b ≡ c = same_format (value_of w.options (codes "format")) b c (subst (λ (o : Option Text). HasFormat o b) (ap (value_in (codes "format")) same) v.has_format) w.has_format in
-    ap (λ (x : List Text). Check x b f) dirs ∙ ap (λ (x : Bool). Check e x f) json ∙ ap (λ (x : List Text). Check e c x) files
-one_rest (Check d b f) (Verify e k g) word words i j = let w = sym i.0 ∙ j.0 in absurd cc
-one_rest (Check d b f) (Run e u v m g) word words i j = let w = sym i.0 ∙ j.0 in absurd cc
-one_rest (Verify d c f) (Check e b g) word words i j = let w = sym i.0 ∙ j.0 in absurd cc
-one_rest (Run d s t n f) (Check e b g) word words i j = let w = sym i.0 ∙ j.0 in absurd cc
-one_rest (Verify d c f) (Verify e k g) word words i j =
-    let v = i.1 in
-    let w = j.1 in
-    let same = one_split verify_options words v.options w.options f g verify_askable v.split w.split in
-    let files : f ≡ g = ap (λ (x : Split). x.files) same in
-    let dirs : d ≡ e = v.include.are ∙ ap (λ (x : Split). directories_in (value_in (codes "include") x)) same ∙ sym w.include.are in
-    let cert : c ≡ k = same_value _ _ c k (ap (value_in (codes "cert")) same) v.cert w.cert in
-    ap (λ (x : List Text). Verify x c f) dirs ∙ ap (λ (x : Text). Verify e x f) cert ∙ ap (λ (x : List Text). Verify e k x) files
-one_rest (Run d s t n f) (Run e u v m g) word words i j =
-    let x = i.1 in
-    let y = j.1 in
-    let same = one_split run_options words x.options y.options f g run_askable x.split y.split in
-    let files : f ≡ g = ap (λ (z : Split). z.files) same in
-    let dirs : d ≡ e = x.include.are ∙ ap (λ (z : Split). directories_in (value_in (codes "include") z)) same ∙ sym y.include.are in
-    let steps : s ≡ u = same_number (value_of y.options (codes "steps")) 10000000 s u (subst (λ (o : Option Text). HasNumber o 10000000 s) (ap (value_in (codes "steps")) same) x.has_steps) y.has_steps in
-    let turns : t ≡ v = same_number (value_of y.options (codes "turns")) 1 t v (subst (λ (o : Option Text). HasNumber o 1 t) (ap (value_in (codes "turns")) same) x.has_turns) y.has_turns in
-    let deny : n ≡ m = same_number (value_of y.options (codes "deny")) 0 n m (subst (λ (o : Option Text). HasNumber o 0 n) (ap (value_in (codes "deny")) same) x.has_deny) y.has_deny in
-    ap (λ (z : List Text). Run z s t n f) dirs ∙ ap (λ (z : ℕ). Run e z t n f) steps ∙ ap (λ (z : ℕ). Run e u z n f) turns ∙ ap (λ (z : ℕ). Run e u v z f) deny ∙ ap (λ (z : List Text). Run e u v m z) files
-one_rest (Verify d c f) (Run e u v m g) word words i j = let w = sym i.0 ∙ j.0 in absurd cc
-one_rest (Run d s t n f) (Verify e k g) word words i j = let w = sym i.0 ∙ j.0 in absurd cc
-
-first_of : List Text → Text
-first_of [] = []
-first_of (x ∷ xs) = x
-
-rest_of : List Text → List Text
-rest_of [] = []
-rest_of (x ∷ xs) = xs
-
-pub one_command : LinesAreOneCommand
-unfolding first_of rest_of
-one_command line a b i j =
-    let same = sym i.begins ∙ j.begins in
-    one_rest a b j.word j.words
-    (subst (λ (w : List Text). IsRestOf a j.word w) (ap rest_of same) (subst (λ (w : Text). IsRestOf a w i.words) (ap first_of same) i.rest)) j.rest

@@ -9,4 +9,5 @@ pub mod Cutting
 pub mod Numbers
 pub mod Splitting
 pub mod Deciding
+pub mod OneCommand
 pub mod Answering

@@ -1,13 +1,16 @@
 -- The commands, and the words that are each of them.
 use Rattle.std.specs.Prelude.{◌≡◌, ◌≢◌, ℕ, ◌≤◌, Bool, List, [], ◌∷◌, codes, length, Some}
 use Rattle.p10_words.specs.declared.command.Command.{Command}
-use Rattle.p10_words.specs.declared.command.Command.TheVariants.{Check, Verify, Run}
+use Rattle.p10_words.specs.declared.command.Command.TheVariants.{Check, Derive, Verify, Run}
 use Rattle.p10_base.specs.Words.{Text}
 use Rattle.p10_words.specs.CommandLines.{Given, AreNames, Splits, AreGivenOnce, value_of, directories_in, HasNumber, HasFormat}
 
--- the options of `check`, of `verify` and of `run`
+-- the options of `check`, of `derive`, of `verify` and of `run`
 abbrev pub check_options : List Text
 check_options = codes "include" ∷ codes "format" ∷ []
+
+abbrev pub derive_options : List Text
+derive_options = codes "include" ∷ []
 
 abbrev pub verify_options : List Text
 verify_options = codes "include" ∷ codes "cert" ∷ []
@@ -33,6 +36,12 @@ pub record IsCheck (words : List Text) (directories : List Text) (json : Bool) (
   pub include : AreDirectories options directories
   pub has_format : HasFormat (value_of options (codes "format")) json
 
+-- `derive [--include D] FILE..`
+pub record IsDerive (words : List Text) (directories : List Text) (files : List Text) : Type 0 where
+  pub options : List Given
+  pub split : IsSplit derive_options words options files
+  pub include : AreDirectories options directories
+
 -- `verify [--include D] --cert C FILE..`
 pub record IsVerify (words : List Text) (directories : List Text) (certificate : Text) (files : List Text) : Type 0 where
   pub options : List Given
@@ -52,6 +61,7 @@ pub record IsRun (words : List Text) (directories : List Text) (steps turns deny
 -- what follows the command's own word
 abbrev pub IsRestOf : Command → Text → List Text → Type 0
 IsRestOf (Check directories json files) word words = (word ≡ codes "check") × IsCheck words directories json files
+IsRestOf (Derive directories files) word words = (word ≡ codes "derive") × IsDerive words directories files
 IsRestOf (Verify directories certificate files) word words = (word ≡ codes "verify") × IsVerify words directories certificate files
 IsRestOf (Run directories steps turns deny files) word words = (word ≡ codes "run") × IsRun words directories steps turns deny files
 

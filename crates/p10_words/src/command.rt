@@ -14,6 +14,13 @@ pub enum Command {
         /// The source files; there is one at least.
         files: ListBuf<TextBuf>,
     },
+    /// `derive [--include D] FILE..`
+    Derive {
+        /// The directories of `--include`, in their order.
+        dirs: ListBuf<TextBuf>,
+        /// The source files; there is one at least.
+        files: ListBuf<TextBuf>,
+    },
     /// `verify [--include D] --cert C FILE..`
     Verify {
         /// The directories of `--include`, in their order.

@@ -3,6 +3,7 @@
 //! Entry point: [`read_words`], the words after the program's name as a [`Command`].
 //!
 //!     check --format json a.c        Check of the file a.c, as JSON
+//!     derive a.c                     Derive of the file a.c
 //!     verify --cert a.p10 a.c        Verify of the certificate a.p10 and the file a.c
 //!     run a.c --steps=500            Run of a.c with 500 steps, 1 turn and no denied request
 //!     run -v a.c                     Refused

@@ -3,7 +3,7 @@
 ghost use Rattle.std.specs.Prelude.{◌≡◌, [], ◌∷◌, List, ℕ, false, true, map, string_bytes, IfOk, codes};
 ghost use Rattle.clap.specs.Walk.{rule_of};
 ghost use Rattle.clap.specs.Simple.{app_of, with_rule};
-ghost use Rattle.p10_words.specs.Commands.{check_options, verify_options, run_options};
+ghost use Rattle.p10_words.specs.Commands.{check_options, derive_options, verify_options, run_options};
 ghost use Rattle.p10_words.specs.private.Parsing.{bare as bare_app, option_asked, files_asked, IsAsked, IsParse, IsUsage, are_askable};
 
 use crate::command::Usage;
@@ -16,6 +16,16 @@ pub fn check_matches<'w>(alloc: Global, words: &'w [String]) -> Result<ArgMatche
     ensures { IsParse check_options (map string_bytes words.entry.now) result }
 {
     match check_command(alloc) {
+        Ok(command) => matches(command, words),
+        Err(_) => Err(Usage::Memory),
+    }
+}
+
+/// What `clap` reads of the words after `derive`.
+pub fn derive_matches<'w>(alloc: Global, words: &'w [String]) -> Result<ArgMatches<'w>, Usage>
+    ensures { IsParse derive_options (map string_bytes words.entry.now) result }
+{
+    match derive_command(alloc) {
         Ok(command) => matches(command, words),
         Err(_) => Err(Usage::Memory),
     }
@@ -48,6 +58,16 @@ fn check_command<'w>(alloc: Global) -> Result<Command<'w>, AllocError>
     let command = bare(alloc, "check")
         .arg(option(alloc, "include"))?
         .arg(option(alloc, "format"))?
+        .arg(files(alloc))?;
+    Ok(command)
+}
+
+/// The options and files of `derive`.
+fn derive_command<'w>(alloc: Global) -> Result<Command<'w>, AllocError>
+    ensures { IfOk result (λ c. IsAsked (app_of c) derive_options) }
+{
+    let command = bare(alloc, "derive")
+        .arg(option(alloc, "include"))?
         .arg(files(alloc))?;
     Ok(command)
 }

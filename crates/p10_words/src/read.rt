@@ -2,13 +2,13 @@
 
 ghost use Rattle.std.specs.Prelude.{◌≡◌, Some, Err, map, string_bytes, IfOk, codes, option_map};
 ghost use Rattle.p10_words.specs.declared.command.Command.{Command};
-ghost use Rattle.p10_words.specs.declared.command.Command.TheVariants.{Check, Verify, Run};
+ghost use Rattle.p10_words.specs.declared.command.Command.TheVariants.{Check, Derive, Verify, Run};
 ghost use Rattle.p10_words.specs.CommandLines.{directories_in};
 ghost use Rattle.p10_words.specs.Commands.{IsCommandLine, IsRestOf};
-ghost use Rattle.p10_words.specs.private.Deciding.{IsCheckOf, IsVerifyOf, IsRunOf, Answers};
+ghost use Rattle.p10_words.specs.private.Deciding.{IsCheckOf, IsDeriveOf, IsVerifyOf, IsRunOf, Answers};
 
 use crate::command::{Command, Usage};
-use crate::parse::{check_matches, run_matches, verify_matches};
+use crate::parse::{check_matches, derive_matches, run_matches, verify_matches};
 use crate::values::{
     directories, is_json, name_files, names_directories, names_file, number, text, texts,
 };
@@ -56,6 +56,8 @@ fn by_name(alloc: Global, command: &str, words: &[String]) -> Result<Command, Us
 {
     if command == "check" {
         check(alloc, words)
+    } else if command == "derive" {
+        derive(alloc, words)
     } else if command == "verify" {
         verify(alloc, words)
     } else if command == "run" {
@@ -77,6 +79,19 @@ fn check(alloc: Global, words: &[String]) -> Result<Command, Usage>
                 found.get_str("format"),
                 files,
             ),
+            None => Err(Usage::Refused),
+        },
+        Err(fault) => Err(fault),
+    }
+}
+
+/// `derive` with the words after it.
+fn derive(alloc: Global, words: &[String]) -> Result<Command, Usage>
+    ensures { Answers (λ c. IsRestOf c (codes "derive") (map string_bytes words.now)) result }
+{
+    match derive_matches(alloc, words) {
+        Ok(found) => match found.get_strs("FILE") {
+            Some(files) => derive_of(alloc, found.get_str("include"), files),
             None => Err(Usage::Refused),
         },
         Err(fault) => Err(fault),
@@ -155,6 +170,29 @@ fn new_check(
     let dirs = directories(alloc, include)?;
     let files = texts(alloc, files)?;
     Ok(Command::Check { dirs, json, files })
+}
+
+/// `derive` of this value of its option and files.
+fn derive_of(alloc: Global, include: Option<&str>, files: &[&str]) -> Result<Command, Usage>
+    ensures { Answers (IsDeriveOf (option_map (λ w. w.now) include.entry) (map (λ w. w.now) files.now)) result }
+{
+    if names_directories(include) && name_files(files) {
+        match new_derive(alloc, include, files) {
+            Ok(command) => Ok(command),
+            Err(_) => Err(Usage::Memory),
+        }
+    } else {
+        Err(Usage::Refused)
+    }
+}
+
+/// The command `derive`, with texts of its own.
+fn new_derive(alloc: Global, include: Option<&str>, files: &[&str]) -> Result<Command, AllocError>
+    ensures { IfOk result (λ c. c ≡ Derive (directories_in (option_map (λ w. w.now) include.entry)) (map (λ w. w.now) files.now)) }
+{
+    let dirs = directories(alloc, include)?;
+    let files = texts(alloc, files)?;
+    Ok(Command::Derive { dirs, files })
 }
 
 /// `verify` of these values of options and files.

@@ -10,7 +10,7 @@ struct Row {
     says: &'static str,
 }
 
-static ROWS: [Row; 21] = [
+static ROWS: [Row; 25] = [
     Row {
         line: "check a.c b.c",
         says: "check 0 false 2",
@@ -29,6 +29,22 @@ static ROWS: [Row; 21] = [
     },
     Row {
         line: "check --format json",
+        says: "refused",
+    },
+    Row {
+        line: "derive a.c b.c",
+        says: "derive 0 2",
+    },
+    Row {
+        line: "derive a.c --include=x:y --",
+        says: "derive 2 1",
+    },
+    Row {
+        line: "derive --include x",
+        says: "refused",
+    },
+    Row {
+        line: "derive --format text a.c",
         says: "refused",
     },
     Row {
@@ -107,6 +123,10 @@ fn said(alloc: Global, line: &str) -> Result<String, AllocError> {
         Ok(Command::Check { dirs, json, files }) => {
             let (dirs, files) = (dirs.as_slice().len(), files.as_slice().len());
             format!(in alloc; "check {dirs} {json} {files}")
+        }
+        Ok(Command::Derive { dirs, files }) => {
+            let (dirs, files) = (dirs.as_slice().len(), files.as_slice().len());
+            format!(in alloc; "derive {dirs} {files}")
         }
         Ok(Command::Verify { dirs, cert, files }) => {
             let (dirs, cert, files) = (

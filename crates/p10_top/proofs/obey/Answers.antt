@@ -1,18 +1,27 @@
-use Rattle.p10_top.proofs.Telling.{told_check, stopped_check, told_run, stopped_run}
+use Rattle.std.proofs.Common.{ap, sym, ◌∙◌}
+use Rattle.p10_top.proofs.Telling.{of_check, of_derive, of_verify, of_run, told_of, stopped_of}
 use Rattle.p10_top.proofs.obey.Goals as goal
 
 pub returns-in-Check-clause-told : goal.returns-in-Check-clause-told
-returns-in-Check-clause-told g c =
-    λ six. told_check c.args.command (record { directories = c.in-Check.directories; json = c.in-Check.json; sources = c.in-Check.sources }) _ _ _ _ _ _ _ c.in-Check.is (c.check.ensures.told six)
+returns-in-Check-clause-told g c = λ six. told_of c.args.command (of_check c.check_command.result) _ _ _ _ _ _ _ (c.in-Check.is ∙ ap of_check (sym c.check_command.ensures)) (c.check.ensures.told six)
 
 pub returns-in-Check-clause-stopped : goal.returns-in-Check-clause-stopped
-returns-in-Check-clause-stopped g c =
-    λ six. stopped_check c.args.command (record { directories = c.in-Check.directories; json = c.in-Check.json; sources = c.in-Check.sources }) _ _ _ _ _ _ c.in-Check.is (c.check.ensures.stopped six)
+returns-in-Check-clause-stopped g c = λ six. stopped_of c.args.command (of_check c.check_command.result) _ _ _ _ _ _ (c.in-Check.is ∙ ap of_check (sym c.check_command.ensures)) (c.check.ensures.stopped six)
+
+pub returns-in-Derive-clause-told : goal.returns-in-Derive-clause-told
+returns-in-Derive-clause-told g c = λ six. told_of c.args.command (of_derive c.derive_command.result) _ _ _ _ _ _ _ (c.in-Derive.is ∙ ap of_derive (sym c.derive_command.ensures)) (c.derive.ensures.told six)
+
+pub returns-in-Derive-clause-stopped : goal.returns-in-Derive-clause-stopped
+returns-in-Derive-clause-stopped g c = λ six. stopped_of c.args.command (of_derive c.derive_command.result) _ _ _ _ _ _ (c.in-Derive.is ∙ ap of_derive (sym c.derive_command.ensures)) (c.derive.ensures.stopped six)
+
+pub returns-in-Verify-clause-told : goal.returns-in-Verify-clause-told
+returns-in-Verify-clause-told g c = λ six. told_of c.args.command (of_verify c.verify_command.result) _ _ _ _ _ _ _ (c.in-Verify.is ∙ ap of_verify (sym c.verify_command.ensures)) (c.verify.ensures.told six)
+
+pub returns-in-Verify-clause-stopped : goal.returns-in-Verify-clause-stopped
+returns-in-Verify-clause-stopped g c = λ six. stopped_of c.args.command (of_verify c.verify_command.result) _ _ _ _ _ _ (c.in-Verify.is ∙ ap of_verify (sym c.verify_command.ensures)) (c.verify.ensures.stopped six)
 
 pub returns-in-Run-clause-told : goal.returns-in-Run-clause-told
-returns-in-Run-clause-told g c =
-    λ six. told_run c.args.command (record { directories = c.in-Run.directories; steps = c.in-Run.steps; turns = c.in-Run.turns; deny = c.in-Run.deny; sources = c.in-Run.sources }) _ _ _ _ _ _ _ c.in-Run.is (c.run.ensures.told six)
+returns-in-Run-clause-told g c = λ six. told_of c.args.command (of_run c.run_command-command.result) _ _ _ _ _ _ _ (c.in-Run.is ∙ ap of_run (sym c.run_command-command.ensures)) (c.run.ensures.told six)
 
 pub returns-in-Run-clause-stopped : goal.returns-in-Run-clause-stopped
-returns-in-Run-clause-stopped g c =
-    λ six. stopped_run c.args.command (record { directories = c.in-Run.directories; steps = c.in-Run.steps; turns = c.in-Run.turns; deny = c.in-Run.deny; sources = c.in-Run.sources }) _ _ _ _ _ _ c.in-Run.is (c.run.ensures.stopped six)
+returns-in-Run-clause-stopped g c = λ six. stopped_of c.args.command (of_run c.run_command-command.result) _ _ _ _ _ _ (c.in-Run.is ∙ ap of_run (sym c.run_command-command.ensures)) (c.run.ensures.stopped six)

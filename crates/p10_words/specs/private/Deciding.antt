@@ -2,7 +2,7 @@
 use Rattle.std.specs.Prelude.{◌≡◌, ℕ, List, [], ◌∷◌, Bool, true, false, ◌&&◌, Option, Some, None, Result, Ok, Err}
 use Rattle.std.specs.List.{list_all}
 use Rattle.p10_words.specs.declared.command.Command.{Command}
-use Rattle.p10_words.specs.declared.command.Command.TheVariants.{Check, Verify, Run}
+use Rattle.p10_words.specs.declared.command.Command.TheVariants.{Check, Derive, Verify, Run}
 use Rattle.p10_words.specs.declared.command.Usage.{Usage}
 use Rattle.p10_words.specs.declared.command.Usage.TheVariants.{Refused, Memory}
 use Rattle.p10_base.specs.Words.{Text}
@@ -30,6 +30,12 @@ pub record IsCheckOf (include format : Option Text) (files : List Text) (c : Com
   pub has_format : HasFormat format json
   pub some : has_files files ≡ true
   pub is : c ≡ Check (directories_in include) json files
+
+-- `derive` of this value and files
+pub record IsDeriveOf (include : Option Text) (files : List Text) (c : Command) : Type 0 where
+  pub directories : has_directories include ≡ true
+  pub some : has_files files ≡ true
+  pub is : c ≡ Derive (directories_in include) files
 
 -- `verify` of these values and files
 pub record IsVerifyOf (include cert : Option Text) (files : List Text) (c : Command) : Type 0 where

@@ -1,4 +1,4 @@
-use Rattle.p10_words.proofs.Deciding.{one_command}
+use Rattle.p10_words.proofs.OneCommand.{one_command}
 use Rattle.p10_words.proofs.laws.lines_are_one_command.Goals as goal
 
 pub returns : goal.returns

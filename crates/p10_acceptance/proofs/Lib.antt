@@ -1,0 +1,27 @@
+-- The lemmas of this crate, by subject.
+pub mod Narrowing
+pub mod Operating
+pub mod Comparing
+pub mod Assessing
+pub mod Values
+pub mod Shrinking
+pub mod Calling
+pub mod Ends
+pub mod Fitting
+pub mod Rounds
+pub mod Statements
+pub mod Alike
+pub mod Claims
+pub mod Trials
+pub mod Found
+pub mod Walk
+pub mod Walking
+pub mod Beginning
+pub mod Bodies
+pub mod Results
+pub mod Functions
+pub mod Calls
+pub mod Sites
+pub mod Speaking
+pub mod Summing
+pub mod Accepting

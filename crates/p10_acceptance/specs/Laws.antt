@@ -1,0 +1,17 @@
+-- What is derived is accepted.
+use Rattle.p10_core.specs.Typed.{PlainProgram}
+use Rattle.p10_core.specs.WholePrograms.{IsWholeProgram}
+use Rattle.p10_cert.specs.Claims.{Claims}
+use Rattle.p10_turns.specs.Evidence.{stands_by_ranges}
+use Rattle.p10_check.specs.declared.verdict.Verdict.TheVariants.{Accepted}
+use Rattle.p10_check.specs.Conditions.{IsVerdict}
+use Rattle.p10_check.specs.Accepting.{Holds}
+use Rattle.p10_finder.specs.Answers.{Certified, IsDerived}
+
+-- where derivation answers a certificate for a whole program, each condition on the certificate holds with the evidence of ranges
+abbrev pub DerivedCertificatesHold : Type 0
+DerivedCertificatesHold = (p : PlainProgram) → IsWholeProgram p → (c : Claims) → IsDerived p (Certified c) → Holds (stands_by_ranges p) p c
+
+-- so the certificate is accepted, with its total
+abbrev pub DerivedCertificatesAreAccepted : Type 0
+DerivedCertificatesAreAccepted = (p : PlainProgram) → IsWholeProgram p → (c : Claims) → IsDerived p (Certified c) → IsVerdict (stands_by_ranges p) p c (Accepted c.total)

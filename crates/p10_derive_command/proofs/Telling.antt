@@ -1,0 +1,90 @@
+-- What is told on one of the outputs alone.
+use Rattle.std.proofs.Common.{◌≡◌, ℕ, List, [], refl, sym, subst, ap, Option, Result, Err}
+use Rattle.std.specs.Io.KnownBytes.{Appends}
+use Rattle.std.proofs.KnownBytes.{Appends-nil}
+use Rattle.p10_base.specs.declared.report.Violation.{Violation}
+use Rattle.p10_base.specs.Gathered.{Gathered}
+use Rattle.p10_report.specs.Stops.{StopsWithin}
+use Rattle.p10_report.specs.Violations.{violation_lines}
+use Rattle.p10_report.proofs.Stopping.{TakesFront-stop}
+use Rattle.p10_world.specs.Faults.{Rose}
+use Rattle.p10_world.specs.Sink.{TakesFront}
+use Rattle.p10_cert.specs.Certificate.{certificate_text}
+use Rattle.p10_cert.specs.Claims.{Claims}
+use Rattle.p10_finder.specs.declared.found.FinderFault.{FinderFault}
+use Rattle.p10_finder.specs.declared.found.FinderFault.TheVariants as finder
+use Rattle.p10_finder.specs.Answers.{Derived, Violating, Certified}
+use Rattle.p10_command.specs.declared.trouble.Trouble.{Trouble}
+use Rattle.p10_command.specs.declared.trouble.Trouble.TheVariants.{Read, Memory}
+use Rattle.p10_command.specs.Saying.{Saying}
+use Rattle.p10_command.specs.Seen.{Seen}
+use Rattle.p10_command.specs.Told.{Told, Stopped}
+use Rattle.p10_command.proofs.OneOutput.{no_front}
+use Rattle.p10_derive_command.specs.Answers.{HasCause, derived_saying}
+use Rattle.p10_derive_command.specs.private.Telling.{IsSaid, fault_saying}
+
+-- ## What may be said
+
+-- what is told is right where the one thing that is said is
+pub said_right : (right : Saying → Type 0) (wanted : Saying) (out_old out_new err_old err_new : Option (List ℕ)) (given : ℕ) → right wanted → Told (IsSaid wanted) out_old out_new err_old err_new given → Told right out_old out_new err_old err_new given
+said_right right wanted out_old out_new err_old err_new given is told = record {
+  saying = told.saying;
+  may = subst (λ (s : Saying). right s) (sym told.may) is;
+  status_is = told.status_is;
+  taken = told.taken;
+}
+
+pub stopped_right : (right : Saying → Type 0) (wanted : Saying) (out_old out_new err_old err_new : Option (List ℕ)) → right wanted → Stopped (IsSaid wanted) out_old out_new err_old err_new → Stopped right out_old out_new err_old err_new
+stopped_right right wanted out_old out_new err_old err_new is stopped = record {
+  saying = stopped.saying;
+  may = subst (λ (s : Saying). right s) (sym stopped.may) is;
+  taken = stopped.taken;
+}
+
+-- a trouble comes as it may
+pub has_cause : {T : Type 0} (result : Result T Trouble) (trouble : Trouble) (seen : Seen) → result ≡ Err trouble → (result ≡ Err Read → Rose seen.faults_before seen.faults_after) → HasCause trouble seen
+has_cause result Read seen is rises = rises is
+has_cause result Memory seen is rises = tt
+
+-- ## On the error output
+
+-- nothing is said on the output where nothing is derived
+pub no_output : (fault : FinderFault) → (fault_saying fault).out ≡ []
+no_output (finder.Over limit) = refl
+no_output finder.Memory = refl
+
+-- ## What is derived
+
+pub certificate_told : (g : Gathered) (answer : Derived) (claims : Claims) (out_old out_new err : Option (List ℕ)) (given : ℕ) → answer ≡ Certified claims → given ≡ 0 → Appends out_old out_new (certificate_text claims)
+    → Told (IsSaid (derived_saying g answer)) out_old out_new err err given
+certificate_told g answer claims out_old out_new err given is status taken = record {
+  saying = derived_saying g (Certified claims);
+  may = ap (λ (a : Derived). derived_saying g a) (sym is);
+  status_is = status;
+  taken = record { on_out = taken; on_err = Appends-nil err };
+}
+
+pub certificate_stopped : (g : Gathered) (answer : Derived) (claims : Claims) (out_old out_new err : Option (List ℕ)) → answer ≡ Certified claims → TakesFront out_old out_new (certificate_text claims)
+    → Stopped (IsSaid (derived_saying g answer)) out_old out_new err err
+certificate_stopped g answer claims out_old out_new err is front = record {
+  saying = derived_saying g (Certified claims);
+  may = ap (λ (a : Derived). derived_saying g a) (sym is);
+  taken = record { on_out = front; on_err = no_front err [] refl };
+}
+
+pub violations_told : (g : Gathered) (answer : Derived) (violations : List Violation) (out err_old err_new : Option (List ℕ)) (given : ℕ) → answer ≡ Violating violations → given ≡ 1 → Appends err_old err_new (violation_lines g violations)
+    → Told (IsSaid (derived_saying g answer)) out out err_old err_new given
+violations_told g answer violations out err_old err_new given is status taken = record {
+  saying = derived_saying g (Violating violations);
+  may = ap (λ (a : Derived). derived_saying g a) (sym is);
+  status_is = status;
+  taken = record { on_out = Appends-nil out; on_err = taken };
+}
+
+pub violations_stopped : (g : Gathered) (answer : Derived) (violations : List Violation) (out err_old err_new : Option (List ℕ)) → answer ≡ Violating violations → StopsWithin err_old err_new (violation_lines g violations)
+    → Stopped (IsSaid (derived_saying g answer)) out out err_old err_new
+violations_stopped g answer violations out err_old err_new is stop = record {
+  saying = derived_saying g (Violating violations);
+  may = ap (λ (a : Derived). derived_saying g a) (sym is);
+  taken = record { on_out = no_front out [] refl; on_err = TakesFront-stop err_old err_new (violation_lines g violations) stop };
+}

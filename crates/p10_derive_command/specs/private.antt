@@ -1,0 +1,2 @@
+-- The definitions that only clauses of private functions cite.
+pub mod Telling

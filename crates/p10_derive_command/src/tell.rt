@@ -1,0 +1,101 @@
+//! What is told, and the status of the program.
+
+ghost use Rattle.std.specs.Prelude.{◌≡◌, ◌≢◌, ◌⊎◌};
+ghost use Rattle.std.specs.Io.KnownBytes.{Appends};
+ghost use Rattle.p10_world.specs.Faults.{Rose};
+ghost use Rattle.p10_world.specs.Sink.{TakesFront};
+ghost use Rattle.p10_report.specs.Lines.{limit_line};
+ghost use Rattle.p10_report.specs.Stops.{StopsWithin};
+ghost use Rattle.p10_report.specs.Violations.{violation_lines};
+ghost use Rattle.p10_cert.specs.Certificate.{certificate_text};
+ghost use Rattle.p10_cert.specs.Claims.{claims_of};
+ghost use Rattle.p10_finder.specs.Finding.{derived_of};
+ghost use Rattle.p10_command.specs.Told.{IsTold, Told, Stopped};
+ghost use Rattle.p10_derive_command.specs.Answers.{derived_saying};
+ghost use Rattle.p10_derive_command.specs.private.Telling.{end_saying, fault_saying, IsSaid};
+
+use p10_base::{Limit, Sources, Violation};
+use p10_cert::{Cert, write};
+use p10_command::{Trouble, tell_trouble};
+use p10_finder::{FinderFault, Found};
+use p10_report::{put_limit, put_violations};
+use p10_world::Sink;
+
+/// Tells what has come of derivation, and gives the status of the program.
+pub fn tell_end<O: Sink, E: Sink>(
+    sources: &Sources,
+    end: Result<Found, FinderFault>,
+    out: &mut O,
+    err: &mut E,
+) -> u8
+    ensures told { result ≢ 6 → Told (IsSaid (end_saying sources.now end)) (O.taken out.old) (O.taken out.new) (E.taken err.old) (E.taken err.new) result }
+    ensures stopped { result ≡ 6 → Stopped (IsSaid (end_saying sources.now end)) (O.taken out.old) (O.taken out.new) (E.taken err.old) (E.taken err.new) }
+    ensures write { result ≡ 6 → Rose (O.faults out.old) (O.faults out.new) ⊎ Rose (E.faults err.old) (E.faults err.new) }
+{
+    match end {
+        Ok(found) => tell_found(sources, &found, out, err),
+        Err(fault) => tell_fault(fault, err),
+    }
+}
+
+/// Tells what is derived, and gives the status of the program: a certificate on `out`, and violations on `err`.
+fn tell_found<O: Sink, E: Sink>(sources: &Sources, found: &Found, out: &mut O, err: &mut E) -> u8
+    ensures told { result ≢ 6 → Told (IsSaid (derived_saying sources.now (derived_of found.now))) (O.taken out.old) (O.taken out.new) (E.taken err.old) (E.taken err.new) result }
+    ensures stopped { result ≡ 6 → Stopped (IsSaid (derived_saying sources.now (derived_of found.now))) (O.taken out.old) (O.taken out.new) (E.taken err.old) (E.taken err.new) }
+    ensures write { result ≡ 6 → Rose (O.faults out.old) (O.faults out.new) ⊎ Rose (E.faults err.old) (E.faults err.new) }
+{
+    match found {
+        Found::Certificate(certificate) => tell_certificate(certificate, out),
+        Found::Violations(violations) => tell_violations(sources, violations.as_slice(), err),
+    }
+}
+
+/// Tells a certificate, and gives the status of the program.
+fn tell_certificate<O: Sink>(certificate: &Cert, out: &mut O) -> u8
+    ensures status { result ≢ 6 → result ≡ 0 }
+    ensures told { result ≢ 6 → Appends (O.taken out.old) (O.taken out.new) (certificate_text (claims_of certificate.now)) }
+    ensures stopped { result ≡ 6 → TakesFront (O.taken out.old) (O.taken out.new) (certificate_text (claims_of certificate.now)) }
+    ensures write { result ≡ 6 → Rose (O.faults out.old) (O.faults out.new) }
+{
+    match write(certificate, out) {
+        Ok(()) => 0,
+        Err(_) => 6,
+    }
+}
+
+/// Tells violations, and gives the status of the program.
+fn tell_violations<E: Sink>(sources: &Sources, violations: &[Violation], err: &mut E) -> u8
+    ensures status { result ≢ 6 → result ≡ 1 }
+    ensures told { result ≢ 6 → Appends (E.taken err.old) (E.taken err.new) (violation_lines sources.now violations.now) }
+    ensures stopped { result ≡ 6 → StopsWithin (E.taken err.old) (E.taken err.new) (violation_lines sources.now violations.now) }
+    ensures write { result ≡ 6 → Rose (E.faults err.old) (E.faults err.new) }
+{
+    match put_violations(err, sources, violations) {
+        Ok(()) => 1,
+        Err(_) => 6,
+    }
+}
+
+/// Tells why nothing is derived, and gives the status of the program.
+fn tell_fault<E: Sink>(fault: FinderFault, err: &mut E) -> u8
+    ensures told { result ≢ 6 → IsTold (fault_saying fault).status (fault_saying fault).err (E.taken err.old) (E.taken err.new) result }
+    ensures stopped { result ≡ 6 → StopsWithin (E.taken err.old) (E.taken err.new) (fault_saying fault).err }
+    ensures write { result ≡ 6 → Rose (E.faults err.old) (E.faults err.new) }
+{
+    match fault {
+        FinderFault::Over(limit) => tell_limit(limit, err),
+        FinderFault::Memory => tell_trouble(Trouble::Memory, err),
+    }
+}
+
+/// Tells that a limit is passed, and gives the status of the program.
+fn tell_limit<E: Sink>(limit: Limit, err: &mut E) -> u8
+    ensures told { result ≢ 6 → IsTold 8 (limit_line limit) (E.taken err.old) (E.taken err.new) result }
+    ensures stopped { result ≡ 6 → StopsWithin (E.taken err.old) (E.taken err.new) (limit_line limit) }
+    ensures write { result ≡ 6 → Rose (E.faults err.old) (E.faults err.new) }
+{
+    match put_limit(err, limit) {
+        Ok(()) => 8,
+        Err(_) => 6,
+    }
+}

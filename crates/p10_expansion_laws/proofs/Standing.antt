@@ -1,0 +1,206 @@
+-- Where a line stands agrees with the conditionals that are open.
+use Rattle.std.proofs.Common.{◌≡◌, ℕ, zero, suc, List, [], ◌∷◌, Bool, true, false, ◌&&◌, not, refl, sym, ◌∙◌, ap}
+use Rattle.std.specs.List.{list_any}
+use Rattle.p10_direct.specs.declared.mark.Mark.{Mark}
+use Rattle.p10_direct.specs.declared.mark.Mark.TheVariants.{Opens, Elif, Else, Closes, Plain}
+use Rattle.p10_expand.specs.declared.expansion.stand.Stand.{Stand}
+use Rattle.p10_expand.specs.declared.expansion.stand.Stand.TheVariants.{Obeyed, Skipped}
+use Rattle.p10_expand.specs.Skips.{is_obeyed, stand_behind, stand_of_group, stand_of_else}
+use Rattle.p10_expansion_laws.specs.Groups.{Groups, outer_of, open_after_line, none_holds, is_chosen, are_chosen, is_obeyed_in}
+use Rattle.p10_expansion_laws.specs.Chosen.{condition_holds}
+
+-- a group of the conditional was chosen
+abbrev some_holds : Groups → Bool
+some_holds groups = list_any (λ h. h) groups
+
+-- so many of the innermost conditionals have begun in a group that isn't chosen, in which nothing else around isn't; `chosen` tells
+-- whether another group of that conditional is
+abbrev pub Lacks : ℕ → Bool → List Groups → Type 0
+Lacks inner chosen [] = ⊥
+Lacks zero chosen (groups ∷ outer) = (is_chosen groups ≡ false) × (some_holds groups ≡ chosen) × (are_chosen outer ≡ true)
+Lacks (suc inner) chosen (groups ∷ outer) = Lacks inner chosen outer
+
+-- where a line stands is what the open conditionals say
+abbrev pub Agrees : List Groups → Stand → Type 0
+Agrees open' Obeyed = are_chosen open' ≡ true
+Agrees open' (Skipped chosen inner) = Lacks inner chosen open'
+
+-- ## Tests
+
+and_left : (a b : Bool) → a && b ≡ true → a ≡ true
+and_left true b e = refl
+and_left false b e = absurd cc
+
+and_right : (a b : Bool) → a && b ≡ true → b ≡ true
+and_right true b e = e
+and_right false b e = absurd cc
+
+and_false : (a : Bool) → a && false ≡ false
+and_false true = refl
+and_false false = refl
+
+chosen_holds : (groups : Groups) → is_chosen groups ≡ true → some_holds groups ≡ true
+chosen_holds [] e = absurd cc
+chosen_holds (true ∷ earlier) e = refl
+chosen_holds (false ∷ earlier) e = absurd cc
+
+lacks_not_all : (inner : ℕ) (chosen : Bool) (open' : List Groups) → Lacks inner chosen open' → are_chosen open' ≡ false
+lacks_not_all inner chosen [] p = absurd p
+lacks_not_all zero chosen (groups ∷ outer) p = ap (λ b. b && are_chosen outer) p.0
+lacks_not_all (suc inner) chosen (groups ∷ outer) p = ap (λ b. is_chosen groups && b) (lacks_not_all inner chosen outer p) ∙ and_false (is_chosen groups)
+
+-- ## Which lines are obeyed
+
+not_both : (b : Bool) → b ≡ false → b ≡ true → ⊥
+not_both b p q = cc
+
+opens_skipped : (chosen : Bool) (inner : ℕ) → is_obeyed (Skipped chosen inner) Opens ≡ false
+opens_skipped true zero = refl
+opens_skipped true (suc inner) = refl
+opens_skipped false zero = refl
+opens_skipped false (suc inner) = refl
+
+pub plain_skipped : (chosen : Bool) (inner : ℕ) → is_obeyed (Skipped chosen inner) Plain ≡ false
+plain_skipped true zero = refl
+plain_skipped true (suc inner) = refl
+plain_skipped false zero = refl
+plain_skipped false (suc inner) = refl
+
+inner_skipped : (chosen : Bool) (inner : ℕ) (mark : Mark) → is_obeyed (Skipped chosen (suc inner)) mark ≡ false
+inner_skipped chosen inner Opens = opens_skipped chosen (suc inner)
+inner_skipped true inner Elif = refl
+inner_skipped false inner Elif = refl
+inner_skipped true inner Else = refl
+inner_skipped false inner Else = refl
+inner_skipped true inner Closes = refl
+inner_skipped false inner Closes = refl
+inner_skipped chosen inner Plain = plain_skipped chosen (suc inner)
+
+else_skipped : (chosen : Bool) → is_obeyed (Skipped chosen 0) Else ≡ true
+else_skipped true = refl
+else_skipped false = refl
+
+closes_skipped : (chosen : Bool) → is_obeyed (Skipped chosen 0) Closes ≡ true
+closes_skipped true = refl
+closes_skipped false = refl
+
+elif_in_all : (open' : List Groups) → are_chosen open' ≡ true → false ≡ is_obeyed_in Elif open'
+elif_in_all [] e = refl
+elif_in_all (groups ∷ outer) e = ap (λ b. not b && are_chosen outer) (sym (chosen_holds groups (and_left (is_chosen groups) (are_chosen outer) e)))
+
+outer_in_all : (open' : List Groups) → are_chosen open' ≡ true → true ≡ are_chosen (outer_of open')
+outer_in_all [] e = refl
+outer_in_all (groups ∷ outer) e = sym (and_right (is_chosen groups) (are_chosen outer) e)
+
+in_all : (open' : List Groups) (mark : Mark) → are_chosen open' ≡ true → is_obeyed Obeyed mark ≡ is_obeyed_in mark open'
+in_all open' Opens e = sym e
+in_all open' Elif e = elif_in_all open' e
+in_all open' Else e = outer_in_all open' e
+in_all open' Closes e = outer_in_all open' e
+in_all open' Plain e = sym e
+
+elif_there : (chosen : Bool) (groups : Groups) (outer : List Groups) → some_holds groups ≡ chosen → are_chosen outer ≡ true → not chosen ≡ none_holds groups && are_chosen outer
+elif_there true groups outer p q = ap (λ b. not b && are_chosen outer) (sym p)
+elif_there false groups outer p q = sym q ∙ ap (λ b. not b && are_chosen outer) (sym p)
+
+in_skipped : (chosen : Bool) (groups : Groups) (outer : List Groups) (mark : Mark) → Lacks 0 chosen (groups ∷ outer) → is_obeyed (Skipped chosen 0) mark ≡ is_obeyed_in mark (groups ∷ outer)
+in_skipped chosen groups outer Opens p = opens_skipped chosen 0 ∙ sym (lacks_not_all 0 chosen (groups ∷ outer) p)
+in_skipped true groups outer Elif p = elif_there true groups outer p.1 p.2
+in_skipped false groups outer Elif p = elif_there false groups outer p.1 p.2
+in_skipped chosen groups outer Else p = else_skipped chosen ∙ sym p.2
+in_skipped chosen groups outer Closes p = closes_skipped chosen ∙ sym p.2
+in_skipped chosen groups outer Plain p = plain_skipped chosen 0 ∙ sym (lacks_not_all 0 chosen (groups ∷ outer) p)
+
+in_inner : (chosen : Bool) (inner : ℕ) (groups : Groups) (outer : List Groups) (mark : Mark) → Lacks (suc inner) chosen (groups ∷ outer) → is_obeyed (Skipped chosen (suc inner)) mark ≡ is_obeyed_in mark (groups ∷ outer)
+in_inner chosen inner groups outer Opens p = inner_skipped chosen inner Opens ∙ sym (lacks_not_all (suc inner) chosen (groups ∷ outer) p)
+in_inner chosen inner groups outer Elif p = inner_skipped chosen inner Elif ∙ sym (ap (λ b. none_holds groups && b) (lacks_not_all inner chosen outer p) ∙ and_false (none_holds groups))
+in_inner chosen inner groups outer Else p = inner_skipped chosen inner Else ∙ sym (lacks_not_all inner chosen outer p)
+in_inner chosen inner groups outer Closes p = inner_skipped chosen inner Closes ∙ sym (lacks_not_all inner chosen outer p)
+in_inner chosen inner groups outer Plain p = inner_skipped chosen inner Plain ∙ sym (lacks_not_all (suc inner) chosen (groups ∷ outer) p)
+
+-- the same lines are obeyed
+pub obeyed_alike : (open' : List Groups) (stand : Stand) (mark : Mark) → Agrees open' stand → is_obeyed stand mark ≡ is_obeyed_in mark open'
+obeyed_alike open' Obeyed mark p = in_all open' mark p
+obeyed_alike [] (Skipped chosen inner) mark p = absurd p
+obeyed_alike (groups ∷ outer) (Skipped chosen zero) mark p = in_skipped chosen groups outer mark p
+obeyed_alike (groups ∷ outer) (Skipped chosen (suc inner)) mark p = in_inner chosen inner groups outer mark p
+
+-- ## The line after
+
+-- the line is no `#elif` or `#else` where no conditional is open
+abbrev pub Belongs : Mark → List Groups → Type 0
+Belongs Elif [] = ⊥
+Belongs Else [] = ⊥
+Belongs mark open' = Unit {0}
+
+group_apart : (h : Bool) (groups : Groups) → some_holds groups ≡ true → is_chosen (h ∷ groups) ≡ false
+group_apart true groups e = ap not e
+group_apart false groups e = refl
+
+some_more : (h : Bool) (groups : Groups) → some_holds groups ≡ true → some_holds (h ∷ groups) ≡ true
+some_more true groups e = refl
+some_more false groups e = e
+
+-- after a line that isn't obeyed
+pub skipped_on : (open' : List Groups) (stand : Stand) (mark : Mark) → Agrees open' stand → Belongs mark open' → is_obeyed stand mark ≡ false → (h : Bool) → Agrees (open_after_line mark h open') (stand_behind stand mark)
+skipped_on open' Obeyed Opens p fits e h = absurd cc
+skipped_on [] Obeyed Elif p fits e h = absurd fits
+skipped_on (groups ∷ outer) Obeyed Elif p fits e h =
+    let some = chosen_holds groups (and_left (is_chosen groups) (are_chosen outer) p) in
+    (group_apart h groups some, some_more h groups some, and_right (is_chosen groups) (are_chosen outer) p)
+skipped_on open' Obeyed Else p fits e h = absurd cc
+skipped_on open' Obeyed Closes p fits e h = absurd cc
+skipped_on open' Obeyed Plain p fits e h = absurd cc
+skipped_on [] (Skipped chosen inner) mark p fits e h = absurd p
+skipped_on (groups ∷ outer) (Skipped chosen zero) Opens p fits e h = p
+skipped_on (groups ∷ outer) (Skipped true zero) Elif p fits e h = (group_apart h groups p.1, some_more h groups p.1, p.2)
+skipped_on (groups ∷ outer) (Skipped false zero) Elif p fits e h = absurd cc
+skipped_on (groups ∷ outer) (Skipped chosen zero) Else p fits e h = absurd (not_both _ e (else_skipped chosen))
+skipped_on (groups ∷ outer) (Skipped chosen zero) Closes p fits e h = absurd (not_both _ e (closes_skipped chosen))
+skipped_on (groups ∷ outer) (Skipped chosen zero) Plain p fits e h = p
+skipped_on (groups ∷ outer) (Skipped chosen (suc inner)) Opens p fits e h = p
+skipped_on (groups ∷ outer) (Skipped chosen (suc inner)) Elif p fits e h = p
+skipped_on (groups ∷ outer) (Skipped chosen (suc inner)) Else p fits e h = p
+skipped_on (groups ∷ outer) (Skipped chosen (suc inner)) Closes p fits e h = p
+skipped_on (groups ∷ outer) (Skipped chosen (suc inner)) Plain p fits e h = p
+
+-- after an obeyed `#if`
+pub opens_on : (open' : List Groups) (stand : Stand) → Agrees open' stand → is_obeyed stand Opens ≡ true → (truth : Bool) →
+    Agrees (open_after_line Opens (condition_holds (stand_of_group truth)) open') (stand_of_group truth)
+opens_on open' Obeyed p e true = p
+opens_on open' Obeyed p e false = (refl, refl, p)
+opens_on open' (Skipped chosen inner) p e truth = absurd (not_both _ (opens_skipped chosen inner) e)
+
+-- after an obeyed `#elif`
+pub elif_on : (open' : List Groups) (stand : Stand) → Agrees open' stand → is_obeyed stand Elif ≡ true → (truth : Bool) →
+    Agrees (open_after_line Elif (condition_holds (stand_of_group truth)) open') (stand_of_group truth)
+elif_on open' Obeyed p e truth = absurd cc
+elif_on [] (Skipped chosen inner) p e truth = absurd p
+elif_on (groups ∷ outer) (Skipped true zero) p e truth = absurd cc
+elif_on (groups ∷ outer) (Skipped false zero) p e true = ap (λ b. not b && are_chosen outer) p.1 ∙ p.2
+elif_on (groups ∷ outer) (Skipped false zero) p e false = (refl, p.1, p.2)
+elif_on (groups ∷ outer) (Skipped chosen (suc inner)) p e truth = absurd (not_both _ (inner_skipped chosen inner Elif) e)
+
+-- after an obeyed `#else`
+pub else_on : (open' : List Groups) (stand : Stand) → Agrees open' stand → Belongs Else open' → is_obeyed stand Else ≡ true → (h : Bool) →
+    Agrees (open_after_line Else h open') (stand_of_else stand)
+else_on [] Obeyed p fits e h = absurd fits
+else_on (groups ∷ outer) Obeyed p fits e h =
+    let some = chosen_holds groups (and_left (is_chosen groups) (are_chosen outer) p) in
+    (ap not some, refl, and_right (is_chosen groups) (are_chosen outer) p)
+else_on [] (Skipped chosen inner) p fits e h = absurd p
+else_on (groups ∷ outer) (Skipped true zero) p fits e h = (ap not p.1, refl, p.2)
+else_on (groups ∷ outer) (Skipped false zero) p fits e h = ap (λ b. not b && are_chosen outer) p.1 ∙ p.2
+else_on (groups ∷ outer) (Skipped chosen (suc inner)) p fits e h = absurd (not_both _ (inner_skipped chosen inner Else) e)
+
+-- after an obeyed `#endif`
+pub closes_on : (open' : List Groups) (stand : Stand) → Agrees open' stand → is_obeyed stand Closes ≡ true → (h : Bool) → Agrees (open_after_line Closes h open') Obeyed
+closes_on open' Obeyed p e h = sym (outer_in_all open' p)
+closes_on [] (Skipped chosen inner) p e h = absurd p
+closes_on (groups ∷ outer) (Skipped chosen zero) p e h = p.2
+closes_on (groups ∷ outer) (Skipped chosen (suc inner)) p e h = absurd (not_both _ (inner_skipped chosen inner Closes) e)
+
+-- after another obeyed line
+pub plain_on : (open' : List Groups) (stand : Stand) → Agrees open' stand → is_obeyed stand Plain ≡ true → Agrees open' Obeyed
+plain_on open' Obeyed p e = p
+plain_on open' (Skipped chosen inner) p e = absurd (not_both _ (plain_skipped chosen inner) e)

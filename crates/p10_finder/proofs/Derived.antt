@@ -1,0 +1,78 @@
+-- What is derived of a program.
+use Rattle.std.proofs.Common.{◌≡◌, ◌⊎◌, inl, inr, true, false, List, [], ◌∷◌, map, refl, sym, ap, ◌∙◌, subst}
+use Rattle.std.specs.List.{Contains, filter, All}
+use Rattle.std.specs.Prelude.{Result, Ok, Err, IfOk, IfErr}
+use Rattle.p10_base.specs.declared.span.Span.{Span}
+use Rattle.p10_base.specs.declared.report.Limit.{Limit}
+use Rattle.p10_base.specs.declared.report.Violation.{Violation}
+use Rattle.p10_base.specs.declared.report.TheConstants.Limit.{SUM}
+use Rattle.p10_core.specs.Typed.{PlainProgram}
+use Rattle.p10_calls.specs.declared.sites.CallSite.{CallSite}
+use Rattle.p10_calls.specs.CallSites.{call_sites}
+use Rattle.p10_calls.specs.Recursion.{IsRecursiveCall, AreRecursiveCalls}
+use Rattle.p10_calls.proofs.Lists.{here, none_in, passed}
+use Rattle.p10_cert.specs.Claims.{Claims}
+use Rattle.p10_flowrules.specs.FlowRows.{recursion, recursion_row}
+use Rattle.p10_sums.specs.declared.sum.FuncSum.{FuncSum}
+use Rattle.p10_sums.specs.Sums.{HasPassing, keeps_limit, all_sums}
+use Rattle.p10_finder.specs.declared.found.FinderFault.{FinderFault}
+use Rattle.p10_finder.specs.declared.found.FinderFault.TheVariants as fault
+use Rattle.p10_finder.specs.Answers.{HaveResults, flow, AreViolations, HasViolations, AreClaims, Claiming, PassesSum, PassesText, Over, IsViolating, IsDerived, IsCertified}
+use Rattle.p10_finder.specs.Finding.{IsFault}
+use Rattle.p10_finder.specs.private.Limits.{IsPassed, long_among}
+use Rattle.p10_finder.proofs.OneAnswer.{violates_same}
+use Rattle.p10_finder.proofs.OneClaims.{claims_have_results}
+use Rattle.p10_finder.proofs.Long.{among_here, among_there}
+
+-- ## No violations
+
+-- a program without violations has no recursive calls
+pub no_recursion : (p : PlainProgram) (c : Claims) (calls : List CallSite) → AreViolations p c [] → AreRecursiveCalls p calls → (calls ≡ [] → ⊥) → ⊥
+no_recursion p c [] lawful are some = some refl
+no_recursion p c (call ∷ rest) lawful are some =
+    let held : Contains (call ∷ rest) call = here call rest in
+    let among = passed are.test (call_sites p) call (subst (λ xs. Contains xs call) are.are held) in
+    let recursive : IsRecursiveCall p call = (are.exact call among.0).0 among.1 in
+    none_in (record { sub = recursion_row; span = call.call.name })
+    ((lawful.exact (record { sub = recursion_row; span = call.call.name })).1 (flow recursion_row call.call.name (recursion call.call.name (record { call = call; stands = among.0; recursive = recursive; span_is = refl }))))
+
+-- the same violations are there under the claims of the certificate
+pub claiming : (p : PlainProgram) (results c : Claims) → HaveResults p results → AreViolations p results [] → AreClaims p c → Claiming p c
+claiming p results c right lawful are = record {
+  claims = are;
+  lawful = record {
+    sorted = lawful.sorted;
+    exact = λ v. (
+      (λ held. absurd (none_in v held)),
+      (λ violates. (lawful.exact v).1 (violates_same p c results (claims_have_results p c are) right v.sub v.span violates)),
+    );
+  };
+}
+
+pub violating : (p : PlainProgram) (c : Claims) (found : List Violation) → HaveResults p c → AreViolations p c found → (found ≡ [] → ⊥) → IsViolating p found
+violating p c found right all some = record { all = record { claims = c; right = right; all = all }; some = some }
+
+-- ## Limits
+
+-- a fault, where this certificate passes the limit
+pub passed_fault : (p : PlainProgram) (c : Claims) (why : FinderFault) → Claiming p c → IsPassed p c why → IsFault p why
+passed_fault p c (fault.Over limit) claims passes = record { certificate = c; claims = claims; passes = passes }
+passed_fault p c fault.Memory claims passes = tt
+
+-- no sum passes, and no loop has too many turns
+pub keeps_sums : (p : PlainProgram) (c : Claims) (sums : List FuncSum) → sums ≡ all_sums p c.funcs → All (λ s. keeps_limit s ≡ true) sums → long_among c.funcs ≡ false → PassesSum p c → ⊥
+keeps_sums p c sums are within short (inl passing) =
+    let held : Contains sums passing.sum = subst (λ xs. Contains xs passing.sum) (sym are) passing.among in
+    let keeps : keeps_limit passing.sum ≡ true = kept sums passing.sum within held in
+    let over : keeps_limit passing.sum ≡ false = passing.passes in
+    absurd cc
+  where
+    kept : (xs : List FuncSum) (x : FuncSum) → All (λ s. keeps_limit s ≡ true) xs → Contains xs x → keeps_limit x ≡ true
+    kept xs x all (k, inside, is) = subst (λ (s : FuncSum). keeps_limit s ≡ true) is (all k x inside)
+keeps_sums p c sums are within short (inr long) = let yes : long_among c.funcs ≡ true = among_here c.funcs long in absurd cc
+
+pub sum_passed : (p : PlainProgram) (c : Claims) (limit : Limit) → (limit ≡ SUM) × HasPassing (all_sums p c.funcs) → IsPassed p c (fault.Over limit)
+sum_passed p c limit (is, passing) = inl (is, inl passing)
+
+pub turns_passed : (p : PlainProgram) (c : Claims) → long_among c.funcs ≡ true → IsPassed p c (fault.Over SUM)
+turns_passed p c long = inl (refl, inr (among_there c.funcs long))

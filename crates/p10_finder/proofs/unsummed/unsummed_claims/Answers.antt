@@ -1,0 +1,37 @@
+use Rattle.std.proofs.Common.{◌≡◌, ◌+◌, ◌<◌, ◌≤◌, ◌++◌, ◌∷◌, [], List, length, map, Some, sym, ◌∙◌, ap, subst, arith, length-append}
+use Rattle.std.specs.Prelude.{slice_get}
+use Rattle.std.proofs.lemmas.List.{length-map}
+use Rattle.p10_core.specs.declared.program.Func.{Func as CodeFunc}
+use Rattle.p10_core.specs.Views.{plain_function, plain_program}
+use Rattle.p10_cert.specs.declared.claims.FuncClaim.{FuncClaim}
+use Rattle.p10_cert.specs.Claims.{func_of, claims_of}
+use Rattle.p10_absx.proofs.Entries.{get_below}
+use Rattle.p10_finder.proofs.UnsummedClaims.{unsummed_more}
+use Rattle.p10_finder.proofs.unsummed.unsummed_claims.Goals as goal
+
+pub loop-n-preserved : goal.loop-n-preserved
+loop-n-preserved c = record {
+  each =
+      let put : c.push.new.self.items ≡ c.loop-n.funcs.items ++ c.in_ok-unsummed_claim.field-0 ∷ [] = c.in_ok-push.ensures.items in
+      let size : length c.loop-n.funcs.items ≡ c.loop-n.n = c.loop-n.invariant.each in
+      let more : length (c.loop-n.funcs.items ++ c.in_ok-unsummed_claim.field-0 ∷ []) ≡ length c.loop-n.funcs.items + 1 = length-append c.loop-n.funcs.items (c.in_ok-unsummed_claim.field-0 ∷ []) in
+      ap (λ (l : List FuncClaim). length l) put ∙ omega (arith, size, more);
+  claims = λ k f low got. unsummed_more (plain_program c.args.program.now) (claims_of c.args.results.now) c.args.ranks.now c.as_slice-functions.result.now c.loop-n.n c.index-functions-n.result c.loop-n.funcs.items c.push.new.self.items
+      c.in_ok-unsummed_claim.field-0 c.loop-n-test.true c.index-functions-n.is c.in_ok-unsummed_claim.ensures c.in_ok-push.ensures.items c.loop-n.invariant.each (λ m g below at. c.loop-n.invariant.claims m g below at) k f low got;
+}
+
+pub returns : goal.returns
+returns c =
+    let slice : length c.as_slice-functions.result.now ≡ length c.args.program.now.functions = ap (λ (fs : List CodeFunc). length fs) c.as_slice-functions.ensures in
+    let size : length (map plain_function c.args.program.now.functions) ≡ length c.args.program.now.functions = length-map c.args.program.now.functions plain_function in
+    let past : length c.as_slice-functions.result.now ≤ c.loop-n.n = c.loop-n-test.false in
+    let end : c.loop-n.n ≤ length c.as_slice-functions.result.now = c.loop-n.auto.n-end in
+    let each : length c.loop-n.funcs.items ≡ c.loop-n.n = c.loop-n.invariant.each in
+    let claims : length (map func_of c.loop-n.funcs.items) ≡ length c.loop-n.funcs.items = length-map c.loop-n.funcs.items func_of in
+    record {
+      each = ap (λ (l : List FuncClaim). length (map func_of l)) c.of.ensures ∙ omega (arith, slice, size, past, end, each, claims);
+      claims = λ n f there.
+          let low : n < length (map plain_function c.args.program.now.functions) = get_below (map plain_function c.args.program.now.functions) n f there in
+          ap (λ (l : List FuncClaim). slice_get (map func_of l) n) c.of.ensures
+          ∙ c.loop-n.invariant.claims n f (omega (arith, low, size, slice, past)) (ap (λ (fs : List CodeFunc). slice_get (map plain_function fs) n) c.as_slice-functions.ensures ∙ there);
+    }

@@ -1,0 +1,86 @@
+-- Claims whose sums are counted, the functions of one rank after the other.
+use Rattle.std.specs.Prelude.{◌≡◌, ℕ, ◌+◌, ◌<◌, ◌≤◌, false, List, [], ◌∷◌, map, length, slice_get, slice_index, Some}
+use Rattle.p10_base.specs.declared.report.TheConstants.Limit.{MOST_SUM}
+use Rattle.p10_core.specs.Typed.{PlainFunction, PlainProgram}
+use Rattle.p10_core.specs.Views.{plain_program}
+use Rattle.p10_core.specs.WholePrograms.{parameter_types, IsWholeProgram}
+use Rattle.p10_calls.specs.CallGraphs.{call_graph}
+use Rattle.p10_calls.specs.Ranks.{AreRanks}
+use Rattle.p10_cert.specs.declared.claims.Rank.{Rank}
+use Rattle.p10_cert.specs.declared.claims.Rank.TheVariants.{Task}
+use Rattle.p10_cert.specs.Claims.{Func, Claims, claims_of}
+use Rattle.p10_sums.specs.declared.sum.FuncSum.{FuncSum}
+use Rattle.p10_sums.specs.Sums.{sum_at}
+use Rattle.p10_finder.specs.declared.counting.Ranked.{Ranked}
+use Rattle.p10_finder.specs.Functions.{any_value, loops_of, result_of, with_turn_steps, counted_sum}
+
+-- ## Before the sums are counted
+
+-- what is claimed of the function with a number and a rank before its sums are counted
+abbrev pub unsummed : PlainProgram → Claims → ℕ → ℕ → PlainFunction → Func
+unsummed p c n rank f = record {
+  name = f.name;
+  rank = rank;
+  steps = 0;
+  calls = 0;
+  bytes = 0;
+  alloc = false;
+  params = map any_value (parameter_types f);
+  result = result_of p c n f;
+  loops = (loops_of p c n f).claims;
+}
+
+-- the same of all functions
+pub record AreUnsummed (p : PlainProgram) (c : Claims) (ranks : List ℕ) (funcs : List Func) : Type 0 where
+  pub each : length funcs ≡ length p.functions
+  pub claims : (n : ℕ) (f : PlainFunction) → slice_get p.functions n ≡ Some f → slice_get funcs n ≡ Some (unsummed p c n (slice_index ranks n) f)
+
+-- the ranks are those of the program, and the claims are those that are found where they themselves stand
+pub record IsRanked (r : Ranked) : Type 0 where
+  pub whole : IsWholeProgram (plain_program r.program.now)
+  pub ranks : AreRanks (call_graph (plain_program r.program.now)) r.ranks.now
+  pub claims : AreUnsummed (plain_program r.program.now) (claims_of r.claims.now) r.ranks.now (claims_of r.claims.now).funcs
+
+-- ## With sums
+
+-- the turns of a loop of a rank, or the steps of a turn of the task
+abbrev pub turns_by : Rank → ℕ → ℕ → ℕ
+turns_by Task turns steps = steps
+turns_by rank turns steps = turns
+
+-- a claim with a sum
+abbrev pub with_sum : FuncSum → Func → Func
+with_sum sum claim = record claim { steps = sum.steps; calls = sum.calls; bytes = sum.bytes; alloc = sum.alloc; loops = map (with_turn_steps sum.turn) claim.loops }
+
+-- claims with a sum for each
+abbrev pub with_sums : List Func → List FuncSum → List Func
+with_sums [] sums = []
+with_sums (claim ∷ rest) [] = []
+with_sums (claim ∷ rest) (sum ∷ sums) = with_sum sum claim ∷ with_sums rest sums
+
+-- the sum of a function before it is counted
+abbrev pub first_sum : FuncSum
+first_sum = record { steps = 0; calls = 0; bytes = 0; alloc = false; turn = MOST_SUM + 1 }
+
+-- ## Counting
+
+-- the sums of the first k functions are counted under claims where they have a rank, and the others are as they were
+pub record AreCountedAt (p : PlainProgram) (funcs : List Func) (ranks : List ℕ) (rank k : ℕ) (old new : List FuncSum) : Type 0 where
+  pub each : length new ≡ length old
+  pub counted : (n : ℕ) → n < k → slice_index ranks n ≡ rank → slice_get new n ≡ Some (counted_sum (sum_at p funcs n))
+  pub others : (n : ℕ) → (slice_index ranks n ≡ rank → ⊥) → slice_get new n ≡ slice_get old n
+
+-- the sum of the function with a number is the one that is counted where the others stand
+abbrev pub IsSum : PlainProgram → Claims → List FuncSum → ℕ → Type 0
+IsSum p c sums n = slice_get sums n ≡ Some (counted_sum (sum_at p (with_sums c.funcs sums) n))
+
+-- the sums of functions of smaller ranks are counted, and the others not yet
+pub record AreSumsBelow (p : PlainProgram) (c : Claims) (ranks : List ℕ) (rank : ℕ) (sums : List FuncSum) : Type 0 where
+  pub each : length sums ≡ length p.functions
+  pub counted : (n : ℕ) → n < length p.functions → slice_index ranks n < rank → IsSum p c sums n
+  pub first : (n : ℕ) → n < length p.functions → rank ≤ slice_index ranks n → slice_get sums n ≡ Some first_sum
+
+-- the sums of all functions
+pub record AreSums (p : PlainProgram) (c : Claims) (sums : List FuncSum) : Type 0 where
+  pub each : length sums ≡ length p.functions
+  pub counted : (n : ℕ) → n < length p.functions → IsSum p c sums n

@@ -1,0 +1,68 @@
+//! The commands, as the crates that obey them take them.
+
+ghost use Rattle.std.specs.Prelude.{◌≡◌};
+
+use p10_base::{ListBuf, TextBuf};
+use p10_check_command::CheckCommand;
+use p10_derive_command::DeriveCommand;
+use p10_run_command::RunCommand;
+use p10_verify_command::VerifyCommand;
+
+/// `check` of these sources.
+pub fn check_command(
+    directories: ListBuf<TextBuf>,
+    json: bool,
+    sources: ListBuf<TextBuf>,
+) -> CheckCommand
+    ensures { result ≡ record { directories = directories; json = json; sources = sources } }
+{
+    CheckCommand {
+        directories,
+        json,
+        sources,
+    }
+}
+
+/// `derive` of these sources.
+pub fn derive_command(directories: ListBuf<TextBuf>, sources: ListBuf<TextBuf>) -> DeriveCommand
+    ensures { result ≡ record { directories = directories; sources = sources } }
+{
+    DeriveCommand {
+        directories,
+        sources,
+    }
+}
+
+/// `verify` of these sources.
+pub fn verify_command(
+    directories: ListBuf<TextBuf>,
+    certificate: TextBuf,
+    sources: ListBuf<TextBuf>,
+) -> VerifyCommand
+    ensures { result ≡ record { directories = directories; certificate = certificate; sources = sources } }
+{
+    VerifyCommand {
+        directories,
+        certificate,
+        sources,
+    }
+}
+
+/// `run` of these sources.
+pub fn run_command(
+    directories: ListBuf<TextBuf>,
+    steps: u64,
+    turns: u64,
+    deny: u64,
+    sources: ListBuf<TextBuf>,
+) -> RunCommand
+    ensures { result ≡ record { directories = directories; steps = steps; turns = turns; deny = deny; sources = sources } }
+{
+    RunCommand {
+        directories,
+        steps,
+        turns,
+        deny,
+        sources,
+    }
+}
