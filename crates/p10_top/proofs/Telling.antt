@@ -62,7 +62,7 @@ abbrev pub of_verify : VerifyCommand → Command
 of_verify verify = command.Verify verify.directories verify.certificate verify.sources
 
 abbrev pub of_run : RunCommand → Command
-of_run run = command.Run run.directories run.steps run.turns run.deny run.sources
+of_run run = command.Run run.directories run.budget run.turns run.deny run.sources
 
 -- what is told of that one is told of the command
 pub told_of : (c d : Command) (seen : Seen) (input : SeenInput) (out_old out_new err_old err_new : Option (List ℕ)) (status : ℕ) → c ≡ d → Told (SaysFor d seen input) out_old out_new err_old err_new status → Told (SaysFor c seen input) out_old out_new err_old err_new status

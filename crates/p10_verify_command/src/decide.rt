@@ -65,11 +65,7 @@ pub fn decide<F: Files>(
 ///
 /// # Errors
 /// Out of memory.
-fn weigh_sources(
-    alloc: Global,
-    sources: &Sources,
-    certificate: &[u8],
-) -> Result<Answer, AllocError>
+fn weigh_sources(alloc: Global, sources: &Sources, certificate: &[u8]) -> Result<Answer, AllocError>
     requires { HaveWords sources.now }
     ensures { IfOk result (AreWeighed sources.now certificate.now) }
 {
