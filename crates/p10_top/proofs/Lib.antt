@@ -2,3 +2,4 @@
 pub mod CommandWords
 pub mod Telling
 pub mod OneThing
+pub mod Certified

@@ -24,8 +24,8 @@ one_for only found one once (command.Derive directories sources) files before af
     found (record { directories = directories; sources = sources }) (told files before after) files some other refl says says' five seven five' seven'
 one_for only found one once (command.Verify directories certificate sources) files before after input bytes some other left says says' five seven five' seven' =
     one (record { directories = directories; certificate = certificate; sources = sources }) files before after some other says says' five seven five' seven'
-one_for only found one once (command.Run directories steps turns deny sources) files before after input bytes some other left says says' five seven five' seven' =
-    once (record { directories = directories; steps = steps; turns = turns; deny = deny; sources = sources }) (told files before after) input files bytes some other refl left says says' five seven five' seven'
+one_for only found one once (command.Run directories budget turns deny sources) files before after input bytes some other left says says' five seven five' seven' =
+    once (record { directories = directories; budget = budget; turns = turns; deny = deny; sources = sources }) (told files before after) input files bytes some other refl left says says' five seven five' seven'
 
 pub says_one_thing : CheckSaysOneThing → DeriveSaysOneThing → VerifySaysOneThing → run.SaysOneThing → (words : List Text) (files : List Named) (before after : ℕ) (input : SeenInput) (bytes : List ℕ) (some other : Saying) → input.left ≡ Some bytes → MaySay words (told files before after) input some → MaySay words (told files before after) input other →
     some.status ≢ 5 → some.status ≢ 7 → other.status ≢ 5 → other.status ≢ 7 → some ≡ other

@@ -1,6 +1,7 @@
 -- The command lines of `p10`.
-use Rattle.std.specs.Prelude.{ℕ, List}
+use Rattle.std.specs.Prelude.{ℕ, ◌≡◌, List}
 use Rattle.p10_base.specs.Words.{Text}
+use Rattle.p10_words.specs.declared.command.Budget.TheVariants.{Certificate}
 use Rattle.p10_words.specs.declared.command.Command.{Command}
 use Rattle.p10_words.specs.declared.command.Command.TheVariants.{Check, Derive, Verify, Run}
 use Rattle.p10_words.specs.Commands.{IsCommandLine}
@@ -16,6 +17,13 @@ IsVerifyLine words names = IsCommandLine words (Verify names.directories names.c
 abbrev pub IsNoRunLine : List Text → Type 0
 IsNoRunLine words = (run : RunCommand) → IsRunLine words run → ⊥
 
+-- the words are a `run` by the certificate with this name
+pub record IsCertifiedRunLine (words : List Text) : Type 0 where
+  pub run : RunCommand
+  pub name : Text
+  pub line : IsRunLine words run
+  pub by : run.budget ≡ Certificate name
+
 -- the words are no command
 abbrev pub IsNoCommand : List Text → Type 0
 IsNoCommand words = (command : Command) → IsCommandLine words command → ⊥
@@ -25,18 +33,18 @@ abbrev pub sources_of : Command → List Text
 sources_of (Check directories json sources) = sources
 sources_of (Derive directories sources) = sources
 sources_of (Verify directories certificate sources) = sources
-sources_of (Run directories steps turns deny sources) = sources
+sources_of (Run directories budget turns deny sources) = sources
 
 -- the most turns that a command asks for
 abbrev pub turns_asked : Command → ℕ
 turns_asked (Check directories json sources) = 0
 turns_asked (Derive directories sources) = 0
 turns_asked (Verify directories certificate sources) = 0
-turns_asked (Run directories steps turns deny sources) = turns
+turns_asked (Run directories budget turns deny sources) = turns
 
 -- a command that isn't `run`
 abbrev pub IsNoRun : Command → Type 0
 IsNoRun (Check directories json sources) = Unit {0}
 IsNoRun (Derive directories sources) = Unit {0}
 IsNoRun (Verify directories certificate sources) = Unit {0}
-IsNoRun (Run directories steps turns deny sources) = ⊥
+IsNoRun (Run directories budget turns deny sources) = ⊥

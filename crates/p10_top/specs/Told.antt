@@ -26,7 +26,7 @@ abbrev pub SaysFor : Command → Seen → SeenInput → Saying → Type 0
 SaysFor (Check directories json sources) seen input saying = check.SaysRight (record { directories = directories; json = json; sources = sources }) seen saying
 SaysFor (Derive directories sources) seen input saying = derive.SaysRight (record { directories = directories; sources = sources }) seen saying
 SaysFor (Verify directories certificate sources) seen input saying = verify.SaysRight (record { directories = directories; certificate = certificate; sources = sources }) seen saying
-SaysFor (Run directories steps turns deny sources) seen input saying = run.SaysRight (record { directories = directories; steps = steps; turns = turns; deny = deny; sources = sources }) seen input saying
+SaysFor (Run directories budget turns deny sources) seen input saying = run.SaysRight (record { directories = directories; budget = budget; turns = turns; deny = deny; sources = sources }) seen input saying
 
 -- what may be said to a command line; out of memory may come at any
 pub data MaySay (words : List Text) (seen : Seen) (input : SeenInput) (saying : Saying) : Type 0 where
