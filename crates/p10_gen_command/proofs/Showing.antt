@@ -17,11 +17,12 @@ use Rattle.p10_finder.specs.Finding.{IsFault, derived_of}
 use Rattle.p10_judge.specs.declared.judgement.Judgement.{Judgement}
 use Rattle.p10_judge.specs.Judging.{IsWeighed}
 use Rattle.p10_run.specs.declared.finished.FinishedRun.{FinishedRun}
+use Rattle.p10_run.specs.Budgets.{budget_within}
 use Rattle.p10_run.specs.WholeRuns.{IsRun, outcome_of, run_with}
 use Rattle.p10_gen_command.specs.declared.answer.Answer.{Answer}
 use Rattle.p10_gen_command.specs.declared.answer.Answer.TheVariants.{Over, Fails}
 use Rattle.p10_gen_command.specs.declared.answer.Stage.TheVariants.{Deriving}
-use Rattle.p10_gen_command.specs.Answers.{IsShown, budget_within, certified, judged_answer, outcome_within, passing, violating}
+use Rattle.p10_gen_command.specs.Answers.{IsShown, certified, judged_answer, outcome_within, passing, violating}
 use Rattle.p10_gen_command.specs.private.Deciding.{IsJudged}
 
 -- what comes of the program of a reading
@@ -39,14 +40,3 @@ violations_shown p found derived violations is = violating violations.items (sub
 
 pub limit_shown : (p : PlainProgram) (fault : FinderFault) (limit : Limit) → fault ≡ finder.Over limit → IsFault p fault → IsShown p (Over limit)
 limit_shown p fault limit is over = passing limit (subst (λ (f : FinderFault). IsFault p f) is over) refl
-
--- ## Verification
-
-pub judged_by : (p : PlainProgram) (claims : Claims) (text : List ℕ) (judgement : Judgement) (answer : Answer) → text ≡ certificate_text claims → IsWeighed p text judgement → answer ≡ judged_answer p claims judgement → IsJudged p claims answer
-judged_by p claims text judgement answer is weighed by = record { judgement = judgement; weighed = subst (λ (t : List ℕ). IsWeighed p t judgement) is weighed; is = by }
-
--- ## A run
-
--- the run has no input
-pub run_ends : (p : PlainProgram) (b : Bounds) (left : List ℕ) (run : FinishedRun) (taken taken_after : Option (List ℕ)) → left ≡ [] → IsRun run taken taken_after (run_with p (budget_within b) left) → outcome_of run.outcome ≡ outcome_within p b
-run_ends p b left run taken taken_after none is = sym is.outcome ∙ ap (λ (input : List ℕ). (run_with p (budget_within b) input).outcome) none

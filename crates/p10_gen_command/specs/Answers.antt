@@ -10,7 +10,7 @@ use Rattle.p10_core.specs.Typed.{PlainProgram}
 use Rattle.p10_cert.specs.Certificate.{certificate_text}
 use Rattle.p10_cert.specs.Claims.{Claims}
 use Rattle.p10_meaning.specs.Runs.{Outcome, Returned, Turns, Ended}
-use Rattle.p10_run.specs.declared.budget.Budget.{Budget}
+use Rattle.p10_run.specs.Budgets.{budget_within}
 use Rattle.p10_run.specs.WholeRuns.{run_with}
 use Rattle.p10_finder.specs.Answers.{Violating, Over as Passing, Certified, IsDerived}
 use Rattle.p10_expand.specs.declared.fault.GatherFault.{GatherFault}
@@ -45,13 +45,9 @@ setting_of n = setting (Some (generated_files n)) (file_name ∷ []) []
 
 -- ## Its run within a certificate
 
--- the steps are those of the certificate; no request for memory is denied
-abbrev pub budget_within : Bounds → Budget
-budget_within b = record { prefix = b.prefix; turn = b.turn; turns = 1; denied = 0 }
-
--- how a run without input ends
+-- how a run without input ends, where no request for memory is denied
 abbrev pub outcome_within : PlainProgram → Bounds → Outcome
-outcome_within p b = (run_with p (budget_within b) []).outcome
+outcome_within p b = (run_with p (budget_within b 1 0) []).outcome
 
 -- ## Answers, stage by stage
 

@@ -5,7 +5,7 @@ ghost use Rattle.p10_core.specs.Views.{plain_program};
 ghost use Rattle.p10_core.specs.WholePrograms.{IsWholeProgram};
 ghost use Rattle.p10_cert.specs.Claims.{claims_of};
 ghost use Rattle.p10_run.specs.WholeRuns.{outcome_of};
-ghost use Rattle.p10_gen_command.specs.Answers.{budget_within, ended_answer, outcome_within, IsShown};
+ghost use Rattle.p10_gen_command.specs.Answers.{ended_answer, outcome_within, IsShown};
 ghost use Rattle.p10_gen_command.specs.private.Deciding.{IsJudged};
 
 use crate::answer::{Answer, Stage};
@@ -96,25 +96,13 @@ fn outcome_within(
 {
     let mut input = SureSource::new(Vec::new(alloc));
     let mut out = SureSink::new();
-    match run(alloc, program, &budget_within(bounds), &mut input, &mut out) {
+    match run(alloc, program, &Budget::within(bounds, 1, 0), &mut input, &mut out) {
         Ok(done) => Ok(done.outcome),
         Err(fault) => match fault {
             RunFault::Memory => Err(AllocError),
             RunFault::Read => unreachable!(),
             RunFault::Write => unreachable!(),
         },
-    }
-}
-
-/// The budget of a run within bounds.
-fn budget_within(bounds: &Bounds) -> Budget
-    ensures { result ≡ budget_within bounds.now }
-{
-    Budget {
-        prefix: bounds.prefix,
-        turn: bounds.turn,
-        turns: 1,
-        denied: 0,
     }
 }
 
