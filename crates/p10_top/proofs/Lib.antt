@@ -1,4 +1,5 @@
 -- The lemmas of this crate, by subject.
 pub mod CommandWords
 pub mod Telling
+pub mod Deriving
 pub mod OneThing
