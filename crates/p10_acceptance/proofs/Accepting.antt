@@ -1,5 +1,5 @@
 -- A certificate that is derived is accepted by the evidence of ranges.
-use Rattle.std.proofs.Common.{◌≡◌, ℕ, zero, suc, ◌+◌, ◌<◌, ◌≤◌, length, Bool, true, false, not, List, [], ◌∷◌, ◌++◌, map, take, Option, Some, None, refl, ap, sym, ◌∙◌, subst, inl, inr, arith}
+use Rattle.std.proofs.Common.{◌≡◌, ℕ, zero, suc, ◌+◌, ◌<◌, ◌≤◌, length, Bool, true, false, not, List, [], ◌∷◌, ◌++◌, map, take, Some, refl, ap, sym, ◌∙◌, subst, inl, inr, arith}
 use Rattle.std.specs.Prelude.{slice_get, if◌then◌else◌, ◌&&◌, ◌||◌, nat_eq}
 use Rattle.std.specs.List.{Contains}
 use Rattle.std.proofs.lemmas.Option.{same_Some, none-some}
@@ -7,12 +7,9 @@ use Rattle.std.proofs.lemmas.Bool.{cases_lt}
 use Rattle.p10_base.specs.declared.span.Span.{Span}
 use Rattle.p10_base.specs.declared.at.At.{At}
 use Rattle.p10_base.specs.declared.report.Sub.{Sub}
-use Rattle.p10_base.specs.declared.report.Violation.{Violation}
 use Rattle.p10_base.specs.declared.report.TheConstants.Limit.{MOST_SUM}
-use Rattle.p10_core.specs.Types.{PlainType}
 use Rattle.p10_core.specs.Typed.{PlainVariable, PlainFunction, PlainProgram}
-use Rattle.p10_core.specs.WholePrograms.{parameter_types, HasMain, IsWholeProgram}
-use Rattle.p10_calls.specs.Selections.{AreThose}
+use Rattle.p10_core.specs.WholePrograms.{IsWholeProgram}
 use Rattle.p10_calls.proofs.Lists.{none_in, here, there as later}
 use Rattle.p10_cert.specs.Claims.{Value, Loop, Func, Claims}
 use Rattle.p10_absx.specs.Entering.{claims_on}
@@ -20,22 +17,23 @@ use Rattle.p10_sums.specs.Counting.{alloc_claimed}
 use Rattle.p10_sums.specs.Depths.{effect_of}
 use Rattle.p10_sums.specs.Sums.{function_sum, sum_at}
 use Rattle.p10_flowrules.specs.declared.calls.AnyCall.{AnyCall}
-use Rattle.p10_flowrules.specs.Allocating.{IsAllocating, late_calls, AreLateAllocations}
+use Rattle.p10_flowrules.specs.Allocating.{late_calls, AreLateAllocations}
 use Rattle.p10_flowrules.specs.TaskExits.{task_exits}
-use Rattle.p10_flowrules.specs.FlowRows.{LeavesTaskAt, AllocatesLateAt, task_row, allocation_row, task_end, late_allocation}
+use Rattle.p10_flowrules.specs.FlowRows.{task_row, allocation_row, task_end, late_allocation}
 use Rattle.p10_turns.specs.Ranked.{is_ranked}
 use Rattle.p10_turns.specs.Evidence.{stands_by_ranges}
-use Rattle.p10_check.specs.Places.{place_if, places_from, all_places, name_at}
-use Rattle.p10_check.specs.Shapes.{has_some, is_main_wrong, wrong_main, has_hidden_effect, late_names, hidden_effects}
-use Rattle.p10_check.specs.Accepting.{HoldsIn, Holds}
+use Rattle.p10_check.specs.Places.{place_if, places_from, name_at}
+use Rattle.p10_check.specs.Shapes.{has_some, wrong_main, has_hidden_effect, late_names, hidden_effects}
+use Rattle.p10_check.specs.Accepting.{Holds}
 use Rattle.p10_check.proofs.Holding.{holding_accepts}
+use Rattle.p10_soundness.proofs.Sound.{accepted_by_ranges_bound}
 use Rattle.p10_finder.specs.Trials.{counted}
 use Rattle.p10_finder.specs.Functions.{any_value, loops_of, with_turn_steps}
-use Rattle.p10_finder.specs.Answers.{LacksBoundAt, ViolatesBounds, no_bound, flow, AreClaims, IsCertified}
+use Rattle.p10_finder.specs.Answers.{ViolatesBounds, no_bound, flow, AreClaims, IsCertified}
 use Rattle.p10_finder.proofs.OneClaims.{claims_have_results}
-use Rattle.p10_acceptance.specs.Laws.{DerivedCertificatesHold, DerivedCertificatesAreAccepted}
+use Rattle.p10_acceptance.specs.Laws.{DerivedCertificatesHold, DerivedCertificatesAreAccepted, DerivedCertificatesBoundRuns}
 use Rattle.p10_acceptance.proofs.Results.{is_there, there_below, mapped_at, claim_there}
-use Rattle.p10_acceptance.proofs.Functions.{ranked_same, FunctionHolds, function_holds}
+use Rattle.p10_acceptance.proofs.Functions.{ranked_same, function_holds}
 use Rattle.p10_acceptance.proofs.Calls.{none_passes, ranks_hold}
 use Rattle.p10_acceptance.proofs.Speaking.{speaks}
 use Rattle.p10_acceptance.proofs.Summing.{steps_hold, depths_hold, total_holds}
@@ -169,3 +167,6 @@ derived_hold p whole c k = all_hold p whole c k
 
 pub derived_are_accepted : DerivedCertificatesAreAccepted
 derived_are_accepted p whole c k = holding_accepts (stands_by_ranges p) p c (all_hold p whole c k)
+
+pub derived_bound : DerivedCertificatesBoundRuns
+derived_bound p whole c k = accepted_by_ranges_bound p whole c c.total (derived_are_accepted p whole c k)

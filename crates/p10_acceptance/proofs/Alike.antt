@@ -1,7 +1,6 @@
 -- A pass over statements depends only on the claims of the loops in them, and on what is claimed of results that they return.
 use Rattle.std.proofs.Common.{◌≡◌, ℕ, suc, Bool, true, false, List, [], ◌∷◌, ◌++◌, Option, Some, None, refl, ap, sym, ◌∙◌, subst}
-use Rattle.std.specs.Prelude.{slice_get, if◌then◌else◌, is_some, ◌||◌, ◌&&◌, IfSome}
-use Rattle.std.specs.Option.{option_map}
+use Rattle.std.specs.Prelude.{slice_get, if◌then◌else◌, ◌&&◌, IfSome}
 use Rattle.std.proofs.lemmas.Option.{same_Some, none-some}
 use Rattle.p10_base.specs.declared.span.Span.{Span}
 use Rattle.p10_int.specs.declared.types.IntType.{IntType}
@@ -11,16 +10,16 @@ use Rattle.p10_core.specs.declared.statements.LoopKeyword.{LoopKeyword}
 use Rattle.p10_core.specs.declared.statements.LoopKeyword.TheVariants.{While, Do, For}
 use Rattle.p10_core.specs.Constants.{integer_of}
 use Rattle.p10_core.specs.Rows.{is_integer}
-use Rattle.p10_core.specs.Typed.{PlainValue, type_of, PlainItem, PlainWritten, one_scalar, scalars_of_text, PlainInitializer, not_initialized, single, copied, listed, PlainLabels, PlainStatement, statement, PlainStatementForm, set, update, copy, evaluate, asserts, declare, declare_static, block, if_then, if_else, loop, switch, break, continue, return, empty, mark, PlainStatements, no_statements, more_statements, PlainVariable}
+use Rattle.p10_core.specs.Typed.{PlainValue, type_of, PlainItem, PlainWritten, one_scalar, scalars_of_text, PlainInitializer, not_initialized, single, copied, listed, PlainLabels, PlainStatement, statement, set, update, copy, evaluate, asserts, declare, declare_static, block, if_then, if_else, loop, switch, break, continue, return, empty, mark, PlainStatements, no_statements, more_statements, PlainVariable}
 use Rattle.p10_core.specs.WholePrograms.{Region, after, after_all, AllOf, IsWholeStatement, AreWholeStatements, loops_in, loops_of}
 use Rattle.p10_cert.specs.Claims.{Value, Loop, Claims}
-use Rattle.p10_absx.specs.Abstract.{Abstract, whole_type}
-use Rattle.p10_absx.specs.Environments.{Environment, learned, hull_reached}
+use Rattle.p10_absx.specs.Abstract.{Abstract}
+use Rattle.p10_absx.specs.Environments.{Environment, hull_reached}
 use Rattle.p10_absx.specs.Assessing.{assess, known_where, abstract_value}
 use Rattle.p10_pass.specs.Scopes.{form_assigns}
 use Rattle.p10_pass.specs.Claiming.{head_of, loop_claimed}
-use Rattle.p10_pass.specs.Arguments.{has_value, failing_in, failing_at}
-use Rattle.p10_pass.specs.Passing.{Left, nowhere, reached, where_going, hull_range, followed, and_then_pass, beside, with_calls, as_block, Manner, value_passed, items_passed, integer_declared, other_declared, declared, result_lies, range_returned, value_returned, Tested, tested_in, tested_reached, Round, round_of, loop_left, is_labelled, switch_left, pass_statement, pass_statements, pass_from}
+use Rattle.p10_pass.specs.Arguments.{has_value, failing_in}
+use Rattle.p10_pass.specs.Passing.{Left, nowhere, reached, where_going, hull_range, followed, and_then_pass, beside, with_calls, as_block, Manner, value_passed, items_passed, integer_declared, other_declared, declared, result_lies, range_returned, value_returned, tested_in, tested_reached, Round, round_of, loop_left, is_labelled, switch_left, pass_statement, pass_statements, pass_from}
 use Rattle.p10_acceptance.proofs.Ends.{Each}
 use Rattle.p10_acceptance.proofs.Fitting.{is_plain, first_plain, third_plain}
 

@@ -1,9 +1,8 @@
 -- What is found of a value in a narrower environment fits what is found in a wider one, where calls have any value of their types.
-use Rattle.std.proofs.Common.{◌≡◌, ℕ, Bool, true, false, List, Option, Some, None, refl, ap, sym, ◌∙◌, subst, arith, ℤ, pos, neg_ℤ}
-use Rattle.std.specs.Prelude.{slice_get, if◌then◌else◌, is_some, IfSome, IsSomeAnd}
+use Rattle.std.proofs.Common.{◌≡◌, ℕ, Bool, true, false, List, Option, Some, None, refl, arith, pos}
+use Rattle.std.specs.Prelude.{if◌then◌else◌, is_some, IfSome}
 use Rattle.std.specs.Option.{option_map, option_and_then}
-use Rattle.std.proofs.lemmas.Option.{same_Some, none-some}
-use Rattle.std.proofs.lemmas.Int.{ints, clamps}
+use Rattle.std.proofs.lemmas.Int.{ints}
 use Rattle.p10_int.specs.declared.types.IntType.{IntType}
 use Rattle.p10_int.specs.declared.types.IntType.TheVariants.{Int}
 use Rattle.p10_int.specs.declared.operators.BinOp.{BinOp}
@@ -11,23 +10,20 @@ use Rattle.p10_int.specs.declared.operators.BinOp.TheVariants.{Ne}
 use Rattle.p10_int.specs.declared.operators.UnOp.{UnOp}
 use Rattle.p10_int.specs.declared.operators.UnOp.TheVariants.{Plus, Neg, Not, Com}
 use Rattle.p10_int.proofs.Conversions.{zero_in, one_in}
-use Rattle.p10_range.specs.Ranges.{Interval, from_to, IsInhabited, IsWithin, is_within}
+use Rattle.p10_range.specs.Ranges.{from_to, IsWithin, is_within}
 use Rattle.p10_range.specs.Rows.{values_of}
 use Rattle.p10_range.specs.Laws.{IsOfType}
-use Rattle.p10_core.specs.declared.typed.Library.{Library}
-use Rattle.p10_core.specs.declared.typed.Library.TheVariants.{Assert, CAssert, Getchar, Putchar, Malloc, Calloc, Free}
 use Rattle.p10_core.specs.declared.typed.LogicOp.{LogicOp}
 use Rattle.p10_core.specs.declared.typed.LogicOp.TheVariants.{And, Or}
 use Rattle.p10_core.specs.Types.{PlainType, void, integer, pointer, array, structure, unqualified}
 use Rattle.p10_core.specs.Typed.{PlainVariable}
-use Rattle.p10_core.specs.Rows.{is_integer}
 use Rattle.p10_core.specs.Constants.{integer_of}
-use Rattle.p10_absx.specs.Abstract.{Abstract, only_range, whole_type, hull_abstract}
-use Rattle.p10_absx.specs.Environments.{Environment, known, hull_reached}
-use Rattle.p10_absx.specs.Operators.{converted_abstract, unary_abstract, binary_abstract}
-use Rattle.p10_absx.specs.Comparing.{is_comparison, contrary, Side, compared}
-use Rattle.p10_absx.specs.Assessing.{Assessed, a_scalar, a_test, tested_abstract, value_found, as_side, zero_side, compared_where, known_where, any_of, found_of, variable_read, converted_side, converted_found, unary_found, arithmetic_found, comparison_found, binary_found, logic_found, hull_found, without_offset, conditional_found, library_found, truth_found, negation_found, unary_assessed, library_assessed}
-use Rattle.p10_acceptance.proofs.Narrowing.{within_itself, within_trans, whole_typed, hull_typed, hull_left, hull_right, hull_both, Fits, LiesIn, Fair, Narrower, MaybeNarrower, narrower_itself, hull_narrower}
+use Rattle.p10_absx.specs.Abstract.{Abstract, whole_type}
+use Rattle.p10_absx.specs.Environments.{Environment}
+use Rattle.p10_absx.specs.Operators.{unary_abstract, binary_abstract}
+use Rattle.p10_absx.specs.Comparing.{is_comparison, contrary, Side}
+use Rattle.p10_absx.specs.Assessing.{Assessed, a_scalar, a_test, tested_abstract, value_found, as_side, zero_side, known_where, any_of, found_of, variable_read, converted_side, converted_found, arithmetic_found, comparison_found, binary_found, logic_found, hull_found, without_offset, conditional_found, truth_found, unary_assessed}
+use Rattle.p10_acceptance.proofs.Narrowing.{within_itself, within_trans, whole_typed, hull_typed, hull_left, hull_right, hull_both, Fits, LiesIn, Narrower, MaybeNarrower, hull_narrower}
 use Rattle.p10_acceptance.proofs.Operating.{within_of, is_within_of, converted_fits, unary_fits, binary_fits}
 use Rattle.p10_acceptance.proofs.Comparing.{SideFits, compared_narrower}
 

@@ -3,7 +3,6 @@ use Rattle.std.proofs.Common.{◌≡◌, ℕ, zero, suc, ◌+◌, ◌-◌, ◌<�
 use Rattle.std.specs.Prelude.{◌||◌, ◌&&◌, is_some, if◌then◌else◌, nat_eq}
 use Rattle.std.proofs.lemmas.Option.{same_Some, none-some}
 use Rattle.std.proofs.lemmas.Bool.Decides.{nat_tests}
-use Rattle.p10_int.specs.declared.types.IntType.{IntType}
 use Rattle.p10_range.specs.Rows.{values_of}
 use Rattle.p10_range.specs.Laws.{IsOfType}
 use Rattle.p10_core.specs.Types.{PlainType, void, integer, pointer, array, structure}
@@ -13,9 +12,9 @@ use Rattle.p10_core.specs.Typed.{PlainVariable, PlainFunction, PlainProgram}
 use Rattle.p10_core.specs.WholePrograms.{is_among, numbers_from, parameter_types, declared_of, IsWholeFunction}
 use Rattle.p10_cert.specs.Claims.{Value, Func, Claims}
 use Rattle.p10_absx.specs.Abstract.{Abstract, only_range}
-use Rattle.p10_absx.specs.Environments.{Environment, known}
+use Rattle.p10_absx.specs.Environments.{known}
 use Rattle.p10_absx.specs.Entering.{parameter_claimed, claims_on, entry_for, entries_from, entry_of, entry_at}
-use Rattle.p10_execution.specs.Scoping.{AreOnce, IsNumber, IsBefore}
+use Rattle.p10_execution.specs.Scoping.{AreOnce, IsBefore}
 use Rattle.p10_finder.specs.Functions.{any_value, known_at_start}
 use Rattle.p10_acceptance.proofs.Narrowing.{whole_typed, Fair}
 

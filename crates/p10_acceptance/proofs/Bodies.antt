@@ -1,11 +1,10 @@
 -- The body of a function under claims by which results of calls have numbers of their types: the claims of its loops fit.
-use Rattle.std.proofs.Common.{◌≡◌, ℕ, zero, suc, ◌+◌, ◌≤◌, length, List, [], ◌∷◌, map, Option, Some, None, refl, ap, sym, ◌∙◌, subst, arith}
+use Rattle.std.proofs.Common.{◌≡◌, ℕ, suc, ◌+◌, ◌≤◌, length, List, [], ◌∷◌, map, Some, None, refl, sym, subst, arith}
 use Rattle.std.specs.Prelude.{slice_get, true}
-use Rattle.std.proofs.lemmas.Option.{same_Some, none-some}
 use Rattle.p10_base.specs.declared.report.TheConstants.Limit.{MOST_SUM}
 use Rattle.p10_core.specs.declared.statements.LoopHead.{LoopHead}
 use Rattle.p10_core.specs.Typed.{PlainFunction, PlainProgram}
-use Rattle.p10_core.specs.WholePrograms.{Region, surroundings_of, region_of, numbers_from, loops_of as heads_of, IsWholeFunction, IsWholeProgram}
+use Rattle.p10_core.specs.WholePrograms.{surroundings_of, region_of, numbers_from, loops_of as heads_of, IsWholeFunction, IsWholeProgram}
 use Rattle.p10_cert.specs.Claims.{Loop, Claims}
 use Rattle.p10_absx.specs.Environments.{Environment}
 use Rattle.p10_fit.specs.Sites.{task_loop_number}
@@ -20,9 +19,9 @@ use Rattle.p10_acceptance.proofs.Narrowing.{narrower_itself}
 use Rattle.p10_acceptance.proofs.Values.{AreTyped}
 use Rattle.p10_acceptance.proofs.Calling.{MaybeTaken}
 use Rattle.p10_acceptance.proofs.Ends.{Each}
-use Rattle.p10_acceptance.proofs.Statements.{IsIn, Fine, statements_fit}
+use Rattle.p10_acceptance.proofs.Statements.{Fine, statements_fit}
 use Rattle.p10_acceptance.proofs.Walk.{Numbered}
-use Rattle.p10_acceptance.proofs.Walking.{AllIn, Placed, whole, walk_all}
+use Rattle.p10_acceptance.proofs.Walking.{AllIn, whole, walk_all}
 use Rattle.p10_acceptance.proofs.Beginning.{start_fair, start_before}
 
 pub numbered_from : (k : ℕ) (hs : List LoopHead) → map (λ (h : LoopHead). h.number) hs ≡ numbers_from k (length hs) → Numbered k hs

@@ -1,23 +1,22 @@
 -- The arguments of calls have values of the parameters' types: where nothing more is claimed of parameters, no call fails.
 use Rattle.std.proofs.Common.{◌≡◌, ℕ, Bool, true, false, List, [], ◌∷◌, ◌++◌, map, Option, Some, None, refl, ap, sym, ◌∙◌, subst}
-use Rattle.std.specs.Prelude.{slice_get, if◌then◌else◌, is_some, not, ◌&&◌, ◌||◌}
-use Rattle.std.proofs.lemmas.Option.{same_Some, none-some}
+use Rattle.std.specs.Prelude.{slice_get, if◌then◌else◌, not, ◌&&◌}
 use Rattle.p10_base.specs.declared.span.Span.{Span}
 use Rattle.p10_int.specs.declared.types.IntType.{IntType}
-use Rattle.p10_range.specs.Ranges.{IsWithin, is_within}
+use Rattle.p10_range.specs.Ranges.{IsWithin}
 use Rattle.p10_range.specs.Rows.{values_of}
 use Rattle.p10_core.specs.Types.{PlainType, void, integer, pointer, array, structure, bare, PlainStructure}
 use Rattle.p10_core.specs.Typed.{PlainValue, value, PlainForm, constant, read, sense, address, decay, convert, cast, unary, binary, logic, conditional, call, built_in, PlainPlace, place, PlainPlaceForm, variable, global, literal, index, member, dereference, PlainValues, no_values, more_values, type_of, PlainVariable}
 use Rattle.p10_core.specs.Constants.{integer_of}
 use Rattle.p10_core.specs.Whole.{SeenFunction, Surroundings, ArgumentsFit, Calls, IsWholeValue, IsWholeForm, IsWholePlace, IsWholePlaceForm, AreWholeValues}
-use Rattle.p10_cert.specs.Claims.{Value, Number, Address, Nothing, Claims}
+use Rattle.p10_cert.specs.Claims.{Value, Claims}
 use Rattle.p10_absx.specs.Abstract.{Abstract}
 use Rattle.p10_absx.specs.Environments.{Environment}
 use Rattle.p10_absx.specs.Assessing.{assess, known_where, abstract_value}
 use Rattle.p10_absx.specs.Entering.{claims_on}
 use Rattle.p10_pass.specs.Arguments.{has_value, all_have_values, lies_in, arguments_lie, where_reached, goes_on_where, failing_calls, failing_in_form, failing_in_values, failing_in_place, failing_in_place_form, failing_in, failing_at}
 use Rattle.p10_finder.specs.Functions.{any_value}
-use Rattle.p10_acceptance.proofs.Narrowing.{Fits, Fair, Narrower, MaybeNarrower, narrower_itself}
+use Rattle.p10_acceptance.proofs.Narrowing.{Fits, Fair, MaybeNarrower, narrower_itself}
 use Rattle.p10_acceptance.proofs.Operating.{is_within_of}
 use Rattle.p10_acceptance.proofs.Values.{AreTyped, AreSeen, abstract_fits, truth_narrower}
 

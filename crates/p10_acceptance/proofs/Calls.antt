@@ -1,34 +1,32 @@
 -- Each call in a whole function is of a function of the program, which has a lower rank (K2).
-use Rattle.std.proofs.Common.{◌≡◌, ℕ, zero, suc, ◌+◌, ◌<◌, length, drop, cond, Bool, true, false, not, List, [], ◌∷◌, ◌++◌, map, Option, Some, None, refl, ap, sym, ◌∙◌, subst, arith, ◌⊎◌, inl, inr}
+use Rattle.std.proofs.Common.{◌≡◌, ℕ, ◌+◌, ◌<◌, length, drop, cond, Bool, true, false, not, List, [], ◌∷◌, ◌++◌, map, Option, Some, None, refl, ap, sym, ◌∙◌, subst, arith, inl, inr}
 use Rattle.std.specs.Prelude.{slice_get, nat_lt}
 use Rattle.std.specs.List.{filter, Contains, slice_index}
 use Rattle.std.proofs.lemmas.Bool.{lt-ltb}
 use Rattle.std.proofs.lemmas.List.{length-map}
-use Rattle.p10_base.specs.declared.span.Span.{Span}
 use Rattle.p10_core.specs.declared.uses.FunctionUse.{FunctionUse}
 use Rattle.p10_core.specs.declared.statements.LoopKeyword.{LoopKeyword}
 use Rattle.p10_core.specs.declared.statements.LoopKeyword.TheVariants.{While, Do, For}
 use Rattle.p10_core.specs.Types.{PlainType}
-use Rattle.p10_core.specs.Typed.{PlainValue, value, PlainForm, constant, read, sense, address, decay, convert, cast, unary, binary, logic, conditional, call, built_in, PlainPlace, place, PlainPlaceForm, variable, global, literal, index, member, dereference, PlainValues, no_values, more_values, PlainItem, PlainWritten, one_scalar, scalars_of_text, PlainInitializer, not_initialized, single, copied, listed, PlainStatement, statement, set, update, copy, evaluate, asserts, declare, declare_static, block, if_then, if_else, loop, switch, break, continue, return, empty, mark, PlainStatements, no_statements, more_statements, PlainFunction, PlainProgram}
-use Rattle.p10_core.specs.Nodes.{PlainNode, nodes_of_value, nodes_in_form, nodes_of_place, nodes_in_place_form, nodes_of_values, nodes_of_maybe, nodes_of_written, nodes_of_items, nodes_of_initializer, in_loop_order, nodes_of_statement, nodes_of_statements}
+use Rattle.p10_core.specs.Typed.{PlainValue, value, constant, read, sense, address, decay, convert, cast, unary, binary, logic, conditional, call, built_in, PlainPlace, place, variable, global, literal, index, member, dereference, PlainValues, no_values, more_values, PlainItem, PlainWritten, one_scalar, scalars_of_text, PlainInitializer, not_initialized, single, copied, listed, PlainStatement, statement, set, update, copy, evaluate, asserts, declare, declare_static, block, if_then, if_else, loop, switch, break, continue, return, empty, mark, PlainStatements, no_statements, more_statements, PlainFunction, PlainProgram}
+use Rattle.p10_core.specs.Nodes.{PlainNode, nodes_of_value, nodes_of_place, nodes_of_values, nodes_of_maybe, nodes_of_written, nodes_of_items, nodes_of_initializer, in_loop_order, nodes_of_statement, nodes_of_statements}
 use Rattle.p10_core.specs.Uses.{function_used}
-use Rattle.p10_core.specs.Whole.{SeenFunction, Surroundings, IsWholeValue, IsWholeForm, IsWholePlace, IsWholePlaceForm, AreWholeValues}
+use Rattle.p10_core.specs.Whole.{SeenFunction, Surroundings, IsWholeValue, IsWholePlace, AreWholeValues}
 use Rattle.p10_core.specs.WholePrograms.{Region, around, after, after_all, surroundings_of, region_of, IsWholeWritten, width_of_written, AreWholeItems, IsWholeInitializer, IsMaybeTest, Returns, IsWholeStatement, AreWholeStatements, IsWholeProgram}
 use Rattle.p10_core.specs.Sizes.{scalars_of}
-use Rattle.p10_graph.specs.Graphs.{Edge}
 use Rattle.p10_calls.specs.declared.sites.CallSite.{CallSite}
 use Rattle.p10_calls.specs.CallSites.{call_sites}
 use Rattle.p10_calls.specs.CallGraphs.{callees_of, call_graph}
 use Rattle.p10_calls.proofs.Lists.{none_in, here, there, first_or_later, came_from}
-use Rattle.p10_calls.proofs.Standing.{StandsIn, stands_in}
-use Rattle.p10_calls.proofs.Edges.{NamesTwo, edge_there}
+use Rattle.p10_calls.proofs.Standing.{stands_in}
+use Rattle.p10_calls.proofs.Edges.{edge_there}
 use Rattle.p10_cert.specs.Claims.{Func, Claims}
 use Rattle.p10_check.specs.Shapes.{rank_claimed, goes_down, rising_calls}
 use Rattle.p10_finder.specs.Answers.{AreClaims}
 use Rattle.p10_finder.proofs.Called.{OfUse, EachCalled, both_called}
 use Rattle.p10_finder.proofs.OneClaims.{claims_have_results}
 use Rattle.p10_acceptance.proofs.Statements.{IsIn, in_after, in_after_all}
-use Rattle.p10_acceptance.proofs.Results.{is_there, there_below, index_is, mapped_at, IsFunction, seen_is}
+use Rattle.p10_acceptance.proofs.Results.{is_there, there_below, index_is, mapped_at, seen_is}
 
 -- ## Values
 

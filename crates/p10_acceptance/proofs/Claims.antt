@@ -1,16 +1,16 @@
 -- What is claimed of a loop that is found: the ranges at its head, and the candidates of which the first is taken that stands.
-use Rattle.std.proofs.Common.{◌≡◌, ℕ, zero, suc, ◌+◌, ◌<◌, ◌≤◌, length, take, Bool, true, false, List, [], ◌∷◌, ◌++◌, Option, Some, None, refl, ap, sym, ◌∙◌, subst, arith, ℤ, pos, negsuc, ◌≤ℤ◌, eq-eqb, inl, inr}
-use Rattle.std.specs.Prelude.{slice_get, if◌then◌else◌, is_some, ◌||◌, ◌&&◌, ◌⊎◌, nat_eq, nat_lt, IfSome, min, unsigned_abs, flat_map, option_to_list, int_le}
-use Rattle.std.specs.Option.{option_map, option_and_then}
+use Rattle.std.proofs.Common.{◌≡◌, ℕ, zero, suc, ◌+◌, ◌<◌, ◌≤◌, take, Bool, true, false, List, [], ◌∷◌, ◌++◌, Option, Some, None, refl, ap, sym, ◌∙◌, subst, arith, ℤ, pos, negsuc, ◌≤ℤ◌, eq-eqb}
+use Rattle.std.specs.Prelude.{slice_get, if◌then◌else◌, is_some, ◌⊎◌, nat_eq, IfSome, min, unsigned_abs, flat_map, option_to_list}
+use Rattle.std.specs.Option.{option_map}
 use Rattle.std.specs.Int.{int_max}
 use Rattle.std.specs.Ordering.{int_eq}
 use Rattle.std.proofs.lemmas.Option.{same_Some, none-some}
-use Rattle.std.proofs.lemmas.Bool.{and_parts, eqb-true, eqb-false}
+use Rattle.std.proofs.lemmas.Bool.{and_parts, eqb-true}
 use Rattle.std.proofs.lemmas.Int.{ints, clamps}
 use Rattle.p10_base.specs.declared.report.TheConstants.Limit.{MOST_SUM}
 use Rattle.p10_int.specs.declared.types.IntType.{IntType}
 use Rattle.p10_int.specs.declared.operators.BinOp.{BinOp}
-use Rattle.p10_int.specs.declared.operators.BinOp.TheVariants.{Add, Sub, Mul, Div, Rem, Shl, Shr, And, Or, Xor, Lt, Gt, Le, Ge, Eq, Ne}
+use Rattle.p10_int.specs.declared.operators.BinOp.TheVariants.{Ne}
 use Rattle.p10_int.specs.declared.operators.UnOp.{UnOp}
 use Rattle.p10_int.specs.declared.operators.UnOp.TheVariants.{Plus, Neg, Not, Com}
 use Rattle.p10_range.specs.Ranges.{Interval, from_to, IsWithin, is_within, hull_of}
@@ -23,25 +23,22 @@ use Rattle.p10_core.specs.declared.typed.LogicOp.{LogicOp}
 use Rattle.p10_core.specs.declared.typed.LogicOp.TheVariants.{And as Both, Or as Either}
 use Rattle.p10_core.specs.Types.{PlainType, void, integer, pointer, array, structure}
 use Rattle.p10_core.specs.Constants.{integer_of}
-use Rattle.p10_core.specs.Typed.{PlainValue, value, PlainForm, constant, read, sense, address, decay, convert, cast, unary, binary, logic, conditional, call, built_in, PlainPlace, place, variable, global, literal, index, member, dereference, PlainValues, no_values, more_values, PlainVariable}
+use Rattle.p10_core.specs.Typed.{PlainValue, value, PlainForm, constant, read, sense, address, decay, convert, cast, unary, binary, logic, conditional, call, built_in, PlainPlace, place, variable, global, literal, index, member, dereference, PlainVariable}
 use Rattle.p10_cert.specs.declared.claims.Rank.{Rank}
 use Rattle.p10_cert.specs.declared.claims.Rank.TheVariants.{Up, Down, One, Task}
-use Rattle.p10_cert.specs.Claims.{Var, Loop, Claims}
+use Rattle.p10_cert.specs.Claims.{Var, Loop}
 use Rattle.p10_absx.specs.Abstract.{Abstract, only_range, whole_type}
-use Rattle.p10_absx.specs.Environments.{Environment, known, learned}
+use Rattle.p10_absx.specs.Environments.{Environment, known}
 use Rattle.p10_absx.specs.Comparing.{is_comparison, turned, Side}
-use Rattle.p10_absx.specs.Assessing.{Assessed, a_scalar, a_test, as_side, variable_read, place_read, converted_side, converted_found, comparison_found, are_integers, binary_found, arithmetic_found, any_of, logic_found, unary_assessed, library_assessed, assess, assess_form, assess_only, abstract_value}
-use Rattle.p10_pass.specs.Scopes.{changed_each}
-use Rattle.p10_pass.specs.Claiming.{range_claimed, ranges_hold, ranges_hold_reached, rank_in, head_of, enters_ranked, goes_back_ranked, is_enough}
+use Rattle.p10_absx.specs.Assessing.{Assessed, as_side, variable_read, place_read, converted_side, converted_found, comparison_found, are_integers, arithmetic_found, any_of, logic_found, unary_assessed, library_assessed, assess, assess_form, assess_only, abstract_value}
+use Rattle.p10_pass.specs.Claiming.{range_claimed, ranges_hold_reached, rank_in, head_of, is_enough}
 use Rattle.p10_pass.specs.Passing.{Round}
-use Rattle.p10_execution.specs.Scoping.{IsNumber, KnowsNumbers}
 use Rattle.p10_execution.proofs.Entries.{changed_at, changed_knows}
-use Rattle.p10_execution.proofs.AssessedScopes.{SameScope, learned_scope, scope_trans, scope_itself}
-use Rattle.p10_turns.specs.Ranked.{is_ranked}
+use Rattle.p10_execution.proofs.AssessedScopes.{SameScope, learned_scope, scope_trans}
 use Rattle.p10_finder.specs.declared.course.Course.{Course}
 use Rattle.p10_finder.specs.declared.course.Course.TheVariants.{Below, AtMost, Above, AtLeast}
 use Rattle.p10_finder.specs.Candidates.{LoopEntry, guard_conjuncts, courses_of, rank_along, range_along, Candidate, any_trial, moved_along, trial_along, is_that, is_variable_in, candidate_along, course_candidates, variable_under, side_candidates, zero_for, conjunct_candidates, one_candidate, candidates}
-use Rattle.p10_finder.specs.Trials.{Rounds, with_known, with_back, head_after, is_whole_range, line_for, lines_from, counted, turns_of_rank, turns_from, claim_of, stands_alone, first_standing}
+use Rattle.p10_finder.specs.Trials.{Rounds, with_known, with_back, head_after, is_whole_range, line_for, lines_from, counted, turns_of_rank, claim_of, stands_alone, first_standing}
 use Rattle.p10_acceptance.proofs.Narrowing.{within_itself, whole_typed, hull_typed, hull_left, Fair, learned_fair}
 use Rattle.p10_acceptance.proofs.Ends.{Each, each_both, changed_fair}
 use Rattle.p10_acceptance.proofs.Fitting.{ClaimFits}

@@ -1,6 +1,6 @@
 -- What is known after a comparison of narrower sides is narrower than after one of wider sides, and than before it.
-use Rattle.std.proofs.Common.{◌≡◌, ◌≢◌, ℕ, zero, suc, Bool, true, false, List, [], ◌∷◌, Option, Some, None, length, refl, ap, sym, ◌∙◌, subst, arith, ℤ, pos, ◌+ℤ◌, ◌-ℤ◌, ◌<◌}
-use Rattle.std.specs.Prelude.{slice_get, if◌then◌else◌, is_some, int_le, IfSome, IsSomeAnd}
+use Rattle.std.proofs.Common.{◌≡◌, ◌≢◌, ℕ, zero, suc, Bool, true, false, List, [], ◌∷◌, Option, Some, None, length, refl, sym, subst, arith, ℤ, pos, ◌+ℤ◌, ◌-ℤ◌, ◌<◌}
+use Rattle.std.specs.Prelude.{if◌then◌else◌, is_some, int_le, IfSome, IsSomeAnd}
 use Rattle.std.specs.Option.{option_map, option_and_then}
 use Rattle.std.specs.Int.{int_min, int_max}
 use Rattle.std.specs.Ordering.{int_eq}
@@ -10,10 +10,8 @@ use Rattle.p10_int.specs.declared.types.IntType.{IntType}
 use Rattle.p10_int.specs.declared.operators.BinOp.{BinOp}
 use Rattle.p10_int.specs.declared.operators.BinOp.TheVariants.{Add, Sub, Mul, Div, Rem, Shl, Shr, And, Or, Xor, Lt, Gt, Le, Ge, Eq, Ne}
 use Rattle.p10_range.specs.Ranges.{Interval, from_to, IsInhabited, IsWithin, inhabited_of, meet_of}
-use Rattle.p10_range.specs.Laws.{IsOfType, IsWithinRow}
 use Rattle.p10_range.proofs.Holding.{met}
 use Rattle.p10_range.proofs.Signs.{le_true, of_le}
-use Rattle.p10_core.specs.Constants.{integer_of}
 use Rattle.p10_core.specs.Typed.{PlainVariable}
 use Rattle.p10_absx.specs.Abstract.{Abstract}
 use Rattle.p10_absx.specs.Environments.{Environment, known, learned}

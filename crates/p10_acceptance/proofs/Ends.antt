@@ -1,26 +1,26 @@
 -- The ends of a part that a pass finds are narrower than those of a trial pass from a wider environment, and none of its conditions fails.
-use Rattle.std.proofs.Common.{◌≡◌, ℕ, zero, suc, ◌+◌, ◌<◌, length, Bool, true, false, List, [], ◌∷◌, ◌++◌, Option, Some, None, refl, ap, sym, ◌∙◌, subst, arith, ℤ}
-use Rattle.std.specs.Prelude.{slice_get, if◌then◌else◌, is_some, is_none, ◌||◌, ◌&&◌, IfSome, IsSomeAnd}
+use Rattle.std.proofs.Common.{◌≡◌, ℕ, zero, suc, ◌<◌, length, Bool, true, false, List, [], ◌∷◌, ◌++◌, Option, Some, None, refl, ap, sym, ◌∙◌, subst, arith}
+use Rattle.std.specs.Prelude.{slice_get, if◌then◌else◌, is_some, is_none, IfSome}
 use Rattle.std.specs.Option.{option_map, option_and_then}
 use Rattle.std.proofs.lemmas.Option.{same_Some, none-some}
 use Rattle.p10_base.specs.declared.span.Span.{Span}
 use Rattle.p10_int.specs.declared.types.IntType.{IntType}
 use Rattle.p10_int.specs.declared.operators.BinOp.{BinOp}
-use Rattle.p10_range.specs.Ranges.{Interval, IsInhabited, IsWithin, hull_of}
+use Rattle.p10_range.specs.Ranges.{Interval, IsInhabited, IsWithin}
 use Rattle.p10_range.specs.Rows.{values_of}
 use Rattle.p10_range.specs.Laws.{IsOfType}
 use Rattle.p10_core.specs.Types.{PlainType}
 use Rattle.p10_core.specs.Constants.{integer_of}
 use Rattle.p10_core.specs.Rows.{is_integer}
-use Rattle.p10_core.specs.Typed.{PlainPlace, place, place_type, variable, global, literal, index, member, dereference, PlainLabels, PlainStatement, statement, set, update, copy, evaluate, asserts, declare, declare_static, block, if_then, if_else, loop, switch, break, continue, return, empty, mark, PlainStatements, no_statements, more_statements, PlainVariable}
-use Rattle.p10_absx.specs.Abstract.{Abstract, only_range, whole_type}
+use Rattle.p10_core.specs.Typed.{PlainPlace, place, place_type, variable, global, literal, index, member, dereference, PlainLabels, statement, set, update, copy, evaluate, asserts, declare, declare_static, block, if_then, if_else, loop, switch, break, continue, return, empty, mark, PlainStatements, no_statements, more_statements, PlainVariable}
+use Rattle.p10_absx.specs.Abstract.{Abstract, whole_type}
 use Rattle.p10_absx.specs.Environments.{Environment, known, learned, hull_reached}
 use Rattle.p10_absx.specs.Operators.{converted_abstract, binary_abstract}
 use Rattle.p10_pass.specs.Scopes.{left_scope, changed_each, assigned_forgotten}
 use Rattle.p10_pass.specs.Passing.{Weakness, Left, nowhere, reached, where_going, hull_range, followed, and_then_pass, beside, with_calls, as_block, stored, before_update, set_value, updated_value, switch_left}
 use Rattle.p10_execution.specs.Scoping.{IsNumber, KnowsNumbers}
 use Rattle.p10_execution.proofs.Entries.{changed_at, changed_knows}
-use Rattle.p10_acceptance.proofs.Narrowing.{within_itself, within_trans, whole_typed, hull_typed, Fits, LiesIn, Fair, Narrower, MaybeNarrower, narrower_itself, narrower_trans, hull_narrower, learned_narrower, learned_both, out_narrower}
+use Rattle.p10_acceptance.proofs.Narrowing.{within_itself, whole_typed, hull_typed, Fits, LiesIn, Fair, Narrower, MaybeNarrower, narrower_itself, hull_narrower, learned_narrower, learned_both, out_narrower}
 use Rattle.p10_acceptance.proofs.Operating.{converted_fits, binary_fits}
 use Rattle.p10_acceptance.proofs.Calling.{no_names}
 

@@ -1,27 +1,23 @@
 -- When the claims of the loops to which a pass comes fit what is known at their entries; statements without loops and jumps.
-use Rattle.std.proofs.Common.{◌≡◌, ℕ, suc, Bool, true, false, List, [], ◌∷◌, Option, Some, None, refl, ap, sym, ◌∙◌, subst}
+use Rattle.std.proofs.Common.{◌≡◌, ℕ, suc, Bool, true, false, List, [], ◌∷◌, Option, Some, None, refl, ap, ◌∙◌}
 use Rattle.std.specs.Prelude.{slice_get, if◌then◌else◌, is_some, ◌||◌, ◌&&◌, ◌⊎◌, IfSome}
-use Rattle.std.specs.Option.{option_map}
-use Rattle.std.proofs.lemmas.Option.{same_Some, none-some}
-use Rattle.p10_int.specs.declared.types.IntType.{IntType}
 use Rattle.p10_range.specs.Ranges.{IsWithin}
 use Rattle.p10_range.specs.Laws.{IsOfType}
-use Rattle.p10_core.specs.declared.statements.LoopHead.{LoopHead}
 use Rattle.p10_core.specs.declared.statements.LoopKeyword.{LoopKeyword}
 use Rattle.p10_core.specs.declared.statements.LoopKeyword.TheVariants.{While, Do, For}
 use Rattle.p10_core.specs.Constants.{integer_of}
 use Rattle.p10_core.specs.Rows.{is_integer}
-use Rattle.p10_core.specs.Typed.{PlainValue, PlainItem, PlainWritten, one_scalar, scalars_of_text, PlainInitializer, not_initialized, single, copied, listed, PlainLabels, PlainStatement, statement, PlainStatementForm, set, update, copy, evaluate, asserts, declare, declare_static, block, if_then, if_else, loop, switch, break, continue, return, empty, mark, PlainStatements, no_statements, more_statements, PlainVariable}
+use Rattle.p10_core.specs.Typed.{PlainValue, PlainItem, PlainWritten, one_scalar, scalars_of_text, PlainInitializer, not_initialized, single, copied, listed, PlainLabels, PlainStatement, statement, PlainStatementForm, set, update, copy, evaluate, asserts, declare, block, if_then, if_else, loop, switch, PlainStatements, no_statements, more_statements, PlainVariable}
 use Rattle.p10_core.specs.WholePrograms.{is_expression, is_variable_declaration, AllOf, AreClauses}
 use Rattle.p10_cert.specs.declared.claims.Rank.TheVariants.{Task}
 use Rattle.p10_cert.specs.Claims.{Value, Loop, Claims}
 use Rattle.p10_absx.specs.Abstract.{Abstract}
 use Rattle.p10_absx.specs.Environments.{Environment, known, hull_reached}
-use Rattle.p10_absx.specs.Assessing.{assess, known_where, abstract_value}
+use Rattle.p10_absx.specs.Assessing.{assess, known_where}
 use Rattle.p10_pass.specs.Scopes.{form_assigns}
 use Rattle.p10_pass.specs.Claiming.{range_claimed, head_of, ranges_hold, ranges_hold_reached, loop_claimed}
 use Rattle.p10_pass.specs.Arguments.{has_value}
-use Rattle.p10_pass.specs.Passing.{Left, nowhere, where_going, reached, followed, Manner, value_passed, items_passed, integer_declared, other_declared, declared, tested_in, Round, round_of, is_labelled, pass_statement, pass_statements, trial_manner}
+use Rattle.p10_pass.specs.Passing.{Left, where_going, reached, followed, Manner, value_passed, items_passed, integer_declared, other_declared, declared, tested_in, Round, round_of, is_labelled, pass_statement, pass_statements, trial_manner}
 
 -- a claim of a loop fits what is known at its entry: its ranges have numbers of the types, and a variable that the loop doesn't assign has no
 -- more than at entry; they hold at entry and, by a trial pass, again on each way back; and the loop is the task, or something stands for it

@@ -1,11 +1,10 @@
 -- The claim of one loop that is found fits what is known at its entry.
-use Rattle.std.proofs.Common.{◌≡◌, ℕ, zero, suc, ◌+◌, ◌<◌, ◌≤◌, length, Bool, true, false, List, [], ◌∷◌, ◌++◌, Option, Some, None, refl, ap, sym, ◌∙◌, subst, inl, inr, arith}
-use Rattle.std.specs.Prelude.{slice_get, if◌then◌else◌, is_some, ◌||◌, ◌&&◌, ◌⊎◌, not, nat_lt, IfSome, IsSomeAnd}
+use Rattle.std.proofs.Common.{◌≡◌, ℕ, zero, suc, ◌<◌, ◌≤◌, length, Bool, true, false, List, [], ◌∷◌, ◌++◌, Option, Some, None, refl, ap, sym, ◌∙◌, subst, inl, inr, arith}
+use Rattle.std.specs.Prelude.{slice_get, if◌then◌else◌, is_some, ◌||◌, ◌&&◌, not, nat_lt, IfSome}
 use Rattle.std.specs.Option.{option_map}
 use Rattle.std.specs.List.{list_all}
 use Rattle.std.proofs.lemmas.Option.{same_Some, none-some}
 use Rattle.std.proofs.lemmas.Bool.{and_parts, lt-ltb}
-use Rattle.std.proofs.lemmas.Int.{ints, clamps}
 use Rattle.p10_base.specs.declared.at.At.{At}
 use Rattle.p10_base.specs.declared.span.Span.{Span}
 use Rattle.p10_base.specs.declared.report.TheConstants.Limit.{MOST_SUM}
@@ -18,37 +17,35 @@ use Rattle.p10_core.specs.Types.{PlainType, void, integer, pointer, array, struc
 use Rattle.p10_core.specs.Rows.{is_integer}
 use Rattle.p10_core.specs.Constants.{integer_of}
 use Rattle.p10_core.specs.Typed.{PlainValue, PlainStatement, statement, loop, PlainStatements, PlainVariable, PlainFunction, PlainProgram}
-use Rattle.p10_core.specs.WholePrograms.{Region, is_among, IsWholeStatement, declared_in, declared_of}
+use Rattle.p10_core.specs.WholePrograms.{Region, is_among, IsWholeStatement, declared_in}
 use Rattle.p10_cert.specs.declared.claims.Rank.{Rank}
 use Rattle.p10_cert.specs.declared.claims.Rank.TheVariants.{Up, Down, One, Task}
-use Rattle.p10_cert.specs.Claims.{Var, Loop, Claims}
+use Rattle.p10_cert.specs.Claims.{Var, Loop}
 use Rattle.p10_absx.specs.Abstract.{Abstract, only_range, whole_type}
 use Rattle.p10_absx.specs.Environments.{Environment, known}
 use Rattle.p10_fit.specs.Fits.{kind_of_integer, frame_integer, counter_type, has_range, fits_rank, fits_variable}
 use Rattle.p10_pass.specs.Scopes.{form_assigns, assigns, any_assigns}
-use Rattle.p10_pass.specs.Claiming.{range_claimed, own_offset, head_of, ranges_hold, ranges_hold_reached, rank_in, enters_ranked, goes_back_ranked, is_enough}
-use Rattle.p10_pass.specs.Passing.{Failing, failing_if, Round, rank_fails}
-use Rattle.p10_execution.specs.Scoping.{IsNumber, KnowsNumbers, IsBefore}
-use Rattle.p10_execution.proofs.Numbers.{or_false, among_append}
+use Rattle.p10_pass.specs.Claiming.{range_claimed, head_of, ranges_hold, ranges_hold_reached, rank_in, enters_ranked, goes_back_ranked, is_enough}
+use Rattle.p10_pass.specs.Passing.{failing_if, Round, rank_fails}
+use Rattle.p10_execution.specs.Scoping.{IsNumber, IsBefore}
+use Rattle.p10_execution.proofs.Numbers.{or_false}
 use Rattle.p10_execution.proofs.AssessedScopes.{SameScope}
 use Rattle.p10_execution.proofs.Entries.{changed_at, changed_knows}
-use Rattle.p10_execution.proofs.ScopedEnds.{nothing, third_declares, Scoped, MaybeScoped, maybe_trans, scoped_same, changed_scope, before_same}
-use Rattle.p10_execution.proofs.PassedScopes.{RoundScoped}
-use Rattle.p10_turns.specs.LoopParts.{LoopParts, loops_among}
+use Rattle.p10_execution.proofs.ScopedEnds.{nothing, third_declares, MaybeScoped, maybe_trans, scoped_same, changed_scope, before_same}
 use Rattle.p10_turns.specs.Ranked.{is_ranked}
 use Rattle.p10_turns.specs.Evidence.{has_none, holds_by_ranges}
 use Rattle.p10_finder.specs.Candidates.{LoopEntry, Candidate, any_trial, one_candidate, candidates}
-use Rattle.p10_finder.specs.Trials.{Rounds, with_known, with_back, head_after, tried_head, is_whole_range, line_for, lines_from, turns_of_rank, turns_from, claim_by, claim_of, stands_alone, first_standing, LoopFound, found_by, loop_found, task_found}
-use Rattle.p10_finder.specs.Loops.{Search, assigned_in, loop_entry, entered_found}
-use Rattle.p10_acceptance.proofs.Narrowing.{within_itself, within_trans, whole_typed, hull_right, LiesIn, Fair, Narrower, MaybeNarrower, narrower_itself}
+use Rattle.p10_finder.specs.Trials.{with_known, with_back, head_after, tried_head, is_whole_range, line_for, lines_from, turns_of_rank, claim_by, first_standing, LoopFound, found_by}
+use Rattle.p10_finder.specs.Loops.{entered_found}
+use Rattle.p10_acceptance.proofs.Narrowing.{within_itself, within_trans, hull_right, Fair, Narrower, MaybeNarrower, narrower_itself}
 use Rattle.p10_acceptance.proofs.Operating.{is_within_of}
 use Rattle.p10_acceptance.proofs.Shrinking.{Under, MaybeUnder, back_under}
-use Rattle.p10_acceptance.proofs.Ends.{Each, changed_fair, changed_narrower}
+use Rattle.p10_acceptance.proofs.Ends.{changed_narrower}
 use Rattle.p10_acceptance.proofs.Fitting.{ClaimFits}
 use Rattle.p10_acceptance.proofs.Rounds.{some_is, holds_by, under_is, held_narrower, RoundFits}
-use Rattle.p10_acceptance.proofs.Statements.{IsIn, fair_is}
+use Rattle.p10_acceptance.proofs.Statements.{IsIn}
 use Rattle.p10_acceptance.proofs.Claims.{HeadEntry, HeadHas, claim_fits, tried_has, RankKnown, IsGood, one_good, candidates_good, Stood, stood, turns_enough, rank_there, lines_at}
-use Rattle.p10_acceptance.proofs.Trials.{NoneAsked, any_typed, trial, rounds_narrower, trial_scoped}
+use Rattle.p10_acceptance.proofs.Trials.{NoneAsked, trial, rounds_narrower, trial_scoped}
 
 -- ## Ranks
 

@@ -1,42 +1,39 @@
 -- In each function the conditions on calls, results and loops hold: K3 and K5 to K10.
-use Rattle.std.proofs.Common.{◌≡◌, ℕ, zero, suc, ◌+◌, ◌≤◌, length, Bool, true, false, List, [], ◌∷◌, ◌++◌, map, Option, Some, None, refl, ap, sym, ◌∙◌, subst, arith}
-use Rattle.std.specs.Prelude.{slice_get, if◌then◌else◌, ◌&&◌, not, IfSome}
+use Rattle.std.proofs.Common.{◌≡◌, ℕ, suc, ◌≤◌, Bool, true, List, [], ◌∷◌, ◌++◌, map, Option, Some, None, refl, ap, sym, ◌∙◌, subst, arith}
+use Rattle.std.specs.Prelude.{slice_get, if◌then◌else◌, ◌&&◌, IfSome}
 use Rattle.std.specs.Option.{option_map}
-use Rattle.std.proofs.lemmas.Option.{same_Some, none-some, slice_get-map}
+use Rattle.std.proofs.lemmas.Option.{slice_get-map}
 use Rattle.std.proofs.lemmas.Int.{ints, clamps}
-use Rattle.p10_base.specs.declared.span.Span.{Span}
 use Rattle.p10_base.specs.declared.report.TheConstants.Limit.{MOST_SUM}
 use Rattle.p10_range.specs.Ranges.{Interval, IsWithin, is_within, hull_of}
 use Rattle.p10_core.specs.declared.statements.LoopHead.{LoopHead}
 use Rattle.p10_core.specs.Types.{PlainType, void, integer, pointer, array, structure}
 use Rattle.p10_core.specs.Constants.{integer_of}
 use Rattle.p10_core.specs.Typed.{PlainVariable, PlainFunction, PlainProgram}
-use Rattle.p10_core.specs.WholePrograms.{region_of, parameter_types, surroundings_of, loops_of as heads_of, IsWholeProgram}
+use Rattle.p10_core.specs.WholePrograms.{region_of, surroundings_of, loops_of as heads_of, IsWholeProgram}
 use Rattle.p10_cert.specs.declared.claims.Rank.{Rank}
 use Rattle.p10_cert.specs.declared.claims.Rank.TheVariants.{Up, Down, One, Task}
 use Rattle.p10_cert.specs.Claims.{Value, Number, Address, Nothing, Loop, Func, Claims}
 use Rattle.p10_absx.specs.Environments.{Environment}
-use Rattle.p10_absx.specs.Entering.{entry_at}
 use Rattle.p10_sums.specs.Counting.{loops_claimed}
 use Rattle.p10_sums.specs.Sums.{sum_at}
-use Rattle.p10_fit.specs.Sites.{task_loop_number}
-use Rattle.p10_pass.specs.Claiming.{head_of, ranges_hold, ranges_hold_reached, range_claimed, no_claim, claim_or_none, loop_claimed}
-use Rattle.p10_pass.specs.Passing.{Manner, Weakness, Failing, Left, Round, place_unless, weakness_of, rank_fails, result_lies, loop_left, pass_statements, claimed_manner, manner_of, pass_body, pass_of, as_block}
+use Rattle.p10_pass.specs.Claiming.{head_of, ranges_hold, ranges_hold_reached, range_claimed, claim_or_none, loop_claimed}
+use Rattle.p10_pass.specs.Passing.{Manner, Weakness, Left, Round, place_unless, result_lies, loop_left, pass_statements, claimed_manner, manner_of, pass_body, pass_of, as_block}
 use Rattle.p10_turns.specs.LoopParts.{LoopParts, loops_among}
 use Rattle.p10_turns.specs.Ranked.{is_ranked}
 use Rattle.p10_turns.specs.Evidence.{holds_by_ranges, loop_stands, stands_in, stands_by_ranges}
-use Rattle.p10_check.specs.Passes.{Standing, left_by, places_of, unranked, unranked_loops}
+use Rattle.p10_check.specs.Passes.{left_by, places_of, unranked, unranked_loops}
 use Rattle.p10_finder.specs.Trials.{counted}
-use Rattle.p10_finder.specs.Functions.{any_value, known_at_start, loops_of, range_returned_by, result_by, result_of, with_turn_steps, counted_sum, func_found}
+use Rattle.p10_finder.specs.Functions.{known_at_start, loops_of, range_returned_by, result_by, result_of, with_turn_steps}
 use Rattle.p10_finder.specs.Answers.{AreClaims}
 use Rattle.p10_acceptance.proofs.Operating.{is_within_of}
 use Rattle.p10_acceptance.proofs.Values.{AreTyped}
 use Rattle.p10_acceptance.proofs.Calling.{MaybeTaken}
-use Rattle.p10_acceptance.proofs.Ends.{Each, EndsFit}
+use Rattle.p10_acceptance.proofs.Ends.{Each}
 use Rattle.p10_acceptance.proofs.Alike.{Differs, statements_alike}
 use Rattle.p10_acceptance.proofs.Beginning.{start_is}
 use Rattle.p10_acceptance.proofs.Bodies.{each_by_place, body_fine}
-use Rattle.p10_acceptance.proofs.Results.{mapped_at, claim_there, params_are, all_typed, all_taken}
+use Rattle.p10_acceptance.proofs.Results.{params_are, all_typed, all_taken}
 
 -- ## Claims of loops with the steps of a turn
 

@@ -1,13 +1,12 @@
 -- When an environment says all that another one says of variables, and more: its ranges lie in the other's, and have values of the types.
-use Rattle.std.proofs.Common.{◌≡◌, ℕ, zero, suc, ◌<◌, ◌≤◌, eqb, Bool, true, false, List, [], ◌∷◌, length, refl, ◌∙◌, ap, sym, subst, inl, inr, arith, ℤ, pos, Option, Some, None}
-use Rattle.std.specs.Prelude.{slice_get, slice_set, is_some, IfSome, IsSomeAnd, ◌⊎◌, if◌then◌else◌, nat_eq}
-use Rattle.std.specs.Option.{option_map, option_and_then}
+use Rattle.std.proofs.Common.{◌≡◌, ℕ, zero, suc, ◌<◌, ◌≤◌, Bool, true, false, List, [], ◌∷◌, length, refl, ◌∙◌, ap, sym, subst, inl, inr, arith, Option, Some, None}
+use Rattle.std.specs.Prelude.{slice_get, slice_set, IfSome, IsSomeAnd, ◌⊎◌, nat_eq}
 use Rattle.std.proofs.lemmas.Option.{same_Some, none-some}
 use Rattle.std.proofs.lemmas.Bool.{eqb-true, eqb-false}
 use Rattle.std.proofs.lemmas.Int.{ints, clamps}
 use Rattle.p10_int.specs.declared.types.IntType.{IntType}
-use Rattle.p10_int.proofs.Conversions.{zero_in, one_in}
-use Rattle.p10_range.specs.Ranges.{Interval, from_to, IsInhabited, IsWithin, hull_of}
+use Rattle.p10_int.proofs.Conversions.{zero_in}
+use Rattle.p10_range.specs.Ranges.{Interval, IsWithin, hull_of}
 use Rattle.p10_range.specs.Rows.{values_of}
 use Rattle.p10_range.specs.Laws.{IsOfType}
 use Rattle.p10_core.specs.Constants.{integer_of}

@@ -1,7 +1,7 @@
 -- What operators and conversions give on narrower ranges lies in what they give on wider ones, and has values of the type.
-use Rattle.std.proofs.Common.{◌≡◌, Bool as Flag, true, false, Option, Some, None, refl, sym, ◌∙◌, ap, subst, arith, ℤ, pos}
-use Rattle.std.specs.Prelude.{◌&&◌, if◌then◌else◌, int_le, IfSome, IsSomeAnd}
-use Rattle.std.specs.Option.{option_map, option_and_then}
+use Rattle.std.proofs.Common.{◌≡◌, Bool as Flag, true, false, Option, Some, None, refl, ◌∙◌, ap, subst, arith, ℤ}
+use Rattle.std.specs.Prelude.{◌&&◌, if◌then◌else◌, int_le, IfSome}
+use Rattle.std.specs.Option.{option_map}
 use Rattle.std.proofs.lemmas.Int.{ints}
 use Rattle.std.proofs.lemmas.Bool.{and_parts}
 use Rattle.p10_int.specs.declared.types.IntType.{IntType}

@@ -1,5 +1,5 @@
 -- What is claimed of results has numbers of their types: by the ranks of functions, which call functions of smaller rank alone.
-use Rattle.std.proofs.Common.{◌≡◌, ℕ, zero, suc, ◌+◌, ◌<◌, ◌≤◌, length, Bool, true, false, List, [], ◌∷◌, map, Option, Some, None, refl, ap, sym, ◌∙◌, subst, arith}
+use Rattle.std.proofs.Common.{◌≡◌, ℕ, zero, suc, ◌<◌, ◌≤◌, length, Bool, true, false, List, [], ◌∷◌, map, Option, Some, None, refl, ap, sym, ◌∙◌, subst, arith}
 use Rattle.std.specs.Prelude.{slice_get, if◌then◌else◌, nat_eq, nat_lt, IfSome}
 use Rattle.std.specs.Option.{option_map}
 use Rattle.std.specs.List.{slice_index}
@@ -11,7 +11,7 @@ use Rattle.p10_int.specs.declared.types.IntType.{IntType}
 use Rattle.p10_range.specs.Ranges.{Interval}
 use Rattle.p10_range.specs.Rows.{values_of}
 use Rattle.p10_range.specs.Laws.{IsOfType}
-use Rattle.p10_core.specs.Types.{PlainType, void, integer, pointer, array, structure, bare}
+use Rattle.p10_core.specs.Types.{PlainType, void, integer, pointer, array, structure}
 use Rattle.p10_core.specs.Constants.{integer_of}
 use Rattle.p10_core.specs.Typed.{PlainFunction, PlainProgram}
 use Rattle.p10_core.specs.Nodes.{nodes_of_statements}
@@ -20,10 +20,10 @@ use Rattle.p10_core.specs.WholePrograms.{seen_function, parameter_types, surroun
 use Rattle.p10_graph.specs.Graphs.{Edge}
 use Rattle.p10_calls.specs.CallGraphs.{callees_of, call_graph}
 use Rattle.p10_cert.specs.Claims.{Value, Number, Address, Nothing, Func, Loop, Claims}
-use Rattle.p10_absx.specs.Assessing.{result_claimed, call_claimed}
+use Rattle.p10_absx.specs.Assessing.{result_claimed}
 use Rattle.p10_absx.specs.Entering.{claims_on}
 use Rattle.p10_turns.specs.Ranked.{is_ranked}
-use Rattle.p10_finder.specs.Functions.{any_value, loops_of, range_returned_by, result_by, result_of, func_found}
+use Rattle.p10_finder.specs.Functions.{any_value, loops_of, range_returned_by, result_by}
 use Rattle.p10_finder.specs.Loops.{LoopsFound}
 use Rattle.p10_finder.specs.Answers.{AreClaims}
 use Rattle.p10_finder.proofs.Called.{EachCalled}

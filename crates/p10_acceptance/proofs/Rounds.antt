@@ -1,13 +1,12 @@
 -- Loops: where a claim fits what is known at entry, a round under claims is narrower than a round in a trial, and so is what is left.
 use Rattle.std.proofs.Common.{◌≡◌, ℕ, zero, suc, ◌+◌, Bool, true, false, List, [], ◌∷◌, ◌++◌, Option, Some, None, refl, ap, sym, ◌∙◌, subst, inl, inr, arith}
-use Rattle.std.specs.Prelude.{slice_get, if◌then◌else◌, is_some, ◌||◌, ◌&&◌, ◌⊎◌, nat_eq, IfSome, IsSomeAnd}
+use Rattle.std.specs.Prelude.{slice_get, if◌then◌else◌, is_some, ◌||◌, ◌&&◌, ◌⊎◌, IfSome, IsSomeAnd}
 use Rattle.std.specs.Option.{option_map}
 use Rattle.std.proofs.lemmas.Option.{same_Some, none-some}
 use Rattle.std.proofs.lemmas.Bool.{and_parts}
 use Rattle.p10_base.specs.declared.span.Span.{Span}
 use Rattle.p10_int.specs.declared.types.IntType.{IntType}
 use Rattle.p10_range.specs.Ranges.{Interval, IsWithin, is_within}
-use Rattle.p10_range.specs.Rows.{values_of}
 use Rattle.p10_range.specs.Laws.{IsOfType}
 use Rattle.p10_core.specs.declared.statements.LoopHead.{LoopHead}
 use Rattle.p10_core.specs.declared.statements.LoopKeyword.{LoopKeyword}
@@ -20,16 +19,16 @@ use Rattle.p10_cert.specs.declared.claims.Rank.TheVariants.{Task}
 use Rattle.p10_cert.specs.Claims.{Value, Loop, Claims}
 use Rattle.p10_absx.specs.Abstract.{Abstract, whole_type}
 use Rattle.p10_absx.specs.Environments.{Environment, known, hull_reached}
-use Rattle.p10_pass.specs.Scopes.{form_assigns, assigns, any_assigns, left_scope, changed_each, assigned_forgotten, offset_in, offsets_restored}
+use Rattle.p10_pass.specs.Scopes.{form_assigns, assigns, any_assigns, left_scope, assigned_forgotten, offset_in, offsets_restored}
 use Rattle.p10_pass.specs.Claiming.{range_claimed, own_offset, head_of, ranges_hold, ranges_hold_reached}
 use Rattle.p10_pass.specs.Passing.{Failing, Weakness, Left, where_going, reached, followed, as_block, Manner, Tested, tested_in, tested_reached, Round, round_of, rank_fails, weakness_of, place_unless, loop_left, pass_statement, pass_statements, trial_manner}
 use Rattle.p10_execution.specs.Scoping.{IsNumber, KnowsNumbers, IsBefore}
-use Rattle.p10_execution.proofs.Numbers.{or_false, among_append, among_left}
+use Rattle.p10_execution.proofs.Numbers.{or_false, among_append}
 use Rattle.p10_execution.proofs.Entries.{changed_at, changed_knows}
-use Rattle.p10_execution.proofs.TopDeclarations.{declares_at_top, top_is_declared, left_known, left_other}
+use Rattle.p10_execution.proofs.TopDeclarations.{declares_at_top, top_is_declared, left_other}
 use Rattle.p10_execution.proofs.ScopedEnds.{nothing, Scoped, MaybeScoped, EndsScoped, going_scoped, reached_scoped}
 use Rattle.p10_execution.proofs.PassedScopes.{truth_scoped}
-use Rattle.p10_acceptance.proofs.Narrowing.{within_itself, within_trans, whole_typed, LiesIn, Fair, Narrower, MaybeNarrower, narrower_itself, hull_narrower}
+use Rattle.p10_acceptance.proofs.Narrowing.{within_trans, LiesIn, Fair, Narrower, MaybeNarrower, hull_narrower}
 use Rattle.p10_acceptance.proofs.Operating.{within_of, is_within_of}
 use Rattle.p10_acceptance.proofs.Shrinking.{Under, MaybeUnder, exits_under}
 use Rattle.p10_acceptance.proofs.Calling.{no_names}

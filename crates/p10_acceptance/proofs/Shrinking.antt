@@ -1,10 +1,8 @@
 -- A trial pass finds no more of a variable that a part neither assigns nor declares than before the part.
-use Rattle.std.proofs.Common.{◌≡◌, ℕ, zero, suc, ◌+◌, Bool, true, false, List, [], ◌∷◌, Option, Some, None, refl, ap, sym, ◌∙◌, subst, inl, inr, arith, ℤ, pos}
-use Rattle.std.specs.Prelude.{slice_get, if◌then◌else◌, is_some, is_none, ◌||◌, ◌&&◌, ◌++◌, nat_eq, IfSome, ◌⊎◌}
+use Rattle.std.proofs.Common.{◌≡◌, ℕ, zero, suc, ◌+◌, Bool, true, false, List, [], ◌∷◌, Option, Some, None, refl, ap, sym, ◌∙◌, subst, arith}
+use Rattle.std.specs.Prelude.{slice_get, if◌then◌else◌, is_some, is_none, ◌&&◌, ◌++◌, nat_eq, IfSome}
 use Rattle.std.specs.Option.{option_map, option_and_then}
-use Rattle.std.proofs.lemmas.Option.{same_Some, none-some}
 use Rattle.std.proofs.lemmas.Bool.{eqb-true, eqb-false}
-use Rattle.std.proofs.lemmas.Int.{ints, clamps}
 use Rattle.p10_base.specs.declared.span.Span.{Span}
 use Rattle.p10_int.specs.declared.types.IntType.{IntType}
 use Rattle.p10_int.specs.declared.operators.BinOp.{BinOp}
@@ -21,7 +19,7 @@ use Rattle.p10_core.specs.declared.statements.LoopKeyword.TheVariants.{While, Do
 use Rattle.p10_core.specs.Types.{PlainType, void, integer, pointer, array, structure}
 use Rattle.p10_core.specs.Constants.{integer_of}
 use Rattle.p10_core.specs.Rows.{is_integer}
-use Rattle.p10_core.specs.Typed.{PlainValue, value, PlainForm, constant, read, sense, address, decay, convert, cast, unary, binary, logic, conditional, call, built_in, PlainPlace, place, place_type, variable, global, literal, index, member, dereference, PlainValues, no_values, more_values, type_of, PlainItem, PlainWritten, one_scalar, scalars_of_text, PlainInitializer, not_initialized, single, copied, listed, PlainLabels, PlainStatement, statement, PlainStatementForm, set, update, copy, evaluate, asserts, declare, declare_static, block, if_then, if_else, loop, switch, break, continue, return, empty, mark, PlainStatements, no_statements, more_statements, PlainVariable}
+use Rattle.p10_core.specs.Typed.{PlainValue, value, PlainForm, constant, read, sense, address, decay, convert, cast, unary, binary, logic, conditional, call, built_in, PlainPlace, place, place_type, variable, global, literal, index, member, dereference, PlainValues, no_values, more_values, type_of, PlainItem, PlainWritten, one_scalar, scalars_of_text, PlainInitializer, not_initialized, single, copied, listed, PlainLabels, PlainStatement, statement, set, update, copy, evaluate, asserts, declare, declare_static, block, if_then, if_else, loop, switch, break, continue, return, empty, mark, PlainStatements, no_statements, more_statements, PlainVariable}
 use Rattle.p10_core.specs.WholePrograms.{is_among, declared_in, declared_of}
 use Rattle.p10_cert.specs.Claims.{Claims}
 use Rattle.p10_absx.specs.Abstract.{Abstract, whole_type}
@@ -30,8 +28,8 @@ use Rattle.p10_absx.specs.Operators.{converted_abstract, binary_abstract}
 use Rattle.p10_absx.specs.Comparing.{is_comparison, contrary, allowed, turned, Side, met_with, side_met, compared}
 use Rattle.p10_absx.specs.Assessing.{Assessed, a_scalar, a_test, as_side, zero_side, known_where, variable_read, place_read, converted_found, comparison_found, are_integers, binary_found, arithmetic_found, any_of, logic_found, unary_assessed, library_assessed, assess, assess_form, assess_only, abstract_value}
 use Rattle.p10_pass.specs.Scopes.{is_target, assigns, form_assigns, any_assigns, left_scope, changed_each, assigned_forgotten}
-use Rattle.p10_pass.specs.Arguments.{has_value, failing_in, failing_at}
-use Rattle.p10_pass.specs.Passing.{Left, nowhere, reached, where_going, followed, and_then_pass, beside, with_calls, as_block, Manner, stored, before_update, set_value, updated_value, value_passed, items_passed, integer_declared, other_declared, declared, range_returned, value_returned, Tested, tested_in, tested_reached, Round, round_of, is_labelled, switch_left, pass_statement, pass_form, pass_statements, pass_switch, pass_switch_form, pass_from, trial_manner}
+use Rattle.p10_pass.specs.Arguments.{has_value}
+use Rattle.p10_pass.specs.Passing.{Left, nowhere, reached, where_going, followed, beside, with_calls, as_block, Manner, stored, before_update, set_value, updated_value, value_passed, items_passed, integer_declared, other_declared, declared, range_returned, value_returned, tested_in, tested_reached, round_of, is_labelled, switch_left, pass_statement, pass_statements, pass_from, trial_manner}
 use Rattle.p10_execution.proofs.Numbers.{or_false, among_append}
 use Rattle.p10_execution.proofs.Entries.{known_hull, learned_other, learned_here}
 use Rattle.p10_execution.proofs.TopDeclarations.{left_known}

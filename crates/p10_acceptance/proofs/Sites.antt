@@ -1,40 +1,39 @@
 -- What is claimed of the loops that are found speaks of them: of their depth, their rank and the variables in scope (K1).
-use Rattle.std.proofs.Common.{◌≡◌, ℕ, zero, suc, ◌+◌, ◌<◌, ◌≤◌, length, Bool, true, false, List, [], ◌∷◌, ◌++◌, map, All, Option, Some, None, refl, ap, sym, ◌∙◌, subst, inl, inr, arith, eq-eqb}
-use Rattle.std.specs.Prelude.{slice_get, if◌then◌else◌, is_some, ◌||◌, ◌&&◌, nat_eq, IfSome}
-use Rattle.std.specs.Option.{option_map, option_and_then}
+use Rattle.std.proofs.Common.{◌≡◌, ℕ, suc, ◌+◌, ◌≤◌, length, Bool, true, false, List, [], ◌∷◌, ◌++◌, map, All, Option, Some, None, refl, ap, sym, ◌∙◌, subst, arith, eq-eqb}
+use Rattle.std.specs.Prelude.{slice_get, if◌then◌else◌, is_some, ◌||◌, ◌&&◌, IfSome}
+use Rattle.std.specs.Option.{option_and_then}
 use Rattle.std.specs.List.{list_all}
-use Rattle.std.proofs.lemmas.Option.{same_Some, none-some}
+use Rattle.std.proofs.lemmas.Option.{same_Some}
 use Rattle.std.proofs.lemmas.List.{length-append, length-map, map-append}
-use Rattle.std.proofs.lemmas.List.Elements.{All-head, All-tail}
+use Rattle.std.proofs.lemmas.List.Elements.{All-tail}
 use Rattle.p10_base.specs.declared.at.At.{At}
 use Rattle.p10_base.specs.declared.report.TheConstants.Limit.{MOST_SUM}
 use Rattle.p10_core.specs.declared.statements.LoopHead.{LoopHead}
 use Rattle.p10_core.specs.Typed.{PlainValue, PlainLabels, PlainStatement, statement, PlainStatementForm, declare, block, if_then, if_else, loop, switch, PlainStatements, no_statements, more_statements, statements_list, PlainVariable, PlainFunction, PlainProgram}
 use Rattle.p10_core.specs.Whole.{IsWholeValue}
 use Rattle.p10_core.specs.WholePrograms.{Region, is_among, surroundings_of, around, after, after_all, is_declaration, is_block, switch_items, IsWholeStatement, IsWholeStatementForm, AreWholeStatements, declared_in, declared_in_form, declared_of, loops_in as heads_in, loops_in_form as heads_in_form, loops_of as heads_of}
-use Rattle.p10_cert.specs.declared.claims.Rank.{Rank}
 use Rattle.p10_cert.specs.declared.claims.Rank.TheVariants.{One, Task}
 use Rattle.p10_cert.specs.Claims.{Loop, Claims}
 use Rattle.p10_absx.specs.Abstract.{Abstract}
 use Rattle.p10_absx.specs.Environments.{Environment, known, hull_entry, hull_environment, hull_reached}
 use Rattle.p10_absx.specs.Assessing.{assess, known_where}
-use Rattle.p10_fit.specs.Fits.{is_task, fits_rank, fits_variable, fits_loop, fits_loops}
+use Rattle.p10_fit.specs.Fits.{is_task, fits_rank, fits_variable, fits_loop}
 use Rattle.p10_fit.specs.Sites.{LoopSite, in_scope_after, in_scope_after_all, loop_sites_in, loop_sites_in_form, loop_sites_of}
 use Rattle.p10_pass.specs.Claiming.{head_of}
 use Rattle.p10_pass.specs.Arguments.{has_value}
 use Rattle.p10_pass.specs.Passing.{Left, is_labelled, pass_statement, pass_statements, trial_manner}
-use Rattle.p10_execution.specs.Scoping.{KnowsNumbers, IsBefore}
+use Rattle.p10_execution.specs.Scoping.{IsBefore}
 use Rattle.p10_execution.proofs.Numbers.{among_left, among_right}
 use Rattle.p10_execution.proofs.Entries.{known_hull, changed_knows}
 use Rattle.p10_execution.proofs.TopDeclarations.{declares_here, declares_at_top}
-use Rattle.p10_execution.proofs.ScopedEnds.{nothing, Scoped, MaybeScoped, changed_scope, before_left, before_right, before_scoped, before_rest}
+use Rattle.p10_execution.proofs.ScopedEnds.{nothing, Scoped, before_left, before_right, before_scoped, before_rest}
 use Rattle.p10_execution.proofs.PassedScopes.{statement_scoped}
 use Rattle.p10_turns.specs.LoopParts.{LoopParts, loops_within, loops_within_form, loops_among}
 use Rattle.p10_turns.specs.Ranked.{is_ranked}
 use Rattle.p10_turns.specs.Evidence.{holds_by_ranges}
 use Rattle.p10_finder.specs.Trials.{LoopFound, unreached_found}
 use Rattle.p10_finder.specs.Loops.{Search, LoopsFound, known_in_body, assigned_in, loop_entry, trial_rounds, reached_found, known_after_statement, known_where_value, known_after_value, known_at_entry, loop_passed, LoopPassed, loops_in, loops_in_form, loops_in_all, loops_in_switch, loops_in_cases, loops_from}
-use Rattle.p10_acceptance.proofs.Narrowing.{Fair, Narrower, MaybeNarrower, narrower_itself, hull_narrower}
+use Rattle.p10_acceptance.proofs.Narrowing.{Fair, narrower_itself, hull_narrower}
 use Rattle.p10_acceptance.proofs.Values.{AreTyped}
 use Rattle.p10_acceptance.proofs.Calling.{MaybeTaken}
 use Rattle.p10_acceptance.proofs.Ends.{Each}
@@ -42,9 +41,9 @@ use Rattle.p10_acceptance.proofs.Fitting.{entered, first_plain}
 use Rattle.p10_acceptance.proofs.Rounds.{maybe_is}
 use Rattle.p10_acceptance.proofs.Statements.{IsIn, in_after, in_after_all, tests, fair_is, truth_scope, entered_scope, statement_fits}
 use Rattle.p10_acceptance.proofs.Alike.{each_left, each_right, clauses_alike}
-use Rattle.p10_acceptance.proofs.Found.{Speaks, found_speaks}
+use Rattle.p10_acceptance.proofs.Found.{found_speaks}
 use Rattle.p10_acceptance.proofs.Walk.{extends, all_extend, from_extends, last_one, Numbered, numbered_left, numbered_right}
-use Rattle.p10_acceptance.proofs.Walking.{no_difference, if_there, s, whole, In, Prefix, Placed, Comes, same_pass, passed, lf, there, at_entry, entry_scoped, entry_fair, before_in, lf_is, bounded, at_head, fair_head, head_knows, of_body, entered_fair, inside_same, walk}
+use Rattle.p10_acceptance.proofs.Walking.{no_difference, if_there, s, whole, In, Prefix, Placed, Comes, same_pass, lf, at_entry, entry_scoped, entry_fair, before_in, lf_is, bounded, at_head, head_knows, of_body, entered_fair, inside_same, walk}
 
 -- ## Scopes
 

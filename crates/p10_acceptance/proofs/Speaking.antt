@@ -1,33 +1,26 @@
 -- A certificate that is derived speaks of its program (K1).
-use Rattle.std.proofs.Common.{◌≡◌, ℕ, zero, suc, ◌+◌, ◌<◌, ◌≤◌, length, Bool, true, false, List, [], ◌∷◌, ◌++◌, map, take, All, Option, Some, None, refl, ap, sym, ◌∙◌, subst, ◌⊎◌, inl, inr, arith}
-use Rattle.std.specs.Prelude.{slice_get, if◌then◌else◌, is_some, ◌||◌, ◌&&◌, nat_eq, bytes_eq, IfSome}
-use Rattle.std.specs.Option.{option_map}
-use Rattle.std.specs.List.{list_all}
-use Rattle.std.proofs.lemmas.Option.{same_Some, none-some}
-use Rattle.std.proofs.lemmas.Bool.{and_parts, eqb-true}
+use Rattle.std.proofs.Common.{◌≡◌, ℕ, zero, suc, ◌+◌, ◌<◌, ◌≤◌, length, Bool, true, false, List, [], ◌∷◌, map, All, Option, Some, None, refl, ap, sym, ◌∙◌, subst, ◌⊎◌, inl, inr, arith}
+use Rattle.std.specs.Prelude.{slice_get, if◌then◌else◌, ◌||◌, ◌&&◌, nat_eq, bytes_eq}
 use Rattle.std.proofs.lemmas.Bool.Decides.{nat_tests}
 use Rattle.std.proofs.lemmas.Slice.Eq.{bytes_eq-Decides}
 use Rattle.std.proofs.lemmas.List.{length-map}
 use Rattle.std.proofs.lemmas.List.Elements.{All-head, All-tail}
 use Rattle.p10_base.specs.declared.report.TheConstants.Limit.{MOST_SUM}
-use Rattle.p10_int.specs.declared.types.IntType.{IntType}
-use Rattle.p10_range.specs.Ranges.{Interval, IsWithin, is_within}
+use Rattle.p10_range.specs.Ranges.{Interval, is_within}
 use Rattle.p10_range.specs.Rows.{values_of}
 use Rattle.p10_range.specs.Laws.{IsOfType}
-use Rattle.p10_core.specs.declared.statements.LoopHead.{LoopHead}
 use Rattle.p10_core.specs.Types.{PlainType, void, integer, pointer, array, structure}
 use Rattle.p10_core.specs.Constants.{integer_of}
 use Rattle.p10_core.specs.Rows.{is_scalar, is_void}
-use Rattle.p10_core.specs.Typed.{PlainVariable, PlainFunction, PlainProgram}
-use Rattle.p10_core.specs.WholePrograms.{is_among, numbers_from, region_of, parameter_types, surroundings_of, declared_of, loops_of as heads_of, IsWholeFunction, IsWholeProgram}
+use Rattle.p10_core.specs.Typed.{PlainFunction, PlainProgram}
+use Rattle.p10_core.specs.WholePrograms.{is_among, numbers_from, region_of, parameter_types, loops_of as heads_of, IsWholeFunction, IsWholeProgram}
 use Rattle.p10_cert.specs.declared.claims.Rank.{Rank}
 use Rattle.p10_cert.specs.declared.claims.Rank.TheVariants.{Up, Down, One, Task}
-use Rattle.p10_cert.specs.Claims.{Value, Number, Address, Nothing, Loop, Func, Claims}
-use Rattle.p10_absx.specs.Abstract.{Abstract}
-use Rattle.p10_absx.specs.Environments.{Environment, known}
+use Rattle.p10_cert.specs.Claims.{Number, Loop, Func, Claims}
+use Rattle.p10_absx.specs.Environments.{known}
 use Rattle.p10_fit.specs.Sites.{LoopSite, loop_sites, task_loop_number}
 use Rattle.p10_fit.specs.Fits.{fits_type, fits_types, fits_loop, fits_loops, fits_heading, fits_function, unfit_from, unfit}
-use Rattle.p10_turns.specs.LoopParts.{LoopParts, loops_among}
+use Rattle.p10_turns.specs.LoopParts.{loops_among}
 use Rattle.p10_turns.specs.Ranked.{is_ranked}
 use Rattle.p10_turns.proofs.Numbering.{loops_numbered}
 use Rattle.p10_finder.specs.Trials.{counted}
@@ -37,13 +30,11 @@ use Rattle.p10_finder.specs.Answers.{AreClaims}
 use Rattle.p10_sums.specs.Sums.{sum_at}
 use Rattle.p10_acceptance.proofs.Narrowing.{within_itself}
 use Rattle.p10_acceptance.proofs.Operating.{is_within_of}
-use Rattle.p10_acceptance.proofs.Values.{AreTyped}
-use Rattle.p10_acceptance.proofs.Calling.{MaybeTaken}
 use Rattle.p10_acceptance.proofs.Trials.{NoneAsked}
-use Rattle.p10_acceptance.proofs.Walk.{Extends, all_extend}
-use Rattle.p10_acceptance.proofs.Beginning.{IsParameter, parameter_known, some_is, start_fair, start_before}
+use Rattle.p10_acceptance.proofs.Walk.{all_extend}
+use Rattle.p10_acceptance.proofs.Beginning.{parameter_known, some_is, start_fair, start_before}
 use Rattle.p10_acceptance.proofs.Bodies.{numbered_from, each_by_place}
-use Rattle.p10_acceptance.proofs.Results.{same_length, claim_there, params_are, results_typed, all_typed, all_taken}
+use Rattle.p10_acceptance.proofs.Results.{same_length, params_are, results_typed, all_typed, all_taken}
 use Rattle.p10_acceptance.proofs.Functions.{loops_are}
 use Rattle.p10_acceptance.proofs.Sites.{SitesFit, all_sited, all_sites}
 
@@ -143,11 +134,15 @@ module _ (p : PlainProgram) (whole : IsWholeProgram p) (c : Claims) (is : AreCla
     pub sites_fit : SitesFit f task loops 0 (loop_sites f)
     sites_fit = all_sites p f c (all_typed p whole c is bounded short) (all_taken p whole c is bounded short) task loops NoneAsked (short n f there) (λ k parts l e g entry r z. tt) (region_of p n f) (record { program_is = refl; function_is = refl }) f.body function.body 0
         (numbers_from 0 f.parameters) (Some (known_at_start f)) no_loops (record {
-          here = (start_before p n f function, start_fair f, (λ k e.
-          let a = some_is (known (known_at_start f) k) e in
-          let q = parameter_known 0 f.parameters f.variables k a.0 a.1 in
-          let low = q.among in
-          among_numbers 0 f.parameters k (omega arith) (omega (arith, low))));
+          here = (
+            start_before p n f function,
+            start_fair f,
+            (λ k e.
+                let a = some_is (known (known_at_start f) k) e in
+                let q = parameter_known 0 f.parameters f.variables k a.0 a.1 in
+                let low = q.among in
+                among_numbers 0 f.parameters k (omega arith) (omega (arith, low))),
+          );
           numbered = numbered_from 0 (heads_of f.body) function.loops_in_order;
           placed = each_by_place _ (loops_among f.body) (λ k x e. subst (λ (i : ℕ). slice_get (loops_among f.body) i ≡ Some x) (sym (loops_numbered p whole n f there k x e)) e);
           prefix = λ j l e. e;

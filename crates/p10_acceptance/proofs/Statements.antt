@@ -1,10 +1,9 @@
 -- Where the claims of the loops to which a pass comes fit, none of its conditions on a whole statement fails, and what it leaves is narrower than
 -- what a trial pass leaves from a wider environment.
 use Rattle.std.proofs.Common.{◌≡◌, ℕ, zero, suc, ◌+◌, ◌<◌, length, drop, Bool, true, false, List, [], ◌∷◌, ◌++◌, All, Option, Some, None, refl, ap, sym, ◌∙◌, subst, arith}
-use Rattle.std.specs.Prelude.{slice_get, if◌then◌else◌, is_some, ◌||◌, ◌&&◌, nat_eq, IfSome}
+use Rattle.std.specs.Prelude.{slice_get, if◌then◌else◌, is_some, ◌||◌, ◌&&◌, IfSome}
 use Rattle.std.specs.Option.{option_map}
 use Rattle.std.proofs.lemmas.Option.{same_Some, none-some}
-use Rattle.std.proofs.lemmas.Bool.{and_parts}
 use Rattle.std.proofs.lemmas.List.Elements.{All-head, All-tail}
 use Rattle.p10_base.specs.declared.at.At.{At}
 use Rattle.p10_base.specs.declared.span.Span.{Span}
@@ -15,33 +14,33 @@ use Rattle.p10_range.specs.Laws.{IsOfType}
 use Rattle.p10_core.specs.declared.statements.LoopHead.{LoopHead}
 use Rattle.p10_core.specs.declared.statements.LoopKeyword.{LoopKeyword}
 use Rattle.p10_core.specs.declared.statements.LoopKeyword.TheVariants.{While, Do, For}
-use Rattle.p10_core.specs.Types.{PlainType, integer, unqualified}
+use Rattle.p10_core.specs.Types.{PlainType, unqualified}
 use Rattle.p10_core.specs.Sizes.{scalars_of}
 use Rattle.p10_core.specs.Constants.{integer_of}
 use Rattle.p10_core.specs.Rows.{is_integer, is_pointer}
-use Rattle.p10_core.specs.Typed.{PlainValue, type_of, PlainPlace, place, place_type, variable, global, literal, index, member, dereference, PlainItem, PlainWritten, one_scalar, scalars_of_text, PlainInitializer, not_initialized, single, copied, listed, PlainLabels, PlainStatement, statement, PlainStatementForm, set, update, copy, evaluate, asserts, declare, declare_static, block, if_then, if_else, loop, switch, break, continue, return, empty, mark, PlainStatements, no_statements, more_statements, statements_list, PlainVariable, PlainFunction, PlainProgram}
-use Rattle.p10_core.specs.Whole.{SeenVariable, IsVariable, IsWholeValue, IsWholePlace, Surroundings}
-use Rattle.p10_core.specs.WholePrograms.{Region, is_among, seen_variable, surroundings_of, around, after, after_all, IsSingle, AreWholeItems, IsWholeWritten, width_of_written, IsWholeInitializer, Declares, IsTest, IsMaybeTest, is_declaration, AreClauses, IsWholeStatement, AreWholeStatements, declared_in, declared_of}
+use Rattle.p10_core.specs.Typed.{PlainValue, type_of, PlainPlace, place, place_type, variable, global, literal, index, member, dereference, PlainItem, PlainWritten, one_scalar, scalars_of_text, PlainInitializer, not_initialized, single, copied, listed, PlainLabels, PlainStatement, statement, set, update, copy, evaluate, asserts, declare, declare_static, block, if_then, if_else, loop, switch, break, continue, return, empty, mark, PlainStatements, no_statements, more_statements, statements_list, PlainVariable, PlainFunction, PlainProgram}
+use Rattle.p10_core.specs.Whole.{SeenVariable, IsWholeValue, IsWholePlace}
+use Rattle.p10_core.specs.WholePrograms.{Region, is_among, seen_variable, surroundings_of, around, after, after_all, AreWholeItems, IsWholeWritten, width_of_written, IsWholeInitializer, IsMaybeTest, is_declaration, IsWholeStatement, AreWholeStatements, declared_in, declared_of}
 use Rattle.p10_cert.specs.Claims.{Value, Loop, Claims}
 use Rattle.p10_absx.specs.Abstract.{Abstract, whole_type}
 use Rattle.p10_absx.specs.Environments.{Environment, known, learned, hull_reached}
-use Rattle.p10_absx.specs.Assessing.{assess, known_where, value_found, abstract_value}
+use Rattle.p10_absx.specs.Assessing.{assess, known_where, abstract_value}
 use Rattle.p10_pass.specs.Scopes.{form_assigns, any_assigns, left_scope, assigned_forgotten}
 use Rattle.p10_pass.specs.Claiming.{head_of, loop_claimed}
 use Rattle.p10_pass.specs.Arguments.{has_value, failing_in, failing_at}
-use Rattle.p10_pass.specs.Passing.{Manner, Weakness, Left, nowhere, reached, where_going, followed, and_then_pass, beside, with_calls, as_block, set_value, updated_value, value_passed, items_passed, integer_declared, other_declared, declared, result_lies, range_returned, value_returned, by_claim, tested_in, round_of, loop_left, is_labelled, switch_left, pass_statement, pass_form, pass_statements, pass_switch, pass_from, trial_manner}
-use Rattle.p10_execution.specs.Scoping.{IsNumber, KnowsNumbers, IsBefore}
+use Rattle.p10_pass.specs.Passing.{Manner, Weakness, Left, nowhere, reached, where_going, followed, and_then_pass, as_block, value_passed, items_passed, integer_declared, other_declared, declared, result_lies, range_returned, value_returned, by_claim, tested_in, round_of, loop_left, is_labelled, pass_statement, pass_statements, pass_from, trial_manner}
+use Rattle.p10_execution.specs.Scoping.{KnowsNumbers, IsBefore}
 use Rattle.p10_execution.proofs.TopDeclarations.{declares_here, declares_at_top, not_here, top_is_declared}
-use Rattle.p10_execution.proofs.ScopedEnds.{nothing, third_declares, Scoped, MaybeScoped, EndsScoped, scoped_here, scoped_same, ends_wider, going_scoped, reached_scoped, if_scoped, changed_scope, before_left, before_right, before_scoped, before_same, before_nothing, before_rest, before_body}
+use Rattle.p10_execution.proofs.ScopedEnds.{nothing, third_declares, Scoped, MaybeScoped, scoped_here, scoped_same, ends_wider, reached_scoped, if_scoped, changed_scope, before_left, before_right, before_scoped, before_same, before_nothing, before_rest, before_body}
 use Rattle.p10_execution.proofs.PassedScopes.{RoundScoped, truth_scoped, contrary_scoped, statement_scoped, statements_scoped, loop_scoped, item_scoped}
 use Rattle.p10_acceptance.proofs.Narrowing.{within_itself, within_trans, whole_typed, Fits, LiesIn, Fair, Narrower, MaybeNarrower, narrower_itself, hull_narrower, learned_both}
 use Rattle.p10_acceptance.proofs.Assessing.{same_kind}
 use Rattle.p10_acceptance.proofs.Values.{IsSeen, AreTyped, AreSeen, abstract_fits, truth_narrower}
 use Rattle.p10_acceptance.proofs.Shrinking.{Under, MaybeUnder, statements_under}
 use Rattle.p10_acceptance.proofs.Calling.{MaybeTaken, no_names, value_stands, place_stands}
-use Rattle.p10_acceptance.proofs.Ends.{Each, each_both, range_typed, EndsFit, nowhere_fits, reaches_fit, calls_fit, followed_fit, beside_fit, going_fit, then_fit, block_fit, if_narrower, if_going, switch_fits, HasKind, set_narrower, updated_narrower, forgotten_narrower}
-use Rattle.p10_acceptance.proofs.Fitting.{ClaimFits, NoJumps, entered, trial_round, Fitted, AllFitted, SwitchFitted, FromFitted, first_plain, third_plain, all_jump, all_fitted}
-use Rattle.p10_acceptance.proofs.Rounds.{maybe_is, TestsFit, RoundFits, Fit, WeakStands, round_fits, head_fair, left_fits}
+use Rattle.p10_acceptance.proofs.Ends.{each_both, range_typed, nowhere_fits, reaches_fit, calls_fit, followed_fit, beside_fit, going_fit, then_fit, block_fit, if_narrower, if_going, switch_fits, HasKind, set_narrower, updated_narrower, forgotten_narrower}
+use Rattle.p10_acceptance.proofs.Fitting.{ClaimFits, NoJumps, entered, trial_round, Fitted, AllFitted, FromFitted, first_plain, third_plain, all_jump, all_fitted}
+use Rattle.p10_acceptance.proofs.Rounds.{maybe_is, TestsFit, RoundFits, Fit, round_fits, head_fair, left_fits}
 
 -- ## Regions of a function
 

@@ -1,5 +1,5 @@
 -- The claimed steps and depths cover what functions cost, and the total covers `main` (K11, K12, K14).
-use Rattle.std.proofs.Common.{◌≡◌, ℕ, zero, suc, ◌+◌, ◌<◌, ◌≤◌, min, length, Bool, true, false, not, List, [], ◌∷◌, ◌++◌, map, Option, Some, None, refl, ap, sym, ◌∙◌, subst, ◌⊎◌, inl, inr, arith, eq-eqb}
+use Rattle.std.proofs.Common.{◌≡◌, ℕ, zero, suc, ◌+◌, ◌<◌, ◌≤◌, min, length, Bool, true, false, not, List, [], ◌∷◌, ◌++◌, map, Option, Some, None, refl, ap, sym, ◌∙◌, subst, arith, eq-eqb}
 use Rattle.std.specs.Prelude.{slice_get, if◌then◌else◌, leb, nat_le, nat_eq, ◌&&◌}
 use Rattle.std.specs.Option.{option_map}
 use Rattle.std.specs.List.{Contains, list_all}
@@ -9,7 +9,7 @@ use Rattle.std.proofs.lemmas.Bool.Decides.{nat_tests}
 use Rattle.p10_base.specs.declared.report.TheConstants.Limit.{MOST_SUM}
 use Rattle.p10_core.specs.declared.statements.LoopHead.{LoopHead}
 use Rattle.p10_core.specs.Typed.{PlainStatement, statement, loop, PlainStatements, no_statements, more_statements, statements_list, PlainFunction, PlainProgram}
-use Rattle.p10_core.specs.WholePrograms.{main_items, loops_in as heads_in, loops_of as heads_of, HasMain, IsWholeProgram}
+use Rattle.p10_core.specs.WholePrograms.{main_items, loops_in as heads_in, loops_of as heads_of, IsWholeProgram}
 use Rattle.p10_calls.proofs.Lists.{here, there as later}
 use Rattle.p10_cert.specs.declared.claims.Rank.{Rank}
 use Rattle.p10_cert.specs.declared.claims.Rank.TheVariants.{Up, Down, One, Task}
@@ -24,7 +24,7 @@ use Rattle.p10_check.specs.Places.{place_if, name_at}
 use Rattle.p10_check.specs.Shapes.{head_in, head_at, task_head, turn_claimed, main_turn, bounds_main, low_total}
 use Rattle.p10_check.specs.Sums.{covers_sum, sum_claimed, short_turn, short_steps, short_depths}
 use Rattle.p10_finder.specs.Trials.{counted}
-use Rattle.p10_finder.specs.Functions.{loops_of, with_turn_steps, counted_sum, total_of}
+use Rattle.p10_finder.specs.Functions.{loops_of, with_turn_steps}
 use Rattle.p10_finder.specs.Answers.{AreClaims}
 use Rattle.p10_acceptance.proofs.Walk.{Numbered}
 use Rattle.p10_acceptance.proofs.Bodies.{numbered_from}

@@ -1,22 +1,19 @@
 -- Rounds of a loop in trials: from a narrower head no more is left.
-use Rattle.std.proofs.Common.{◌≡◌, ℕ, Bool, true, false, List, [], ◌++◌, Option, Some, None, refl, ap, sym, ◌∙◌, subst}
-use Rattle.std.specs.Prelude.{slice_get, is_some}
+use Rattle.std.proofs.Common.{◌≡◌, ℕ, Bool, true, false, [], Option, None, refl, ap}
 use Rattle.p10_base.specs.declared.at.At.{At}
-use Rattle.p10_int.specs.declared.types.IntType.{IntType}
 use Rattle.p10_core.specs.declared.statements.LoopHead.{LoopHead}
 use Rattle.p10_core.specs.Constants.{integer_of}
-use Rattle.p10_core.specs.Typed.{PlainValue, PlainStatement, statement, loop, PlainStatements, PlainVariable, PlainFunction, PlainProgram}
+use Rattle.p10_core.specs.Typed.{PlainValue, PlainStatement, statement, loop, PlainStatements, PlainFunction, PlainProgram}
 use Rattle.p10_core.specs.WholePrograms.{Region, surroundings_of, after_all, is_among, IsWholeStatement, declared_in, declared_of}
-use Rattle.p10_cert.specs.Claims.{Value, Loop, Claims}
-use Rattle.p10_absx.specs.Environments.{Environment, known}
-use Rattle.p10_pass.specs.Passing.{Left, Round, pass_statement, pass_statements, trial_manner}
-use Rattle.p10_execution.specs.Scoping.{KnowsNumbers, IsBefore}
+use Rattle.p10_absx.specs.Environments.{Environment}
+use Rattle.p10_pass.specs.Passing.{Round, pass_statement, pass_statements, trial_manner}
+use Rattle.p10_execution.specs.Scoping.{IsBefore}
 use Rattle.p10_execution.proofs.TopDeclarations.{declares_here, declares_at_top, top_is_declared, not_here}
-use Rattle.p10_execution.proofs.ScopedEnds.{nothing, third_declares, Scoped, ends_wider, before_scoped, before_nothing}
+use Rattle.p10_execution.proofs.ScopedEnds.{nothing, third_declares, ends_wider, before_scoped, before_nothing}
 use Rattle.p10_execution.proofs.PassedScopes.{RoundScoped, round_scope, statement_scoped, statements_scoped}
 use Rattle.p10_acceptance.proofs.Narrowing.{whole_typed, Narrower}
 use Rattle.p10_acceptance.proofs.Values.{AreTyped}
-use Rattle.p10_acceptance.proofs.Fitting.{entered, trial_round, first_plain, third_plain, all_fitted, trial_fitted}
+use Rattle.p10_acceptance.proofs.Fitting.{entered, trial_round, third_plain, all_fitted, trial_fitted}
 use Rattle.p10_acceptance.proofs.Rounds.{maybe_is, RoundFits, round_fits}
 use Rattle.p10_acceptance.proofs.Statements.{IsIn, in_after_all, maybe_tests, entered_scope, statement_fits, statements_fit}
 

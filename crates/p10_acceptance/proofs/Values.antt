@@ -1,26 +1,24 @@
 -- What is found of whole values: in narrower environments it fits what a trial pass finds in wider ones.
 use Rattle.std.proofs.Common.{◌≡◌, ℕ, Bool, true, false, List, Option, Some, None, refl, ap, sym, ◌∙◌, subst, arith, ℤ, pos, neg_ℤ}
-use Rattle.std.specs.Prelude.{slice_get, if◌then◌else◌, is_some, IfSome}
+use Rattle.std.specs.Prelude.{slice_get, if◌then◌else◌, IfSome}
 use Rattle.std.proofs.lemmas.Option.{same_Some, none-some}
-use Rattle.std.proofs.lemmas.Int.{ints, clamps}
-use Rattle.p10_base.specs.declared.at.At.{At}
+use Rattle.std.proofs.lemmas.Int.{ints}
 use Rattle.p10_int.specs.declared.types.IntType.{IntType}
 use Rattle.p10_int.specs.declared.types.IntType.TheVariants.{Int}
-use Rattle.p10_range.specs.Ranges.{Interval, from_to, IsWithin}
-use Rattle.p10_range.specs.Rows.{values_of}
+use Rattle.p10_range.specs.Ranges.{Interval, from_to}
 use Rattle.p10_range.specs.Laws.{IsOfType}
 use Rattle.p10_core.specs.declared.typed.Library.{Library}
 use Rattle.p10_core.specs.declared.typed.Library.TheVariants.{Assert, CAssert, Getchar, Putchar, Malloc, Calloc, Free}
-use Rattle.p10_core.specs.Types.{PlainType, void, integer, pointer, array, structure, unqualified, bare}
-use Rattle.p10_core.specs.Typed.{PlainValue, value, PlainForm, constant, read, sense, address, decay, convert, cast, unary, binary, logic, conditional, call, built_in, PlainPlace, place, place_type, variable, global, literal, index, member, dereference, PlainValues, no_values, more_values, type_of, PlainVariable}
+use Rattle.p10_core.specs.Types.{PlainType, integer, pointer, bare}
+use Rattle.p10_core.specs.Typed.{PlainValue, value, PlainForm, constant, read, sense, address, decay, convert, cast, unary, binary, logic, conditional, call, built_in, PlainPlace, place, variable, global, literal, index, member, dereference, PlainValues, no_values, more_values, type_of, PlainVariable}
 use Rattle.p10_core.specs.Constants.{integer_of}
-use Rattle.p10_core.specs.Rows.{Row, conditional_row, int_type, same, usual_row}
-use Rattle.p10_core.specs.Whole.{SeenVariable, SeenFunction, Surroundings, IsConstant, IsVariable, Reads, ConditionalAgrees, Calls, CallsLibrary, IsWholeValue, IsWholeForm, IsWholePlace, AreWholeValues}
+use Rattle.p10_core.specs.Rows.{Row, conditional_row, int_type, same}
+use Rattle.p10_core.specs.Whole.{SeenVariable, SeenFunction, Surroundings, IsConstant, IsVariable, Reads, ConditionalAgrees, CallsLibrary, IsWholeValue, IsWholeForm, IsWholePlace, AreWholeValues}
 use Rattle.p10_cert.specs.Claims.{Claims}
 use Rattle.p10_absx.specs.Abstract.{Abstract, only_range}
 use Rattle.p10_absx.specs.Environments.{Environment, known}
-use Rattle.p10_absx.specs.Assessing.{Assessed, as_side, known_where, any_of, found_of, place_read, are_integers, library_found, library_assessed, call_claimed, assess, assess_form, assess_only, abstract_value}
-use Rattle.p10_acceptance.proofs.Narrowing.{within_itself, Fits, LiesIn, Narrower, MaybeNarrower}
+use Rattle.p10_absx.specs.Assessing.{known_where, found_of, place_read, are_integers, library_assessed, call_claimed, assess, assess_form, assess_only, abstract_value}
+use Rattle.p10_acceptance.proofs.Narrowing.{within_itself, Fits, Narrower, MaybeNarrower}
 use Rattle.p10_acceptance.proofs.Assessing.{AssessedFits, same_kind, found_fits, sides_fit, where_fits, any_fits, value_fits, read_fits, conversion_fits, operation_fits, pair_fits, connected_fits, choice_fits, truths_fit}
 
 -- ## Types

@@ -1,54 +1,18 @@
 -- The loops that are found in statements: how many, and that each one's claim fits where the pass under all of them comes to it.
-use Rattle.std.proofs.Common.{◌≡◌, ℕ, zero, suc, ◌+◌, ◌<◌, ◌≤◌, length, Bool, true, false, List, [], ◌∷◌, ◌++◌, map, All, Option, Some, None, refl, ap, sym, ◌∙◌, subst, inl, inr, arith}
-use Rattle.std.specs.Prelude.{slice_get, if◌then◌else◌, is_some, ◌||◌, ◌&&◌, ◌⊎◌, not, nat_eq, nat_lt, IfSome}
-use Rattle.std.specs.Option.{option_map, option_and_then}
-use Rattle.std.proofs.lemmas.Option.{same_Some, none-some}
-use Rattle.std.proofs.lemmas.Bool.{and_parts, lt-ltb}
+use Rattle.std.proofs.Common.{◌≡◌, ℕ, zero, suc, ◌+◌, ◌<◌, ◌≤◌, length, true, false, List, [], ◌∷◌, ◌++◌, Option, Some, None, refl, ap, sym, ◌∙◌, subst, arith}
+use Rattle.std.specs.Prelude.{slice_get, if◌then◌else◌}
+use Rattle.std.proofs.lemmas.Option.{none-some}
 use Rattle.std.proofs.lemmas.List.{length-append}
-use Rattle.std.proofs.lemmas.List.Elements.{All-head, All-tail}
-use Rattle.p10_base.specs.declared.at.At.{At}
-use Rattle.p10_base.specs.declared.span.Span.{Span}
-use Rattle.p10_base.specs.declared.report.TheConstants.Limit.{MOST_SUM}
-use Rattle.p10_int.specs.declared.types.IntType.{IntType}
-use Rattle.p10_range.specs.Ranges.{Interval, hull_of, IsWithin}
 use Rattle.p10_core.specs.declared.statements.LoopHead.{LoopHead}
-use Rattle.p10_core.specs.declared.statements.LoopKeyword.{LoopKeyword}
-use Rattle.p10_core.specs.declared.statements.LoopKeyword.TheVariants.{While, Do, For}
-use Rattle.p10_core.specs.Constants.{integer_of}
-use Rattle.p10_core.specs.Typed.{PlainValue, PlainLabels, PlainStatement, statement, PlainStatementForm, set, update, copy, evaluate, asserts, declare, declare_static, block, if_then, if_else, loop, switch, break, continue, return, empty, mark, PlainStatements, no_statements, more_statements, statements_list, PlainVariable, PlainFunction, PlainProgram}
-use Rattle.p10_core.specs.WholePrograms.{Region, surroundings_of, around, after, after_all, is_declaration, IsWholeStatement, AreWholeStatements, declared_in, declared_of, loops_in as heads_in, loops_in_form as heads_in_form, loops_of as heads_of}
-use Rattle.p10_cert.specs.declared.claims.Rank.{Rank}
-use Rattle.p10_cert.specs.declared.claims.Rank.TheVariants.{Up, Down, One, Task}
-use Rattle.p10_cert.specs.Claims.{Value, Loop, Claims}
-use Rattle.p10_absx.specs.Environments.{Environment, known, hull_reached}
-use Rattle.p10_absx.specs.Assessing.{assess, known_where}
-use Rattle.p10_fit.specs.Fits.{is_task}
-use Rattle.p10_pass.specs.Scopes.{form_assigns, assigns, any_assigns}
-use Rattle.p10_pass.specs.Claiming.{head_of, ranges_hold, ranges_hold_reached, loop_claimed, claim_or_none, rank_in, enters_ranked, goes_back_ranked, is_enough}
-use Rattle.p10_pass.specs.Arguments.{has_value}
-use Rattle.p10_pass.specs.Passing.{Manner, Left, Round, nowhere, where_going, followed, and_then_pass, rank_fails, is_labelled, tested_in, pass_statement, pass_statements, trial_manner}
-use Rattle.p10_execution.specs.Scoping.{IsNumber, KnowsNumbers, IsBefore}
-use Rattle.p10_execution.proofs.AssessedScopes.{SameScope}
-use Rattle.p10_execution.proofs.Entries.{changed_knows}
-use Rattle.p10_execution.proofs.TopDeclarations.{declares_here, declares_at_top}
-use Rattle.p10_execution.proofs.ScopedEnds.{nothing, Scoped, MaybeScoped, EndsScoped, scoped_here, scoped_same, reached_scoped, if_scoped, changed_scope, before_left, before_right, before_scoped, before_same, before_rest, before_body}
-use Rattle.p10_execution.proofs.PassedScopes.{truth_scoped, contrary_scoped, statement_scoped, statements_scoped, item_scoped}
-use Rattle.p10_turns.specs.LoopParts.{LoopParts, loops_within, loops_among, round_under}
-use Rattle.p10_turns.specs.Ranked.{is_ranked}
-use Rattle.p10_turns.specs.Evidence.{has_none, holds_by_ranges}
-use Rattle.p10_finder.specs.Candidates.{LoopEntry, Candidate, any_trial, one_candidate, candidates}
-use Rattle.p10_finder.specs.Trials.{Rounds, head_after, tried_head, turns_of_rank, turns_from, claim_by, claim_of, stands_alone, first_standing, LoopFound, without_bound, found_by, loop_found, task_found, unreached_found}
-use Rattle.p10_finder.specs.Loops.{Search, LoopsFound, with_loop, manner_after, known_after_statement, known_where_value, known_after_value, known_at_entry, known_in_body, known_under, assigned_in, loop_entry, trial_rounds, entered_found, reached_found, LoopPassed, loop_passed, loops_in, loops_in_form, loops_in_all, loops_in_switch, loops_in_cases, loops_from}
-use Rattle.p10_acceptance.proofs.Narrowing.{within_itself, whole_typed, Fair, Narrower, MaybeNarrower, narrower_itself, LiesIn}
-use Rattle.p10_acceptance.proofs.Values.{AreTyped, truth_narrower}
-use Rattle.p10_acceptance.proofs.Calling.{MaybeTaken}
-use Rattle.p10_acceptance.proofs.Ends.{Each, each_both, EndsFit, changed_fair}
-use Rattle.p10_acceptance.proofs.Fitting.{ClaimFits, m, entered, trial_round, Fitted, AllFitted, SwitchFitted, FromFitted, first_plain, all_fitted}
-use Rattle.p10_acceptance.proofs.Rounds.{maybe_is, RoundFits, held_narrower, head_fair}
-use Rattle.p10_acceptance.proofs.Statements.{IsIn, in_after, in_after_all, tests, fair_is, if_known, truth_scope, entered_scope, maybe_tests, statement_fits, statements_fit}
-use Rattle.p10_acceptance.proofs.Alike.{Differs, each_left, each_right, clauses_alike, statement_alike}
-use Rattle.p10_acceptance.proofs.Claims.{HeadEntry, HeadHas, claim_fits, tried_has, RankKnown, IsGood, one_good, candidates_good, Stood, stood, turns_enough, rank_there}
-use Rattle.p10_acceptance.proofs.Trials.{NoneAsked, any_typed, rounds_narrower}
+use Rattle.p10_core.specs.Typed.{PlainLabels, PlainStatement, statement, PlainStatementForm, block, if_then, if_else, loop, switch, PlainStatements, no_statements, more_statements}
+use Rattle.p10_core.specs.WholePrograms.{loops_in as heads_in, loops_in_form as heads_in_form, loops_of as heads_of}
+use Rattle.p10_cert.specs.Claims.{Loop}
+use Rattle.p10_absx.specs.Environments.{Environment, hull_reached}
+use Rattle.p10_pass.specs.Claiming.{loop_claimed, claim_or_none}
+use Rattle.p10_pass.specs.Passing.{is_labelled}
+use Rattle.p10_finder.specs.Trials.{LoopFound}
+use Rattle.p10_finder.specs.Loops.{Search, LoopsFound, with_loop, known_after_statement, known_where_value, known_after_value, LoopPassed, loop_passed, loops_in, loops_in_form, loops_in_all, loops_in_switch, loops_in_cases, loops_from}
+use Rattle.p10_acceptance.proofs.Ends.{Each}
 
 -- ## How many loops are found
 

@@ -1,13 +1,12 @@
 -- Where the loops of a function are found, the claim of each fits where the pass under all of them comes to it.
-use Rattle.std.proofs.Common.{◌≡◌, ℕ, zero, suc, ◌+◌, ◌<◌, ◌≤◌, length, Bool, true, false, List, [], ◌∷◌, ◌++◌, All, Option, Some, None, refl, ap, sym, ◌∙◌, subst, inl, inr, arith}
-use Rattle.std.specs.Prelude.{slice_get, if◌then◌else◌, is_some, ◌||◌, ◌&&◌, IfSome}
-use Rattle.std.specs.Option.{option_map, option_and_then}
-use Rattle.std.proofs.lemmas.Option.{same_Some, none-some}
+use Rattle.std.proofs.Common.{◌≡◌, ℕ, suc, ◌+◌, ◌≤◌, length, Bool, true, false, List, [], ◌∷◌, ◌++◌, All, Option, Some, None, refl, ap, sym, ◌∙◌, subst, arith}
+use Rattle.std.specs.Prelude.{slice_get, if◌then◌else◌, IfSome}
+use Rattle.std.specs.Option.{option_and_then}
+use Rattle.std.proofs.lemmas.Option.{same_Some}
 use Rattle.std.proofs.lemmas.List.{length-append}
 use Rattle.std.proofs.lemmas.List.Elements.{All-head, All-tail}
 use Rattle.p10_base.specs.declared.at.At.{At}
 use Rattle.p10_base.specs.declared.report.TheConstants.Limit.{MOST_SUM}
-use Rattle.p10_int.specs.declared.types.IntType.{IntType}
 use Rattle.p10_range.specs.Ranges.{Interval}
 use Rattle.p10_core.specs.declared.statements.LoopHead.{LoopHead}
 use Rattle.p10_core.specs.declared.statements.LoopKeyword.{LoopKeyword}
@@ -16,14 +15,13 @@ use Rattle.p10_core.specs.Constants.{integer_of}
 use Rattle.p10_core.specs.Typed.{PlainValue, PlainLabels, PlainStatement, statement, block, if_then, if_else, loop, switch, PlainStatements, no_statements, more_statements, statements_list, PlainVariable, PlainFunction, PlainProgram}
 use Rattle.p10_core.specs.Whole.{IsWholeValue}
 use Rattle.p10_core.specs.WholePrograms.{Region, surroundings_of, around, after, after_all, is_declaration, IsWholeStatement, AreWholeStatements, declared_in, declared_of, loops_in as heads_in, loops_of as heads_of}
-use Rattle.p10_cert.specs.Claims.{Value, Loop, Claims}
-use Rattle.p10_absx.specs.Environments.{Environment, known, hull_reached}
+use Rattle.p10_cert.specs.Claims.{Loop, Claims}
+use Rattle.p10_absx.specs.Environments.{Environment, hull_reached}
 use Rattle.p10_absx.specs.Assessing.{assess, known_where}
 use Rattle.p10_fit.specs.Fits.{is_task}
 use Rattle.p10_pass.specs.Scopes.{form_assigns}
 use Rattle.p10_pass.specs.Claiming.{head_of, loop_claimed, claim_or_none}
-use Rattle.p10_pass.specs.Arguments.{has_value}
-use Rattle.p10_pass.specs.Passing.{Manner, Left, where_going, is_labelled, tested_in, pass_statement, pass_statements, trial_manner}
+use Rattle.p10_pass.specs.Passing.{Manner, Left, where_going, is_labelled, pass_statement, pass_statements, trial_manner}
 use Rattle.p10_execution.specs.Scoping.{KnowsNumbers, IsBefore}
 use Rattle.p10_execution.proofs.TopDeclarations.{declares_here, declares_at_top}
 use Rattle.p10_execution.proofs.ScopedEnds.{nothing, Scoped, MaybeScoped, scoped_here, scoped_same, reached_scoped, if_scoped, changed_scope, before_left, before_right, before_scoped, before_same, before_rest, before_body}
@@ -32,12 +30,12 @@ use Rattle.p10_turns.specs.LoopParts.{LoopParts, loops_within, loops_among}
 use Rattle.p10_turns.specs.Ranked.{is_ranked}
 use Rattle.p10_turns.specs.Evidence.{holds_by_ranges}
 use Rattle.p10_finder.specs.Trials.{LoopFound}
-use Rattle.p10_finder.specs.Loops.{Search, LoopsFound, with_loop, manner_after, known_after_statement, known_where_value, known_after_value, known_at_entry, known_in_body, assigned_in, loop_entry, trial_rounds, entered_found, reached_found, LoopPassed, loop_passed, loops_in, loops_in_all, loops_from}
-use Rattle.p10_acceptance.proofs.Narrowing.{Fair, Narrower, MaybeNarrower, narrower_itself, hull_narrower}
+use Rattle.p10_finder.specs.Loops.{Search, LoopsFound, manner_after, known_after_statement, known_after_value, known_at_entry, known_in_body, assigned_in, loop_entry, trial_rounds, entered_found, reached_found, LoopPassed, loop_passed, loops_in, loops_in_all, loops_from}
+use Rattle.p10_acceptance.proofs.Narrowing.{Fair, MaybeNarrower, narrower_itself, hull_narrower}
 use Rattle.p10_acceptance.proofs.Values.{AreTyped}
 use Rattle.p10_acceptance.proofs.Calling.{MaybeTaken}
 use Rattle.p10_acceptance.proofs.Ends.{Each, going_fit, if_narrower}
-use Rattle.p10_acceptance.proofs.Fitting.{ClaimFits, entered, trial_round, Fitted, AllFitted, SwitchFitted, FromFitted, first_plain, all_fitted}
+use Rattle.p10_acceptance.proofs.Fitting.{ClaimFits, entered, trial_round, Fitted, AllFitted, FromFitted, first_plain, all_fitted}
 use Rattle.p10_acceptance.proofs.Rounds.{maybe_is, head_fair}
 use Rattle.p10_acceptance.proofs.Statements.{IsIn, in_after, in_after_all, tests, fair_is, if_known, truth_scope, entered_scope, maybe_tests, Fine, statement_fits, statements_fit}
 use Rattle.p10_acceptance.proofs.Alike.{Differs, each_left, each_right, clauses_alike, statement_alike}

@@ -2,6 +2,7 @@
 use Rattle.p10_core.specs.Typed.{PlainProgram}
 use Rattle.p10_core.specs.WholePrograms.{IsWholeProgram}
 use Rattle.p10_cert.specs.Claims.{Claims}
+use Rattle.p10_meaning.specs.Runs.{Within}
 use Rattle.p10_turns.specs.Evidence.{stands_by_ranges}
 use Rattle.p10_check.specs.declared.verdict.Verdict.TheVariants.{Accepted}
 use Rattle.p10_check.specs.Conditions.{IsVerdict}
@@ -15,3 +16,7 @@ DerivedCertificatesHold = (p : PlainProgram) → IsWholeProgram p → (c : Claim
 -- so the certificate is accepted, with its total
 abbrev pub DerivedCertificatesAreAccepted : Type 0
 DerivedCertificatesAreAccepted = (p : PlainProgram) → IsWholeProgram p → (c : Claims) → IsDerived p (Certified c) → IsVerdict (stands_by_ranges p) p c (Accepted c.total)
+
+-- and every run of the program stays within that total
+abbrev pub DerivedCertificatesBoundRuns : Type 0
+DerivedCertificatesBoundRuns = (p : PlainProgram) → IsWholeProgram p → (c : Claims) → IsDerived p (Certified c) → Within p c.total

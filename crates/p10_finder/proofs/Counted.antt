@@ -1,5 +1,5 @@
 -- Sums that are counted, the functions of one rank after the other, are those of the program's claims.
-use Rattle.std.proofs.Common.{◌≡◌, ℕ, ◌+◌, ◌<◌, ◌≤◌, List, [], ◌∷◌, length, map, get_or, Option, Some, None, refl, sym, ap, ◌∙◌, subst, arith, inl, inr}
+use Rattle.std.proofs.Common.{◌≡◌, ℕ, ◌+◌, ◌<◌, ◌≤◌, List, length, map, get_or, Some, refl, sym, ap, ◌∙◌, subst, arith, inl, inr}
 use Rattle.std.specs.Prelude.{slice_get}
 use Rattle.std.specs.List.{slice_index}
 use Rattle.std.proofs.lemmas.Bool.{cases_lt, cases_eq}
@@ -21,7 +21,7 @@ use Rattle.p10_sums.specs.declared.sum.FuncSum.{FuncSum}
 use Rattle.p10_sums.specs.Counting.{loops_claimed, task_of}
 use Rattle.p10_sums.specs.Sums.{sum_under, function_sum, sum_at}
 use Rattle.p10_finder.specs.Trials.{counted}
-use Rattle.p10_finder.specs.Functions.{any_value, loops_of, result_of, with_turn_steps, counted_sum, func_found, total_of}
+use Rattle.p10_finder.specs.Functions.{any_value, loops_of, with_turn_steps, counted_sum, func_found, total_of}
 use Rattle.p10_finder.specs.Answers.{AreClaims}
 use Rattle.p10_finder.specs.private.Counting.{unsummed, AreUnsummed, with_sum, with_sums, first_sum, AreCountedAt, IsSum, AreSumsBelow, AreSums}
 use Rattle.p10_finder.proofs.Called.{EachCalled, all_called}
@@ -51,7 +51,6 @@ counted_here p funcs ranks rank k old sums made inside same is before = record {
     | inr apart ↦ get_other sums k n made apart ∙ before.counted n (omega (arith, low, apart)) at
   ];
   others = λ n apart. get_other sums k n made (λ here. apart (ap (slice_index ranks) here ∙ same)) ∙ before.others n apart;
-  later = λ n over. get_other sums k n made (λ here. let l : k + 1 ≤ n = over in omega (arith, l, here)) ∙ before.later n (omega (arith, over));
 }
 
 -- a function of another rank
@@ -60,12 +59,11 @@ counted_past p funcs ranks rank k old sums other before = record {
   each = before.each;
   counted = λ n low at. before.counted n (let apart : n ≡ k → ⊥ = λ here. other (ap (slice_index ranks) (sym here) ∙ at) in omega (arith, low, apart)) at;
   others = before.others;
-  later = λ n over. before.later n (omega (arith, over));
 }
 
 -- no function yet
 pub counted_none : (p : PlainProgram) (funcs : List Func) (ranks : List ℕ) (rank : ℕ) (sums : List FuncSum) → AreCountedAt p funcs ranks rank 0 sums sums
-counted_none p funcs ranks rank sums = record { each = refl; counted = λ n low at. absurd (omega (arith, low)); others = λ n apart. refl; later = λ n over. refl }
+counted_none p funcs ranks rank sums = record { each = refl; counted = λ n low at. absurd (omega (arith, low)); others = λ n apart. refl }
 
 module _ (p : PlainProgram) (c : Claims) (ranks : List ℕ) (are : AreUnsummed p c ranks c.funcs) where
   -- ## What a function costs under sums

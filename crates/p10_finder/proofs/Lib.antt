@@ -20,6 +20,8 @@ pub mod ViolationOrder
 pub mod OneClaims
 pub mod OneAnswer
 pub mod SameBounds
+pub mod LevelOrder
+pub mod Settled
 pub mod Listing
 pub mod UnsummedClaims
 pub mod Counted

@@ -5,3 +5,5 @@ pub mod Judging
 pub mod Counting
 pub mod Limits
 pub mod Texts
+pub mod Levels
+pub mod Settling

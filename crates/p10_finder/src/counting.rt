@@ -89,7 +89,7 @@ impl Ranked<'_, '_> {
 }
 
 /// A number above all ranks.
-fn end_of(ranks: &[u32]) -> u64
+pub(crate) fn end_of(ranks: &[u32]) -> u64
     ensures { (n : ℕ) → n < length ranks.now → slice_index ranks.now n < result }
 {
     let mut end = 0;

@@ -69,7 +69,6 @@ pub record AreCountedAt (p : PlainProgram) (funcs : List Func) (ranks : List ℕ
   pub each : length new ≡ length old
   pub counted : (n : ℕ) → n < k → slice_index ranks n ≡ rank → slice_get new n ≡ Some (counted_sum (sum_at p funcs n))
   pub others : (n : ℕ) → (slice_index ranks n ≡ rank → ⊥) → slice_get new n ≡ slice_get old n
-  pub later : (n : ℕ) → k ≤ n → slice_get new n ≡ slice_get old n
 
 -- the sum of the function with a number is the one that is counted where the others stand
 abbrev pub IsSum : PlainProgram → Claims → List FuncSum → ℕ → Type 0

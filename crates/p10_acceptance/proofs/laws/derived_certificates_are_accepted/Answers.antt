@@ -1,4 +1,4 @@
-use Rattle.p10_acceptance.proofs.Accepting.{derived_hold, derived_are_accepted}
+use Rattle.p10_acceptance.proofs.Accepting.{derived_hold, derived_are_accepted, derived_bound}
 use Rattle.p10_acceptance.proofs.laws.derived_certificates_are_accepted.Goals as goal
 
 pub returns-clause-hold : goal.returns-clause-hold
@@ -6,3 +6,6 @@ returns-clause-hold c = derived_hold
 
 pub returns-clause-accepted : goal.returns-clause-accepted
 returns-clause-accepted c = derived_are_accepted
+
+pub returns-clause-bounds : goal.returns-clause-bounds
+returns-clause-bounds c = derived_bound
