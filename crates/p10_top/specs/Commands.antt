@@ -9,6 +9,10 @@ use Rattle.p10_run_command.specs.declared.command.RunCommand.{RunCommand}
 use Rattle.p10_run_command.specs.Command.{IsRunLine}
 use Rattle.p10_verify_command.specs.Names.{Names}
 
+-- the words are the command `derive` with these directories of included files and these sources
+abbrev pub IsDeriveLine : List Text → List Text → List Text → Type 0
+IsDeriveLine words directories sources = IsCommandLine words (Derive directories sources)
+
 -- the words are the command `verify` with these names
 abbrev pub IsVerifyLine : List Text → Names → Type 0
 IsVerifyLine words names = IsCommandLine words (Verify names.directories names.certificate names.sources)

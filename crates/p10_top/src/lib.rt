@@ -12,11 +12,12 @@ ghost use Rattle.p10_world.specs.Faults.{Rose};
 ghost use Rattle.p10_report.specs.Stops.{StopsWithin};
 ghost use Rattle.p10_command.specs.Told.{Told, Stopped};
 ghost use Rattle.p10_top.specs.Commands.{sources_of, turns_asked, IsCertifiedRunLine, IsNoRun, IsNoRunLine};
-ghost use Rattle.p10_top.specs.Headline.{Verified};
+ghost use Rattle.p10_top.specs.Headline.{DerivesBounds, Verified};
 ghost use Rattle.p10_top.specs.Told.{MaySay, SaysFor};
 ghost use Rattle.p10_top.specs.private.Unread.{saying_without_command};
 
 use commands::{check_command, derive_command, run_command, verify_command};
+use p10_acceptance::laws::derived_certificates_are_accepted;
 use p10_check_command::check;
 use p10_derive_command::derive;
 use p10_report::{put_out_of_memory, put_usage};
@@ -65,6 +66,9 @@ pub fn p10_main<F: Files, I: Source, O: Sink, E: Sink>(
     // A run by a certificate never ends for want of steps.
     ensures steps { IsCertifiedRunLine (map string_bytes words.now) → IfSome (I.left input.old) (λ bytes. All (λ byte. byte < 256) bytes → result ≢ 12) }
 
+    // A certificate that is derived is accepted, and bounds every run of the sources' program.
+    ensures derived { result ≡ 0 → IfSome (F.held files.old) (λ held. DerivesBounds (map string_bytes words.now) held (O.taken out.old) (O.taken out.new)) }
+
     // The status and both texts are those of a right answer.
     ensures told { result ≢ 6 → Told (MaySay (map string_bytes words.now)
         (record { held = F.held files.old; faults_before = F.faults files.old; faults_after = F.faults files.new })
@@ -82,8 +86,9 @@ pub fn p10_main<F: Files, I: Source, O: Sink, E: Sink>(
     ensures held { F.held files.new ≡ F.held files.old }
     ensures input { IsNoRunLine (map string_bytes words.now) → input.new ≡ input.old }
 {
-    // The laws that the headline and the clause on steps rest on.
+    // The laws that the headline, and the clauses on derivation and on steps, rest on.
     accepted_certificates_bound_every_run();
+    derived_certificates_are_accepted();
     certificates_leave_steps();
     match read_words(alloc, words) {
         Ok(command) => obey(alloc, command, files, input, out, err),
