@@ -1,9 +1,9 @@
 -- The command lines of `p10`.
-use Rattle.std.specs.Prelude.{ℕ, ◌≡◌, List}
+use Rattle.std.specs.Prelude.{ℕ, ◌≡◌, List, []}
 use Rattle.p10_base.specs.Words.{Text}
 use Rattle.p10_words.specs.declared.command.Budget.TheVariants.{Certificate}
 use Rattle.p10_words.specs.declared.command.Command.{Command}
-use Rattle.p10_words.specs.declared.command.Command.TheVariants.{Check, Derive, Verify, Run}
+use Rattle.p10_words.specs.declared.command.Command.TheVariants.{Check, Derive, Verify, Run, Generate}
 use Rattle.p10_words.specs.Commands.{IsCommandLine}
 use Rattle.p10_run_command.specs.declared.command.RunCommand.{RunCommand}
 use Rattle.p10_run_command.specs.Command.{IsRunLine}
@@ -38,6 +38,7 @@ sources_of (Check directories json sources) = sources
 sources_of (Derive directories sources) = sources
 sources_of (Verify directories certificate sources) = sources
 sources_of (Run directories budget turns deny sources) = sources
+sources_of (Generate functions) = []
 
 -- the most turns that a command asks for
 abbrev pub turns_asked : Command → ℕ
@@ -45,6 +46,7 @@ turns_asked (Check directories json sources) = 0
 turns_asked (Derive directories sources) = 0
 turns_asked (Verify directories certificate sources) = 0
 turns_asked (Run directories budget turns deny sources) = turns
+turns_asked (Generate functions) = 0
 
 -- a command that isn't `run`
 abbrev pub IsNoRun : Command → Type 0
@@ -52,3 +54,4 @@ IsNoRun (Check directories json sources) = Unit {0}
 IsNoRun (Derive directories sources) = Unit {0}
 IsNoRun (Verify directories certificate sources) = Unit {0}
 IsNoRun (Run directories budget turns deny sources) = ⊥
+IsNoRun (Generate functions) = Unit {0}

@@ -20,6 +20,7 @@ use commands::{check_command, derive_command, run_command, verify_command};
 use p10_acceptance::laws::derived_certificates_are_accepted;
 use p10_check_command::check;
 use p10_derive_command::derive;
+use p10_gen_command::generate;
 use p10_report::{put_out_of_memory, put_usage};
 use p10_run_command::laws::certificates_leave_steps;
 use p10_run_command::run;
@@ -47,7 +48,10 @@ mod tests;
 /// sources' program; all else is told on `err`. Nothing is read of `input` by this command either.
 ///
 /// `run [--include DIRECTORIES] [--steps N | --cert CERTIFICATE] [--turns N] [--deny N] SOURCE..` runs the sources' program on `input` and
-/// `out`, and tells on `err` how it has ended, or why there is none. With a certificate it runs only where that is accepted, and by its steps. Other commands can't be obeyed yet, and are none.
+/// `out`, and tells on `err` how it has ended, or why there is none. With a certificate it runs only where that is accepted, and by its steps.
+///
+/// `gen N` makes a program of N functions and `main`, derives its certificate, verifies it and runs the program within it, and tells on
+/// `out` what has come of it; all else is told on `err`. Nothing is read of files or input.
 ///
 /// The statuses: 0 no rule broken, derived, accepted or run to its end, 1 a rule is broken or a condition doesn't hold, 2 no command, 3 the source is refused, 4 no
 /// certificate, 5 a read failed, 6 a write failed, 7 out of memory, 8 a limit is passed, 9 a file is
@@ -144,6 +148,7 @@ fn obey<F: Files, I: Source, O: Sink, E: Sink>(
             let command = run_command(dirs, budget, turns, deny, sources);
             run(alloc, &command, files, input, out, err)
         }
+        Command::Generate { functions } => generate(alloc, functions, out, err),
     }
 }
 
