@@ -96,7 +96,13 @@ fn outcome_within(
 {
     let mut input = SureSource::new(Vec::new(alloc));
     let mut out = SureSink::new();
-    match run(alloc, program, &Budget::within(bounds, 1, 0), &mut input, &mut out) {
+    match run(
+        alloc,
+        program,
+        &Budget::within(bounds, 1, 0),
+        &mut input,
+        &mut out,
+    ) {
         Ok(done) => Ok(done.outcome),
         Err(fault) => match fault {
             RunFault::Memory => Err(AllocError),
