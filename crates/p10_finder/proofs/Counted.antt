@@ -1,5 +1,5 @@
 -- Sums that are counted, the functions of one rank after the other, are those of the program's claims.
-use Rattle.std.proofs.Common.{◌≡◌, ℕ, ◌+◌, ◌<◌, ◌≤◌, List, [], ◌∷◌, length, map, get_or, Option, Some, None, refl, sym, ap, ◌∙◌, subst, arith, inl, inr}
+use Rattle.std.proofs.Common.{◌≡◌, ℕ, ◌+◌, ◌<◌, ◌≤◌, List, length, map, get_or, Some, refl, sym, ap, ◌∙◌, subst, arith, inl, inr}
 use Rattle.std.specs.Prelude.{slice_get}
 use Rattle.std.specs.List.{slice_index}
 use Rattle.std.proofs.lemmas.Bool.{cases_lt, cases_eq}
@@ -21,7 +21,7 @@ use Rattle.p10_sums.specs.declared.sum.FuncSum.{FuncSum}
 use Rattle.p10_sums.specs.Counting.{loops_claimed, task_of}
 use Rattle.p10_sums.specs.Sums.{sum_under, function_sum, sum_at}
 use Rattle.p10_finder.specs.Trials.{counted}
-use Rattle.p10_finder.specs.Functions.{any_value, loops_of, result_of, with_turn_steps, counted_sum, func_found, total_of}
+use Rattle.p10_finder.specs.Functions.{any_value, loops_of, with_turn_steps, counted_sum, func_found, total_of}
 use Rattle.p10_finder.specs.Answers.{AreClaims}
 use Rattle.p10_finder.specs.private.Counting.{unsummed, AreUnsummed, with_sum, with_sums, first_sum, AreCountedAt, IsSum, AreSumsBelow, AreSums}
 use Rattle.p10_finder.proofs.Called.{EachCalled, all_called}

@@ -1,8 +1,6 @@
 -- What is derived of a program.
-use Rattle.std.proofs.Common.{◌≡◌, ◌⊎◌, inl, inr, true, false, List, [], ◌∷◌, map, refl, sym, ap, ◌∙◌, subst}
-use Rattle.std.specs.List.{Contains, filter, All}
-use Rattle.std.specs.Prelude.{Result, Ok, Err, IfOk, IfErr}
-use Rattle.p10_base.specs.declared.span.Span.{Span}
+use Rattle.std.proofs.Common.{◌≡◌, inl, inr, true, false, List, [], ◌∷◌, refl, sym, subst}
+use Rattle.std.specs.List.{Contains, All}
 use Rattle.p10_base.specs.declared.report.Limit.{Limit}
 use Rattle.p10_base.specs.declared.report.Violation.{Violation}
 use Rattle.p10_base.specs.declared.report.TheConstants.Limit.{SUM}
@@ -17,7 +15,7 @@ use Rattle.p10_sums.specs.declared.sum.FuncSum.{FuncSum}
 use Rattle.p10_sums.specs.Sums.{HasPassing, keeps_limit, all_sums}
 use Rattle.p10_finder.specs.declared.found.FinderFault.{FinderFault}
 use Rattle.p10_finder.specs.declared.found.FinderFault.TheVariants as fault
-use Rattle.p10_finder.specs.Answers.{HaveResults, flow, AreViolations, HasViolations, AreClaims, Claiming, PassesSum, PassesText, Over, IsViolating, IsDerived, IsCertified}
+use Rattle.p10_finder.specs.Answers.{HaveResults, flow, AreViolations, AreClaims, Claiming, PassesSum, IsViolating}
 use Rattle.p10_finder.specs.Finding.{IsFault}
 use Rattle.p10_finder.specs.private.Limits.{IsPassed, long_among}
 use Rattle.p10_finder.proofs.OneAnswer.{violates_same}

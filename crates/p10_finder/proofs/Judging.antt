@@ -1,5 +1,5 @@
 -- Parameters of functions, cycles of calls, and loops without a bound, one after the other.
-use Rattle.std.proofs.Common.{◌≡◌, ℕ, zero, suc, ◌+◌, ◌<◌, ◌≤◌, min, List, [], ◌∷◌, ◌++◌, length, map, take, drop, get_or, Some, refl, sym, ◌∙◌, ap, subst, arith, append_assoc, add-one}
+use Rattle.std.proofs.Common.{◌≡◌, ℕ, zero, suc, ◌+◌, ◌<◌, ◌≤◌, min, List, [], ◌∷◌, ◌++◌, length, map, take, drop, get_or, Some, refl, sym, ◌∙◌, ap, arith, append_assoc, add-one}
 use Rattle.std.specs.Prelude.{slice_get}
 use Rattle.std.proofs.lemmas.List.{map-append, length-map, drop_more}
 use Rattle.std.proofs.lemmas.Grind.{take_at_read}
@@ -8,7 +8,7 @@ use Rattle.p10_base.specs.declared.span.Span.{Span}
 use Rattle.p10_core.specs.declared.program.Variable.{Variable}
 use Rattle.p10_core.specs.declared.program.Func.{Func as CodeFunc}
 use Rattle.p10_core.specs.Types.{plain_type}
-use Rattle.p10_core.specs.Typed.{PlainVariable, PlainFunction, PlainProgram}
+use Rattle.p10_core.specs.Typed.{PlainVariable, PlainProgram}
 use Rattle.p10_core.specs.Views.{plain_variable, plain_function}
 use Rattle.p10_core.specs.WholePrograms.{parameter_types}
 use Rattle.p10_graph.specs.Graphs.{Edge, IsOnCycle}

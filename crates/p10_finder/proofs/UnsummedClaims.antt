@@ -1,5 +1,5 @@
 -- What is claimed of functions before their sums are counted.
-use Rattle.std.proofs.Common.{◌≡◌, ℕ, zero, suc, ◌+◌, ◌<◌, ◌≤◌, false, List, [], ◌∷◌, ◌++◌, length, map, get_or, Some, refl, sym, ap, ◌∙◌, subst, arith, inl, inr}
+use Rattle.std.proofs.Common.{◌≡◌, ℕ, zero, suc, ◌+◌, ◌<◌, false, List, [], ◌∷◌, ◌++◌, length, map, get_or, Some, refl, sym, ap, ◌∙◌, subst, arith, inl, inr}
 use Rattle.std.specs.Prelude.{slice_get}
 use Rattle.std.specs.List.{slice_index}
 use Rattle.std.proofs.lemmas.Bool.{cases_lt}
@@ -16,7 +16,7 @@ use Rattle.p10_calls.proofs.Uniqueness.{no_ranks_on_cycles}
 use Rattle.p10_cert.specs.declared.claims.FuncClaim.{FuncClaim}
 use Rattle.p10_cert.specs.Claims.{Func, func_of, Claims}
 use Rattle.p10_absx.proofs.Entries.{get_map}
-use Rattle.p10_finder.specs.Functions.{any_value, loops_of, result_of}
+use Rattle.p10_finder.specs.Functions.{any_value}
 use Rattle.p10_finder.specs.Answers.{HaveResults}
 use Rattle.p10_finder.specs.private.Counting.{unsummed, AreUnsummed}
 use Rattle.p10_finder.proofs.Called.{all_called}

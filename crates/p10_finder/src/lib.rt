@@ -1,4 +1,4 @@
-//! Bounds for a program: what a certificate can claim of its loops and functions without being told.
+//! Certificates of programs: what can be claimed of their loops and functions without being told.
 //!
 //! ```c
 //! int main(void) {
@@ -10,13 +10,16 @@
 //! }
 //! ```
 //!
-//! Entry points: [`bound_rules`], the violations for which a program has no certificate; [`function_found`], the loops and the result of
-//! one function; and [`candidates`], the ranks that are tried for a loop.
+//! Entry points: [`derive`], the certificate of a whole program, or the violations for which there is none; [`bound_rules`], these
+//! violations alone; [`function_found`], the loops and the result of one function; and [`candidates`], the ranks that are tried for a
+//! loop.
 //!
 //! The definitions stand in `specs/`: which ranks a loop's guard offers (`Candidates.antt`), which of them stands by itself
 //! (`Trials.antt`), the walk that finds the claims of a function's loops in text order (`Loops.antt`), what is claimed of functions
 //! (`Functions.antt`), and what is answered of a program: violations, a limit, or one certificate (`Answers.antt`). What they say
 //! of small programs is proved by computation ([`laws`]).
+//! Invariant: each function comes after those that it calls, once for its result and once for its sums. What is found of it depends on
+//! claims of its callees alone, so it stands when other claims change, and nothing is looked at again.
 //! That a certificate which is found bounds every run is left to the crates that check certificates.
 #![tactic(auto)]
 

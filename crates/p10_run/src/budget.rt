@@ -1,5 +1,10 @@
 //! How far a run may go.
 
+ghost use Rattle.std.specs.Prelude.{◌≡◌};
+ghost use Rattle.p10_run.specs.Budgets.{budget_of_steps, budget_within};
+
+use p10_base::Bounds;
+
 /// How many steps and turns a run may take, and which request for memory it is denied.
 #[derive(Clone, Copy, Debug, PartialEq, Eq)]
 pub struct Budget {
@@ -11,4 +16,34 @@ pub struct Budget {
     pub turns: u64,
     /// The number, from 1, of the request that `malloc` or `calloc` is denied; 0 denies none.
     pub denied: u64,
+    /// The bounds of an accepted certificate, for which room is made before the run; none where they aren't known.
+    pub room: Option<Bounds>,
+}
+
+impl Budget {
+    /// So many steps, and afresh as many in each turn of the task loop.
+    pub fn of_steps(steps: u64, turns: u64, denied: u64) -> Budget
+        ensures { result ≡ budget_of_steps steps turns denied }
+    {
+        Budget {
+            prefix: steps,
+            turn: steps,
+            turns,
+            denied,
+            room: None,
+        }
+    }
+
+    /// The steps of bounds: those of the part before the task loop, and those of each of its turns.
+    pub fn within(bounds: &Bounds, turns: u64, denied: u64) -> Budget
+        ensures { result ≡ budget_within bounds.now turns denied }
+    {
+        Budget {
+            prefix: bounds.prefix,
+            turn: bounds.turn,
+            turns,
+            denied,
+            room: Some(*bounds),
+        }
+    }
 }

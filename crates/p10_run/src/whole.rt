@@ -14,6 +14,7 @@ ghost use Rattle.p10_run.specs.private.Standing.{new_machine, outcome_after, Sta
 use crate::budget::Budget;
 use crate::finished::{FinishedRun, RunOutcome};
 use crate::turns::make_turns;
+use p10_base::Bounds;
 use p10_core::Program;
 use p10_interp::{Ended, Machine, RunFault};
 use p10_world::{Sink, Source};
@@ -21,7 +22,7 @@ use std::alloc::{AllocError, Global};
 
 /// Runs a whole program: `main` with `budget.prefix` steps, up to its task loop where it has one, and then at most
 /// `budget.turns` turns of that loop, each with `budget.turn` steps. What the program reads is taken from `input`, and what it
-/// writes is put into `out`, before the answer all of it.
+/// writes is put into `out`, before the answer all of it. Where the budget has bounds, room for them is made before.
 ///
 /// # Errors
 ///
@@ -52,7 +53,7 @@ pub fn run<'p, I: Source, O: Sink>(
     ensures sink { O.faults out.old ≤ O.faults out.new }
 {
     match denied_requests(alloc, budget.denied) {
-        Ok(denied) => match Machine::new(alloc, p, denied) {
+        Ok(denied) => match machine_for(alloc, p, denied, budget.room) {
             Ok(mut machine) => run_on(&mut machine, budget, input, out),
             Err(_) => Err(RunFault::Memory),
         },
@@ -69,6 +70,31 @@ fn denied_requests(alloc: Global, number: u64) -> Result<Vec<u64>, AllocError>
         denied.push(number)?;
     }
     Ok(denied)
+}
+
+/// A machine that has run nothing yet, with room for a run that stays within bounds, where there are some.
+fn machine_for<'p>(
+    alloc: Global,
+    p: &'p Program<'p>,
+    denied: Vec<u64>,
+    room: Option<Bounds>,
+) -> Result<Machine<'p>, AllocError>
+    requires whole { IsWholeProgram (plain_program p.now) }
+    ensures { IfOk result (λ machine. resting_of machine ≡ new_machine (plain_program p.now) denied.items) }
+{
+    let mut machine = Machine::new(alloc, p, denied)?;
+    make_room(&mut machine, room)?;
+    Ok(machine)
+}
+
+/// Makes room for a run that stays within bounds, where there are some.
+fn make_room(machine: &mut Machine<'_>, room: Option<Bounds>) -> Result<(), AllocError>
+    ensures { resting_of machine.new ≡ resting_of machine.old }
+{
+    match room {
+        Some(bounds) => machine.reserve_for(&bounds),
+        None => Ok(()),
+    }
 }
 
 /// Runs a machine that has run nothing yet.

@@ -1,5 +1,7 @@
 -- The lemmas of this crate, by subject.
+pub mod Granted
 pub mod Telling
 pub mod Running
 pub mod Sources
 pub mod OneAnswer
+pub mod Certified

@@ -1,8 +1,9 @@
 -- What a command's sources come to, by the names that were asked for.
-use Rattle.std.proofs.Common.{◌≡◌, List, subst, Option}
+use Rattle.std.proofs.Common.{◌≡◌, List, subst, Option, None}
+use Rattle.std.specs.Prelude.{IfNone}
 use Rattle.p10_base.specs.Gathered.{Gathered}
 use Rattle.p10_base.specs.Words.{Text}
-use Rattle.p10_world.specs.Files.{Named}
+use Rattle.p10_world.specs.Files.{Lacks, Named}
 use Rattle.p10_expand.specs.Gathering.{Gathers, HaveWords}
 use Rattle.p10_expand.specs.Setting.{setting}
 use Rattle.p10_command.specs.declared.gathering.GatheredRoots.{GatheredRoots}
@@ -30,6 +31,13 @@ all_gathered held roots roots' directories directories' found g same_roots same_
 pub not_gathered : (held : Option (List Named)) (roots roots' directories directories' : List Text) (found : GatheredRoots) (why : Ungathered) (g : Gathered) → roots ≡ roots' → directories ≡ directories' → found ≡ Stopped why g →
     AreGathered (setting held roots directories) found → AreUngathered (setting held roots' directories') g why × CanBeTold roots' why
 not_gathered held roots roots' directories directories' found why g same_roots same_directories same are = named held roots roots' directories directories' found (Stopped why g) same_roots same_directories same are
+
+-- there is no file of the name that was asked for
+pub lacks_named : {A : Type 0} (held later : Option (List Named)) (name called : Text) (found : Option A) → found ≡ None → later ≡ held → called ≡ name → IfNone found (Lacks later called) → Lacks held name
+lacks_named {A = A} held later name called found none unchanged by_name lacks =
+    subst (λ (h : Option (List Named)). Lacks h name) unchanged
+    (subst (λ (n : Text). Lacks later n) by_name
+    (subst (λ (f : Option A). IfNone f (Lacks later called)) none lacks))
 
 -- what was read
 pub are_program : (g : Gathered) (found : ReadSources) (reading : Reading) → found ≡ read.Program reading → AreRead g found → AreProgram g reading

@@ -1,5 +1,5 @@
 -- What is told on the error output alone.
-use Rattle.std.proofs.Common.{◌≡◌, ℕ, List, [], sym, subst, Option, Result, Err}
+use Rattle.std.proofs.Common.{◌≡◌, ℕ, ◌≤◌, arith, inl, inr, List, [], sym, subst, Option, Result, Err}
 use Rattle.std.specs.Io.KnownBytes.{Appends}
 use Rattle.std.proofs.KnownBytes.{Appends-nil}
 use Rattle.p10_report.specs.Stops.{StopsWithin}
@@ -31,3 +31,12 @@ stopped_line may saying out err_old err_new is none stopped = record {
 pub may_come : {T : Type 0} (result : Result T Trouble) (trouble : Trouble) (before after : ℕ) → result ≡ Err trouble → (result ≡ Err Read → Rose before after) → MayCome trouble before after
 may_come result Read before after is rises = rises is
 may_come result Memory before after is rises = tt
+
+rose_later : (before middle after : ℕ) → before ≤ middle → Rose middle after → Rose before after
+rose_later before middle after least (inl more) = inl (omega (arith, least, more))
+rose_later before middle after least (inr last) = inr last
+
+-- the same where the counts of faults stood lower before
+pub may_come_later : {T : Type 0} (result : Result T Trouble) (trouble : Trouble) (before middle after : ℕ) → result ≡ Err trouble → before ≤ middle → (result ≡ Err Read → Rose middle after) → MayCome trouble before after
+may_come_later result Read before middle after is least rises = rose_later before middle after least (rises is)
+may_come_later result Memory before middle after is least rises = tt

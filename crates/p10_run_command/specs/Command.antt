@@ -1,15 +1,29 @@
--- The words that are the command `run`, and what they ask for.
-use Rattle.std.specs.Prelude.{List}
+-- The words that are the command `run`, and how far its run may go.
+use Rattle.std.specs.Prelude.{ℕ, ◌≡◌, List, Option}
+use Rattle.p10_base.specs.declared.report.Bounds.{Bounds}
 use Rattle.p10_base.specs.Words.{Text}
+use Rattle.p10_world.specs.Files.{Named}
+use Rattle.p10_core.specs.Typed.{PlainProgram}
+use Rattle.p10_words.specs.declared.command.Budget as asked
+use Rattle.p10_words.specs.declared.command.Budget.TheVariants.{Steps, Certificate}
 use Rattle.p10_words.specs.declared.command.Command.TheVariants.{Run}
 use Rattle.p10_words.specs.Commands.{IsCommandLine}
 use Rattle.p10_run.specs.declared.budget.Budget.{Budget}
+use Rattle.p10_run.specs.Budgets.{budget_of_steps, budget_within}
+use Rattle.p10_judge.specs.declared.judgement.Judgement.TheVariants.{Accepted}
+use Rattle.p10_judge.specs.Judging.{IsJudged}
 use Rattle.p10_run_command.specs.declared.command.RunCommand.{RunCommand}
 
 -- the words are this command
 abbrev pub IsRunLine : List Text → RunCommand → Type 0
-IsRunLine words run = IsCommandLine words (Run run.directories run.steps run.turns run.deny run.sources)
+IsRunLine words run = IsCommandLine words (Run run.directories run.budget run.turns run.deny run.sources)
 
--- the steps are those of the part before the task loop, and afresh those of each turn
-abbrev pub budget_of : RunCommand → Budget
-budget_of run = record { prefix = run.steps; turn = run.steps; turns = run.turns; denied = run.deny }
+-- how far a program may run by what was asked for: as many steps before the task loop, and afresh in each turn; or the steps of a
+-- certificate's bounds, if it is accepted for the program
+abbrev pub Permits : Option (List Named) → asked.Budget → ℕ → ℕ → PlainProgram → Budget → Type 0
+Permits held (Steps n) turns denied p b = b ≡ budget_of_steps n turns denied
+Permits held (Certificate name) turns denied p b = (bounds : Bounds) × IsJudged held name p (Accepted bounds) × (b ≡ budget_within bounds turns denied)
+
+-- a program may run so far by the command
+abbrev pub IsPermitted : Option (List Named) → RunCommand → PlainProgram → Budget → Type 0
+IsPermitted held run p b = Permits held run.budget run.turns run.deny p b

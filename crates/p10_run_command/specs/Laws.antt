@@ -1,8 +1,11 @@
 -- What holds of the answers.
-use Rattle.std.specs.Prelude.{ℕ, ◌≡◌, ◌≢◌, List, Some}
+use Rattle.std.specs.Prelude.{ℕ, ◌≡◌, ◌≢◌, ◌<◌, List, Some}
+use Rattle.std.specs.List.{All}
+use Rattle.p10_base.specs.Words.{Text}
 use Rattle.p10_world.specs.Files.{Named}
 use Rattle.p10_command.specs.Saying.{Saying}
 use Rattle.p10_command.specs.Seen.{Seen, SeenInput}
+use Rattle.p10_words.specs.declared.command.Budget.TheVariants.{Certificate}
 use Rattle.p10_run_command.specs.declared.command.RunCommand.{RunCommand}
 use Rattle.p10_run_command.specs.Answers.{SaysRight}
 
@@ -15,3 +18,10 @@ SaysOneThing =
     → SaysRight run seen input some → SaysRight run seen input other
     → some.status ≢ 5 → some.status ≢ 7 → other.status ≢ 5 → other.status ≢ 7
     → some ≡ other
+
+-- Where the input tells its bytes, that no step is left is never said of a run by a certificate: where it is accepted, it bounds every run.
+abbrev pub CertificatesLeaveSteps : Type 0
+CertificatesLeaveSteps =
+    (run : RunCommand) (name : Text) (seen : Seen) (input : SeenInput) (bytes : List ℕ) (saying : Saying)
+    → run.budget ≡ Certificate name → input.left ≡ Some bytes → All (λ byte. byte < 256) bytes
+    → SaysRight run seen input saying → saying.status ≢ 12

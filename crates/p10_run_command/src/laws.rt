@@ -1,12 +1,22 @@
-//! What holds of the answers: the function does nothing, and its contract is the law.
+//! What holds of the answers: each function does nothing, and its contract is the law.
 
-ghost use Rattle.p10_run_command.specs.Laws.{SaysOneThing};
+ghost use Rattle.p10_run_command.specs.Laws.{CertificatesLeaveSteps, SaysOneThing};
 
 use p10_front::laws::one_reading;
+use p10_judge::laws::one_judgement;
+use p10_soundness::laws::accepted_certificates_bound_every_run;
 
 /// Where files and input are told, only one thing may be said to a command, but for a read fault and out of memory.
 pub fn one_thing_is_said()
     ensures { SaysOneThing }
 {
     one_reading();
+    one_judgement();
+}
+
+/// A run by a certificate never ends for want of steps, where the input tells its bytes.
+pub fn certificates_leave_steps()
+    ensures { CertificatesLeaveSteps }
+{
+    accepted_certificates_bound_every_run();
 }

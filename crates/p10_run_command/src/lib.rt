@@ -2,9 +2,11 @@
 //!
 //!     run a.c                        p10: returned 0 calls 1 bytes 4
 //!                                    p10: undefined U1 at a.c:4:12
+//!     run --cert a.p10 a.c           refused: K11 a.c:1:5
 //!
-//! Entry point: [`run`]. The sources are gathered and read as a program, and the program runs: it takes its input from the source,
-//! and its output goes to the sink as it comes. The first of these that gives no program is what is told, and else the
+//! Entry point: [`run`]. The sources are gathered, the certificate is loaded where there is one, the sources are read as a program, the
+//! certificate is judged for it, and the program runs: it takes its input from the source,
+//! and its output goes to the sink as it comes. The first of these that gives no program and no budget is what is told, and else the
 //! end of the run. Invariant: the status and both texts are those of a right answer, and where files and input are told at most
 //! one is right, but for faults and out of memory. Which words are this command is left to the crate above.
 #![tactic(auto)]
@@ -15,22 +17,27 @@ ghost use Rattle.p10_command.specs.Told.{Told, Stopped};
 ghost use Rattle.p10_run_command.specs.Answers.{SaysRight};
 
 mod command;
+mod granting;
 pub mod laws;
 mod program;
 mod tell;
 
 pub use command::RunCommand;
+use granting::{Allowance, RunRequest};
 use p10_command::{GatheredRoots, gather_roots};
+use p10_judge::load_certificate;
+use p10_words::Budget;
 use p10_world::{Files, Sink, Source};
 use program::run_sources;
 use std::alloc::Global;
-use tell::{tell_trouble, tell_ungathered};
+use tell::{tell_absent, tell_trouble, tell_ungathered};
 
 /// Obeys the command: runs the sources' program on `input` and `out`, and tells on `err` how it has ended, or why there is none.
 /// Gives the status with which the program exits.
 ///
-/// The statuses: 0 returned or left after its turns, 3 the sources are refused, 5 a read failed, 6 a write failed, 7 out of
-/// memory, 8 a limit is passed, 9 a file is absent, 10 an assertion has failed, 11 an undefined operation, 12 no step is left.
+/// The statuses: 0 returned or left after its turns, 1 a condition of the certificate doesn't hold, 3 the sources are refused, 4 no
+/// certificate, 5 a read failed, 6 a write failed, 7 out of memory, 8 a limit is passed, 9 a file is absent, 10 an assertion has
+/// failed, 11 an undefined operation, 12 no step is left.
 pub fn run<F: Files, I: Source, O: Sink, E: Sink>(
     alloc: Global,
     command: &RunCommand,
@@ -64,8 +71,34 @@ pub fn run<F: Files, I: Source, O: Sink, E: Sink>(
         command.directories.as_slice(),
     );
     match gathered {
-        Ok(GatheredRoots::All(sources)) => run_sources(alloc, command, &sources, input, out, err),
+        Ok(GatheredRoots::All(sources)) => match &command.budget {
+            Budget::Steps(steps) => {
+                let request = requested(command, Allowance::Steps(*steps));
+                run_sources(alloc, &request, &sources, input, out, err)
+            }
+            Budget::Certificate(name) => match load_certificate(alloc, files, name.as_str()) {
+                Ok(Some(bytes)) => {
+                    let request = requested(command, Allowance::Certificate(bytes));
+                    run_sources(alloc, &request, &sources, input, out, err)
+                }
+                Ok(None) => tell_absent(name, err),
+                Err(trouble) => tell_trouble(trouble, err),
+            },
+        },
         Ok(GatheredRoots::Stopped(why, sources)) => tell_ungathered(command, &sources, &why, err),
         Err(trouble) => tell_trouble(trouble, err),
+    }
+}
+
+/// What the command asks of its run, by what bounds it.
+fn requested(command: &RunCommand, allowance: Allowance) -> RunRequest
+    ensures allowance { result.allowance ≡ allowance }
+    ensures turns { result.turns ≡ command.now.turns }
+    ensures deny { result.deny ≡ command.now.deny }
+{
+    RunRequest {
+        allowance,
+        turns: command.turns,
+        deny: command.deny,
     }
 }

@@ -1,47 +1,60 @@
 //! Gathered sources are read, and their program runs.
 
-ghost use Rattle.std.specs.Prelude.{◌≡◌, ◌≢◌, ◌⊎◌, ◌≤◌, ◌^◌, IsSomeAnd, IsErrOf};
+ghost use Rattle.std.specs.Prelude.{◌≡◌, ◌≢◌, ◌⊎◌, ◌≤◌, ◌^◌, IsSomeAnd, Err};
 ghost use Rattle.p10_world.specs.Faults.{Rose};
 ghost use Rattle.p10_core.specs.Views.{plain_program};
 ghost use Rattle.p10_core.specs.WholePrograms.{IsWholeProgram};
 ghost use Rattle.p10_expand.specs.Gathering.{Gathers, HaveWords};
 ghost use Rattle.p10_command.specs.Seen.{Seen};
 ghost use Rattle.p10_command.specs.Told.{Told, Stopped};
+ghost use Rattle.p10_run_command.specs.declared.command.RunCommand.{RunCommand};
 ghost use Rattle.p10_run_command.specs.Answers.{setting_of, SaysRight};
-ghost use Rattle.p10_run_command.specs.Command.{budget_of};
+ghost use Rattle.p10_run_command.specs.private.Granting.{IsRequest};
 ghost use Rattle.p10_run_command.specs.private.Telling.{Comes};
 
-use crate::command::RunCommand;
+use crate::granting::{Permission, RunRequest, grant};
 use crate::tell::{tell_end, tell_trouble, tell_unread};
 use p10_base::Sources;
 use p10_command::{ReadSources, Trouble, read_sources, release};
 use p10_front::Reading;
+use p10_judge::Judgement;
 use p10_run::{FinishedRun, RunFault};
 use p10_world::{Sink, Source};
 use std::alloc::Global;
 
+/// What has come of a program that was to run.
+#[derive(Drop)]
+pub enum RunEnd {
+    /// It ran, to an end or until the run was given up.
+    Ran(Result<FinishedRun, RunFault>),
+    /// It didn't run: the certificate isn't accepted for it.
+    Refused(Judgement),
+    /// It didn't run: memory was out.
+    OutOfMemory,
+}
+
 /// Runs the program of gathered sources, and tells how it has ended, or why there is none. Gives the status of the program.
 pub fn run_sources<I: Source, O: Sink, E: Sink>(
     alloc: Global,
-    command: &RunCommand,
+    request: &RunRequest,
     sources: &Sources,
     input: &mut I,
     out: &mut O,
     err: &mut E,
 ) -> u8
     requires words { HaveWords sources.now }
-    requires turns { command.now.turns ≤ 10 ^ 18 }
-    ensures told { result ≢ 6 → (seen : Seen) → Gathers (setting_of seen command.now) sources.now → Told (SaysRight command.now seen
+    requires turns { request.now.turns ≤ 10 ^ 18 }
+    ensures told { result ≢ 6 → (command : RunCommand) (seen : Seen) → IsRequest seen.held command request.now → Gathers (setting_of seen command) sources.now → Told (SaysRight command seen
         (record { left = I.left input.old; faults_before = I.faults input.old; faults_after = I.faults input.new }))
         (O.taken out.old) (O.taken out.new) (E.taken err.old) (E.taken err.new) result }
-    ensures stopped { result ≡ 6 → (seen : Seen) → Gathers (setting_of seen command.now) sources.now → Stopped (SaysRight command.now seen
+    ensures stopped { result ≡ 6 → (command : RunCommand) (seen : Seen) → IsRequest seen.held command request.now → Gathers (setting_of seen command) sources.now → Stopped (SaysRight command seen
         (record { left = I.left input.old; faults_before = I.faults input.old; faults_after = I.faults input.new }))
         (O.taken out.old) (O.taken out.new) (E.taken err.old) (E.taken err.new) }
     ensures write { result ≡ 6 → Rose (O.faults out.old) (O.faults out.new) ⊎ Rose (E.faults err.old) (E.faults err.new) }
 {
     match read_sources(alloc, sources) {
         Ok(ReadSources::Program(reading)) => {
-            let end = run_reading(alloc, &reading, command, input, out);
+            let end = run_reading(alloc, &reading, request, input, out);
             release(reading);
             tell_end(sources, end, err)
         }
@@ -50,26 +63,29 @@ pub fn run_sources<I: Source, O: Sink, E: Sink>(
     }
 }
 
-/// Runs the program of a reading.
-///
-/// # Errors
-///
-/// As those of [`p10_run::run`].
+/// Runs the program of a reading, where it may.
 fn run_reading<I: Source, O: Sink>(
     alloc: Global,
     reading: &Reading<'_>,
-    command: &RunCommand,
+    request: &RunRequest,
     input: &mut I,
     out: &mut O,
-) -> Result<FinishedRun, RunFault>
+) -> RunEnd
     requires program { IsSomeAnd reading.now.program (λ p. IsWholeProgram (plain_program p)) }
-    requires turns { command.now.turns ≤ 10 ^ 18 }
-    ensures comes { IsSomeAnd reading.now.program (λ p. Comes (plain_program p) (budget_of command.now) (I.left input.old) (O.taken out.old) (O.taken out.new) result) }
-    ensures read { IsErrOf result RunFault.Read → Rose (I.faults input.old) (I.faults input.new) }
-    ensures write { IsErrOf result RunFault.Write → Rose (O.faults out.old) (O.faults out.new) }
+    requires turns { request.now.turns ≤ 10 ^ 18 }
+    ensures comes { IsSomeAnd reading.now.program (λ p. Comes (plain_program p) request.now (I.left input.old) (O.taken out.old) (O.taken out.new) result) }
+    ensures read { result ≡ RunEnd.Ran (Err RunFault.Read) → Rose (I.faults input.old) (I.faults input.new) }
+    ensures write { result ≡ RunEnd.Ran (Err RunFault.Write) → Rose (O.faults out.old) (O.faults out.new) }
 {
     match &reading.program {
-        Some(program) => p10_run::run(alloc, program, &command.budget(), input, out),
+        Some(program) => match grant(alloc, program, request) {
+            Ok(Permission::Budget(budget)) => {
+                let ran = p10_run::run(alloc, program, &budget, input, out);
+                RunEnd::Ran(ran)
+            }
+            Ok(Permission::Refused(judgement)) => RunEnd::Refused(judgement),
+            Err(_) => RunEnd::OutOfMemory,
+        },
         None => unreachable!(),
     }
 }

@@ -4,19 +4,25 @@ ghost use Rattle.std.specs.Prelude.{◌≡◌, ◌≢◌, ◌⊎◌, ◌≤◌, 
 ghost use Rattle.std.specs.Io.KnownBytes.{Appends};
 ghost use Rattle.p10_world.specs.Faults.{Rose};
 ghost use Rattle.p10_world.specs.Sink.{TakesFront};
+ghost use Rattle.p10_judge.specs.Saying.{judgement_line, judgement_status};
+ghost use Rattle.p10_report.specs.Messages.{absent_line};
 ghost use Rattle.p10_report.specs.Stops.{StopsWithin};
 ghost use Rattle.p10_run.specs.WholeRuns.{outcome_of};
 ghost use Rattle.p10_command.specs.Gathering.{CanBeTold};
 ghost use Rattle.p10_command.specs.Reading.{HasCode};
 ghost use Rattle.p10_command.specs.Saying.{trouble_line, trouble_status, ungathered_line, ungathered_status, unread_line, unread_status};
 ghost use Rattle.p10_run_command.specs.Endings.{ended_line, ended_status, number_of_stop};
-ghost use Rattle.p10_run_command.specs.private.Telling.{end_line, end_status, IsTold};
+ghost use Rattle.p10_run_command.specs.private.Telling.{end_line, end_status, IsTold, ran_line, ran_status};
 
 use crate::command::RunCommand;
-use p10_base::Sources;
+use crate::program::RunEnd;
+use p10_base::{Sources, TextBuf};
 use p10_command::{Trouble, Ungathered, Unread, put_trouble, put_ungathered, put_unread};
 use p10_int::Stop;
-use p10_report::{put_assertion_failed, put_returned, put_steps_spent, put_turns, put_undefined};
+use p10_judge::{Judgement, put_judgement};
+use p10_report::{
+    put_absent, put_assertion_failed, put_returned, put_steps_spent, put_turns, put_undefined,
+};
 use p10_run::{FinishedRun, RunFault, RunOutcome};
 use p10_world::{Sink, SinkFault};
 
@@ -63,10 +69,36 @@ pub fn tell_trouble<E: Sink>(trouble: Trouble, err: &mut E) -> u8
     }
 }
 
-/// Tells what has come of a run, and gives the status of the program. After a failed write nothing more is told.
-pub fn tell_end<E: Sink>(sources: &Sources, end: Result<FinishedRun, RunFault>, err: &mut E) -> u8
+/// Tells that there is no certificate of this name, and gives the status of the program.
+pub fn tell_absent<E: Sink>(name: &TextBuf, err: &mut E) -> u8
+    ensures told { result ≢ 6 → IsTold 9 (absent_line name.now) (E.taken err.old) (E.taken err.new) result }
+    ensures stopped { result ≡ 6 → StopsWithin (E.taken err.old) (E.taken err.new) (absent_line name.now) }
+    ensures write { result ≡ 6 → Rose (E.faults err.old) (E.faults err.new) }
+{
+    match put_absent(err, name.as_str()) {
+        Ok(()) => 9,
+        Err(_) => 6,
+    }
+}
+
+/// Tells what has come of a program that was to run, and gives the status of the program. After a failed write nothing more is
+/// told.
+pub fn tell_end<E: Sink>(sources: &Sources, end: RunEnd, err: &mut E) -> u8
     ensures told { result ≢ 6 → IsTold (end_status end) (end_line sources.now end) (E.taken err.old) (E.taken err.new) result }
     ensures stopped { result ≡ 6 → TakesFront (E.taken err.old) (E.taken err.new) (end_line sources.now end) }
+    ensures write { result ≡ 6 → (end ≡ RunEnd.Ran (Err RunFault.Write)) ⊎ Rose (E.faults err.old) (E.faults err.new) }
+{
+    match end {
+        RunEnd::Ran(end) => tell_ran(sources, end, err),
+        RunEnd::Refused(judgement) => tell_judgement(sources, &judgement, err),
+        RunEnd::OutOfMemory => tell_trouble(Trouble::Memory, err),
+    }
+}
+
+/// Tells what has come of a run, and gives the status of the program. After a failed write nothing more is told.
+fn tell_ran<E: Sink>(sources: &Sources, end: Result<FinishedRun, RunFault>, err: &mut E) -> u8
+    ensures told { result ≢ 6 → IsTold (ran_status end) (ran_line sources.now end) (E.taken err.old) (E.taken err.new) result }
+    ensures stopped { result ≡ 6 → TakesFront (E.taken err.old) (E.taken err.new) (ran_line sources.now end) }
     ensures write { result ≡ 6 → (end ≡ Err RunFault.Write) ⊎ Rose (E.faults err.old) (E.faults err.new) }
 {
     match end {
@@ -74,6 +106,18 @@ pub fn tell_end<E: Sink>(sources: &Sources, end: Result<FinishedRun, RunFault>, 
         Err(RunFault::Read) => tell_trouble(Trouble::Read, err),
         Err(RunFault::Memory) => tell_trouble(Trouble::Memory, err),
         Err(RunFault::Write) => 6,
+    }
+}
+
+/// Tells what the certificate has come to, and gives the status of the program.
+fn tell_judgement<E: Sink>(sources: &Sources, judgement: &Judgement, err: &mut E) -> u8
+    ensures told { result ≢ 6 → IsTold (judgement_status judgement.now) (judgement_line sources.now judgement.now) (E.taken err.old) (E.taken err.new) result }
+    ensures stopped { result ≡ 6 → StopsWithin (E.taken err.old) (E.taken err.new) (judgement_line sources.now judgement.now) }
+    ensures write { result ≡ 6 → Rose (E.faults err.old) (E.faults err.new) }
+{
+    match put_judgement(err, sources, judgement) {
+        Ok(()) => judgement.status(),
+        Err(_) => 6,
     }
 }
 

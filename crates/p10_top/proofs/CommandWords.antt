@@ -27,9 +27,10 @@ few_sources words (command.Derive directories sources) is =
 few_sources words (command.Verify directories certificate sources) is =
     let verify = is.rest.1 in
     omega (arith, few_files _ is.words verify.options sources verify.split.splits, ap length is.begins, is.few)
-few_sources words (command.Run directories steps turns deny sources) is =
+few_sources words (command.Run directories budget turns deny sources) is =
     let run = is.rest.1 in
     omega (arith, few_files _ is.words run.options sources run.split.splits, ap length is.begins, is.few)
+few_sources words (command.Generate functions) is = omega arith
 
 number_is_small : (value : Option Text) (standard n : ℕ) → standard ≤ 10 ^ 18 → HasNumber value standard n → n ≤ 10 ^ 18
 number_is_small None standard n small is = omega (arith, small, is)
@@ -40,11 +41,13 @@ pub few_turns : (words : List Text) (c : Command) → IsCommandLine words c → 
 few_turns words (command.Check directories json sources) is = omega arith
 few_turns words (command.Derive directories sources) is = omega arith
 few_turns words (command.Verify directories certificate sources) is = omega arith
-few_turns words (command.Run directories steps turns deny sources) is = number_is_small _ 1 turns (omega arith) is.rest.1.has_turns
+few_turns words (command.Run directories budget turns deny sources) is = number_is_small _ 1 turns (omega arith) is.rest.1.has_turns
+few_turns words (command.Generate functions) is = omega arith
 
 -- the words of a `run` are one
 pub no_run : (words : List Text) (c : Command) → IsCommandLine words c → IsNoRunLine words → IsNoRun c
 no_run words (command.Check directories json sources) is none = tt
 no_run words (command.Derive directories sources) is none = tt
 no_run words (command.Verify directories certificate sources) is none = tt
-no_run words (command.Run directories steps turns deny sources) is none = none (record { directories = directories; steps = steps; turns = turns; deny = deny; sources = sources }) is
+no_run words (command.Run directories budget turns deny sources) is none = none (record { directories = directories; budget = budget; turns = turns; deny = deny; sources = sources }) is
+no_run words (command.Generate functions) is none = tt

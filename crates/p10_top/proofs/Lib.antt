@@ -1,4 +1,6 @@
 -- The lemmas of this crate, by subject.
 pub mod CommandWords
 pub mod Telling
+pub mod Deriving
 pub mod OneThing
+pub mod Certified

@@ -28,14 +28,16 @@ use Rattle.p10_words.specs.declared.command.Usage.{Usage}
 use Rattle.p10_words.specs.declared.command.Usage.TheVariants as usage
 use Rattle.p10_words.specs.Commands.{IsCommandLine}
 use Rattle.p10_words.proofs.OneCommand.{one_command}
+use Rattle.p10_judge.specs.declared.judgement.Judgement.TheVariants as judgement
+use Rattle.p10_judge.specs.Judging.{HasVerdict}
 use Rattle.p10_check_command.specs.declared.command.CheckCommand.{CheckCommand}
 use Rattle.p10_derive_command.specs.declared.command.DeriveCommand.{DeriveCommand}
 use Rattle.p10_run_command.specs.declared.command.RunCommand.{RunCommand}
 use Rattle.p10_verify_command.specs.declared.command.VerifyCommand.{VerifyCommand}
 use Rattle.p10_verify_command.specs.declared.answer.Answer.{Answer}
-use Rattle.p10_verify_command.specs.declared.answer.Answer.TheVariants.{Ungathered, AbsentCertificate, Unread, CertificateTooLong, BadCertificate, Failing, Accepted, Trouble}
+use Rattle.p10_verify_command.specs.declared.answer.Answer.TheVariants.{Ungathered, AbsentCertificate, Unread, Judged, Trouble}
 use Rattle.p10_verify_command.specs.Names.{Names}
-use Rattle.p10_verify_command.specs.Answers.{HasVerdict, IsRight}
+use Rattle.p10_verify_command.specs.Answers.{IsRight}
 use Rattle.p10_verify_command.specs.Told.{SaysRight, status_of}
 use Rattle.p10_top.specs.Headline.{BoundsRuns, Verified}
 use Rattle.p10_top.specs.Told.{MaySay, SaysFor, for_none, for_command, for_any}
@@ -60,7 +62,7 @@ abbrev pub of_verify : VerifyCommand → Command
 of_verify verify = command.Verify verify.directories verify.certificate verify.sources
 
 abbrev pub of_run : RunCommand → Command
-of_run run = command.Run run.directories run.steps run.turns run.deny run.sources
+of_run run = command.Run run.directories run.budget run.turns run.deny run.sources
 
 -- what is told of that one is told of the command
 pub told_of : (c d : Command) (seen : Seen) (input : SeenInput) (out_old out_new err_old err_new : Option (List ℕ)) (status : ℕ) → c ≡ d → Told (SaysFor d seen input) out_old out_new err_old err_new status → Told (SaysFor c seen input) out_old out_new err_old err_new status
@@ -118,27 +120,27 @@ stays_within : CertificatesAcceptedByRangesBoundRuns → (p : PlainProgram) → 
 stays_within law p whole c bounds v = subst (λ (b : Bounds). Within p b) (bounds_are c.total bounds v.first v.is) (law p whole c bounds v)
 
 accepted : CertificatesAcceptedByRangesBoundRuns → (files : List Named) (before after : ℕ) (names : Names) (g : Gathered) (answer : Answer) → status_of answer ≡ 0 → IsRight (record { held = Some files; faults_before = before; faults_after = after }) names g answer → BoundsRuns names files
-accepted law files before after names g (Accepted bounds) zero (p, c, judges) = record {
+accepted law files before after names g (Judged (judgement.Accepted bounds)) zero (p, has, judged) = record {
   sources = g;
-  gathers = judges.program.gathers;
-  reading = judges.program.is.reading;
+  gathers = has.gathers;
+  reading = has.reading;
   program = p;
-  read = judges.program.is.read;
-  whole = judges.program.is.whole;
-  claims = c;
-  certificate_given = judges.certificate.given;
-  is_certificate = judges.is_certificate;
-  within = stays_within law p judges.program.is.whole c bounds judges.has_verdict;
+  read = has.read;
+  whole = has.whole;
+  claims = judged.weighed.claims;
+  certificate_given = judged.given ∙ ap Some judged.weighed.text_is;
+  is_certificate = judged.weighed.is_certificate;
+  within = stays_within law p has.whole judged.weighed.claims bounds judged.weighed.has;
 }
-accepted law files before after names g (Failing k at) zero right = absurd (omega (arith, zero))
+accepted law files before after names g (Judged (judgement.Failing k at)) zero right = absurd (omega (arith, zero))
+accepted law files before after names g (Judged judgement.TooLong) zero right = absurd (omega (arith, zero))
+accepted law files before after names g (Judged (judgement.BadCertificate line)) zero right = absurd (omega (arith, zero))
 accepted law files before after names g (Ungathered (gathering.AbsentRoot place)) zero right = absurd (omega (arith, zero))
 accepted law files before after names g (Ungathered (gathering.Refused refusal)) zero right = absurd (omega (arith, zero))
 accepted law files before after names g (Ungathered (gathering.Over limit)) zero right = absurd (omega (arith, zero))
 accepted law files before after names g AbsentCertificate zero right = absurd (omega (arith, zero))
 accepted law files before after names g (Unread (reading.Refused refusal)) zero right = absurd (omega (arith, zero))
 accepted law files before after names g (Unread (reading.Over limit)) zero right = absurd (omega (arith, zero))
-accepted law files before after names g CertificateTooLong zero right = absurd (omega (arith, zero))
-accepted law files before after names g (BadCertificate line) zero right = absurd (omega (arith, zero))
 accepted law files before after names g (Trouble Read) zero right = absurd (omega (arith, zero))
 accepted law files before after names g (Trouble Memory) zero right = absurd (omega (arith, zero))
 

@@ -1,12 +1,17 @@
 -- The command lines of `p10`.
-use Rattle.std.specs.Prelude.{ℕ, List}
+use Rattle.std.specs.Prelude.{ℕ, ◌≡◌, List, []}
 use Rattle.p10_base.specs.Words.{Text}
+use Rattle.p10_words.specs.declared.command.Budget.TheVariants.{Certificate}
 use Rattle.p10_words.specs.declared.command.Command.{Command}
-use Rattle.p10_words.specs.declared.command.Command.TheVariants.{Check, Derive, Verify, Run}
+use Rattle.p10_words.specs.declared.command.Command.TheVariants.{Check, Derive, Verify, Run, Generate}
 use Rattle.p10_words.specs.Commands.{IsCommandLine}
 use Rattle.p10_run_command.specs.declared.command.RunCommand.{RunCommand}
 use Rattle.p10_run_command.specs.Command.{IsRunLine}
 use Rattle.p10_verify_command.specs.Names.{Names}
+
+-- the words are the command `derive` with these directories of included files and these sources
+abbrev pub IsDeriveLine : List Text → List Text → List Text → Type 0
+IsDeriveLine words directories sources = IsCommandLine words (Derive directories sources)
 
 -- the words are the command `verify` with these names
 abbrev pub IsVerifyLine : List Text → Names → Type 0
@@ -15,6 +20,13 @@ IsVerifyLine words names = IsCommandLine words (Verify names.directories names.c
 -- the words are no `run`
 abbrev pub IsNoRunLine : List Text → Type 0
 IsNoRunLine words = (run : RunCommand) → IsRunLine words run → ⊥
+
+-- the words are a `run` by the certificate with this name
+pub record IsCertifiedRunLine (words : List Text) : Type 0 where
+  pub run : RunCommand
+  pub name : Text
+  pub line : IsRunLine words run
+  pub by : run.budget ≡ Certificate name
 
 -- the words are no command
 abbrev pub IsNoCommand : List Text → Type 0
@@ -25,18 +37,21 @@ abbrev pub sources_of : Command → List Text
 sources_of (Check directories json sources) = sources
 sources_of (Derive directories sources) = sources
 sources_of (Verify directories certificate sources) = sources
-sources_of (Run directories steps turns deny sources) = sources
+sources_of (Run directories budget turns deny sources) = sources
+sources_of (Generate functions) = []
 
 -- the most turns that a command asks for
 abbrev pub turns_asked : Command → ℕ
 turns_asked (Check directories json sources) = 0
 turns_asked (Derive directories sources) = 0
 turns_asked (Verify directories certificate sources) = 0
-turns_asked (Run directories steps turns deny sources) = turns
+turns_asked (Run directories budget turns deny sources) = turns
+turns_asked (Generate functions) = 0
 
 -- a command that isn't `run`
 abbrev pub IsNoRun : Command → Type 0
 IsNoRun (Check directories json sources) = Unit {0}
 IsNoRun (Derive directories sources) = Unit {0}
 IsNoRun (Verify directories certificate sources) = Unit {0}
-IsNoRun (Run directories steps turns deny sources) = ⊥
+IsNoRun (Run directories budget turns deny sources) = ⊥
+IsNoRun (Generate functions) = Unit {0}

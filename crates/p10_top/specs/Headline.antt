@@ -1,5 +1,6 @@
--- What a verified certificate promises.
-use Rattle.std.specs.Prelude.{◌≡◌, List, Some}
+-- What a verified certificate promises, and one that is derived.
+use Rattle.std.specs.Prelude.{ℕ, ◌≡◌, List, Option, Some}
+use Rattle.std.specs.Io.KnownBytes.{Appends}
 use Rattle.p10_base.specs.Gathered.{Gathered}
 use Rattle.p10_base.specs.Words.{Text}
 use Rattle.p10_world.specs.Files.{Named, file_of}
@@ -8,11 +9,16 @@ use Rattle.p10_core.specs.WholePrograms.{IsWholeProgram}
 use Rattle.p10_meaning.specs.Runs.{Within}
 use Rattle.p10_cert.specs.Claims.{Claims}
 use Rattle.p10_cert.specs.Certificate.{IsCertificate, certificate_text}
+use Rattle.p10_turns.specs.Evidence.{stands_by_ranges}
+use Rattle.p10_check.specs.declared.verdict.Verdict.TheVariants.{Accepted}
+use Rattle.p10_check.specs.Conditions.{IsVerdict}
+use Rattle.p10_finder.specs.Answers.{Certified, IsDerived}
 use Rattle.p10_expand.specs.Gathering.{Gathers}
+use Rattle.p10_expand.specs.Setting.{setting}
 use Rattle.p10_front.specs.Readings.{PlainReading, AreReadAs}
 use Rattle.p10_verify_command.specs.Names.{Names}
 use Rattle.p10_verify_command.specs.Answers.{setting_of}
-use Rattle.p10_top.specs.Commands.{IsVerifyLine}
+use Rattle.p10_top.specs.Commands.{IsDeriveLine, IsVerifyLine}
 
 -- The sources are read as a program, the certificate's bytes are the text of its claims, and from every input each call of `main`, or
 -- each turn of the task loop and the part before it, returns, fails an assertion or stops at a named undefined operation within the
@@ -32,3 +38,22 @@ pub record BoundsRuns (names : Names) (files : List Named) : Type 0 where
 -- if the words are `verify` with sources, directories of included files and a certificate, then that certificate bounds every run
 abbrev pub Verified : List Text → List Named → Type 0
 Verified words files = (names : Names) → IsVerifyLine words names → BoundsRuns names files
+
+-- The sources are read as a program, and the output took the text of the claims that are derived of it; these are accepted for the program
+-- with their total, by the evidence of ranges, so that every run of it stays within them.
+pub record TellsBounds (directories roots : List Text) (files : List Named) (out_old out_new : Option (List ℕ)) : Type 0 where
+  pub sources : Gathered
+  pub gathers : Gathers (setting (Some files) roots directories) sources
+  pub reading : PlainReading
+  pub program : PlainProgram
+  pub read : AreReadAs sources reading program
+  pub whole : IsWholeProgram program
+  pub claims : Claims
+  pub derived : IsDerived program (Certified claims)
+  pub taken : Appends out_old out_new (certificate_text claims)
+  pub accepted : IsVerdict (stands_by_ranges program) program claims (Accepted claims.total)
+  pub within : Within program claims.total
+
+-- if the words are `derive` with sources and directories of included files, then the output took a certificate that bounds every run
+abbrev pub DerivesBounds : List Text → List Named → Option (List ℕ) → Option (List ℕ) → Type 0
+DerivesBounds words files out_old out_new = (directories roots : List Text) → IsDeriveLine words directories roots → TellsBounds directories roots files out_old out_new

@@ -7,6 +7,7 @@ use p10_check_command::CheckCommand;
 use p10_derive_command::DeriveCommand;
 use p10_run_command::RunCommand;
 use p10_verify_command::VerifyCommand;
+use p10_words::Budget;
 
 /// `check` of these sources.
 pub fn check_command(
@@ -51,16 +52,16 @@ pub fn verify_command(
 /// `run` of these sources.
 pub fn run_command(
     directories: ListBuf<TextBuf>,
-    steps: u64,
+    budget: Budget,
     turns: u64,
     deny: u64,
     sources: ListBuf<TextBuf>,
 ) -> RunCommand
-    ensures { result ≡ record { directories = directories; steps = steps; turns = turns; deny = deny; sources = sources } }
+    ensures { result ≡ record { directories = directories; budget = budget; turns = turns; deny = deny; sources = sources } }
 {
     RunCommand {
         directories,
-        steps,
+        budget,
         turns,
         deny,
         sources,

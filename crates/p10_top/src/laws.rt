@@ -4,6 +4,7 @@ ghost use Rattle.p10_top.specs.Laws.{SaysOneThing};
 
 use p10_check_command::laws::one_answer_is_right as one_report_is_told;
 use p10_derive_command::laws::one_answer_is_right as one_certificate_is_told;
+use p10_gen_command::laws::one_answer_is_right as one_program_is_shown;
 use p10_run_command::laws::one_thing_is_said as one_run_is_said;
 use p10_verify_command::laws::one_answer_is_right;
 
@@ -15,5 +16,6 @@ pub fn one_thing_is_said()
     one_report_is_told();
     one_certificate_is_told();
     one_answer_is_right();
+    one_program_is_shown();
     one_run_is_said();
 }

@@ -5,20 +5,24 @@
 //! faults and want of memory. What the parts of an answer mean is left to the crates below.
 #![tactic(auto)]
 
-ghost use Rattle.std.specs.Prelude.{◌≡◌, ◌≢◌, ◌⊎◌, ◌≤◌, ◌^◌, IfSome, length, map, string_bytes};
+ghost use Rattle.std.specs.Prelude.{◌≡◌, ◌≢◌, ◌⊎◌, ◌≤◌, ◌<◌, ◌^◌, IfSome, length, map, string_bytes};
+ghost use Rattle.std.specs.List.{All};
 ghost use Rattle.std.specs.Io.KnownBytes.{Appends};
 ghost use Rattle.p10_world.specs.Faults.{Rose};
 ghost use Rattle.p10_report.specs.Stops.{StopsWithin};
 ghost use Rattle.p10_command.specs.Told.{Told, Stopped};
-ghost use Rattle.p10_top.specs.Commands.{sources_of, turns_asked, IsNoRun, IsNoRunLine};
-ghost use Rattle.p10_top.specs.Headline.{Verified};
+ghost use Rattle.p10_top.specs.Commands.{sources_of, turns_asked, IsCertifiedRunLine, IsNoRun, IsNoRunLine};
+ghost use Rattle.p10_top.specs.Headline.{DerivesBounds, Verified};
 ghost use Rattle.p10_top.specs.Told.{MaySay, SaysFor};
 ghost use Rattle.p10_top.specs.private.Unread.{saying_without_command};
 
 use commands::{check_command, derive_command, run_command, verify_command};
+use p10_acceptance::laws::derived_certificates_are_accepted;
 use p10_check_command::check;
 use p10_derive_command::derive;
+use p10_gen_command::generate;
 use p10_report::{put_out_of_memory, put_usage};
+use p10_run_command::laws::certificates_leave_steps;
 use p10_run_command::run;
 use p10_soundness::laws::accepted_certificates_bound_every_run;
 use p10_verify_command::verify;
@@ -43,8 +47,11 @@ mod tests;
 /// `verify [--include DIRECTORIES] --cert CERTIFICATE SOURCE..` tells on `out` whether the certificate bounds every run of the
 /// sources' program; all else is told on `err`. Nothing is read of `input` by this command either.
 ///
-/// `run [--include DIRECTORIES] [--steps N] [--turns N] [--deny N] SOURCE..` runs the sources' program on `input` and `out`, and tells
-/// on `err` how it has ended, or why there is none. Other commands can't be obeyed yet, and are none.
+/// `run [--include DIRECTORIES] [--steps N | --cert CERTIFICATE] [--turns N] [--deny N] SOURCE..` runs the sources' program on `input` and
+/// `out`, and tells on `err` how it has ended, or why there is none. With a certificate it runs only where that is accepted, and by its steps.
+///
+/// `gen N` makes a program of N functions and `main`, derives its certificate, verifies it and runs the program within it, and tells on
+/// `out` what has come of it; all else is told on `err`. Nothing is read of files or input.
 ///
 /// The statuses: 0 no rule broken, derived, accepted or run to its end, 1 a rule is broken or a condition doesn't hold, 2 no command, 3 the source is refused, 4 no
 /// certificate, 5 a read failed, 6 a write failed, 7 out of memory, 8 a limit is passed, 9 a file is
@@ -59,6 +66,12 @@ pub fn p10_main<F: Files, I: Source, O: Sink, E: Sink>(
 ) -> u8
     // An accepted certificate bounds every run of the sources' program.
     ensures headline { result ≡ 0 → IfSome (F.held files.old) (Verified (map string_bytes words.now)) }
+
+    // A run by a certificate never ends for want of steps.
+    ensures steps { IsCertifiedRunLine (map string_bytes words.now) → IfSome (I.left input.old) (λ bytes. All (λ byte. byte < 256) bytes → result ≢ 12) }
+
+    // A certificate that is derived is accepted, and bounds every run of the sources' program.
+    ensures derived { result ≡ 0 → IfSome (F.held files.old) (λ held. DerivesBounds (map string_bytes words.now) held (O.taken out.old) (O.taken out.new)) }
 
     // The status and both texts are those of a right answer.
     ensures told { result ≢ 6 → Told (MaySay (map string_bytes words.now)
@@ -77,8 +90,10 @@ pub fn p10_main<F: Files, I: Source, O: Sink, E: Sink>(
     ensures held { F.held files.new ≡ F.held files.old }
     ensures input { IsNoRunLine (map string_bytes words.now) → input.new ≡ input.old }
 {
-    // The law that the headline rests on.
+    // The laws that the headline, and the clauses on derivation and on steps, rest on.
     accepted_certificates_bound_every_run();
+    derived_certificates_are_accepted();
+    certificates_leave_steps();
     match read_words(alloc, words) {
         Ok(command) => obey(alloc, command, files, input, out, err),
         Err(fault) => tell_unread(fault, err),
@@ -125,14 +140,15 @@ fn obey<F: Files, I: Source, O: Sink, E: Sink>(
         } => verify(alloc, &verify_command(dirs, cert, sources), files, out, err),
         Command::Run {
             dirs,
-            steps,
+            budget,
             turns,
             deny,
             files: sources,
         } => {
-            let command = run_command(dirs, steps, turns, deny, sources);
+            let command = run_command(dirs, budget, turns, deny, sources);
             run(alloc, &command, files, input, out, err)
         }
+        Command::Generate { functions } => generate(alloc, functions, out, err),
     }
 }
 

@@ -1,9 +1,9 @@
--- What an answer rests on: files up to their limits, and what they were judged to be.
-use Rattle.std.proofs.Common.{◌≡◌, ℕ, inl, inr, ◌+◌, ◌<◌, ◌≤◌, zero, suc, List, [], ◌∷◌, length, take, length-take, refl, sym, ◌∙◌, ap, subst, arith, min, Option, Some, None, IsSome, IsSomeAnd, Result, Err}
+-- What an answer rests on: gathered sources, and what they and the certificate come to.
+use Rattle.std.proofs.Common.{◌≡◌, ℕ, inl, inr, List, subst, arith, Option, Result, Err}
 use Rattle.p10_base.specs.Gathered.{Gathered}
 use Rattle.p10_base.specs.Words.{Text}
 use Rattle.p10_world.specs.Faults.{Rose}
-use Rattle.p10_world.specs.Files.{Named, file_of}
+use Rattle.p10_world.specs.Files.{Named}
 use Rattle.p10_expand.specs.Gathering.{Gathers}
 use Rattle.p10_expand.specs.Setting.{setting}
 use Rattle.p10_command.specs.declared.gathering.GatheredRoots.{GatheredRoots}
@@ -12,53 +12,13 @@ use Rattle.p10_command.specs.declared.gathering.Ungathered as why
 use Rattle.p10_command.specs.declared.trouble.Trouble as problem
 use Rattle.p10_command.specs.declared.trouble.Trouble.TheVariants.{Read, Memory}
 use Rattle.p10_command.specs.Gathering.{AreGathered}
-use Rattle.p10_core.specs.Typed.{PlainProgram}
-use Rattle.p10_cert.specs.Certificate.{certificate_text}
-use Rattle.p10_check.specs.declared.verdict.Verdict.{Verdict}
-use Rattle.p10_check.specs.declared.verdict.Verdict.TheVariants as verdicts
+use Rattle.p10_judge.specs.Loading.{IsLoaded}
+use Rattle.p10_judge.proofs.Files.{given_is_held, judged}
 use Rattle.p10_verify_command.specs.declared.answer.Answer.{Answer}
-use Rattle.p10_verify_command.specs.declared.answer.Answer.TheVariants.{Ungathered, AbsentCertificate, Unread, CertificateTooLong, BadCertificate, Failing, Accepted, Trouble}
+use Rattle.p10_verify_command.specs.declared.answer.Answer.TheVariants.{Ungathered, AbsentCertificate, Unread, Judged, Trouble}
 use Rattle.p10_verify_command.specs.Names.{Names}
-use Rattle.p10_verify_command.specs.Loading.{Gives, IsHeld, IsLonger}
-use Rattle.p10_verify_command.specs.Answers.{HasCertificate, HaveProgram, Judges, setting_of, certificate_limit}
-use Rattle.p10_verify_command.specs.private.Deciding.{Answered, IsFront, Decides}
-use Rattle.p10_verify_command.specs.private.Judging.{IsClaimed, IsJudged}
-
--- ## Files up to a limit
-
-take_all : {A : Type 0} (n : ℕ) (xs : List A) → length xs ≤ n → take n xs ≡ xs
-take_all zero [] short = refl
-take_all zero (x ∷ xs) short = absurd (omega (arith, short))
-take_all (suc n) [] short = refl
-take_all (suc n) (x ∷ xs) short = ap (λ ys. x ∷ ys) (take_all n xs (omega (arith, short)))
-
-short_of : (limit : ℕ) (bytes : List ℕ) (o : Option (List ℕ)) → IsSomeAnd o (λ whole. bytes ≡ take (limit + 1) whole) → length bytes ≤ limit → o ≡ Some bytes
-short_of limit bytes None front short = absurd front
-short_of limit bytes (Some whole) front short =
-    let size : length bytes ≡ min (limit + 1) (length whole) = ap length front ∙ length-take (limit + 1) whole in
-    ap Some (sym (front ∙ take_all (limit + 1) whole (omega (arith, size, short))))
-
-long_of : (limit : ℕ) (bytes : List ℕ) (o : Option (List ℕ)) → IsSomeAnd o (λ whole. bytes ≡ take (limit + 1) whole) → limit < length bytes → IsSomeAnd o (λ whole. limit < length whole)
-long_of limit bytes None front long = front
-long_of limit bytes (Some whole) front long =
-    let size : length bytes ≡ min (limit + 1) (length whole) = ap length front ∙ length-take (limit + 1) whole in
-    omega (arith, size, long)
-
-held_of : (P : List ℕ → Type 0) (o : Option (List ℕ)) → IsSomeAnd o P → IsSome o
-held_of P None front = absurd front
-held_of P (Some whole) front = refl
-
-is_short : (held : Option (List Named)) (name : List ℕ) (limit : ℕ) (bytes : List ℕ) → IsFront held name limit bytes → length bytes ≤ limit → Gives held name bytes
-is_short None name limit bytes front short = tt
-is_short (Some files) name limit bytes front short = short_of limit bytes (file_of name files) front.front short
-
-is_long : (held : Option (List Named)) (name : List ℕ) (limit : ℕ) (bytes : List ℕ) → IsFront held name limit bytes → limit < length bytes → IsLonger held name limit
-is_long None name limit bytes front long = tt
-is_long (Some files) name limit bytes front long = long_of limit bytes (file_of name files) front.front long
-
-is_held : (held : Option (List Named)) (name : List ℕ) (limit : ℕ) (bytes : List ℕ) → IsFront held name limit bytes → IsHeld held name
-is_held None name limit bytes front = tt
-is_held (Some files) name limit bytes front = held_of (λ whole. bytes ≡ take (limit + 1) whole) (file_of name files) front.front
+use Rattle.p10_verify_command.specs.Answers.{setting_of}
+use Rattle.p10_verify_command.specs.private.Deciding.{Answered, AreWeighed, Decides}
 
 -- ## The answers
 
@@ -77,39 +37,20 @@ decides_ungathered held names roots directories found u g same_roots same_direct
     let stopped = subst (λ (f : GatheredRoots). AreGathered (setting_of held names) f) same (with_names held names roots directories found same_roots same_directories is) in
     record { is_right = stopped.0; can_be_told = stopped.1 }
 
-has_certificate : (held : Option (List Named)) (names : Names) (bytes wanted : List ℕ) → IsFront held names.certificate certificate_limit bytes → length bytes ≤ certificate_limit → bytes ≡ wanted → HasCertificate held names wanted
-has_certificate held names bytes wanted front short same =
-    let given : HasCertificate held names bytes = record { given = is_short held names.certificate certificate_limit bytes front short; short = short } in
-    subst (λ (b : List ℕ). HasCertificate held names b) same given
+weighed_by : (held : Option (List Named)) (names : Names) (g : Gathered) (bytes : List ℕ) (answer : Answer) → Gathers (setting_of held names) g → IsLoaded held names.certificate bytes → AreWeighed g bytes answer → Decides held names g answer
+weighed_by held names g bytes (Unread u) gathers loaded unread =
+    record { is_right = (gathers, given_is_held held names.certificate loaded.whole loaded.given, unread.0); can_be_told = unread.1 }
+weighed_by held names g bytes (Judged j) gathers loaded (p, w) =
+    record { is_right = (p, record { gathers = gathers; reading = w.reading; read = w.read; whole = w.whole }, judged held names.certificate bytes p j loaded w.weighed); can_be_told = tt }
+weighed_by held names g bytes (Ungathered u) gathers loaded none = absurd none
+weighed_by held names g bytes AbsentCertificate gathers loaded none = absurd none
+weighed_by held names g bytes (Trouble trouble) gathers loaded none = absurd none
 
-judges_by : (held : Option (List Named)) (names : Names) (g : Gathered) (p : PlainProgram) (bytes : List ℕ) (v : Verdict) → Gathers (setting_of held names) g → IsFront held names.certificate certificate_limit bytes → HaveProgram g p →
-    (claimed : IsClaimed p bytes v) → Judges held names g p claimed.claims v
-judges_by held names g p bytes v gathers front have claimed = record {
-  program = record { gathers = gathers; is = have };
-  certificate = has_certificate held names bytes (certificate_text claimed.claims) front claimed.short claimed.text_is;
-  is_certificate = claimed.is_certificate;
-  has_verdict = claimed.has;
-}
-
-judged_by : (held : Option (List Named)) (names : Names) (g : Gathered) (bytes : List ℕ) (answer : Answer) → Gathers (setting_of held names) g → IsFront held names.certificate certificate_limit bytes → IsJudged g bytes answer → Decides held names g answer
-judged_by held names g bytes (Unread u) gathers front unread =
-    record { is_right = (gathers, is_held held names.certificate certificate_limit bytes front, unread.0); can_be_told = unread.1 }
-judged_by held names g bytes CertificateTooLong gathers front (p, have, long) =
-    record { is_right = (p, record { gathers = gathers; is = have }, is_long held names.certificate certificate_limit bytes front long); can_be_told = tt }
-judged_by held names g bytes (BadCertificate line) gathers front (p, have, (short, wrong)) =
-    record { is_right = (p, bytes, record { gathers = gathers; is = have }, has_certificate held names bytes bytes front short refl, wrong); can_be_told = tt }
-judged_by held names g bytes (Failing k at) gathers front (p, have, claimed) =
-    record { is_right = (p, claimed.claims, judges_by held names g p bytes (verdicts.Refused k at) gathers front have claimed); can_be_told = tt }
-judged_by held names g bytes (Accepted bounds) gathers front (p, have, claimed) =
-    record { is_right = (p, claimed.claims, judges_by held names g p bytes (verdicts.Accepted bounds) gathers front have claimed); can_be_told = tt }
-judged_by held names g bytes (Ungathered u) gathers front (p, have, none) = absurd none
-judged_by held names g bytes AbsentCertificate gathers front (p, have, none) = absurd none
-judged_by held names g bytes (Trouble trouble) gathers front (p, have, none) = absurd none
-
-pub decides_judged : (held later : Option (List Named)) (names : Names) (g : Gathered) (bytes read : List ℕ) (answer : Answer) → Gathers (setting_of held names) g → later ≡ held → IsFront later names.certificate certificate_limit bytes → read ≡ bytes →
-    IsJudged g read answer → Decides held names g answer
-decides_judged held later names g bytes read answer gathers unchanged front same judged =
-    judged_by held names g bytes answer gathers (subst (λ (h : Option (List Named)). IsFront h names.certificate certificate_limit bytes) unchanged front) (subst (λ (b : List ℕ). IsJudged g b answer) same judged)
+-- the sources and a certificate that was loaded come to this
+pub decides_weighed : (held later : Option (List Named)) (names : Names) (g : Gathered) (bytes read : List ℕ) (answer : Answer) → Gathers (setting_of held names) g → later ≡ held → IsLoaded later names.certificate bytes → read ≡ bytes →
+    AreWeighed g read answer → Decides held names g answer
+decides_weighed held later names g bytes read answer gathers unchanged loaded same weighed =
+    weighed_by held names g bytes answer gathers (subst (λ (h : Option (List Named)). IsLoaded h names.certificate bytes) unchanged loaded) (subst (λ (b : List ℕ). AreWeighed g b answer) same weighed)
 
 no_fault : Rose 0 0 → ⊥
 no_fault (inl more) = absurd (omega (arith, more))
@@ -120,10 +61,7 @@ pub seen_later : (held : Option (List Named)) (before after : ℕ) (names : Name
 seen_later held before after names g (Ungathered u) decides = record { is_right = decides.is_right; can_be_told = decides.can_be_told }
 seen_later held before after names g AbsentCertificate decides = record { is_right = decides.is_right; can_be_told = decides.can_be_told }
 seen_later held before after names g (Unread u) decides = record { is_right = decides.is_right; can_be_told = decides.can_be_told }
-seen_later held before after names g CertificateTooLong decides = record { is_right = decides.is_right; can_be_told = decides.can_be_told }
-seen_later held before after names g (BadCertificate line) decides = record { is_right = decides.is_right; can_be_told = decides.can_be_told }
-seen_later held before after names g (Failing k at) decides = record { is_right = decides.is_right; can_be_told = decides.can_be_told }
-seen_later held before after names g (Accepted bounds) decides = record { is_right = decides.is_right; can_be_told = decides.can_be_told }
+seen_later held before after names g (Judged j) decides = record { is_right = decides.is_right; can_be_told = decides.can_be_told }
 seen_later held before after names g (Trouble Read) decides = absurd (no_fault decides.is_right)
 seen_later held before after names g (Trouble Memory) decides = record { is_right = tt; can_be_told = tt }
 

@@ -1,5 +1,5 @@
 -- The lemmas of this crate, by subject.
-pub mod Judging
+pub mod Weighing
 pub mod Deciding
 pub mod Answering
 pub mod OneAnswer

@@ -2,8 +2,8 @@
 
 ghost use Rattle.std.specs.Prelude.{◌≡◌};
 
-use p10_base::{Bounds, Span};
 use p10_command::{Trouble, Ungathered, Unread};
+use p10_judge::Judgement;
 
 /// An answer to `verify`, in the order in which they are tried; trouble may come before any.
 #[derive(Clone, Copy, Debug)]
@@ -14,14 +14,8 @@ pub enum Answer {
     AbsentCertificate,
     /// The sources are no program.
     Unread(Unread),
-    /// The certificate is over its limit.
-    CertificateTooLong,
-    /// The text is no certificate's, from this line on.
-    BadCertificate(u64),
-    /// The condition with this number doesn't hold, and it is the first; it is reported at this place.
-    Failing(u8, Span),
-    /// All conditions hold, and these are the bounds of every run.
-    Accepted(Bounds),
+    /// What the certificate comes to for their program.
+    Judged(Judgement),
     /// A read failed, or memory is wanting.
     Trouble(Trouble),
 }
@@ -34,13 +28,10 @@ impl Answer {
         ensures { result ≡ status_of self.now }
     {
         match self {
-            Answer::Accepted(_) => 0,
-            Answer::Failing(..) => 1,
-            Answer::BadCertificate(_) => 4,
-            Answer::CertificateTooLong => 8,
-            Answer::AbsentCertificate => 9,
             Answer::Ungathered(why) => why.status(),
+            Answer::AbsentCertificate => 9,
             Answer::Unread(why) => why.status(),
+            Answer::Judged(judgement) => judgement.status(),
             Answer::Trouble(trouble) => trouble.status(),
         }
     }

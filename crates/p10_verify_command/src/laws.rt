@@ -2,19 +2,13 @@
 
 ghost use Rattle.p10_verify_command.specs.Laws.{VerifySaysOneThing};
 
-use p10_cert::laws::{
-    a_certificate_has_no_wrong_line, a_text_has_one_wrong_line, a_text_tells_its_claims,
-};
-use p10_check::laws::one_verdict;
 use p10_front::laws::one_reading;
+use p10_judge::laws::one_judgement;
 
 /// Where files are told, only one thing is right to say to `verify`, but for a read fault and want of memory.
 pub fn one_answer_is_right()
     ensures { VerifySaysOneThing }
 {
     one_reading();
-    a_text_tells_its_claims();
-    a_text_has_one_wrong_line();
-    a_certificate_has_no_wrong_line();
-    one_verdict();
+    one_judgement();
 }

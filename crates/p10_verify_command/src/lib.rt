@@ -4,7 +4,7 @@
 //!                                    refused: K11 a.c:1:5
 //!
 //! Entry point: [`verify`]. The sources are gathered, the certificate is loaded, the sources are read as a program, and the
-//! conditions of the certificate are tried; the first of these that gives no program, no certificate or no bounds is
+//! certificate is judged for it; the first of these that gives no program, no certificate or no bounds is
 //! what is told. Invariant: the status and both texts are those of a right answer, and where the files are told at most one
 //! is right, but for faults and want of memory. Which words are this command is left to the crate above.
 #![tactic(auto)]
@@ -12,9 +12,7 @@
 mod answer;
 mod command;
 mod decide;
-mod judge;
 pub mod laws;
-mod load;
 mod tell;
 
 pub use answer::Answer;

@@ -10,8 +10,8 @@ use Rattle.p10_base.specs.Words.{Text}
 use Rattle.p10_words.specs.CommandLines.{value_of}
 use Rattle.p10_words.specs.Commands.{check_options, derive_options, verify_options, run_options, IsRestOf}
 use Rattle.p10_words.specs.private.Parsing.{file_id, some_list, Matched, IsParse}
-use Rattle.p10_words.specs.private.Deciding.{has_files, IsCheckOf, IsDeriveOf, IsVerifyOf, IsRunOf, Answers}
-use Rattle.p10_words.proofs.Deciding.{check_is, check_from, no_check, derive_is, derive_from, no_derive, verify_is, verify_from, no_verify, run_is, run_from, no_run}
+use Rattle.p10_words.specs.private.Deciding.{has_files, IsCheckOf, IsDeriveOf, IsVerifyOf, IsRunOf, IsGenerateOf, Answers}
+use Rattle.p10_words.proofs.Deciding.{check_is, check_from, no_check, derive_is, derive_from, no_derive, verify_is, verify_from, no_verify, run_is, run_from, no_run, generate_is, generate_from, no_generate}
 
 -- an answer by another condition that is the same
 carried : (P Q : Command → Type 0) (r : Result Command Usage) → ((c : Command) → P c → Q c) → ((c : Command) → Q c → P c) → Answers P r → Answers Q r
@@ -94,19 +94,21 @@ verify_lost words Refused n = λ c v. no_verify words c n v
 verify_lost words Memory n = tt
 
 -- ---- `run`
-pub run_done : (words : List Text) (m : ArgMatches) (include steps turns deny : Option Text) (files : List Text) (r : Result Command Usage) → Matched run_options words m
+pub run_done : (words : List Text) (m : ArgMatches) (include steps turns deny cert : Option Text) (files : List Text) (r : Result Command Usage) → Matched run_options words m
     → include ≡ first_value (found_of m) (codes "include") → steps ≡ first_value (found_of m) (codes "steps") → turns ≡ first_value (found_of m) (codes "turns") → deny ≡ first_value (found_of m) (codes "deny")
-    → Some files ≡ option_map raw_values (matched_of (found_of m) file_id) → Answers (IsRunOf include steps turns deny files) r → Answers (λ c. IsRestOf c (codes "run") words) r
-run_done words m include steps turns deny files r h i t u d k a =
+    → cert ≡ first_value (found_of m) (codes "cert") → Some files ≡ option_map raw_values (matched_of (found_of m) file_id)
+    → Answers (IsRunOf include steps turns deny cert files) r → Answers (λ c. IsRestOf c (codes "run") words) r
+run_done words m include steps turns deny cert files r h i t u d q k a =
     let s = h.split in
-    let there : IsRunOf include steps turns deny files ≡ IsRunOf (value_of s.options (codes "include")) (value_of s.options (codes "steps")) (value_of s.options (codes "turns")) (value_of s.options (codes "deny")) s.files =
-    ap (λ (o : Option Text). IsRunOf o steps turns deny files) (i ∙ h.reads.options (codes "include") refl)
-    ∙ ap (λ (o : Option Text). IsRunOf (value_of s.options (codes "include")) o turns deny files) (t ∙ h.reads.options (codes "steps") refl)
-    ∙ ap (λ (o : Option Text). IsRunOf (value_of s.options (codes "include")) (value_of s.options (codes "steps")) o deny files) (u ∙ h.reads.options (codes "turns") refl)
-    ∙ ap (λ (o : Option Text). IsRunOf (value_of s.options (codes "include")) (value_of s.options (codes "steps")) (value_of s.options (codes "turns")) o files) (d ∙ h.reads.options (codes "deny") refl)
-    ∙ ap (λ (l : List Text). IsRunOf (value_of s.options (codes "include")) (value_of s.options (codes "steps")) (value_of s.options (codes "turns")) (value_of s.options (codes "deny")) l) (sym (some_files s.files files (sym (k ∙ h.reads.files)))) in
-    carried (IsRunOf (value_of s.options (codes "include")) (value_of s.options (codes "steps")) (value_of s.options (codes "turns")) (value_of s.options (codes "deny")) s.files) (λ c. IsRestOf c (codes "run") words) r
-    (λ c v. run_is words s c h.scanned h.once v) (λ c v. run_from words s c h.scanned v) (subst (λ (P : Command → Type 0). Answers P r) there a)
+    let includes = i ∙ h.reads.options (codes "include") refl in
+    let steps_are = t ∙ h.reads.options (codes "steps") refl in
+    let turns_are = u ∙ h.reads.options (codes "turns") refl in
+    let denied = d ∙ h.reads.options (codes "deny") refl in
+    let certs = q ∙ h.reads.options (codes "cert") refl in
+    let files_are = sym (some_files s.files files (sym (k ∙ h.reads.files))) in
+    carried (IsRunOf (value_of s.options (codes "include")) (value_of s.options (codes "steps")) (value_of s.options (codes "turns")) (value_of s.options (codes "deny")) (value_of s.options (codes "cert")) s.files)
+    (λ c. IsRestOf c (codes "run") words) r (λ c v. run_is words s c h.scanned h.once v) (λ c v. run_from words s c h.scanned v)
+    (subst (λ (P : Command → Type 0). Answers P r) (λ n. IsRunOf (includes n) (steps_are n) (turns_are n) (denied n) (certs n) (files_are n)) a)
 
 pub run_without : (words : List Text) (m : ArgMatches) → Matched run_options words m → None ≡ option_map raw_values (matched_of (found_of m) file_id) → (c : Command) → IsRestOf c (codes "run") words → ⊥
 run_without words m h k c v =
@@ -117,6 +119,24 @@ run_without words m h k c v =
 pub run_lost : (words : List Text) (u : Usage) → IsParse run_options words (Err u) → Answers (λ c. IsRestOf c (codes "run") words) (Err u)
 run_lost words Refused n = λ c v. no_run words c n v
 run_lost words Memory n = tt
+
+-- ---- `gen`
+pub generate_done : (words : List Text) (m : ArgMatches) (numbers : List Text) (r : Result Command Usage) → Matched [] words m
+    → Some numbers ≡ option_map raw_values (matched_of (found_of m) file_id) → Answers (IsGenerateOf numbers) r → Answers (λ c. IsRestOf c (codes "gen") words) r
+generate_done words m numbers r h k a =
+    let s = h.split in
+    carried (IsGenerateOf s.files) (λ c. IsRestOf c (codes "gen") words) r (λ c v. generate_is words s c h.scanned v) (λ c v. generate_from words s c h.scanned v)
+    (subst (λ (l : List Text). Answers (IsGenerateOf l) r) (sym (some_files s.files numbers (sym (k ∙ h.reads.files)))) a)
+
+pub generate_without : (words : List Text) (m : ArgMatches) → Matched [] words m → None ≡ option_map raw_values (matched_of (found_of m) file_id) → (c : Command) → IsRestOf c (codes "gen") words → ⊥
+generate_without words m h k c v =
+    let none = no_files h.split.files (sym (k ∙ h.reads.files)) in
+    let alone = (generate_from words h.split c h.scanned v).alone in
+    cc
+
+pub generate_lost : (words : List Text) (u : Usage) → IsParse [] words (Err u) → Answers (λ c. IsRestOf c (codes "gen") words) (Err u)
+generate_lost words Refused n = λ c v. no_generate words c n v
+generate_lost words Memory n = tt
 
 pub cert_given : (include : Option Text) (o : Option (Bor Text)) (cert : Bor Text) (files : List Text) (r : Result Command Usage) → o ≡ Some cert
     → Answers (IsVerifyOf include (Some cert.now) files) r → Answers (IsVerifyOf include (option_map (λ w. w.now) o) files) r

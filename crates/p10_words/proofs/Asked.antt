@@ -1,5 +1,5 @@
 -- The commands that are asked for.
-use Rattle.std.proofs.Common.{◌≡◌, refl, codes, true}
+use Rattle.std.proofs.Common.{◌≡◌, refl, codes, true, []}
 use Rattle.clap.specs.Simple.{App, with_rule}
 use Rattle.clap.proofs.OnLiterals.{clap_on_literals}
 use Rattle.p10_words.specs.Commands.{check_options, derive_options, verify_options, run_options}
@@ -16,8 +16,11 @@ verify_app = with_rule (with_rule (with_rule (bare (codes "verify")) (option_ask
 
 abbrev pub run_app : App
 run_app =
-    with_rule (with_rule (with_rule (with_rule (with_rule (bare (codes "run")) (option_asked (codes "include"))) (option_asked (codes "steps"))) (option_asked (codes "turns")))
-    (option_asked (codes "deny"))) files_asked
+    with_rule (with_rule (with_rule (with_rule (with_rule (with_rule (bare (codes "run")) (option_asked (codes "include"))) (option_asked (codes "steps"))) (option_asked (codes "turns")))
+    (option_asked (codes "deny"))) (option_asked (codes "cert"))) files_asked
+
+abbrev pub generate_app : App
+generate_app = with_rule (bare (codes "gen")) files_asked
 
 pub check_asked : IsAsked check_app check_options
 unfolding clap_on_literals
@@ -35,6 +38,10 @@ pub run_asked : IsAsked run_app run_options
 unfolding clap_on_literals
 run_asked = record { simple = refl; free = refl; no_binary_name = refl; subs = refl; rules = refl; overrides = refl; wants_help = refl; wants_subcommand = refl }
 
+pub generate_asked : IsAsked generate_app []
+unfolding clap_on_literals
+generate_asked = record { simple = refl; free = refl; no_binary_name = refl; subs = refl; rules = refl; overrides = refl; wants_help = refl; wants_subcommand = refl }
+
 pub check_askable : are_askable check_options ≡ true
 check_askable = refl
 
@@ -46,3 +53,6 @@ verify_askable = refl
 
 pub run_askable : are_askable run_options ≡ true
 run_askable = refl
+
+pub none_askable : are_askable [] ≡ true
+none_askable = refl

@@ -8,6 +8,8 @@ pub mod Asked
 pub mod Cutting
 pub mod Numbers
 pub mod Splitting
+pub mod Named
+pub mod Naming
 pub mod Deciding
 pub mod OneCommand
 pub mod Answering

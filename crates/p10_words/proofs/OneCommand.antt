@@ -1,18 +1,21 @@
 -- A line is one command.
-use Rattle.std.proofs.Common.{◌≡◌, ℕ, Bool, true, ap, sym, ◌∙◌, subst, List, [], ◌∷◌, Option, Some, None, inl, inr}
+use Rattle.std.proofs.Common.{◌≡◌, ℕ, Bool, true, refl, ap, sym, ◌∙◌, subst, List, [], ◌∷◌, Option, Some, None, inl, inr}
 use Rattle.std.specs.Prelude.{codes, bytes_eq}
 use Rattle.p10_words.specs.declared.command.Command.{Command}
-use Rattle.p10_words.specs.declared.command.Command.TheVariants.{Check, Derive, Verify, Run}
+use Rattle.p10_words.specs.declared.command.Command.TheVariants.{Check, Derive, Verify, Run, Generate}
+use Rattle.p10_words.specs.declared.command.Budget.{Budget}
+use Rattle.p10_words.specs.declared.command.Budget.TheVariants.{Steps, Certificate}
 use Rattle.p10_base.specs.Words.{Text}
-use Rattle.p10_words.specs.CommandLines.{Given, value_of, directories_in, HasNumber, HasFormat}
-use Rattle.p10_words.specs.Commands.{check_options, derive_options, verify_options, run_options, IsSplit, IsRestOf}
+use Rattle.p10_words.specs.CommandLines.{Given, value_of, directories_in, IsNumber, HasNumber, HasFormat}
+use Rattle.p10_words.specs.Commands.{check_options, derive_options, verify_options, run_options, IsSplit, IsCheck, IsDerive, IsVerify, HasBudget, IsRun, IsGenerate, IsRestOf}
 use Rattle.p10_words.specs.Laws.{LinesAreOneCommand}
 use Rattle.p10_words.specs.private.Scanning.{Split}
 use Rattle.p10_words.specs.private.Parsing.{are_askable}
 use Rattle.p10_words.proofs.Rows.{text_same}
-use Rattle.p10_words.proofs.Asked.{check_askable, derive_askable, verify_askable, run_askable}
+use Rattle.p10_words.proofs.Asked.{check_askable, derive_askable, verify_askable, run_askable, none_askable}
 use Rattle.p10_words.proofs.Numbers.{same_number}
-use Rattle.p10_words.proofs.Deciding.{derive_or_verify, read, same_split}
+use Rattle.p10_words.proofs.Naming.{Checks, checks, Derives, derives, Verifies, verifies, Runs, runs, Generates, generates}
+use Rattle.p10_words.proofs.Deciding.{read, same_split}
 
 split_of : List Given → List Text → Split
 split_of options files = record { options = options; files = files }
@@ -38,57 +41,70 @@ same_format (Some value) this that (inr i) (inl j) = absurd (two_formats (sym j.
 value_in : Text → Split → Option Text
 value_in name s = value_of s.options name
 
-one_rest : (a b : Command) (word : Text) (words : List Text) → IsRestOf a word words → IsRestOf b word words → a ≡ b
-unfolding value_in split_of
-one_rest (Check d b f) (Check e c g) word words i j =
-    let v = i.1 in
-    let w = j.1 in
-    let same = one_split check_options words v.options w.options f g check_askable v.split w.split in
-    let files : f ≡ g = ap (λ (x : Split). x.files) same in
-    let dirs : d ≡ e = v.include.are ∙ ap (λ (x : Split). directories_in (value_in (codes "include") x)) same ∙ sym w.include.are in
-    let json : b ≡ c = same_format (value_of w.options (codes "format")) b c (subst (λ (o : Option Text). HasFormat o b) (ap (value_in (codes "format")) same) v.has_format) w.has_format in
-    ap (λ (x : List Text). Check x b f) dirs ∙ ap (λ (x : Bool). Check e x f) json ∙ ap (λ (x : List Text). Check e c x) files
-one_rest (Derive d f) (Derive e g) word words i j =
-    let v = i.1 in
-    let w = j.1 in
-    let same = one_split derive_options words v.options w.options f g derive_askable v.split w.split in
-    let files : f ≡ g = ap (λ (x : Split). x.files) same in
-    let dirs : d ≡ e = v.include.are ∙ ap (λ (x : Split). directories_in (value_in (codes "include") x)) same ∙ sym w.include.are in
-    ap (λ (x : List Text). Derive x f) dirs ∙ ap (λ (x : List Text). Derive e x) files
-one_rest (Derive d f) (Check e c g) word words i j = let w = sym i.0 ∙ j.0 in absurd cc
-one_rest (Derive d f) (Verify e k g) word words i j = absurd (derive_or_verify (sym i.0 ∙ j.0))
-one_rest (Derive d f) (Run e u v m g) word words i j = let w = sym i.0 ∙ j.0 in absurd cc
-one_rest (Check d b f) (Derive e g) word words i j = let w = sym i.0 ∙ j.0 in absurd cc
-one_rest (Verify d c f) (Derive e g) word words i j = absurd (derive_or_verify (sym j.0 ∙ i.0))
-one_rest (Run d s t n f) (Derive e g) word words i j = let w = sym i.0 ∙ j.0 in absurd cc
-one_rest (Check d b f) (Verify e k g) word words i j = let w = sym i.0 ∙ j.0 in absurd cc
-one_rest (Check d b f) (Run e u v m g) word words i j = let w = sym i.0 ∙ j.0 in absurd cc
-one_rest (Verify d c f) (Check e b g) word words i j = let w = sym i.0 ∙ j.0 in absurd cc
-one_rest (Run d s t n f) (Check e b g) word words i j = let w = sym i.0 ∙ j.0 in absurd cc
-one_rest (Verify d c f) (Verify e k g) word words i j =
-    let v = i.1 in
-    let w = j.1 in
-    let same = one_split verify_options words v.options w.options f g verify_askable v.split w.split in
-    let files : f ≡ g = ap (λ (x : Split). x.files) same in
-    let dirs : d ≡ e = v.include.are ∙ ap (λ (x : Split). directories_in (value_in (codes "include") x)) same ∙ sym w.include.are in
-    let cert : c ≡ k = same_value _ _ c k (ap (value_in (codes "cert")) same) v.cert w.cert in
-    ap (λ (x : List Text). Verify x c f) dirs ∙ ap (λ (x : Text). Verify e x f) cert ∙ ap (λ (x : List Text). Verify e k x) files
-one_rest (Run d s t n f) (Run e u v m g) word words i j =
-    let x = i.1 in
-    let y = j.1 in
-    let same = one_split run_options words x.options y.options f g run_askable x.split y.split in
-    let files : f ≡ g = ap (λ (z : Split). z.files) same in
-    let dirs : d ≡ e = x.include.are ∙ ap (λ (z : Split). directories_in (value_in (codes "include") z)) same ∙ sym y.include.are in
-    let steps : s ≡ u = same_number (value_of y.options (codes "steps")) 10000000 s u (subst (λ (o : Option Text). HasNumber o 10000000 s) (ap (value_in (codes "steps")) same) x.has_steps) y.has_steps in
-    let turns : t ≡ v = same_number (value_of y.options (codes "turns")) 1 t v (subst (λ (o : Option Text). HasNumber o 1 t) (ap (value_in (codes "turns")) same) x.has_turns) y.has_turns in
-    let deny : n ≡ m = same_number (value_of y.options (codes "deny")) 0 n m (subst (λ (o : Option Text). HasNumber o 0 n) (ap (value_in (codes "deny")) same) x.has_deny) y.has_deny in
-    ap (λ (z : List Text). Run z s t n f) dirs ∙ ap (λ (z : ℕ). Run e z t n f) steps ∙ ap (λ (z : ℕ). Run e u z n f) turns ∙ ap (λ (z : ℕ). Run e u v z f) deny ∙ ap (λ (z : List Text). Run e u v m z) files
-one_rest (Verify d c f) (Run e u v m g) word words i j = let w = sym i.0 ∙ j.0 in absurd cc
-one_rest (Run d s t n f) (Verify e k g) word words i j = let w = sym i.0 ∙ j.0 in absurd cc
-
 first_of : List Text → Text
 first_of [] = []
 first_of (x ∷ xs) = x
+
+-- what bounds the steps is one thing at most
+same_budget : (steps cert : Option Text) (a b : Budget) → HasBudget steps cert a → HasBudget steps cert b → a ≡ b
+same_budget steps cert (Steps m) (Steps n) i j = ap Steps (same_number steps 10000000 m n i.1 j.1)
+same_budget steps cert (Certificate m) (Certificate n) i j = ap Certificate (same_value cert cert m n refl i.1 j.1)
+same_budget steps cert (Steps m) (Certificate n) i j = absurd (let w = sym i.0 ∙ j.1 in cc)
+same_budget steps cert (Certificate m) (Steps n) i j = absurd (let w = sym j.0 ∙ i.1 in cc)
+
+-- each command beside another of the same word and words
+one_check : (words d : List Text) (b : Bool) (f : List Text) (v : IsCheck words d b f) (c : Command) → Checks words c → Check d b f ≡ c
+unfolding value_in split_of
+one_check words d b f v c w =
+    let same = one_split check_options words v.options w.rest.options f w.files check_askable v.split w.rest.split in
+    let files : f ≡ w.files = ap (λ (x : Split). x.files) same in
+    let dirs : d ≡ w.directories = v.include.are ∙ ap (λ (x : Split). directories_in (value_in (codes "include") x)) same ∙ sym w.rest.include.are in
+    let json : b ≡ w.json = same_format (value_of w.rest.options (codes "format")) b w.json (subst (λ (o : Option Text). HasFormat o b) (ap (value_in (codes "format")) same) v.has_format) w.rest.has_format in
+    (λ i. Check (dirs i) (json i) (files i)) ∙ sym w.is
+
+one_derive : (words d f : List Text) (v : IsDerive words d f) (c : Command) → Derives words c → Derive d f ≡ c
+unfolding value_in split_of
+one_derive words d f v c w =
+    let same = one_split derive_options words v.options w.rest.options f w.files derive_askable v.split w.rest.split in
+    let files : f ≡ w.files = ap (λ (x : Split). x.files) same in
+    let dirs : d ≡ w.directories = v.include.are ∙ ap (λ (x : Split). directories_in (value_in (codes "include") x)) same ∙ sym w.rest.include.are in
+    (λ i. Derive (dirs i) (files i)) ∙ sym w.is
+
+one_verify : (words d : List Text) (k : Text) (f : List Text) (v : IsVerify words d k f) (c : Command) → Verifies words c → Verify d k f ≡ c
+unfolding value_in split_of
+one_verify words d k f v c w =
+    let same = one_split verify_options words v.options w.rest.options f w.files verify_askable v.split w.rest.split in
+    let files : f ≡ w.files = ap (λ (x : Split). x.files) same in
+    let dirs : d ≡ w.directories = v.include.are ∙ ap (λ (x : Split). directories_in (value_in (codes "include") x)) same ∙ sym w.rest.include.are in
+    let cert : k ≡ w.certificate = same_value _ _ k w.certificate (ap (value_in (codes "cert")) same) v.cert w.rest.cert in
+    (λ i. Verify (dirs i) (cert i) (files i)) ∙ sym w.is
+
+one_run : (words d : List Text) (b : Budget) (t n : ℕ) (f : List Text) (v : IsRun words d b t n f) (c : Command) → Runs words c → Run d b t n f ≡ c
+unfolding value_in split_of
+one_run words d b t n f v c w =
+    let same = one_split run_options words v.options w.rest.options f w.files run_askable v.split w.rest.split in
+    let files : f ≡ w.files = ap (λ (x : Split). x.files) same in
+    let dirs : d ≡ w.directories = v.include.are ∙ ap (λ (x : Split). directories_in (value_in (codes "include") x)) same ∙ sym w.rest.include.are in
+    let budget : b ≡ w.budget = same_budget (value_of w.rest.options (codes "steps")) (value_of w.rest.options (codes "cert")) b w.budget
+    (subst (λ (x : Split). HasBudget (value_in (codes "steps") x) (value_in (codes "cert") x) b) same v.has_budget) w.rest.has_budget in
+    let turns : t ≡ w.turns = same_number (value_of w.rest.options (codes "turns")) 1 t w.turns (subst (λ (o : Option Text). HasNumber o 1 t) (ap (value_in (codes "turns")) same) v.has_turns) w.rest.has_turns in
+    let deny : n ≡ w.deny = same_number (value_of w.rest.options (codes "deny")) 0 n w.deny (subst (λ (o : Option Text). HasNumber o 0 n) (ap (value_in (codes "deny")) same) v.has_deny) w.rest.has_deny in
+    (λ i. Run (dirs i) (budget i) (turns i) (deny i) (files i)) ∙ sym w.is
+
+one_generate : (words : List Text) (n : ℕ) (v : IsGenerate words n) (c : Command) → Generates words c → Generate n ≡ c
+unfolding split_of first_of
+one_generate words n v c w =
+    let same = one_split [] words [] [] (v.number ∷ []) (w.rest.number ∷ []) none_askable v.split w.rest.split in
+    let numbers : v.number ≡ w.rest.number = ap (λ (x : Split). first_of x.files) same in
+    let functions : n ≡ w.functions = same_number (Some w.rest.number) 0 n w.functions (subst (λ (t : Text). IsNumber t n) numbers v.is) w.rest.is in
+    ap Generate functions ∙ sym w.is
+
+one_rest : (a b : Command) (word : Text) (words : List Text) → IsRestOf a word words → IsRestOf b word words → a ≡ b
+one_rest (Check d json f) b word words i j = one_check words d json f i.1 b (checks words b (subst (λ (w : Text). IsRestOf b w words) i.0 j))
+one_rest (Derive d f) b word words i j = one_derive words d f i.1 b (derives words b (subst (λ (w : Text). IsRestOf b w words) i.0 j))
+one_rest (Verify d k f) b word words i j = one_verify words d k f i.1 b (verifies words b (subst (λ (w : Text). IsRestOf b w words) i.0 j))
+one_rest (Run d g t n f) b word words i j = one_run words d g t n f i.1 b (runs words b (subst (λ (w : Text). IsRestOf b w words) i.0 j))
+one_rest (Generate n) b word words i j = one_generate words n i.1 b (generates words b (subst (λ (w : Text). IsRestOf b w words) i.0 j))
 
 rest_of : List Text → List Text
 rest_of [] = []

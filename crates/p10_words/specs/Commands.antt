@@ -1,11 +1,13 @@
 -- The commands, and the words that are each of them.
-use Rattle.std.specs.Prelude.{◌≡◌, ◌≢◌, ℕ, ◌≤◌, Bool, List, [], ◌∷◌, codes, length, Some}
+use Rattle.std.specs.Prelude.{◌≡◌, ◌≢◌, ℕ, ◌≤◌, Bool, List, [], ◌∷◌, codes, length, Option, Some, None}
 use Rattle.p10_words.specs.declared.command.Command.{Command}
-use Rattle.p10_words.specs.declared.command.Command.TheVariants.{Check, Derive, Verify, Run}
+use Rattle.p10_words.specs.declared.command.Command.TheVariants.{Check, Derive, Verify, Run, Generate}
+use Rattle.p10_words.specs.declared.command.Budget.{Budget}
+use Rattle.p10_words.specs.declared.command.Budget.TheVariants.{Steps, Certificate}
 use Rattle.p10_base.specs.Words.{Text}
-use Rattle.p10_words.specs.CommandLines.{Given, AreNames, Splits, AreGivenOnce, value_of, directories_in, HasNumber, HasFormat}
+use Rattle.p10_words.specs.CommandLines.{Given, AreNames, Splits, AreGivenOnce, value_of, directories_in, IsNumber, HasNumber, HasFormat}
 
--- the options of `check`, of `derive`, of `verify` and of `run`
+-- the options of `check`, of `derive`, of `verify` and of `run`; `gen` has none
 abbrev pub check_options : List Text
 check_options = codes "include" ∷ codes "format" ∷ []
 
@@ -16,7 +18,7 @@ abbrev pub verify_options : List Text
 verify_options = codes "include" ∷ codes "cert" ∷ []
 
 abbrev pub run_options : List Text
-run_options = codes "include" ∷ codes "steps" ∷ codes "turns" ∷ codes "deny" ∷ []
+run_options = codes "include" ∷ codes "steps" ∷ codes "turns" ∷ codes "deny" ∷ codes "cert" ∷ []
 
 -- options, each given once at most, and files, of which there is one at least
 pub record IsSplit (names : List Text) (words : List Text) (options : List Given) (files : List Text) : Type 0 where
@@ -49,21 +51,33 @@ pub record IsVerify (words : List Text) (directories : List Text) (certificate :
   pub include : AreDirectories options directories
   pub cert : value_of options (codes "cert") ≡ Some certificate
 
--- `run [--include D] [--steps N] [--turns N] [--deny N] FILE..`: 10,000,000 steps, 1 turn, and no denied request where they aren't given
-pub record IsRun (words : List Text) (directories : List Text) (steps turns deny : ℕ) (files : List Text) : Type 0 where
+-- what bounds the steps, by the values of `--steps` and `--cert`, which exclude each other: 10,000,000 steps where neither is given
+abbrev pub HasBudget : Option Text → Option Text → Budget → Type 0
+HasBudget steps cert (Steps n) = (cert ≡ None) × HasNumber steps 10000000 n
+HasBudget steps cert (Certificate name) = (steps ≡ None) × (cert ≡ Some name)
+
+-- `run [--include D] [--steps N | --cert C] [--turns N] [--deny N] FILE..`: 1 turn and no denied request where they aren't given
+pub record IsRun (words : List Text) (directories : List Text) (budget : Budget) (turns deny : ℕ) (files : List Text) : Type 0 where
   pub options : List Given
   pub split : IsSplit run_options words options files
   pub include : AreDirectories options directories
-  pub has_steps : HasNumber (value_of options (codes "steps")) 10000000 steps
+  pub has_budget : HasBudget (value_of options (codes "steps")) (value_of options (codes "cert")) budget
   pub has_turns : HasNumber (value_of options (codes "turns")) 1 turns
   pub has_deny : HasNumber (value_of options (codes "deny")) 0 deny
+
+-- `gen N`: the number stands in the place of the files, and there is no option
+pub record IsGenerate (words : List Text) (functions : ℕ) : Type 0 where
+  pub number : Text
+  pub split : IsSplit [] words [] (number ∷ [])
+  pub is : IsNumber number functions
 
 -- what follows the command's own word
 abbrev pub IsRestOf : Command → Text → List Text → Type 0
 IsRestOf (Check directories json files) word words = (word ≡ codes "check") × IsCheck words directories json files
 IsRestOf (Derive directories files) word words = (word ≡ codes "derive") × IsDerive words directories files
 IsRestOf (Verify directories certificate files) word words = (word ≡ codes "verify") × IsVerify words directories certificate files
-IsRestOf (Run directories steps turns deny files) word words = (word ≡ codes "run") × IsRun words directories steps turns deny files
+IsRestOf (Run directories budget turns deny files) word words = (word ≡ codes "run") × IsRun words directories budget turns deny files
+IsRestOf (Generate functions) word words = (word ≡ codes "gen") × IsGenerate words functions
 
 -- the words are the command: the first is its name, and there are at most 65,536
 pub record IsCommandLine (line : List Text) (command : Command) : Type 0 where

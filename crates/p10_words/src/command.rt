@@ -30,12 +30,12 @@ pub enum Command {
         /// The source files; there is one at least.
         files: ListBuf<TextBuf>,
     },
-    /// `run [--include D] [--steps N] [--turns N] [--deny N] FILE..`
+    /// `run [--include D] [--steps N | --cert C] [--turns N] [--deny N] FILE..`
     Run {
         /// The directories of `--include`, in their order.
         dirs: ListBuf<TextBuf>,
-        /// The budget of steps; 10,000,000 where it isn't given.
-        steps: u64,
+        /// What bounds the steps; 10,000,000 of them where neither option is given.
+        budget: Budget,
         /// The number of turns of the task loop; 1 where it isn't given.
         turns: u64,
         /// The number of the denied request, or 0 for none.
@@ -43,6 +43,20 @@ pub enum Command {
         /// The source files; there is one at least.
         files: ListBuf<TextBuf>,
     },
+    /// `gen N`
+    Generate {
+        /// The number of functions beside `main` in the program that is made.
+        functions: u64,
+    },
+}
+
+/// What bounds the steps of a run.
+#[derive(Debug, Drop)]
+pub enum Budget {
+    /// `--steps N`: so many before the task loop, and in each of its turns.
+    Steps(u64),
+    /// `--cert C`: those that the certificate in the file of this name claims.
+    Certificate(TextBuf),
 }
 
 /// Why there is no command.

@@ -6,6 +6,8 @@
 //!     derive a.c                     Derive of the file a.c
 //!     verify --cert a.p10 a.c        Verify of the certificate a.p10 and the file a.c
 //!     run a.c --steps=500            Run of a.c with 500 steps, 1 turn and no denied request
+//!     run --cert a.p10 a.c           Run of a.c with the steps that the certificate a.p10 claims
+//!     gen 700                        Generate, 700 functions
 //!     run -v a.c                     Refused
 //!
 //! `clap` reads options and files; that its answer is exactly what the definitions say is proved.
@@ -20,5 +22,5 @@ mod read;
 mod tests;
 mod values;
 
-pub use command::{Command, Usage};
+pub use command::{Budget, Command, Usage};
 pub use read::read_words;

@@ -51,6 +51,16 @@ pub fn run_matches<'w>(alloc: Global, words: &'w [String]) -> Result<ArgMatches<
     }
 }
 
+/// What `clap` reads of the words after `gen`.
+pub fn generate_matches<'w>(alloc: Global, words: &'w [String]) -> Result<ArgMatches<'w>, Usage>
+    ensures { IsParse [] (map string_bytes words.entry.now) result }
+{
+    match generate_command(alloc) {
+        Ok(command) => matches(command, words),
+        Err(_) => Err(Usage::Memory),
+    }
+}
+
 /// The options and files of `check`.
 fn check_command<'w>(alloc: Global) -> Result<Command<'w>, AllocError>
     ensures { IfOk result (λ c. IsAsked (app_of c) check_options) }
@@ -92,7 +102,16 @@ fn run_command<'w>(alloc: Global) -> Result<Command<'w>, AllocError>
         .arg(option(alloc, "steps"))?
         .arg(option(alloc, "turns"))?
         .arg(option(alloc, "deny"))?
+        .arg(option(alloc, "cert"))?
         .arg(files(alloc))?;
+    Ok(command)
+}
+
+/// The number of `gen`, which stands where other commands have files.
+fn generate_command<'w>(alloc: Global) -> Result<Command<'w>, AllocError>
+    ensures { IfOk result (λ c. IsAsked (app_of c) []) }
+{
+    let command = bare(alloc, "gen").arg(files(alloc))?;
     Ok(command)
 }
 

@@ -1,16 +1,17 @@
 //! A command line, read.
 
-ghost use Rattle.std.specs.Prelude.{◌≡◌, Some, Err, map, string_bytes, IfOk, codes, option_map};
+ghost use Rattle.std.specs.Prelude.{◌≡◌, Some, None, Err, map, string_bytes, IfOk, codes, option_map};
 ghost use Rattle.p10_words.specs.declared.command.Command.{Command};
 ghost use Rattle.p10_words.specs.declared.command.Command.TheVariants.{Check, Derive, Verify, Run};
+ghost use Rattle.p10_words.specs.declared.command.Budget.{Budget};
 ghost use Rattle.p10_words.specs.CommandLines.{directories_in};
 ghost use Rattle.p10_words.specs.Commands.{IsCommandLine, IsRestOf};
-ghost use Rattle.p10_words.specs.private.Deciding.{IsCheckOf, IsDeriveOf, IsVerifyOf, IsRunOf, Answers};
+ghost use Rattle.p10_words.specs.private.Deciding.{IsCheckOf, IsDeriveOf, IsVerifyOf, IsBudgetOf, IsRunOf, IsGenerateOf, Answers};
 
-use crate::command::{Command, Usage};
-use crate::parse::{check_matches, derive_matches, run_matches, verify_matches};
+use crate::command::{Budget, Command, Usage};
+use crate::parse::{check_matches, derive_matches, generate_matches, run_matches, verify_matches};
 use crate::values::{
-    directories, is_json, name_files, names_directories, names_file, number, text, texts,
+    decimal, directories, is_json, name_files, names_directories, names_file, number, text, texts,
 };
 use std::alloc::{AllocError, Global};
 
@@ -26,12 +27,14 @@ const TURNS: u64 = 1;
 /// No denied request, where `--deny` isn't given.
 const NONE: u64 = 0;
 
-/// The numbers of `run`.
+/// The values of the options of `run`, where they are given.
 #[derive(Clone, Copy)]
-struct Numbers {
-    steps: u64,
-    turns: u64,
-    deny: u64,
+struct RunOptions<'w> {
+    include: Option<&'w str>,
+    steps: Option<&'w str>,
+    turns: Option<&'w str>,
+    deny: Option<&'w str>,
+    cert: Option<&'w str>,
 }
 
 /// The command that the words after the program's name are.
@@ -62,6 +65,8 @@ fn by_name(alloc: Global, command: &str, words: &[String]) -> Result<Command, Us
         verify(alloc, words)
     } else if command == "run" {
         run(alloc, words)
+    } else if command == "gen" {
+        generate(alloc, words)
     } else {
         Err(Usage::Refused)
     }
@@ -122,14 +127,29 @@ fn run(alloc: Global, words: &[String]) -> Result<Command, Usage>
 {
     match run_matches(alloc, words) {
         Ok(found) => match found.get_strs("FILE") {
-            Some(files) => run_of(
-                alloc,
-                found.get_str("include"),
-                found.get_str("steps"),
-                found.get_str("turns"),
-                found.get_str("deny"),
-                files,
-            ),
+            Some(files) => {
+                let options = RunOptions {
+                    include: found.get_str("include"),
+                    steps: found.get_str("steps"),
+                    turns: found.get_str("turns"),
+                    deny: found.get_str("deny"),
+                    cert: found.get_str("cert"),
+                };
+                run_of(alloc, options, files)
+            }
+            None => Err(Usage::Refused),
+        },
+        Err(fault) => Err(fault),
+    }
+}
+
+/// `gen` with the words after it.
+fn generate(alloc: Global, words: &[String]) -> Result<Command, Usage>
+    ensures { Answers (λ c. IsRestOf c (codes "gen") (map string_bytes words.now)) result }
+{
+    match generate_matches(alloc, words) {
+        Ok(found) => match found.get_strs("FILE") {
+            Some(numbers) => generate_of(numbers),
             None => Err(Usage::Refused),
         },
         Err(fault) => Err(fault),
@@ -245,25 +265,16 @@ fn new_verify(
 }
 
 /// `run` of these values of options and files.
-fn run_of(
-    alloc: Global,
-    include: Option<&str>,
-    steps: Option<&str>,
-    turns: Option<&str>,
-    deny: Option<&str>,
-    files: &[&str],
-) -> Result<Command, Usage>
-    ensures { Answers (IsRunOf (option_map (λ w. w.now) include.entry) (option_map (λ w. w.now) steps.entry) (option_map (λ w. w.now) turns.entry) (option_map (λ w. w.now) deny.entry) (map (λ w. w.now) files.now)) result }
+fn run_of(alloc: Global, options: RunOptions<'_>, files: &[&str]) -> Result<Command, Usage>
+    ensures { Answers (IsRunOf (option_map (λ w. w.now) options.entry.include) (option_map (λ w. w.now) options.entry.steps) (option_map (λ w. w.now) options.entry.turns) (option_map (λ w. w.now) options.entry.deny) (option_map (λ w. w.now) options.entry.cert) (map (λ w. w.now) files.now)) result }
 {
-    let (Some(steps), Some(turns), Some(deny)) = (
-        number(steps, STEPS),
-        number(turns, TURNS),
-        number(deny, NONE),
-    ) else {
+    let (Some(turns), Some(deny)) = (number(options.turns, TURNS), number(options.deny, NONE))
+    else {
         return Err(Usage::Refused);
     };
-    if names_directories(include) && name_files(files) {
-        match new_run(alloc, include, Numbers { steps, turns, deny }, files) {
+    if names_directories(options.include) && name_files(files) {
+        let budget = budget(alloc, options.steps, options.cert)?;
+        match new_run(alloc, options.include, budget, turns, deny, files) {
             Ok(command) => Ok(command),
             Err(_) => Err(Usage::Memory),
         }
@@ -272,23 +283,64 @@ fn run_of(
     }
 }
 
+/// What bounds the steps, by the values of `--steps` and `--cert`, of which one at most is given.
+fn budget(alloc: Global, steps: Option<&str>, cert: Option<&str>) -> Result<Budget, Usage>
+    ensures { Answers (IsBudgetOf (option_map (λ w. w.now) steps.entry) (option_map (λ w. w.now) cert.entry)) result }
+{
+    match (steps, cert) {
+        (steps, None) => match number(steps, STEPS) {
+            Some(steps) => Ok(Budget::Steps(steps)),
+            None => Err(Usage::Refused),
+        },
+        (None, Some(cert)) => certificate(alloc, cert),
+        (Some(_), Some(_)) => Err(Usage::Refused),
+    }
+}
+
+/// The certificate of this name as the budget.
+fn certificate(alloc: Global, cert: &str) -> Result<Budget, Usage>
+    ensures { Answers (IsBudgetOf None (Some cert.now)) result }
+{
+    if !names_file(cert) {
+        return Err(Usage::Refused);
+    }
+    match text(alloc, cert) {
+        Ok(name) => Ok(Budget::Certificate(name)),
+        Err(_) => Err(Usage::Memory),
+    }
+}
+
 /// The command `run`, with texts of its own.
 fn new_run(
     alloc: Global,
     include: Option<&str>,
-    numbers: Numbers,
+    budget: Budget,
+    turns: u64,
+    deny: u64,
     files: &[&str],
 ) -> Result<Command, AllocError>
-    ensures { IfOk result (λ c. c ≡ Run (directories_in (option_map (λ w. w.now) include.entry)) numbers.steps numbers.turns numbers.deny (map (λ w. w.now) files.now)) }
+    ensures { IfOk result (λ c. c ≡ Run (directories_in (option_map (λ w. w.now) include.entry)) budget turns deny (map (λ w. w.now) files.now)) }
 {
-    let Numbers { steps, turns, deny } = numbers;
     let dirs = directories(alloc, include)?;
     let files = texts(alloc, files)?;
     Ok(Command::Run {
         dirs,
-        steps,
+        budget,
         turns,
         deny,
         files,
     })
+}
+
+/// `gen` of these words in the place of files.
+fn generate_of(words: &[&str]) -> Result<Command, Usage>
+    ensures { Answers (IsGenerateOf (map (λ w. w.now) words.now)) result }
+{
+    match words {
+        [number] => match decimal(number) {
+            Some(functions) => Ok(Command::Generate { functions }),
+            None => Err(Usage::Refused),
+        },
+        _ => Err(Usage::Refused),
+    }
 }

@@ -1,6 +1,6 @@
 //! Command lines that are read, with ample memory.
 
-use crate::{Command, Usage, read_words};
+use crate::{Budget, Command, Usage, read_words};
 use std::alloc::{AllocError, Global};
 use std::test::Fail;
 
@@ -10,7 +10,7 @@ struct Row {
     says: &'static str,
 }
 
-static ROWS: [Row; 25] = [
+static ROWS: [Row; 31] = [
     Row {
         line: "check a.c b.c",
         says: "check 0 false 2",
@@ -84,7 +84,11 @@ static ROWS: [Row; 25] = [
         says: "refused",
     },
     Row {
-        line: "run --cert c a.c",
+        line: "run --cert c a.c --turns 3",
+        says: "run 0 c 3 0 1",
+    },
+    Row {
+        line: "run --cert c --steps 10000000 a.c",
         says: "refused",
     },
     Row {
@@ -109,6 +113,26 @@ static ROWS: [Row; 25] = [
     },
     Row {
         line: "verify a.c",
+        says: "refused",
+    },
+    Row {
+        line: "gen -- 700",
+        says: "gen 700",
+    },
+    Row {
+        line: "gen 0 --",
+        says: "gen 0",
+    },
+    Row {
+        line: "gen 1 2",
+        says: "refused",
+    },
+    Row {
+        line: "gen --steps 3 5",
+        says: "refused",
+    },
+    Row {
+        line: "gen 07",
         says: "refused",
     },
 ];
@@ -139,15 +163,24 @@ fn said(alloc: Global, line: &str) -> Result<String, AllocError> {
         Ok(
             Command::Run {
                 dirs,
-                steps,
+                budget,
                 turns,
                 deny,
                 files,
             },
         ) => {
-            let (dirs, files) = (dirs.as_slice().len(), files.as_slice().len());
-            format!(in alloc; "run {dirs} {steps} {turns} {deny} {files}")
+            let budget = match budget {
+                Budget::Steps(steps) => format!(in alloc; "{steps}")?,
+                Budget::Certificate(name) => String::from_str(alloc, name.as_str())?,
+            };
+            let (dirs, budget, files) = (
+                dirs.as_slice().len(),
+                budget.as_str(),
+                files.as_slice().len(),
+            );
+            format!(in alloc; "run {dirs} {budget} {turns} {deny} {files}")
         }
+        Ok(Command::Generate { functions }) => format!(in alloc; "gen {functions}"),
         Err(Usage::Refused) => String::from_str(alloc, "refused"),
         Err(Usage::Memory) => String::from_str(alloc, "out of memory"),
     }

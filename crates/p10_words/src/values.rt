@@ -125,7 +125,7 @@ pub fn number(value: Option<&str>, standard: u64) -> Option<u64>
 }
 
 /// The number whose decimal digits the text is, without a leading zero, at most 10^18.
-fn decimal(value: &str) -> Option<u64>
+pub fn decimal(value: &str) -> Option<u64>
     ensures some { IfSome result (IsNumber value.now) }
     ensures none { IfNone result ((n : ℕ) → IsNumber value.now n → ⊥) }
 {

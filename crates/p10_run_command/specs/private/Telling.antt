@@ -11,8 +11,13 @@ use Rattle.p10_run.specs.declared.finished.FinishedRun.{FinishedRun}
 use Rattle.p10_run.specs.WholeRuns.{IsRun, outcome_of, run_with}
 use Rattle.p10_command.specs.declared.trouble.Trouble.TheVariants as trouble
 use Rattle.p10_command.specs.Saying.{trouble_line, trouble_status}
+use Rattle.p10_judge.specs.Saying.{judgement_line, judgement_status}
+use Rattle.p10_run_command.specs.declared.granting.RunRequest.{RunRequest}
+use Rattle.p10_run_command.specs.declared.program.RunEnd.{RunEnd}
+use Rattle.p10_run_command.specs.declared.program.RunEnd.TheVariants.{Ran, Refused, OutOfMemory}
 use Rattle.p10_run_command.specs.Answers.{IsInput}
 use Rattle.p10_run_command.specs.Endings.{ended_line, ended_status}
+use Rattle.p10_run_command.specs.private.Granting.{Grants, IsRefusedFor}
 
 -- a line was told on the error output, all of it, and this is its status
 pub record IsTold (status : ℕ) (line : List ℕ) (err_old err_new : Option (List ℕ)) (given : ℕ) : Type 0 where
@@ -20,20 +25,37 @@ pub record IsTold (status : ℕ) (line : List ℕ) (err_old err_new : Option (Li
   pub taken : Appends err_old err_new line
 
 -- the status of what has come of a run
-abbrev pub end_status : Result FinishedRun RunFault → ℕ
-end_status (Ok done) = ended_status (outcome_of done.outcome)
-end_status (Err run.Read) = trouble_status trouble.Read
-end_status (Err run.Memory) = trouble_status trouble.Memory
-end_status (Err run.Write) = 6
+abbrev pub ran_status : Result FinishedRun RunFault → ℕ
+ran_status (Ok done) = ended_status (outcome_of done.outcome)
+ran_status (Err run.Read) = trouble_status trouble.Read
+ran_status (Err run.Memory) = trouble_status trouble.Memory
+ran_status (Err run.Write) = 6
 
 -- the line of what has come of a run; none after a failed write
-abbrev pub end_line : Gathered → Result FinishedRun RunFault → List ℕ
-end_line g (Ok done) = ended_line g (outcome_of done.outcome) done.calls done.bytes
-end_line g (Err run.Read) = trouble_line trouble.Read
-end_line g (Err run.Memory) = trouble_line trouble.Memory
-end_line g (Err run.Write) = []
+abbrev pub ran_line : Gathered → Result FinishedRun RunFault → List ℕ
+ran_line g (Ok done) = ended_line g (outcome_of done.outcome) done.calls done.bytes
+ran_line g (Err run.Read) = trouble_line trouble.Read
+ran_line g (Err run.Memory) = trouble_line trouble.Memory
+ran_line g (Err run.Write) = []
+
+-- the status and the line of what has come of a program that was to run
+abbrev pub end_status : RunEnd → ℕ
+end_status (Ran end) = ran_status end
+end_status (Refused judgement) = judgement_status judgement
+end_status OutOfMemory = trouble_status trouble.Memory
+
+abbrev pub end_line : Gathered → RunEnd → List ℕ
+end_line g (Ran end) = ran_line g end
+end_line g (Refused judgement) = judgement_line g judgement
+end_line g OutOfMemory = trouble_line trouble.Memory
 
 -- what comes of running a program with a budget: its run on the input, or a prefix of that run's output
-abbrev pub Comes : PlainProgram → Budget → Option (List ℕ) → Option (List ℕ) → Option (List ℕ) → Result FinishedRun RunFault → Type 0
-Comes p b left taken taken_after (Ok done) = (bytes : List ℕ) × IsInput left bytes × IsRun done taken taken_after (run_with p b bytes)
-Comes p b left taken taken_after (Err fault) = (bytes : List ℕ) × IsInput left bytes × TakesFront taken taken_after (run_with p b bytes).output
+abbrev pub IsOutcome : PlainProgram → Budget → Option (List ℕ) → Option (List ℕ) → Option (List ℕ) → Result FinishedRun RunFault → Type 0
+IsOutcome p b left taken taken_after (Ok done) = (bytes : List ℕ) × IsInput left bytes × IsRun done taken taken_after (run_with p b bytes)
+IsOutcome p b left taken taken_after (Err fault) = (bytes : List ℕ) × IsInput left bytes × TakesFront taken taken_after (run_with p b bytes).output
+
+-- what comes of a program that was to run by a request; where it didn't run, nothing was written
+abbrev pub Comes : PlainProgram → RunRequest → Option (List ℕ) → Option (List ℕ) → Option (List ℕ) → RunEnd → Type 0
+Comes p request left taken taken_after (Ran end) = (b : Budget) × Grants p request.allowance request.turns request.deny b × IsOutcome p b left taken taken_after end
+Comes p request left taken taken_after (Refused judgement) = IsRefusedFor p request.allowance judgement × (taken_after ≡ taken)
+Comes p request left taken taken_after OutOfMemory = taken_after ≡ taken

@@ -1,4 +1,5 @@
 use Rattle.std.proofs.Common.{ap, sym, ◌∙◌}
+use Rattle.p10_words.specs.declared.command.Command.TheVariants.{Generate}
 use Rattle.p10_top.proofs.Telling.{of_check, of_derive, of_verify, of_run, told_of, stopped_of}
 use Rattle.p10_top.proofs.obey.Goals as goal
 
@@ -25,3 +26,9 @@ returns-in-Run-clause-told g c = λ six. told_of c.args.command (of_run c.run_co
 
 pub returns-in-Run-clause-stopped : goal.returns-in-Run-clause-stopped
 returns-in-Run-clause-stopped g c = λ six. stopped_of c.args.command (of_run c.run_command-command.result) _ _ _ _ _ _ (c.in-Run.is ∙ ap of_run (sym c.run_command-command.ensures)) (c.run.ensures.stopped six)
+
+pub returns-in-Generate-clause-told : goal.returns-in-Generate-clause-told
+returns-in-Generate-clause-told g c = λ six. told_of c.args.command (Generate c.in-Generate.functions) _ _ _ _ _ _ _ c.in-Generate.is (c.generate.ensures.told six)
+
+pub returns-in-Generate-clause-stopped : goal.returns-in-Generate-clause-stopped
+returns-in-Generate-clause-stopped g c = λ six. stopped_of c.args.command (Generate c.in-Generate.functions) _ _ _ _ _ _ c.in-Generate.is (c.generate.ensures.stopped six)

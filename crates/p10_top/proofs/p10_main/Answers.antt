@@ -1,4 +1,6 @@
 use Rattle.p10_top.proofs.CommandWords.{few_sources, few_turns, no_run}
+use Rattle.p10_top.proofs.Certified.{never_spent}
+use Rattle.p10_top.proofs.Deriving.{derived}
 use Rattle.p10_top.proofs.Telling.{verified, told_command, stopped_command, told_unread, stopped_unread, unread_is_none}
 use Rattle.p10_top.proofs.p10_main.Goals as goal
 
@@ -14,6 +16,10 @@ returns-in-Ok-clause-input g c = λ none. c.obey.ensures.input (no_run _ c.in-Ok
 pub returns-in-Ok-clause-headline : goal.returns-in-Ok-clause-headline
 returns-in-Ok-clause-headline g c = verified c.accepted_certificates_bound_every_run.ensures.ranges _ _ _ _ _ _ _ _ _ _ (λ six. told_command _ c.in-Ok.command _ _ _ _ _ _ _ c.in-Ok.ensures.found (c.obey.ensures.told six))
 
+pub returns-in-Ok-clause-derived : goal.returns-in-Ok-clause-derived
+returns-in-Ok-clause-derived g c =
+    derived c.derived_certificates_are_accepted.ensures.bounds c.derived_certificates_are_accepted.ensures.accepted _ _ _ _ _ _ _ _ _ _ (λ six. told_command _ c.in-Ok.command _ _ _ _ _ _ _ c.in-Ok.ensures.found (c.obey.ensures.told six))
+
 pub returns-in-Ok-clause-told : goal.returns-in-Ok-clause-told
 returns-in-Ok-clause-told g c = λ six. told_command _ c.in-Ok.command _ _ _ _ _ _ _ c.in-Ok.ensures.found (c.obey.ensures.told six)
 
@@ -23,8 +29,17 @@ returns-in-Ok-clause-stopped g c = λ six. stopped_command _ c.in-Ok.command _ _
 pub returns-in-Err-clause-headline : goal.returns-in-Err-clause-headline
 returns-in-Err-clause-headline g c = λ zero. absurd (unread_is_none c.in-Err.fault _ c.tell_unread.ensures.status zero)
 
+pub returns-in-Err-clause-derived : goal.returns-in-Err-clause-derived
+returns-in-Err-clause-derived g c = λ zero. absurd (unread_is_none c.in-Err.fault _ c.tell_unread.ensures.status zero)
+
 pub returns-in-Err-clause-told : goal.returns-in-Err-clause-told
 returns-in-Err-clause-told g c = λ six. told_unread _ _ _ c.in-Err.fault c.read_words.result _ _ _ _ c.in-Err.is c.read_words.ensures.refused (c.tell_unread.ensures.status six) (c.tell_unread.ensures.told six)
 
 pub returns-in-Err-clause-stopped : goal.returns-in-Err-clause-stopped
 returns-in-Err-clause-stopped g c = λ six. stopped_unread _ _ _ c.in-Err.fault c.read_words.result _ _ _ c.in-Err.is c.read_words.ensures.refused (c.tell_unread.ensures.stopped six)
+
+pub returns-in-Ok-clause-steps : goal.returns-in-Ok-clause-steps
+returns-in-Ok-clause-steps g c = λ line. never_spent c.certificates_leave_steps.ensures _ _ _ _ _ _ _ _ (λ six. told_command _ c.in-Ok.command _ _ _ _ _ _ _ c.in-Ok.ensures.found (c.obey.ensures.told six)) line
+
+pub returns-in-Err-clause-steps : goal.returns-in-Err-clause-steps
+returns-in-Err-clause-steps g c = λ line. never_spent c.certificates_leave_steps.ensures _ _ _ _ _ _ _ _ (λ six. told_unread _ _ _ c.in-Err.fault c.read_words.result _ _ _ _ c.in-Err.is c.read_words.ensures.refused (c.tell_unread.ensures.status six) (c.tell_unread.ensures.told six)) line

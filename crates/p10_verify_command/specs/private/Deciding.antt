@@ -1,12 +1,17 @@
 -- What is known of an answer and the gathered sources while it is decided.
-use Rattle.std.specs.Prelude.{List, length, Option, ℕ, ◌≡◌, ◌+◌, ◌≤◌, take, IfSome, IsSomeAnd}
+use Rattle.std.specs.Prelude.{List, Option, ℕ}
 use Rattle.p10_base.specs.Gathered.{Gathered}
-use Rattle.p10_world.specs.Files.{Named, file_of}
+use Rattle.p10_world.specs.Files.{Named}
+use Rattle.p10_core.specs.Typed.{PlainProgram}
+use Rattle.p10_core.specs.WholePrograms.{IsWholeProgram}
+use Rattle.p10_front.specs.Readings.{PlainReading, AreReadAs}
 use Rattle.p10_command.specs.Gathering as gathering
-use Rattle.p10_command.specs.Reading.{HasCode}
+use Rattle.p10_command.specs.Reading.{AreUnread, HasCode}
 use Rattle.p10_command.specs.Seen.{Seen}
+use Rattle.p10_judge.specs.declared.judgement.Judgement.{Judgement}
+use Rattle.p10_judge.specs.Judging.{IsWeighed}
 use Rattle.p10_verify_command.specs.declared.answer.Answer.{Answer}
-use Rattle.p10_verify_command.specs.declared.answer.Answer.TheVariants.{Ungathered, Unread}
+use Rattle.p10_verify_command.specs.declared.answer.Answer.TheVariants.{Ungathered, Unread, Judged}
 use Rattle.p10_verify_command.specs.Names.{Names}
 use Rattle.p10_verify_command.specs.Answers.{IsRight}
 
@@ -29,7 +34,15 @@ pub record Answered (seen : Seen) (names : Names) (sources : Gathered) (answer :
 abbrev pub Decides : Option (List Named) → Names → Gathered → Answer → Type 0
 Decides held names sources answer = Answered (unfailing held) names sources answer
 
--- bytes are the first of a file: all of it where it is no longer than the limit, else one more than the limit
-pub record IsFront (held : Option (List Named)) (name : List ℕ) (limit : ℕ) (bytes : List ℕ) : Type 0 where
-  pub front : IfSome held (λ files. IsSomeAnd (file_of name files) (λ whole. bytes ≡ take (limit + 1) whole))
-  pub most : length bytes ≤ limit + 1
+-- gathered sources are read as this whole program, for which the bytes of a certificate come to a judgement
+pub record IsWeighedFor (g : Gathered) (p : PlainProgram) (bytes : List ℕ) (judgement : Judgement) : Type 0 where
+  pub reading : PlainReading
+  pub read : AreReadAs g reading p
+  pub whole : IsWholeProgram p
+  pub weighed : IsWeighed p bytes judgement
+
+-- what gathered sources and the bytes of a certificate come to
+abbrev pub AreWeighed : Gathered → List ℕ → Answer → Type 0
+AreWeighed g bytes (Unread why) = AreUnread g why × HasCode why
+AreWeighed g bytes (Judged judgement) = (p : PlainProgram) × IsWeighedFor g p bytes judgement
+AreWeighed g bytes answer = ⊥

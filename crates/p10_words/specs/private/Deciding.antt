@@ -2,11 +2,13 @@
 use Rattle.std.specs.Prelude.{◌≡◌, ℕ, List, [], ◌∷◌, Bool, true, false, ◌&&◌, Option, Some, None, Result, Ok, Err}
 use Rattle.std.specs.List.{list_all}
 use Rattle.p10_words.specs.declared.command.Command.{Command}
-use Rattle.p10_words.specs.declared.command.Command.TheVariants.{Check, Derive, Verify, Run}
+use Rattle.p10_words.specs.declared.command.Command.TheVariants.{Check, Derive, Verify, Run, Generate}
+use Rattle.p10_words.specs.declared.command.Budget.{Budget}
 use Rattle.p10_words.specs.declared.command.Usage.{Usage}
 use Rattle.p10_words.specs.declared.command.Usage.TheVariants.{Refused, Memory}
 use Rattle.p10_base.specs.Words.{Text}
-use Rattle.p10_words.specs.CommandLines.{directories_in, HasNumber, HasFormat}
+use Rattle.p10_words.specs.CommandLines.{directories_in, IsNumber, HasNumber, HasFormat}
+use Rattle.p10_words.specs.Commands.{HasBudget}
 use Rattle.p10_words.specs.private.Scanning.{is_name}
 
 -- a value is a name, if there is one
@@ -46,20 +48,33 @@ pub record IsVerifyOf (include cert : Option Text) (files : List Text) (c : Comm
   pub some : has_files files ≡ true
   pub is : c ≡ Verify (directories_in include) certificate files
 
+-- what bounds the steps, by the values of `--steps` and `--cert`
+pub record IsBudgetOf (steps cert : Option Text) (b : Budget) : Type 0 where
+  pub has : HasBudget steps cert b
+  pub name : is_given_name cert ≡ true
+
 -- `run` of these values and files
-pub record IsRunOf (include steps turns deny : Option Text) (files : List Text) (c : Command) : Type 0 where
-  pub step_count : ℕ
+pub record IsRunOf (include steps turns deny cert : Option Text) (files : List Text) (c : Command) : Type 0 where
+  pub budget : Budget
   pub turn_count : ℕ
   pub denied : ℕ
   pub directories : has_directories include ≡ true
-  pub has_steps : HasNumber steps 10000000 step_count
+  pub has_budget : IsBudgetOf steps cert budget
   pub has_turns : HasNumber turns 1 turn_count
   pub has_deny : HasNumber deny 0 denied
   pub some : has_files files ≡ true
-  pub is : c ≡ Run (directories_in include) step_count turn_count denied files
+  pub is : c ≡ Run (directories_in include) budget turn_count denied files
 
--- the command is such, or there is none
-abbrev pub Answers : (Command → Type 0) → Result Command Usage → Type 0
-Answers P (Ok c) = P c
-Answers P (Err Refused) = (c : Command) → P c → ⊥
+-- `gen` of these words in the place of files
+pub record IsGenerateOf (words : List Text) (c : Command) : Type 0 where
+  pub number : Text
+  pub functions : ℕ
+  pub alone : words ≡ number ∷ []
+  pub is_number : IsNumber number functions
+  pub is : c ≡ Generate functions
+
+-- what is answered is such, or nothing is
+abbrev pub Answers : {A : Type 0} → (A → Type 0) → Result A Usage → Type 0
+Answers P (Ok a) = P a
+Answers {A} P (Err Refused) = (a : A) → P a → ⊥
 Answers P (Err Memory) = Unit {0}

@@ -1,9 +1,8 @@
 use Rattle.std.proofs.Common.{subst}
 use Rattle.std.proofs.lemmas.Option.{MatchOption-at_some}
-use Rattle.p10_verify_command.specs.Answers.{certificate_limit}
+use Rattle.p10_judge.specs.Loading.{IsLoaded}
 use Rattle.p10_verify_command.specs.Names.{names_of}
-use Rattle.p10_verify_command.specs.private.Deciding.{IsFront}
-use Rattle.p10_verify_command.proofs.Deciding.{decides_judged, decides_ungathered, gathers_named}
+use Rattle.p10_verify_command.proofs.Deciding.{decides_weighed, decides_ungathered, gathers_named}
 use Rattle.p10_verify_command.proofs.decide.decide.Goals as goal
 
 pub returns-in-Stopped-clause-right : goal.returns-in-Stopped-clause-right
@@ -13,8 +12,8 @@ returns-in-Stopped-clause-right g c =
 
 pub returns-clause-right : goal.returns-clause-right
 returns-clause-right g c =
-    decides_judged (g.F.Files.held c.args.files.now) (g.F.Files.held c.gather_roots.new.files) (names_of c.args.command.now) c.in-All.sources c.in-Some.certificate.items c.deref.result.now c.in_ok-answer.answer
+    decides_weighed (g.F.Files.held c.args.files.now) (g.F.Files.held c.gather_roots.new.files) (names_of c.args.command.now) c.in-All.sources c.in-Some.certificate.items c.deref.result.now c.in_ok-answer.answer
     (gathers_named (g.F.Files.held c.args.files.now) (names_of c.args.command.now) c.as_slice-roots.result.now c.as_slice-directories.result.now c.in_ok-sources.field-0 c.in-All.sources
     c.as_slice-roots.ensures c.as_slice-directories.ensures c.in-All.is c.in_ok-sources.ensures.gathered)
     c.in_ok-sources.ensures.held
-    (subst (λ name. IsFront (g.F.Files.held c.gather_roots.new.files) name certificate_limit c.in-Some.certificate.items) c.as_str.ensures (MatchOption-at_some _ _ _ c.in-Some.is c.in_ok-certificate.ensures.present)) c.deref.ensures.value c.in_ok-answer.ensures
+    (subst (λ name. IsLoaded (g.F.Files.held c.gather_roots.new.files) name c.in-Some.certificate.items) c.as_str.ensures (MatchOption-at_some _ _ _ c.in-Some.is c.in_ok-certificate.ensures.present)) c.deref.ensures.value c.in_ok-answer.ensures

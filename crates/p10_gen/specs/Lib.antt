@@ -1,0 +1,5 @@
+-- The definitions that the contracts of this crate cite: those of public clauses, and in `private` those of private ones alone.
+pub mod Programs
+pub mod Faults
+pub mod Laws
+pub mod private

@@ -1,0 +1,12 @@
+//! Why there is no program.
+
+use p10_base::Limit;
+
+/// Why a program isn't generated.
+#[derive(Clone, Copy, Debug, PartialEq, Eq)]
+pub enum GenFault {
+    /// A limit is passed: M1, the bytes of a source file.
+    Over(Limit),
+    /// Out of memory.
+    Memory,
+}

@@ -1,0 +1,6 @@
+-- The lemmas of this crate, by subject.
+pub mod Gathering
+pub mod Showing
+pub mod Telling
+pub mod OneAnswer
+pub mod Succeeding

@@ -1,0 +1,9 @@
+-- What holds of judgements.
+use Rattle.std.specs.Prelude.{ℕ, ◌≡◌, List}
+use Rattle.p10_core.specs.Typed.{PlainProgram}
+use Rattle.p10_judge.specs.declared.judgement.Judgement.{Judgement}
+use Rattle.p10_judge.specs.Judging.{IsWeighed}
+
+-- bytes come to one thing, for a program
+abbrev pub OneJudgement : Type 0
+OneJudgement = (p : PlainProgram) (bytes : List ℕ) (this that : Judgement) → IsWeighed p bytes this → IsWeighed p bytes that → this ≡ that

@@ -1,0 +1,7 @@
+-- The definitions that the contracts of this crate cite: those of public clauses, and in `private` those of private ones alone.
+pub mod Programs
+pub mod Loading
+pub mod Judging
+pub mod Saying
+pub mod Laws
+pub mod private

@@ -1,0 +1,99 @@
+-- A run by a certificate that is accepted never ends for want of steps.
+use Rattle.std.proofs.Common.{◌≡◌, ◌≢◌, ℕ, ◌<◌, List, refl, sym, ◌∙◌, ap, subst, arith, Option, Some, None}
+use Rattle.std.specs.List.{All}
+use Rattle.std.proofs.lemmas.List.Elements.{All-nil}
+use Rattle.std.proofs.lemmas.Option.{none-some}
+use Rattle.p10_base.specs.declared.report.Bounds.{Bounds}
+use Rattle.p10_base.specs.Words.{Text}
+use Rattle.p10_world.specs.Files.{Named}
+use Rattle.p10_core.specs.Typed.{PlainProgram}
+use Rattle.p10_core.specs.WholePrograms.{IsWholeProgram}
+use Rattle.p10_judge.specs.declared.judgement.Judgement.{Judgement}
+use Rattle.p10_judge.specs.declared.judgement.Judgement.TheVariants.{TooLong, BadCertificate, Failing, Accepted}
+use Rattle.p10_judge.specs.Judging.{IsJudged}
+use Rattle.p10_judge.specs.Saying.{judgement_status}
+use Rattle.p10_meaning.specs.Runs.{Outcome, Returned, Turns, Ended, Within}
+use Rattle.p10_meaning.specs.States.{AssertionFailed, IsSensorValue, IsWorld, StepsSpent, Undefined}
+use Rattle.p10_run.specs.declared.budget.Budget.{Budget}
+use Rattle.p10_run.specs.Budgets.{budget_within}
+use Rattle.p10_run.specs.WholeRuns.{run_with, world_of}
+use Rattle.p10_soundness.specs.Laws.{CertificatesAcceptedByRangesBoundRuns}
+use Rattle.p10_words.specs.declared.command.Budget as asked
+use Rattle.p10_words.specs.declared.command.Budget.TheVariants.{Certificate}
+use Rattle.p10_command.specs.declared.gathering.Ungathered.{Ungathered}
+use Rattle.p10_command.specs.declared.gathering.Ungathered.TheVariants as gathering
+use Rattle.p10_command.specs.declared.reading.Unread.{Unread}
+use Rattle.p10_command.specs.declared.reading.Unread.TheVariants as reading
+use Rattle.p10_command.specs.declared.trouble.Trouble.{Trouble}
+use Rattle.p10_command.specs.declared.trouble.Trouble.TheVariants.{Read, Memory}
+use Rattle.p10_command.specs.Saying.{Saying, trouble_status, ungathered_status, unread_status}
+use Rattle.p10_command.specs.Seen.{Seen, SeenInput}
+use Rattle.p10_run_command.specs.declared.command.RunCommand.{RunCommand}
+use Rattle.p10_run_command.specs.Answers.{IsInput, SaysRight, absent, ended, refused, troubled, troubled_run, ungathered, unread}
+use Rattle.p10_run_command.specs.Command.{Permits}
+use Rattle.p10_run_command.specs.Endings.{ended_status}
+
+-- ## Runs
+
+-- the run of an accepted certificate's program with the certificate's steps doesn't spend them
+steps_left : CertificatesAcceptedByRangesBoundRuns → (held : Option (List Named)) (name bytes : List ℕ) (p : PlainProgram) (bounds : Bounds) (b : Budget) (turns denied : ℕ) → IsWholeProgram p → IsJudged held name p (Accepted bounds) → b ≡ budget_within bounds turns denied → All (λ byte. byte < 256) bytes →
+    (run_with p b bytes).outcome ≢ Ended StepsSpent
+steps_left law held name bytes p bounds b turns denied whole judged is are_bytes =
+    let within : Within p bounds = law p whole judged.weighed.claims bounds judged.weighed.has in
+    let world : IsWorld (world_of bytes denied) = record { input = are_bytes; sensors = All-nil IsSensorValue } in
+    subst (λ (c : Budget). (run_with p c bytes).outcome ≢ Ended StepsSpent) (sym is) (within.every (world_of bytes denied) world turns).steps
+
+allowed_leaves : CertificatesAcceptedByRangesBoundRuns → (held : Option (List Named)) (budget : asked.Budget) (name bytes : List ℕ) (p : PlainProgram) (b : Budget) (turns denied : ℕ) → budget ≡ Certificate name → IsWholeProgram p → Permits held budget turns denied p b → All (λ byte. byte < 256) bytes →
+    (run_with p b bytes).outcome ≢ Ended StepsSpent
+allowed_leaves law held budget name bytes p b turns denied is whole allows are_bytes =
+    let may : Permits held (Certificate name) turns denied p b = subst (λ (a : asked.Budget). Permits held a turns denied p b) is allows in
+    steps_left law held name bytes p may.0 b turns denied whole may.1 may.2 are_bytes
+
+-- only for want of steps the status is 12
+spent : (o : Outcome) → ended_status o ≡ 12 → o ≡ Ended StepsSpent
+spent (Returned z) is = absurd (omega (arith, is))
+spent (Turns n) is = absurd (omega (arith, is))
+spent (Ended (AssertionFailed span)) is = absurd (omega (arith, is))
+spent (Ended (Undefined stop span)) is = absurd (omega (arith, is))
+spent (Ended StepsSpent) is = refl
+
+told_bytes : (left : Option (List ℕ)) (told bytes : List ℕ) → left ≡ Some told → IsInput left bytes → bytes ≡ told
+told_bytes None told bytes is input = absurd (none-some told is)
+told_bytes (Some left) told bytes is input = input ∙ (let same : left ≡ told = cc in same)
+
+-- ## What is said
+
+not_ungathered : (why : Ungathered) → ungathered_status why ≢ 12
+not_ungathered (gathering.AbsentRoot place) is = omega (arith, is)
+not_ungathered (gathering.Refused refusal) is = omega (arith, is)
+not_ungathered (gathering.Over limit) is = omega (arith, is)
+
+not_unread : (why : Unread) → unread_status why ≢ 12
+not_unread (reading.Refused refusal) is = omega (arith, is)
+not_unread (reading.Over limit) is = omega (arith, is)
+
+not_judged : (j : Judgement) → judgement_status j ≢ 12
+not_judged TooLong is = omega (arith, is)
+not_judged (BadCertificate line) is = omega (arith, is)
+not_judged (Failing k at) is = omega (arith, is)
+not_judged (Accepted bounds) is = omega (arith, is)
+
+not_troubled : (trouble : Trouble) → trouble_status trouble ≢ 12
+not_troubled Read is = omega (arith, is)
+not_troubled Memory is = omega (arith, is)
+
+-- the status of something that is said is that of what it is said for
+said_with : (saying other : Saying) → saying ≡ other → saying.status ≡ 12 → other.status ≡ 12
+said_with saying other said is = ap (λ (s : Saying). s.status) (sym said) ∙ is
+
+pub leaves_steps : CertificatesAcceptedByRangesBoundRuns → (run : RunCommand) (name : Text) (seen : Seen) (input : SeenInput) (bytes : List ℕ) (saying : Saying) → run.budget ≡ Certificate name → input.left ≡ Some bytes → All (λ byte. byte < 256) bytes →
+    SaysRight run seen input saying → saying.status ≢ 12
+leaves_steps law run name seen input bytes saying is left are_bytes (ungathered g why fails said) twelve = not_ungathered why (said_with saying _ said twelve)
+leaves_steps law run name seen input bytes saying is left are_bytes (absent g n gathers asked lacks said) twelve = omega (arith, said_with saying _ said twelve)
+leaves_steps law run name seen input bytes saying is left are_bytes (unread g why gathers held is_unread said) twelve = not_unread why (said_with saying _ said twelve)
+leaves_steps law run name seen input bytes saying is left are_bytes (refused g p n judgement has asked judged refusal said) twelve = not_judged judgement (said_with saying _ said twelve)
+leaves_steps law run name seen input bytes saying is left are_bytes (ended g p b given has allowed is_input said) twelve =
+    let are : All (λ byte. byte < 256) given = subst (λ (l : List ℕ). All (λ byte. byte < 256) l) (sym (told_bytes input.left bytes given left is_input)) are_bytes in
+    allowed_leaves law seen.held run.budget name given p b run.turns run.deny is has.whole allowed are (spent (run_with p b given).outcome (said_with saying _ said twelve))
+leaves_steps law run name seen input bytes saying is left are_bytes (troubled trouble may said) twelve = not_troubled trouble (said_with saying _ said twelve)
+leaves_steps law run name seen input bytes saying is left are_bytes (troubled_run g p b given written trouble has allowed is_input front may said) twelve = not_troubled trouble (said_with saying _ said twelve)

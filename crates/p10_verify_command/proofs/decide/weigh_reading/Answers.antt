@@ -1,0 +1,5 @@
+use Rattle.p10_verify_command.proofs.Weighing.{of_reading}
+use Rattle.p10_verify_command.proofs.decide.weigh_reading.Goals as goal
+
+pub returns : goal.returns
+returns c = of_reading c.args.reading.now.program c.in-Some.program c.args.certificate.now c.weigh.result c.in-Some.is c.weigh.ensures

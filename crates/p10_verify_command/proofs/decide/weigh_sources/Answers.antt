@@ -1,0 +1,5 @@
+use Rattle.p10_verify_command.proofs.Weighing.{program_weighed, whole_program}
+use Rattle.p10_verify_command.proofs.decide.weigh_sources.Goals as goal
+
+pub weigh_reading-judgement-requires : goal.weigh_reading-judgement-requires
+weigh_reading-judgement-requires c = whole_program c.args.sources.now c.in_ok-reading.field-0 c.in-Program.reading c.in-Program.is c.in_ok-reading.ensures

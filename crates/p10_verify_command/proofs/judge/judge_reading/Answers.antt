@@ -1,5 +1,0 @@
-use Rattle.p10_verify_command.proofs.Judging.{of_reading}
-use Rattle.p10_verify_command.proofs.judge.judge_reading.Goals as goal
-
-pub returns : goal.returns
-returns c = of_reading c.args.reading.now.program c.in-Some.program c.args.certificate.now c.weigh.result c.in-Some.is c.weigh.ensures

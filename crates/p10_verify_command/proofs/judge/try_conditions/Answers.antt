@@ -1,7 +1,0 @@
-use Rattle.p10_core.specs.Views.{plain_program}
-use Rattle.p10_cert.specs.Claims.{claims_of}
-use Rattle.p10_verify_command.proofs.Judging.{tried}
-use Rattle.p10_verify_command.proofs.judge.try_conditions.Goals as goal
-
-pub returns : goal.returns
-returns c = tried (plain_program c.args.program.now) (claims_of c.args.certificate.now) c.in_ok-verdict.verdict c.answer_by.result c.in_ok-verdict.ensures c.answer_by.ensures
