@@ -12,6 +12,8 @@ use Rattle.p10_core.specs.Typed.{PlainVariable, PlainFunction, PlainProgram}
 use Rattle.p10_core.specs.WholePrograms.{IsWholeProgram}
 use Rattle.p10_calls.proofs.Lists.{none_in, here, there as later}
 use Rattle.p10_cert.specs.Claims.{Value, Loop, Func, Claims}
+use Rattle.p10_cert.specs.Certificate.{IsCertificate}
+use Rattle.p10_cert.proofs.TextLaws.{text_tells_claims}
 use Rattle.p10_absx.specs.Entering.{claims_on}
 use Rattle.p10_sums.specs.Counting.{alloc_claimed}
 use Rattle.p10_sums.specs.Depths.{effect_of}
@@ -24,14 +26,17 @@ use Rattle.p10_turns.specs.Ranked.{is_ranked}
 use Rattle.p10_turns.specs.Evidence.{stands_by_ranges}
 use Rattle.p10_check.specs.Places.{place_if, places_from, name_at}
 use Rattle.p10_check.specs.Shapes.{has_some, wrong_main, has_hidden_effect, late_names, hidden_effects}
+use Rattle.p10_check.specs.declared.verdict.Verdict.TheVariants.{Accepted}
+use Rattle.p10_check.specs.Conditions.{IsVerdict}
 use Rattle.p10_check.specs.Accepting.{Holds}
 use Rattle.p10_check.proofs.Holding.{holding_accepts}
 use Rattle.p10_soundness.proofs.Sound.{accepted_by_ranges_bound}
+use Rattle.p10_derived_texts.proofs.Texts.{derived_have_text}
 use Rattle.p10_finder.specs.Trials.{counted}
 use Rattle.p10_finder.specs.Functions.{any_value, loops_of, with_turn_steps}
 use Rattle.p10_finder.specs.Answers.{ViolatesBounds, no_bound, flow, AreClaims, IsCertified}
 use Rattle.p10_finder.proofs.OneClaims.{claims_have_results}
-use Rattle.p10_acceptance.specs.Laws.{DerivedCertificatesHold, DerivedCertificatesAreAccepted, DerivedCertificatesBoundRuns}
+use Rattle.p10_acceptance.specs.Laws.{DerivedCertificatesHold, DerivedCertificatesAreAccepted, DerivedCertificatesBoundRuns, DerivedTextsAreAccepted}
 use Rattle.p10_acceptance.proofs.Results.{is_there, there_below, mapped_at, claim_there}
 use Rattle.p10_acceptance.proofs.Functions.{ranked_same, function_holds}
 use Rattle.p10_acceptance.proofs.Calls.{none_passes, ranks_hold}
@@ -170,3 +175,12 @@ derived_are_accepted p whole c k = holding_accepts (stands_by_ranges p) p c (all
 
 pub derived_bound : DerivedCertificatesBoundRuns
 derived_bound p whole c k = accepted_by_ranges_bound p whole c c.total (derived_are_accepted p whole c k)
+
+pub derived_texts_accepted : DerivedTextsAreAccepted
+derived_texts_accepted p whole named c k =
+    let text : IsCertificate c = derived_have_text p whole named c k in (
+      text,
+      λ d other same.
+          let claims : d ≡ c = text_tells_claims d c other text same in
+          subst (λ (x : Claims). IsVerdict (stands_by_ranges p) p x (Accepted c.total)) (sym claims) (derived_are_accepted p whole c k),
+    )

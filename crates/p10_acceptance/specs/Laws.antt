@@ -1,13 +1,16 @@
 -- What is derived is accepted.
+use Rattle.std.specs.Prelude.{◌≡◌}
 use Rattle.p10_core.specs.Typed.{PlainProgram}
 use Rattle.p10_core.specs.WholePrograms.{IsWholeProgram}
 use Rattle.p10_cert.specs.Claims.{Claims}
+use Rattle.p10_cert.specs.Certificate.{IsCertificate, certificate_text}
 use Rattle.p10_meaning.specs.Runs.{Within}
 use Rattle.p10_turns.specs.Evidence.{stands_by_ranges}
 use Rattle.p10_check.specs.declared.verdict.Verdict.TheVariants.{Accepted}
 use Rattle.p10_check.specs.Conditions.{IsVerdict}
 use Rattle.p10_check.specs.Accepting.{Holds}
 use Rattle.p10_finder.specs.Answers.{Certified, IsDerived}
+use Rattle.p10_derived_texts.specs.Naming.{AreNamed}
 
 -- where derivation answers a certificate for a whole program, each condition on the certificate holds with the evidence of ranges
 abbrev pub DerivedCertificatesHold : Type 0
@@ -20,3 +23,10 @@ DerivedCertificatesAreAccepted = (p : PlainProgram) → IsWholeProgram p → (c 
 -- and every run of the program stays within that total
 abbrev pub DerivedCertificatesBoundRuns : Type 0
 DerivedCertificatesBoundRuns = (p : PlainProgram) → IsWholeProgram p → (c : Claims) → IsDerived p (Certified c) → Within p c.total
+
+-- What is read of the text of a derived certificate is accepted too, where the program's functions have names of C: its text is one of
+-- a certificate, and whatever certificate has this text is accepted.
+abbrev pub DerivedTextsAreAccepted : Type 0
+DerivedTextsAreAccepted =
+    (p : PlainProgram) → IsWholeProgram p → AreNamed p → (c : Claims) → IsDerived p (Certified c)
+    → IsCertificate c × ((d : Claims) → IsCertificate d → certificate_text d ≡ certificate_text c → IsVerdict (stands_by_ranges p) p d (Accepted c.total))
