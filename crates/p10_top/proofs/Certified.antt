@@ -6,10 +6,13 @@ use Rattle.p10_command.specs.Saying.{Saying}
 use Rattle.p10_command.specs.Seen.{Seen, SeenInput}
 use Rattle.p10_command.specs.Told.{Told}
 use Rattle.p10_words.specs.declared.command.Command.{Command}
+use Rattle.p10_words.specs.declared.command.Usage.{Usage}
+use Rattle.p10_words.specs.declared.command.Usage.TheVariants as usage
 use Rattle.p10_words.proofs.OneCommand.{one_command}
 use Rattle.p10_run_command.specs.Laws.{CertificatesLeaveSteps}
 use Rattle.p10_top.specs.Commands.{IsCertifiedRunLine}
 use Rattle.p10_top.specs.Told.{MaySay, SaysFor, for_none, for_command, for_any}
+use Rattle.p10_top.specs.private.Unread.{saying_without_command}
 use Rattle.p10_top.proofs.Telling.{of_run}
 
 says_other : CertificatesLeaveSteps → (words : List Text) (seen : Seen) (input : SeenInput) (bytes : List ℕ) (saying : Saying) → (line : IsCertifiedRunLine words) → input.left ≡ Some bytes → All (λ byte. byte < 256) bytes → MaySay words seen input saying → saying.status ≢ 12
@@ -29,3 +32,12 @@ by_input law words seen input out_old out_new err_old err_new status told line (
 pub never_spent : CertificatesLeaveSteps → (words : List Text) (seen : Seen) (input : SeenInput) (out_old out_new err_old err_new : Option (List ℕ)) (status : ℕ) → (status ≢ 6 → Told (MaySay words seen input) out_old out_new err_old err_new status) → IsCertifiedRunLine words →
     IfSome input.left (λ bytes. All (λ byte. byte < 256) bytes → status ≢ 12)
 never_spent law words seen input out_old out_new err_old err_new status told line = by_input law words seen input out_old out_new err_old err_new status told line input.left refl
+
+not_spent : (fault : Usage) (status : ℕ) → (status ≢ 6 → status ≡ (saying_without_command fault).status) → status ≢ 12
+not_spent usage.Refused status is twelve = omega (arith, is (λ six. omega (arith, six, twelve)), twelve)
+not_spent usage.Memory status is twelve = omega (arith, is (λ six. omega (arith, six, twelve)), twelve)
+
+-- nor is it where no command was read
+pub unread_leaves : (fault : Usage) (status : ℕ) (left : Option (List ℕ)) → (status ≢ 6 → status ≡ (saying_without_command fault).status) → IfSome left (λ bytes. All (λ byte. byte < 256) bytes → status ≢ 12)
+unread_leaves fault status None is = tt
+unread_leaves fault status (Some bytes) is = λ are. not_spent fault status is

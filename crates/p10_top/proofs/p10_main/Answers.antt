@@ -1,5 +1,5 @@
 use Rattle.p10_top.proofs.CommandWords.{few_sources, few_turns, no_run}
-use Rattle.p10_top.proofs.Certified.{never_spent}
+use Rattle.p10_top.proofs.Certified.{never_spent, unread_leaves}
 use Rattle.p10_top.proofs.Deriving.{derived}
 use Rattle.p10_top.proofs.Telling.{verified, told_command, stopped_command, told_unread, stopped_unread, unread_is_none}
 use Rattle.p10_top.proofs.p10_main.Goals as goal
@@ -42,4 +42,4 @@ pub returns-in-Ok-clause-steps : goal.returns-in-Ok-clause-steps
 returns-in-Ok-clause-steps g c = λ line. never_spent c.certificates_leave_steps.ensures _ _ _ _ _ _ _ _ (λ six. told_command _ c.in-Ok.command _ _ _ _ _ _ _ c.in-Ok.ensures.found (c.obey.ensures.told six)) line
 
 pub returns-in-Err-clause-steps : goal.returns-in-Err-clause-steps
-returns-in-Err-clause-steps g c = λ line. never_spent c.certificates_leave_steps.ensures _ _ _ _ _ _ _ _ (λ six. told_unread _ _ _ c.in-Err.fault c.read_words.result _ _ _ _ c.in-Err.is c.read_words.ensures.refused (c.tell_unread.ensures.status six) (c.tell_unread.ensures.told six)) line
+returns-in-Err-clause-steps g c = λ line. unread_leaves c.in-Err.fault _ _ c.tell_unread.ensures.status
