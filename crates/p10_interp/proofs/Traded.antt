@@ -1,5 +1,5 @@
 -- What the source gives and the sink takes at one time.
-use Rattle.std.proofs.Common.{◌≡◌, ℕ, ◌≤◌, Bool, true, false, ◌⊎◌, inl, inr, List, [], ◌∷◌, ◌++◌, refl, sym, ap, ◌∙◌, append-nil, append_assoc, subst, Option, Result, Ok, Err, OnOk, OnErr, IfErr, arith}
+use Rattle.std.proofs.Common.{◌≡◌, ℕ, zero, suc, ◌==◌, ◌≤◌, Bool, true, false, ◌⊎◌, inl, inr, List, [], ◌∷◌, ◌++◌, length, take, refl, sym, ap, ◌∙◌, append-nil, append_assoc, subst, Option, Result, Ok, Err, OnOk, OnErr, IfErr, arith}
 use Rattle.std.proofs.KnownBytes.{Consumes-nil, Appends-nil}
 use Rattle.std.specs.Io.KnownBytes.{Consumes, Appends, IsAtEnd}
 use Rattle.p10_world.specs.Sink.{TakesFront}
@@ -87,6 +87,17 @@ stage_goes_on n (AnswersUndefined stop span) frame w few = follows_same w
 stage_goes_on n AnswersSpent frame w few = follows_same w
 
 -- ## Input
+
+-- nothing stands before nothing
+pub none_before : (xs ys zs : List ℕ) → zs ≡ xs ++ ys → zs ≡ [] → xs ≡ []
+none_before [] ys zs e d = refl
+none_before (x ∷ xs) ys zs e d = absurd (let no : x ∷ (xs ++ ys) ≡ [] = sym e ∙ d in cc)
+
+-- a piece without bytes has none of them
+pub none_taken : (n : ℕ) (xs : List ℕ) → n ≤ length xs → take n xs ≡ [] → (n == 0) ≡ true
+none_taken zero xs few e = refl
+none_taken (suc n) [] few e = absurd (omega (arith, few))
+none_taken (suc n) (x ∷ xs) few e = absurd (let no : x ∷ take n xs ≡ [] = e in cc)
 
 module _ {A : Type 0} (from : State → Progress A) (s t : Outside) (left left_after taken : Option (List ℕ)) where
   piece_asked : (ended : Bool) (pending : List ℕ) (piece : TakesPiece left left_after pending t.pending ended) → Asks false ended left left_after piece.given

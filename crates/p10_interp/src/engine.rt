@@ -229,6 +229,8 @@ impl<'p> Engine<'p> {
         ensures read { IsErrOf result Broken.Read → Rose (I.faults input.old) (I.faults input.new) }
         ensures write { ¬ (IsErrOf result Broken.Write) }
         ensures source { I.faults input.old ≤ I.faults input.new }
+        ensures noted { OnOk result (self.new.outside.pending ≡ [] → self.new.ended ≡ true) }
+        ensures ended { self.old.ended ≡ true → input.new ≡ input.old }
     {
         if self.ended {
             Ok(())
@@ -244,6 +246,7 @@ impl<'p> Engine<'p> {
         requires ended { self.old.ended ≡ false }
         requires pending { self.old.outside.pending ≡ [] }
         ensures comes { (p : PlainProgram) (n : ℕ) (r : Rig) (taken : Option (List ℕ)) → self.old.outside.left ≤ n → Comes (proceed p n r) (moment_of self.old (I.left input.old) taken) result (λ done. proceed p n r) (moment_of self.new (I.left input.new) taken) }
+        ensures noted { OnOk result (self.new.outside.pending ≡ [] → self.new.ended ≡ true) }
         ensures stacks { self.new.stacks ≡ self.old.stacks }
         ensures left { self.new.outside.left ≡ self.old.outside.left }
         ensures read { IsErrOf result Broken.Read → Rose (I.faults input.old) (I.faults input.new) }

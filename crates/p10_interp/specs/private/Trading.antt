@@ -6,12 +6,13 @@ use Rattle.p10_interp.specs.declared.work.Halt.TheVariants.{Failed as HasFailed,
 use Rattle.p10_interp.specs.declared.broken.Broken.{Broken}
 use Rattle.p10_interp.specs.declared.broken.Broken.TheVariants.{Failed, Undefined, Spent, Memory}
 
--- the source gave a piece, which stands before what was pending; none means that it has ended
+-- the source gave a piece, which stands before what was pending; none means that it has ended, which is noted
 pub record TakesPiece (old new : Option (List ℕ)) (pending pending_now : List ℕ) (ended : Bool) : Type 0 where
   pub given : List ℕ
   pub taken : Consumes old new given
   pub pending_is : pending_now ≡ given ++ pending
   pub end : ended ≡ true → (given ≡ []) × IsAtEnd new
+  pub noted : given ≡ [] → ended ≡ true
 
 -- the source gave some bytes
 pub record Consumed (old new : Option (List ℕ)) : Type 0 where
