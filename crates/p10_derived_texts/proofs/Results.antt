@@ -51,8 +51,12 @@ entry_has k parameters (u ∷ vs) zero v a there e = at (ltb k parameters && u.f
     at false e = absurd cc
 entry_has k parameters (u ∷ vs) (suc i) v a there e = entry_has (suc k) parameters vs i v a there e
 
+entry_places : (k parameters : ℕ) (vs : List PlainVariable) → length (entries_from k parameters [] vs) ≡ length vs
+entry_places k parameters [] = refl
+entry_places k parameters (v ∷ vs) = ap suc (entry_places (suc k) parameters vs)
+
 start_typed : (f : PlainFunction) → AreOfTypes f.variables (known_at_start f)
-start_typed f = record { each = λ n v a there e. entry_has 0 f.parameters f.variables n v a there e }
+start_typed f = record { places = entry_places 0 f.parameters f.variables; each = λ n v a there e. entry_has 0 f.parameters f.variables n v a there e }
 
 -- ## Values that are claimed
 

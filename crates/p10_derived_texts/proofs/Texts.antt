@@ -1,18 +1,20 @@
 -- The claims of a whole program are those of a certificate.
-use Rattle.std.proofs.Common.{◌≡◌, ℕ, zero, suc, ◌<◌, ◌≤◌, List, [], ◌∷◌, length, Some, refl, sym, subst, arith}
+use Rattle.std.proofs.Common.{◌≡◌, ℕ, zero, suc, ◌<◌, ◌≤◌, List, [], ◌∷◌, length, Some, refl, sym, subst, arith, inl, inr}
 use Rattle.std.specs.Prelude.{slice_get}
 use Rattle.std.specs.List.{AllByRecursion}
-use Rattle.std.proofs.lemmas.Bool.{ne_eqb}
+use Rattle.std.proofs.lemmas.Bool.{ne_eqb, cases_lt}
 use Rattle.std.proofs.lemmas.Option.{slice_get_within}
+use Rattle.p10_base.specs.declared.report.TheConstants.Limit.{MOST_CERTIFICATE_BYTES}
 use Rattle.p10_core.specs.Typed.{PlainFunction, PlainProgram}
 use Rattle.p10_core.specs.WholePrograms.{IsWholeProgram}
 use Rattle.p10_cert.specs.Claims.{Func, Claims}
 use Rattle.p10_cert.specs.Lines.{IsTotal}
-use Rattle.p10_cert.specs.Certificate.{loop_tasks, IsFunc, func_tasks, IsCertificate}
+use Rattle.p10_cert.specs.Certificate.{loop_tasks, IsFunc, func_tasks, IsCertificate, certificate_text}
+use Rattle.p10_cert.proofs.TextLaws.{written_is_read}
 use Rattle.p10_sums.specs.Sums.{sum_at}
 use Rattle.p10_finder.specs.Answers.{AreClaims, PassesSum, PassesText}
 use Rattle.p10_derived_texts.specs.Naming.{AreNamed}
-use Rattle.p10_derived_texts.specs.Laws.{ClaimsHaveText, DerivedCertificatesHaveText}
+use Rattle.p10_derived_texts.specs.Laws.{ClaimsHaveText, DerivedCertificatesHaveText, DerivedTextsAreReadBack}
 use Rattle.p10_derived_texts.proofs.Functions.{got, SumIs, sum_is, few_are, none_elsewhere, claim_func}
 use Rattle.p10_derived_texts.proofs.Results.{each_claim}
 
@@ -66,3 +68,10 @@ claims_have_text p whole named c is sums text = has_text p whole named c is sums
 
 pub derived_have_text : DerivedCertificatesHaveText
 derived_have_text p whole named c is = has_text p whole named c is.claims.claims is.sums is.text
+
+-- the text isn't too long
+short_text : (c : Claims) → (PassesText c → ⊥) → length (certificate_text c) ≤ MOST_CERTIFICATE_BYTES
+short_text c text = elim (cases_lt MOST_CERTIFICATE_BYTES (length (certificate_text c))) [ inl over ↦ absurd (text over) | inr short ↦ short ]
+
+pub derived_read_back : DerivedTextsAreReadBack
+derived_read_back p whole named c is result reads = written_is_read c result (derived_have_text p whole named c is) (record { short = short_text c is.text }) reads

@@ -1,6 +1,6 @@
 -- Environments whose ranges are of their variables' types stay so.
-use Rattle.std.proofs.Common.{◌≡◌, ℕ, zero, suc, ◌+◌, Bool, true, false, List, [], ◌∷◌, Option, Some, None, refl, sym, ap, ◌∙◌, subst, arith, inl, inr}
-use Rattle.std.specs.Prelude.{slice_get, ◌⊎◌, if◌then◌else◌, nat_eq}
+use Rattle.std.proofs.Common.{◌≡◌, ℕ, zero, suc, ◌+◌, Bool, true, false, List, [], ◌∷◌, length, Option, Some, None, refl, sym, ap, ◌∙◌, subst, arith, inl, inr}
+use Rattle.std.specs.Prelude.{slice_get, slice_set, ◌⊎◌, if◌then◌else◌, nat_eq}
 use Rattle.std.specs.Option.{option_map}
 use Rattle.std.proofs.lemmas.Bool.{eqb-true, eqb-false}
 use Rattle.std.proofs.lemmas.Option.{same_Some}
@@ -72,18 +72,36 @@ changed_at f i (u ∷ variables) (None ∷ env) zero j v e s = refl
 changed_at f i (u ∷ variables) (Some a ∷ env) (suc n) j v e s = changed_at f (suc i) variables env n j v e (omega (arith, s))
 changed_at f i (u ∷ variables) (None ∷ env) (suc n) j v e s = changed_at f (suc i) variables env n j v e (omega (arith, s))
 
+-- ## Places
+
+pub learned_places : (env : Environment) (n : ℕ) (o : Option Abstract) → length (slice_set env n o) ≡ length env
+learned_places [] n o = refl
+learned_places (x ∷ env) zero o = refl
+learned_places (x ∷ env) (suc n) o = ap suc (learned_places env n o)
+
+hull_places : (a b : Environment) → length a ≡ length b → length (hull_environment a b) ≡ length a
+hull_places [] b e = refl
+hull_places (x ∷ a) [] e = absurd (omega (arith, e))
+hull_places (x ∷ a) (y ∷ b) e = ap suc (hull_places a b (omega (arith, e)))
+
+changed_places : (f : ℕ → PlainVariable → Abstract → Abstract) (i : ℕ) (variables : List PlainVariable) (env : Environment) → length (changed_each f i variables env) ≡ length env
+changed_places f i [] env = refl
+changed_places f i (u ∷ variables) [] = refl
+changed_places f i (u ∷ variables) (Some a ∷ env) = ap suc (changed_places f (suc i) variables env)
+changed_places f i (u ∷ variables) (None ∷ env) = ap suc (changed_places f (suc i) variables env)
+
 module _ (variables : List PlainVariable) where
   -- ## One variable
 
   pub learned_types : (env : Environment) (n : ℕ) (a : Abstract) → AreOfTypes variables env → ((v : PlainVariable) → slice_get variables n ≡ Some v → Has (integer_of v.type) a) → AreOfTypes variables (learned env n a)
-  learned_types env n a h k = record { each = λ m v x there e. at m v x there (known_learned env n m a x e) }
+  learned_types env n a h k = record { places = learned_places env n (Some a) ∙ h.places; each = λ m v x there e. at m v x there (known_learned env n m a x e) }
     where
       at : (m : ℕ) (v : PlainVariable) (x : Abstract) → slice_get variables m ≡ Some v → ((m ≡ n) × (x ≡ a)) ⊎ ((m ≡ n → ⊥) × (known env m ≡ Some x)) → Has (integer_of v.type) x
       at m v x there (inl p) = subst (Has (integer_of v.type)) (sym p.1) (k v (ap (slice_get variables) (sym p.0) ∙ there))
       at m v x there (inr p) = h.each m v x there p.1
 
   pub out_types : (env : Environment) (n : ℕ) → AreOfTypes variables env → AreOfTypes variables (out_of_scope env n)
-  out_types env n h = record { each = λ m v x there e. h.each m v x there (known_out env n m x e) }
+  out_types env n h = record { places = learned_places env n None ∙ h.places; each = λ m v x there e. h.each m v x there (known_out env n m x e) }
 
   pub left_types : (xs : PlainStatements) (env : Environment) → AreOfTypes variables env → AreOfTypes variables (left_scope xs env)
   left_types no_statements env h = h
@@ -99,6 +117,7 @@ module _ (variables : List PlainVariable) where
 
   pub hull_types : (a b : Environment) → AreOfTypes variables a → AreOfTypes variables b → AreOfTypes variables (hull_environment a b)
   hull_types a b h k = record {
+    places = hull_places a b (h.places ∙ sym k.places) ∙ h.places;
     each = λ n v q there e. hull_entry_has (integer_of v.type) (known a n) (known b n) q (λ x s. h.each n v x there s) (λ x s. k.each n v x there s) (sym (known_hull a b n) ∙ e);
   }
 
@@ -111,7 +130,7 @@ module _ (variables : List PlainVariable) where
 
   pub changed_types : (f : ℕ → PlainVariable → Abstract → Abstract) (env : Environment) → ((n : ℕ) (v : PlainVariable) (a : Abstract) → slice_get variables n ≡ Some v → Has (integer_of v.type) a → Has (integer_of v.type) (f n v a))
       → AreOfTypes variables env → AreOfTypes variables (changed_each f 0 variables env)
-  changed_types f env k h = record { each = λ n v x there e. at n v x there (known env n) refl (sym (changed_at f 0 variables env n n v there (omega arith)) ∙ e) }
+  changed_types f env k h = record { places = changed_places f 0 variables env ∙ h.places; each = λ n v x there e. at n v x there (known env n) refl (sym (changed_at f 0 variables env n n v there (omega arith)) ∙ e) }
     where
       at : (n : ℕ) (v : PlainVariable) (x : Abstract) → slice_get variables n ≡ Some v → (o : Option Abstract) → known env n ≡ o → option_map (f n v) o ≡ Some x → Has (integer_of v.type) x
       at n v x there None q e = absurd cc

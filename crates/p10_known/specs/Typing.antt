@@ -1,5 +1,5 @@
 -- What it is that ranges are of the types of what they are known or claimed of.
-use Rattle.std.specs.Prelude.{◌≡◌, ℕ, List, Option, Some, None, IfSome, slice_get}
+use Rattle.std.specs.Prelude.{◌≡◌, ℕ, List, length, Option, Some, None, IfSome, slice_get}
 use Rattle.std.specs.List.{AllByRecursion}
 use Rattle.p10_range.specs.Laws.{IsOfType}
 use Rattle.p10_core.specs.Constants.{integer_of}
@@ -13,8 +13,10 @@ use Rattle.p10_pass.specs.Passing.{Left}
 
 -- ## What is known
 
--- each range that is known of a variable has a number, and only numbers of the variable's type
+-- an environment over a function's variables: it has a place for each of them, and each range that is known of one has a number, and
+-- only numbers of its type
 pub record AreOfTypes (variables : List PlainVariable) (env : Environment) : Type 0 where
+  pub places : length env ≡ length variables
   pub each : (n : ℕ) (v : PlainVariable) (a : Abstract) → slice_get variables n ≡ Some v → known env n ≡ Some a → IsOfType (integer_of v.type) a.range
 
 -- the same where a state may not come
