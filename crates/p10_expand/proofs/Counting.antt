@@ -25,7 +25,7 @@ abbrev ListsFew : ℕ → Option (List (List Sourced)) → Type 0
 ListsFew count None = Unit {0}
 ListsFew count (Some lists) = together lists ≤ count
 
-abbrev UseFew : ℕ → Use → Type 0
+abbrev pub UseFew : ℕ → Use → Type 0
 UseFew count (Calls plain arguments rest) = together arguments + length rest ≤ count
 UseFew count _ = Unit {0}
 
@@ -93,7 +93,7 @@ use_by_few : (found : Option PlainMacro) (name : Sourced) (words : List Sourced)
 use_by_few None name words = tt
 use_by_few (Some plain) name words = use_as_few plain plain.parameters name words
 
-use_few : (table : Table) (name : Sourced) (words : List Sourced) → UseFew (length words) (use_of table name words)
+pub use_few : (table : Table) (name : Sourced) (words : List Sourced) → UseFew (length words) (use_of table name words)
 use_few table name words = use_if (length words) (is_name_kind name.word.kind) _ Stays (use_by_few (macro_named name.word.text.now table) name words) tt
 
 -- ## How replacement ends

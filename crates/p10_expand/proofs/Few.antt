@@ -27,14 +27,12 @@ use Rattle.p10_expand.specs.declared.expanded.Expanded.{Expanded}
 use Rattle.p10_expand.specs.declared.expanded.Obeyed.{Obeyed as ObeyedLine}
 use Rattle.p10_expand.specs.declared.expansion.digits.Digits.{Digits}
 use Rattle.p10_expand.specs.declared.expansion.fault.ExpandFault.{ExpandFault}
-use Rattle.p10_expand.specs.declared.expansion.stand.Stand.{Stand}
-use Rattle.p10_expand.specs.declared.expansion.stand.Stand.TheVariants.{Obeyed, Skipped}
 use Rattle.p10_expand.specs.Headers.{header_of, stdint, stdbool, stddef, stdio, limits}
-use Rattle.p10_expand.specs.Skips.{is_obeyed}
 use Rattle.p10_expand.specs.Conditionals.{Judged, Judges, answered}
 use Rattle.p10_expand.specs.Items.{lines_of, onto_line, ends_line, item_name, is_among, new_words}
-use Rattle.p10_expand.specs.Obeying.{State, Ended, Goes, Refuses, Passes, Next, On, Enter, End, File, refuse, words_before, begins_at, TextEnds, TextGives, RunGives, included, is_header, is_some_text, defined_as, DefinitionGives, DefineGives, judged_next, ConditionGives, mark_word, Does, Acts, breaks_at, listed, passed, ObeyedGives, LineGives}
-use Rattle.p10_expand.specs.Expands.{Layout, Includes, GoesOn, Follows, LinesGive, counted, CountedGives, IncludeGives, Expansion, RootEnds, RootsGive, Expands, IsLaidOut, fresh, no_words, words_at}
+use Rattle.p10_expand.specs.Obeying.{State, Ended, Goes, Refuses, Passes, Next, On, Enter, End, File, refuse, words_before, begins_at, TextEnds, TextGives, RunGives, included, is_header, is_some_text, defined_as, DefinitionGives, DefineGives, judged_next, ConditionGives, mark_word, Does, Acts, breaks_at, listed, passed, LineGives}
+use Rattle.p10_expand.specs.Groups.{PassedLine, is_obeyed_after}
+use Rattle.p10_expand.specs.Expands.{passed_line, Layout, Includes, GoesOn, Follows, LinesGive, counted, CountedGives, IncludeGives, Expansion, RootEnds, RootsGive, Expands, IsLaidOut, fresh, no_words, words_at}
 use Rattle.p10_expand.specs.Answers.{IsExpansion, expansion_of}
 use Rattle.p10_expand.proofs.Keeping.{each_front, each_back}
 use Rattle.p10_expand.proofs.Counting.{together, Few, run_few, made_few}
@@ -189,7 +187,7 @@ module _ (g : Gathered) where
     include : AllByRecursion IsPlain words → ⊥
 
   abbrev NextFew : ℕ → List Word → Next → Type 0
-  NextFew count words (On stand s) = StateFew (count + length words) s
+  NextFew count words (On holds s) = StateFew (count + length words) s
   NextFew count words (Enter number built_in s) = Enters count words number built_in s
   NextFew count words (End ended) = EndedFew (count + length words) ended
 
@@ -289,7 +287,7 @@ module _ (g : Gathered) where
   mark_few (hash ∷ words) = omega arith
 
   defined_few : (count : ℕ) (line : List Word) (s : State) (answer : Effect) (macros : Table) → StateFew count s → NextFew count line (defined_as line s answer macros)
-  defined_few count line s New macros h = next_if count line _ (End (Passes MACROS)) (On Obeyed (record s { macros = macros })) tt (omega (arith, h))
+  defined_few count line s New macros h = next_if count line _ (End (Passes MACROS)) (On true (record s { macros = macros })) tt (omega (arith, h))
   defined_few count line s Same macros h = omega (arith, h)
   defined_few count line s Other macros h = omega (arith, h)
 
@@ -297,7 +295,7 @@ module _ (g : Gathered) where
   definition_few count built_in line made s next h (answer, macros, defines, is) = subst (NextFew count line) (sym is) (defined_few count line s answer macros h)
 
   item_few : (count : ℕ) (given : Bool) (line : List Word) (made : PlainMacro) (s new : State) (next : Next) → StateFew count s → StateFew count new →
-      MatchBool given (next ≡ On Obeyed s) (DefinitionGives true line made new next) → NextFew count line next
+      MatchBool given (next ≡ On true s) (DefinitionGives true line made new next) → NextFew count line next
   item_few count true line made s new next h n is = subst (NextFew count line) (sym is) (omega (arith, h))
   item_few count false line made s new next h n gives = definition_few count true line made new next n gives
 
@@ -308,36 +306,36 @@ module _ (g : Gathered) where
   included_few : (count : ℕ) (line : List Word) (name : Text) (s : State) (found : Option ℕ) → StateFew count s → 0 < length line → (AllByRecursion IsPlain line → ⊥) → NextFew count line (included g line name s found)
   included_few count line name s None h some include = omega (arith, h)
   included_few count line name s (Some number) h some include =
-      next_if count line (is_among s.once (name_of g number)) (On Obeyed s) (Enter number (is_header g number name) s) (omega (arith, h))
+      next_if count line (is_among s.once (name_of g number)) (On true s) (Enter number (is_header g number name) s) (omega (arith, h))
       (record { few = h; some = some; header = header_small g number name; include = include })
 
-  does_few : (count : ℕ) (digits : Digits) (file : File) (stand : Stand) (line : List Word) (directive : PlainDirective) (s : State) (next : Next) → StateFew count s → 0 < length line → DirectiveFew line directive →
-      Does g digits file stand line directive s next → NextFew count line next
-  does_few count digits file stand line Null s next h some d is = subst (NextFew count line) (sym is) (omega (arith, h))
-  does_few count digits file stand line (Include name angle) s next h some d is = subst (NextFew count line) (sym is) (included_few count line name s (candidate_of g file.number name angle) h some d)
-  does_few count digits file stand line (Define made) s next h some d gives = define_few count file.built_in line made s next h gives
-  does_few count digits file stand line (Undef name) s next h some d is = subst (NextFew count line) (sym is) (omega (arith, h))
-  does_few count digits file stand line (If condition) s next h some d gives = condition_few count digits line condition s next h gives
-  does_few count digits file stand line (Elif condition) s next h some d gives = condition_few count digits line condition s next h gives
-  does_few count digits file stand line (Ifdef name) s next h some d is = subst (NextFew count line) (sym is) (omega (arith, h))
-  does_few count digits file stand line (Ifndef name) s next h some d is = subst (NextFew count line) (sym is) (omega (arith, h))
-  does_few count digits file stand line Else s next h some d is = subst (NextFew count line) (sym is) (omega (arith, h))
-  does_few count digits file stand line Endif s next h some d is = subst (NextFew count line) (sym is) (omega (arith, h))
-  does_few count digits file stand line Once s next h some d is = subst (NextFew count line) (sym is) (omega (arith, h))
-  does_few count digits file stand line InitDone s next h some d is = subst (NextFew count line) (sym is) (omega (arith, h, mark_few line, length-append s.words (mark_word line)))
-  does_few count digits file stand line TaskLoop s next h some d is = subst (NextFew count line) (sym is) (omega (arith, h, mark_few line, length-append s.words (mark_word line)))
-  does_few count digits file stand line OtherPragma s next h some d is = subst (NextFew count line) (sym is) (omega (arith, h))
+  does_few : (count : ℕ) (digits : Digits) (file : File) (line : List Word) (directive : PlainDirective) (s : State) (next : Next) → StateFew count s → 0 < length line → DirectiveFew line directive →
+      Does g digits file line directive s next → NextFew count line next
+  does_few count digits file line Null s next h some d is = subst (NextFew count line) (sym is) (omega (arith, h))
+  does_few count digits file line (Include name angle) s next h some d is = subst (NextFew count line) (sym is) (included_few count line name s (candidate_of g file.number name angle) h some d)
+  does_few count digits file line (Define made) s next h some d gives = define_few count file.built_in line made s next h gives
+  does_few count digits file line (Undef name) s next h some d is = subst (NextFew count line) (sym is) (omega (arith, h))
+  does_few count digits file line (If condition) s next h some d gives = condition_few count digits line condition s next h gives
+  does_few count digits file line (Elif condition) s next h some d gives = condition_few count digits line condition s next h gives
+  does_few count digits file line (Ifdef name) s next h some d is = subst (NextFew count line) (sym is) (omega (arith, h))
+  does_few count digits file line (Ifndef name) s next h some d is = subst (NextFew count line) (sym is) (omega (arith, h))
+  does_few count digits file line Else s next h some d is = subst (NextFew count line) (sym is) (omega (arith, h))
+  does_few count digits file line Endif s next h some d is = subst (NextFew count line) (sym is) (omega (arith, h))
+  does_few count digits file line Once s next h some d is = subst (NextFew count line) (sym is) (omega (arith, h))
+  does_few count digits file line InitDone s next h some d is = subst (NextFew count line) (sym is) (omega (arith, h, mark_few line, length-append s.words (mark_word line)))
+  does_few count digits file line TaskLoop s next h some d is = subst (NextFew count line) (sym is) (omega (arith, h, mark_few line, length-append s.words (mark_word line)))
+  does_few count digits file line OtherPragma s next h some d is = subst (NextFew count line) (sym is) (omega (arith, h))
 
-  broken_few : (count : ℕ) (breaks : Bool) (digits : Digits) (file : File) (stand : Stand) (line : List Word) (directive : PlainDirective) (s : State) (next : Next) → StateFew count s → 0 < length line → DirectiveFew line directive →
-      MatchBool breaks (next ≡ refuse s 2 (place_of line)) (Does g digits file stand line directive s next) → NextFew count line next
-  broken_few count true digits file stand line directive s next h some d is = subst (NextFew count line) (sym is) (omega (arith, h))
-  broken_few count false digits file stand line directive s next h some d does = does_few count digits file stand line directive s next h some d does
+  broken_few : (count : ℕ) (breaks : Bool) (digits : Digits) (file : File) (line : List Word) (directive : PlainDirective) (s : State) (next : Next) → StateFew count s → 0 < length line → DirectiveFew line directive →
+      MatchBool breaks (next ≡ refuse s 2 (place_of line)) (Does g digits file line directive s next) → NextFew count line next
+  broken_few count true digits file line directive s next h some d is = subst (NextFew count line) (sym is) (omega (arith, h))
+  broken_few count false digits file line directive s next h some d does = does_few count digits file line directive s next h some d does
 
-  acts_few : (count : ℕ) (digits : Digits) (file : File) (stand : Stand) (breaks : Bool) (line : List Word) (outcome : Outcome) (s : State) (next : Next) → StateFew count s → 0 < length line → IsOutcome line outcome →
-      Acts g digits file stand breaks line outcome s next → NextFew count line next
-  acts_few count digits file stand breaks line (Read directive) s next h some o acts = broken_few count breaks digits file stand line directive s next h some (directive_few line directive o) acts
-  acts_few count digits file stand breaks line BadForm s next h some o is = subst (NextFew count line) (sym is) (omega (arith, h))
-  acts_few count digits file stand breaks line (BadDefinition at) s next h some o is = subst (NextFew count line) (sym is) (omega (arith, h))
+  acts_few : (count : ℕ) (digits : Digits) (file : File) (breaks : Bool) (line : List Word) (outcome : Outcome) (s : State) (next : Next) → StateFew count s → 0 < length line → IsOutcome line outcome →
+      Acts g digits file breaks line outcome s next → NextFew count line next
+  acts_few count digits file breaks line (Read directive) s next h some o acts = broken_few count breaks digits file line directive s next h some (directive_few line directive o) acts
+  acts_few count digits file breaks line BadForm s next h some o is = subst (NextFew count line) (sym is) (omega (arith, h))
+  acts_few count digits file breaks line (BadDefinition at) s next h some o is = subst (NextFew count line) (sym is) (omega (arith, h))
 
   -- ## Lines
 
@@ -348,21 +346,17 @@ module _ (g : Gathered) where
   listed_few : (count : ℕ) (file : File) (place : ℕ) (line : List Word) (s : State) → StateFew count s → StateFew count (listed file place line s)
   listed_few count file place line s h = listed_if count file.built_in s _ h h
 
-  passed_few : (count : ℕ) (file : File) (stand : Stand) (place : ℕ) (line : List Word) (s : State) → StateFew count s → NextFew count line (passed file stand place line s)
-  passed_few count file stand place line s h =
+  passed_few : (count : ℕ) (file : File) (place : ℕ) (line : List Word) (s : State) → StateFew count s → NextFew count line (passed file place line s)
+  passed_few count file place line s h =
       let same : StateFew count (listed file place line s) = listed_few count file place line s h in
       next_if count line (breaks_at file place) (refuse (listed file place line s) 2 (place_of line)) _ (omega (arith, same)) (omega (arith, h))
 
-  obeyed_few : (count : ℕ) (obeyed : Bool) (digits : Digits) (file : File) (stand : Stand) (place : ℕ) (line : List Word) (s : State) (next : Next) → StateFew count s → 0 < length line →
-      MatchBool obeyed (ObeyedGives g digits file stand place line (listed file place line s) next) (next ≡ passed file stand place line s) → NextFew count line next
-  obeyed_few count true digits file stand place line s next h some (outcome, is, acts) =
-      acts_few count digits file stand (breaks_at file place) line outcome (listed file place line s) next (listed_few count file place line s h) some is acts
-  obeyed_few count false digits file stand place line s next h some is = subst (NextFew count line) (sym is) (passed_few count file stand place line s h)
-
-  line_few : (count : ℕ) (digits : Digits) (file : File) (stand : Stand) (place : ℕ) (piece : Piece) (s : State) (next : Next) → StateFew count s → 0 < length (words_of piece) → LineGives g digits file stand place piece s next → NextFew count (words_of piece) next
-  line_few count digits file stand place (DirectiveLine line) s next h some gives = obeyed_few count (is_obeyed stand (mark_of (DirectiveLine line))) digits file stand place line s next h some gives
-  line_few count digits file Obeyed place (TextRun words) s next h some gives = run_of_text_few count file.built_in s words next h gives
-  line_few count digits file (Skipped chosen inner) place (TextRun words) s next h some is = subst (NextFew count words) (sym is) (omega (arith, h))
+  line_few : (count : ℕ) (digits : Digits) (file : File) (obeyed : Bool) (place : ℕ) (piece : Piece) (s : State) (next : Next) → StateFew count s → 0 < length (words_of piece) → LineGives g digits file obeyed place piece s next → NextFew count (words_of piece) next
+  line_few count digits file true place (DirectiveLine line) s next h some (outcome, is, acts) =
+      acts_few count digits file (breaks_at file place) line outcome (listed file place line s) next (listed_few count file place line s h) some is acts
+  line_few count digits file false place (DirectiveLine line) s next h some is = subst (NextFew count line) (sym is) (passed_few count file place line s h)
+  line_few count digits file true place (TextRun words) s next h some gives = run_of_text_few count file.built_in s words next h gives
+  line_few count digits file false place (TextRun words) s next h some is = subst (NextFew count words) (sym is) (omega (arith, h))
 
   -- ## Files
 
@@ -404,11 +398,11 @@ module _ (g : Gathered) where
   goes_few count more behind each less (Passes passed') ended h is = subst (EndedFew more) (sym is) tt
 
   follows_few : (includes : Includes) → Included includes → (count more : ℕ) (inside : Bool) (piece : Piece) → PieceFew inside piece →
-      (behind : Stand → State → Ended → Type 0) → ((stand : Stand) (s : State) (ended : Ended) → StateFew (count + cost inside piece) s → behind stand s ended → EndedFew (count + cost inside piece + more) ended) →
+      (behind : Bool → State → Ended → Type 0) → ((holds : Bool) (s : State) (ended : Ended) → StateFew (count + cost inside piece) s → behind holds s ended → EndedFew (count + cost inside piece + more) ended) →
       (next : Next) (ended : Ended) → NextFew count (words_of piece) next → Follows includes behind next ended → EndedFew (count + cost inside piece + more) ended
-  follows_few includes one count more inside piece p behind each (On stand s) ended h gives = each stand s ended (omega (arith, h, cost_least inside piece)) gives
+  follows_few includes one count more inside piece p behind each (On holds s) ended h gives = each holds s ended (omega (arith, h, cost_least inside piece)) gives
   follows_few includes one count more inside piece p behind each (Enter number built_in s) ended h (within, entered, gives) =
-      goes_few (count + cost inside piece) (count + cost inside piece + more) (behind Obeyed) (each Obeyed) (omega arith) within ended (entered_few includes one count inside piece p number built_in s within h entered) gives
+      goes_few (count + cost inside piece) (count + cost inside piece + more) (behind true) (each true) (omega arith) within ended (entered_few includes one count inside piece p number built_in s within h entered) gives
   follows_few includes one count more inside piece p behind each (End other) ended h is =
       subst (EndedFew (count + cost inside piece + more)) (sym is) (ended_more (count + length (words_of piece)) _ other (omega (arith, cost_least inside piece)) h)
 
@@ -435,14 +429,14 @@ module _ (g : Gathered) where
       ((piece_length piece rest is, each_front IsPlain (words_of piece) rest all), pieces_plain rest pieces cut (each_back IsPlain (words_of piece) rest all))
 
   module _ (layout : Layout) where
-    lines_end : (includes : Includes) → Included includes → (file : File) (pieces : List Piece) (count : ℕ) (stand : Stand) (place : ℕ) (s : State) (ended : Ended) → StateFew count s → AllByRecursion (PieceFew file.built_in) pieces →
-        LinesGive g layout includes file stand place pieces s ended → EndedFew (count + costs file.built_in pieces) ended
-    lines_end includes one file [] count stand place s ended h p is = subst (EndedFew (count + 0)) (sym is) (omega (arith, h))
-    lines_end includes one file (piece ∷ pieces) count stand place s ended h p (next, gives, follows) =
+    lines_end : (includes : Includes) → Included includes → (file : File) (pieces : List Piece) (count : ℕ) (before : List PassedLine) (s : State) (ended : Ended) → StateFew count s → AllByRecursion (PieceFew file.built_in) pieces →
+        LinesGive g layout includes file before pieces s ended → EndedFew (count + costs file.built_in pieces) ended
+    lines_end includes one file [] count before s ended h p is = subst (EndedFew (count + 0)) (sym is) (omega (arith, h))
+    lines_end includes one file (piece ∷ pieces) count before s ended h p (next, gives, follows) =
         ended_more (count + cost file.built_in piece + costs file.built_in pieces) (count + costs file.built_in (piece ∷ pieces)) ended (omega arith)
         (follows_few includes one count (costs file.built_in pieces) file.built_in piece p.0 _
-        (λ stand s ended h behind. lines_end includes one file pieces (count + cost file.built_in piece) stand (suc place) s ended h p.1 behind) next ended
-        (line_few count layout.digits file stand place piece s next h (piece_some file.built_in piece p.0) gives) follows)
+        (λ holds s ended h behind. lines_end includes one file pieces (count + cost file.built_in piece) (passed_line piece holds ∷ before) s ended h p.1 behind) next ended
+        (line_few count layout.digits file (is_obeyed_after before (mark_of piece)) (length before) piece s next h (piece_some file.built_in piece p.0) gives) follows)
 
     module _ (headers : (number : ℕ) → IsSmall (text_of g number) → IsHeaderOf (words_at layout number)) where
       own_end : (includes : Includes) → Included includes → (number count : ℕ) (s : State) (b : Bool) (ended : Ended) → StateFew count s → nat_le (length (words_at layout number)) s.left ≡ b →
@@ -451,14 +445,14 @@ module _ (g : Gathered) where
       own_end includes one number count s true ended h is (pieces, cut, gives) =
           let enough : length (words_at layout number) ≤ s.left = leb-true _ _ is in
           ended_more (length s.words + 1023 * (s.left - length (words_at layout number)) + costs false pieces) count ended (omega (arith, h, enough, (pieces_costs (words_at layout number) pieces cut).1))
-          (lines_end includes one (record { number = number; built_in = false; pieces = pieces }) pieces (length s.words + 1023 * (s.left - length (words_at layout number))) Obeyed 0 _ ended (omega arith) (pieces_few (words_at layout number) pieces cut) gives)
+          (lines_end includes one (record { number = number; built_in = false; pieces = pieces }) pieces (length s.words + 1023 * (s.left - length (words_at layout number))) [] _ ended (omega arith) (pieces_few (words_at layout number) pieces cut) gives)
 
       header_end : (includes : Includes) → Included includes → (number count : ℕ) (s : State) (ended : Ended) → StateFew count s → IsSmall (text_of g number) →
           CountedGives g layout includes number true (Some s) ended → EndedFew (count + 1023) ended
       header_end includes one number count s ended h is (pieces, cut, gives) =
           let words : IsHeaderOf (words_at layout number) = headers number is in
           ended_more (count + costs true pieces) (count + 1023) ended (omega (arith, words.few, (pieces_costs (words_at layout number) pieces cut).0))
-          (lines_end includes one (record { number = number; built_in = true; pieces = pieces }) pieces count Obeyed 0 s ended h (pieces_plain (words_at layout number) pieces cut words.plain) gives)
+          (lines_end includes one (record { number = number; built_in = true; pieces = pieces }) pieces count [] s ended h (pieces_plain (words_at layout number) pieces cut words.plain) gives)
 
       file_end : (includes : Includes) → Included includes → Included (λ number built_in s ended. CountedGives g layout includes number built_in (counted built_in (length (words_at layout number)) s) ended)
       file_end includes one count number true s ended h is gives = header_end includes one number count s ended h (is refl) gives

@@ -20,6 +20,8 @@ pub mod RootCount
 pub mod Answering
 pub mod ItemLines
 pub mod Answers
+pub mod Skipping
+pub mod Unbroken
 pub mod Walking
 pub mod Rooting
 pub mod Rows

@@ -19,13 +19,11 @@ use Rattle.p10_macros.specs.Endings.{Ending, Gives, Refused, TooMany}
 use Rattle.p10_macros.proofs.Numbers.{EndNumbered, ends_numbered}
 use Rattle.p10_expand.specs.declared.expanded.Obeyed.{Obeyed as ObeyedLine}
 use Rattle.p10_expand.specs.declared.expansion.digits.Digits.{Digits}
-use Rattle.p10_expand.specs.declared.expansion.stand.Stand.{Stand}
-use Rattle.p10_expand.specs.declared.expansion.stand.Stand.TheVariants.{Obeyed, Skipped}
-use Rattle.p10_expand.specs.Skips.{is_obeyed, stand_behind}
 use Rattle.p10_expand.specs.Conditionals.{Judged, Holds, Fails, Exceeds, Judges}
 use Rattle.p10_expand.specs.Items.{is_among, given_after, lines_of, new_words}
-use Rattle.p10_expand.specs.Obeying.{State, Ended, Goes, Refuses, Passes, Next, On, Enter, End, File, refuse, TextEnds, TextGives, RunGives, is_header, included, defined_as, DefinitionGives, DefineGives, judged_next, ConditionGives, Does, Acts, breaks_at, listed, ObeyedGives, DirectiveGives, LineGives}
-use Rattle.p10_expand.specs.Expands.{Layout, Includes, GoesOn, Follows, LinesGive, CountedGives, IncludeGives, Expansion, no_words, RootEnds, RootsGive, Expands}
+use Rattle.p10_expand.specs.Obeying.{State, Ended, Goes, Refuses, Passes, Next, On, Enter, End, File, refuse, TextEnds, TextGives, RunGives, is_header, included, defined_as, DefinitionGives, DefineGives, judged_next, ConditionGives, Does, Acts, breaks_at, listed, LineGives}
+use Rattle.p10_expand.specs.Groups.{PassedLine, is_obeyed_after}
+use Rattle.p10_expand.specs.Expands.{passed_line, Layout, Includes, GoesOn, Follows, LinesGive, CountedGives, IncludeGives, Expansion, no_words, RootEnds, RootsGive, Expands}
 use Rattle.p10_base.specs.declared.report.TheConstants.Limit.{MACROS, MOST_MACROS}
 
 -- ## The numbers
@@ -92,10 +90,10 @@ condition_numbered digits line condition s next (judged, (ending, runs, judges),
 
 included_numbered : (g : Gathered) (line : List Word) (name : Text) (s : State) (found : Option ℕ) → NextNumbered (included g line name s found)
 included_numbered g line name s None = (refl, omega arith, omega arith)
-included_numbered g line name s (Some number) = next_if (is_among s.once (name_of g number)) (On Obeyed s) (Enter number (is_header g number name) s) tt tt
+included_numbered g line name s (Some number) = next_if (is_among s.once (name_of g number)) (On true s) (Enter number (is_header g number name) s) tt tt
 
 defined_numbered : (line : List Word) (s : State) (answer : Effect) (macros : Table) → NextNumbered (defined_as line s answer macros)
-defined_numbered line s New macros = next_if (nat_lt MOST_MACROS (own_of macros)) (End (Passes MACROS)) (On Obeyed (record s { macros = macros })) (inr (inr refl)) tt
+defined_numbered line s New macros = next_if (nat_lt MOST_MACROS (own_of macros)) (End (Passes MACROS)) (On true (record s { macros = macros })) (inr (inr refl)) tt
 defined_numbered line s Same macros = tt
 defined_numbered line s Other macros = (refl, omega arith, omega arith)
 
@@ -106,30 +104,26 @@ define_numbered : (built_in : Bool) (line : List Word) (made : PlainMacro) (s : 
 define_numbered true line made s next gives = match_both (is_among s.given made.name) (λ is. subst NextNumbered (sym is) tt) (definition_numbered true line made (record s { given = s.given ++ made.name ∷ [] }) next) gives
 define_numbered false line made s next gives = definition_numbered false line made s next gives
 
-does_numbered : (g : Gathered) (digits : Digits) (file : File) (stand : Stand) (line : List Word) (directive : PlainDirective) (s : State) (next : Next) → Does g digits file stand line directive s next → NextNumbered next
-does_numbered g digits file stand line (Include name angle) s next is = subst NextNumbered (sym is) (included_numbered g line name s (candidate_of g file.number name angle))
-does_numbered g digits file stand line (Define made) s next gives = define_numbered file.built_in line made s next gives
-does_numbered g digits file stand line (If condition) s next gives = condition_numbered digits line condition s next gives
-does_numbered g digits file stand line (Elif condition) s next gives = condition_numbered digits line condition s next gives
-does_numbered g digits file stand line _ s next is = subst NextNumbered (sym is) tt
+does_numbered : (g : Gathered) (digits : Digits) (file : File) (line : List Word) (directive : PlainDirective) (s : State) (next : Next) → Does g digits file line directive s next → NextNumbered next
+does_numbered g digits file line (Include name angle) s next is = subst NextNumbered (sym is) (included_numbered g line name s (candidate_of g file.number name angle))
+does_numbered g digits file line (Define made) s next gives = define_numbered file.built_in line made s next gives
+does_numbered g digits file line (If condition) s next gives = condition_numbered digits line condition s next gives
+does_numbered g digits file line (Elif condition) s next gives = condition_numbered digits line condition s next gives
+does_numbered g digits file line _ s next is = subst NextNumbered (sym is) tt
 
-acts_numbered : (g : Gathered) (digits : Digits) (file : File) (stand : Stand) (breaks : Bool) (line : List Word) (outcome : Outcome) (s : State) (next : Next) → Acts g digits file stand breaks line outcome s next → NextNumbered next
-acts_numbered g digits file stand breaks line BadForm s next is = subst NextNumbered (sym is) (refl, omega arith, omega arith)
-acts_numbered g digits file stand breaks line (BadDefinition at) s next is = subst NextNumbered (sym is) (refl, omega arith, omega arith)
-acts_numbered g digits file stand breaks line (Read directive) s next acts = match_both breaks (λ is. subst NextNumbered (sym is) (refl, omega arith, omega arith)) (does_numbered g digits file stand line directive s next) acts
+acts_numbered : (g : Gathered) (digits : Digits) (file : File) (breaks : Bool) (line : List Word) (outcome : Outcome) (s : State) (next : Next) → Acts g digits file breaks line outcome s next → NextNumbered next
+acts_numbered g digits file breaks line BadForm s next is = subst NextNumbered (sym is) (refl, omega arith, omega arith)
+acts_numbered g digits file breaks line (BadDefinition at) s next is = subst NextNumbered (sym is) (refl, omega arith, omega arith)
+acts_numbered g digits file breaks line (Read directive) s next acts = match_both breaks (λ is. subst NextNumbered (sym is) (refl, omega arith, omega arith)) (does_numbered g digits file line directive s next) acts
 
 -- ## Lines
 
-directive_numbered : (g : Gathered) (digits : Digits) (file : File) (stand : Stand) (place : ℕ) (line : List Word) (s : State) (next : Next) → DirectiveGives g digits file stand place line s next → NextNumbered next
-directive_numbered g digits file stand place line s next gives =
-    match_both (is_obeyed stand (mark_of (DirectiveLine line)))
-    (λ (obeyed : ObeyedGives g digits file stand place line (listed file place line s) next). acts_numbered g digits file stand (breaks_at file place) line obeyed.0 (listed file place line s) next obeyed.2)
-    (λ is. subst NextNumbered (sym is) (next_if (breaks_at file place) (refuse (listed file place line s) 2 (place_of line)) (On (stand_behind stand (mark_of (DirectiveLine line))) s) (refl, omega arith, omega arith) tt)) gives
-
-line_numbered : (g : Gathered) (digits : Digits) (file : File) (stand : Stand) (place : ℕ) (piece : Piece) (s : State) (next : Next) → LineGives g digits file stand place piece s next → NextNumbered next
-line_numbered g digits file stand place (DirectiveLine line) s next gives = directive_numbered g digits file stand place line s next gives
-line_numbered g digits file Obeyed place (TextRun words) s next gives = run_numbered file.built_in s words next gives
-line_numbered g digits file (Skipped chosen inner) place (TextRun words) s next is = subst NextNumbered (sym is) tt
+line_numbered : (g : Gathered) (digits : Digits) (file : File) (obeyed : Bool) (place : ℕ) (piece : Piece) (s : State) (next : Next) → LineGives g digits file obeyed place piece s next → NextNumbered next
+line_numbered g digits file true place (DirectiveLine line) s next (outcome, is, acts) = acts_numbered g digits file (breaks_at file place) line outcome (listed file place line s) next acts
+line_numbered g digits file false place (DirectiveLine line) s next is =
+    subst NextNumbered (sym is) (next_if (breaks_at file place) (refuse (listed file place line s) 2 (place_of line)) (On true s) (refl, omega arith, omega arith) tt)
+line_numbered g digits file true place (TextRun words) s next gives = run_numbered file.built_in s words next gives
+line_numbered g digits file false place (TextRun words) s next is = subst NextNumbered (sym is) tt
 
 -- ## Files
 
@@ -141,22 +135,22 @@ goes_numbered behind each (Goes s) ended goes numbered = each s ended goes
 goes_numbered behind each (Refuses s refusal) ended is numbered = subst EndedNumbered (sym is) numbered
 goes_numbered behind each (Passes limit) ended is numbered = subst EndedNumbered (sym is) numbered
 
-follows_numbered : (includes : Includes) → IncludesNumbered includes → (behind : Stand → State → Ended → Type 0) → ((stand : Stand) (s : State) (ended : Ended) → behind stand s ended → EndedNumbered ended) →
+follows_numbered : (includes : Includes) → IncludesNumbered includes → (behind : Bool → State → Ended → Type 0) → ((holds : Bool) (s : State) (ended : Ended) → behind holds s ended → EndedNumbered ended) →
     (next : Next) (ended : Ended) → Follows includes behind next ended → NextNumbered next → EndedNumbered ended
-follows_numbered includes all behind each (On stand s) ended follows numbered = each stand s ended follows
-follows_numbered includes all behind each (Enter number built_in s) ended (within, gives, goes) numbered = goes_numbered (behind Obeyed) (each Obeyed) within ended goes (all number built_in s within gives)
+follows_numbered includes all behind each (On holds s) ended follows numbered = each holds s ended follows
+follows_numbered includes all behind each (Enter number built_in s) ended (within, gives, goes) numbered = goes_numbered (behind true) (each true) within ended goes (all number built_in s within gives)
 follows_numbered includes all behind each (End other) ended is numbered = subst EndedNumbered (sym is) numbered
 
 module _ (g : Gathered) (layout : Layout) where
-  lines_numbered : (includes : Includes) → IncludesNumbered includes → (file : File) (pieces : List Piece) (stand : Stand) (place : ℕ) (s : State) (ended : Ended) → LinesGive g layout includes file stand place pieces s ended → EndedNumbered ended
-  lines_numbered includes all file [] stand place s ended is = subst EndedNumbered (sym is) tt
-  lines_numbered includes all file (piece ∷ pieces) stand place s ended (next, gives, follows) =
-      follows_numbered includes all (λ stand s ended. LinesGive g layout includes file stand (suc place) pieces s ended) (λ stand s ended behind. lines_numbered includes all file pieces stand (suc place) s ended behind)
-      next ended follows (line_numbered g layout.digits file stand place piece s next gives)
+  lines_numbered : (includes : Includes) → IncludesNumbered includes → (file : File) (pieces : List Piece) (before : List PassedLine) (s : State) (ended : Ended) → LinesGive g layout includes file before pieces s ended → EndedNumbered ended
+  lines_numbered includes all file [] before s ended is = subst EndedNumbered (sym is) tt
+  lines_numbered includes all file (piece ∷ pieces) before s ended (next, gives, follows) =
+      follows_numbered includes all (λ holds s ended. LinesGive g layout includes file (passed_line piece holds ∷ before) pieces s ended) (λ holds s ended behind. lines_numbered includes all file pieces (passed_line piece holds ∷ before) s ended behind)
+      next ended follows (line_numbered g layout.digits file (is_obeyed_after before (mark_of piece)) (length before) piece s next gives)
 
   counted_numbered : (includes : Includes) → IncludesNumbered includes → (number : ℕ) (built_in : Bool) (found : Option State) (ended : Ended) → CountedGives g layout includes number built_in found ended → EndedNumbered ended
   counted_numbered includes all number built_in None ended is = subst EndedNumbered (sym is) (inr (inl refl))
-  counted_numbered includes all number built_in (Some s) ended (pieces, cut, gives) = lines_numbered includes all (record { number = number; built_in = built_in; pieces = pieces }) pieces Obeyed 0 s ended gives
+  counted_numbered includes all number built_in (Some s) ended (pieces, cut, gives) = lines_numbered includes all (record { number = number; built_in = built_in; pieces = pieces }) pieces [] s ended gives
 
   include_numbered : (nested : ℕ) → IncludesNumbered (IncludeGives g layout nested)
   unfolding IncludeGives

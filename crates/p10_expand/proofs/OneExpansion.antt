@@ -1,5 +1,5 @@
 -- A program expands to one thing at most.
-use Rattle.std.proofs.Common.{◌≡◌, inl, inr, ℕ, zero, suc, List, [], ◌∷◌, Bool, true, false, not, MatchBool, Option, Some, None, IsSomeAnd, Result, refl, sym, ◌∙◌, ap, subst}
+use Rattle.std.proofs.Common.{◌≡◌, inl, inr, ℕ, zero, suc, List, [], ◌∷◌, length, Bool, true, false, not, MatchBool, Option, Some, None, IsSomeAnd, Result, refl, sym, ◌∙◌, ap, subst}
 use Rattle.p10_base.specs.declared.span.Span.{Span}
 use Rattle.p10_base.specs.declared.word.Word.{Word}
 use Rattle.p10_base.specs.declared.report.Limit.{Limit}
@@ -17,14 +17,12 @@ use Rattle.p10_macros.specs.Ends.{WordsEndInOneWay}
 use Rattle.p10_macros.specs.Answers.{Defines}
 use Rattle.p10_expand.specs.declared.expanded.Obeyed.{Obeyed as ObeyedLine}
 use Rattle.p10_expand.specs.declared.expansion.digits.Digits.{Digits}
-use Rattle.p10_expand.specs.declared.expansion.stand.Stand.{Stand}
-use Rattle.p10_expand.specs.declared.expansion.stand.Stand.TheVariants.{Obeyed, Skipped}
 use Rattle.p10_expand.specs.Conditionals.{Judged, Judges, RunEnds}
 use Rattle.p10_direct.specs.Balance.{mark_of}
-use Rattle.p10_expand.specs.Skips.{is_obeyed}
 use Rattle.p10_expand.specs.Items.{is_among}
-use Rattle.p10_expand.specs.Obeying.{State, Ended, Goes, Refuses, Passes, Next, On, Enter, End, File, refuse, listed, passed, words_before, with_words, judged_next, TextEnds, TextGives, RunGives, DefinitionGives, DefineGives, ConditionGives, Does, Acts, ObeyedGives, DirectiveGives, LineGives, breaks_at}
-use Rattle.p10_expand.specs.Expands.{Layout, Includes, GoesOn, Follows, LinesGive, CountedGives, FileGives, IncludeGives, Expansion, RootEnds, RootsGive, fresh, ExpansionsAreUnique}
+use Rattle.p10_expand.specs.Obeying.{State, Ended, Goes, Refuses, Passes, Next, On, Enter, End, File, refuse, listed, words_before, with_words, judged_next, TextEnds, TextGives, RunGives, DefinitionGives, DefineGives, ConditionGives, Does, Acts, LineGives, breaks_at}
+use Rattle.p10_expand.specs.Groups.{PassedLine, is_obeyed_after}
+use Rattle.p10_expand.specs.Expands.{passed_line, Layout, Includes, GoesOn, Follows, LinesGive, CountedGives, FileGives, IncludeGives, Expansion, RootEnds, RootsGive, fresh, ExpansionsAreUnique}
 
 -- ## Tools
 
@@ -67,7 +65,7 @@ definition_once built_in line made s this that (a, old, p, pe) (b, new, q, qe) =
 
 define_once : (built_in : Bool) (line : List Word) (made : PlainMacro) (s : State) (this that : Next) → DefineGives built_in line made s this → DefineGives built_in line made s that → this ≡ that
 define_once true line made s this that p q =
-    match_once (is_among s.given made.name) (λ next. next ≡ On Obeyed s) _ (λ x y. both) (definition_once true line made _) this that p q
+    match_once (is_among s.given made.name) (λ next. next ≡ On true s) _ (λ x y. both) (definition_once true line made _) this that p q
 define_once false line made s this that p q = definition_once false line made s this that p q
 
 -- ## Conditions and text
@@ -118,44 +116,40 @@ module _ (ends : WordsEndInOneWay) where
 
     -- ## Directives
 
-    does_once : (g : Gathered) (digits : Digits) (file : File) (stand : Stand) (line : List Word) (directive : PlainDirective) (s : State) (this that : Next) →
-        Does g digits file stand line directive s this → Does g digits file stand line directive s that → this ≡ that
-    does_once g digits file stand line Null s this that p q = both p q
-    does_once g digits file stand line (Include name angle) s this that p q = both p q
-    does_once g digits file stand line (Define made) s this that p q = define_once _ line made s this that p q
-    does_once g digits file stand line (Undef name) s this that p q = both p q
-    does_once g digits file stand line (If condition) s this that p q = condition_once digits line condition s this that p q
-    does_once g digits file stand line (Elif condition) s this that p q = condition_once digits line condition s this that p q
-    does_once g digits file stand line (Ifdef name) s this that p q = both p q
-    does_once g digits file stand line (Ifndef name) s this that p q = both p q
-    does_once g digits file stand line Else s this that p q = both p q
-    does_once g digits file stand line Endif s this that p q = both p q
-    does_once g digits file stand line Once s this that p q = both p q
-    does_once g digits file stand line InitDone s this that p q = both p q
-    does_once g digits file stand line TaskLoop s this that p q = both p q
-    does_once g digits file stand line OtherPragma s this that p q = both p q
+    does_once : (g : Gathered) (digits : Digits) (file : File) (line : List Word) (directive : PlainDirective) (s : State) (this that : Next) →
+        Does g digits file line directive s this → Does g digits file line directive s that → this ≡ that
+    does_once g digits file line Null s this that p q = both p q
+    does_once g digits file line (Include name angle) s this that p q = both p q
+    does_once g digits file line (Define made) s this that p q = define_once _ line made s this that p q
+    does_once g digits file line (Undef name) s this that p q = both p q
+    does_once g digits file line (If condition) s this that p q = condition_once digits line condition s this that p q
+    does_once g digits file line (Elif condition) s this that p q = condition_once digits line condition s this that p q
+    does_once g digits file line (Ifdef name) s this that p q = both p q
+    does_once g digits file line (Ifndef name) s this that p q = both p q
+    does_once g digits file line Else s this that p q = both p q
+    does_once g digits file line Endif s this that p q = both p q
+    does_once g digits file line Once s this that p q = both p q
+    does_once g digits file line InitDone s this that p q = both p q
+    does_once g digits file line TaskLoop s this that p q = both p q
+    does_once g digits file line OtherPragma s this that p q = both p q
 
-    acts_once : (g : Gathered) (digits : Digits) (file : File) (stand : Stand) (breaks : Bool) (line : List Word) (outcome : Outcome) (s : State) (this that : Next) →
-        Acts g digits file stand breaks line outcome s this → Acts g digits file stand breaks line outcome s that → this ≡ that
-    acts_once g digits file stand breaks line (Read directive) s this that p q = match_once breaks (λ next. next ≡ _) _ (λ x y. both) (does_once g digits file stand line directive s) this that p q
-    acts_once g digits file stand breaks line BadForm s this that p q = both p q
-    acts_once g digits file stand breaks line (BadDefinition at) s this that p q = both p q
+    acts_once : (g : Gathered) (digits : Digits) (file : File) (breaks : Bool) (line : List Word) (outcome : Outcome) (s : State) (this that : Next) →
+        Acts g digits file breaks line outcome s this → Acts g digits file breaks line outcome s that → this ≡ that
+    acts_once g digits file breaks line (Read directive) s this that p q = match_once breaks (λ next. next ≡ _) _ (λ x y. both) (does_once g digits file line directive s) this that p q
+    acts_once g digits file breaks line BadForm s this that p q = both p q
+    acts_once g digits file breaks line (BadDefinition at) s this that p q = both p q
 
     module _ (outcomes : LinesHaveOneOutcome) where
       outcome_once : (line : List Word) (this that : Outcome) → IsOutcome line this → IsOutcome line that → this ≡ that
       outcome_once line this that p q = both ((outcomes line).only this p) ((outcomes line).only that q)
 
-      directive_once : (g : Gathered) (digits : Digits) (file : File) (stand : Stand) (place : ℕ) (line : List Word) (s : State) (this that : Next) →
-          DirectiveGives g digits file stand place line s this → DirectiveGives g digits file stand place line s that → this ≡ that
-      directive_once g digits file stand place line s this that p q =
-          match_once (is_obeyed stand (mark_of (DirectiveLine line))) (ObeyedGives g digits file stand place line (listed file place line s)) (λ next. next ≡ passed file stand place line s)
-          (λ x y px py. given_once _ _ (outcome_once line) (λ outcome. acts_once g digits file stand (breaks_at file place) line outcome (listed file place line s)) x y px py) (λ x y. both) this that p q
-
-      line_once : (g : Gathered) (digits : Digits) (file : File) (stand : Stand) (place : ℕ) (piece : Piece) (s : State) (this that : Next) →
-          LineGives g digits file stand place piece s this → LineGives g digits file stand place piece s that → this ≡ that
-      line_once g digits file stand place (DirectiveLine line) s this that p q = directive_once g digits file stand place line s this that p q
-      line_once g digits file Obeyed place (TextRun words) s this that p q = run_of_text_once _ s words this that p q
-      line_once g digits file (Skipped chosen inner) place (TextRun words) s this that p q = both p q
+      line_once : (g : Gathered) (digits : Digits) (file : File) (obeyed : Bool) (place : ℕ) (piece : Piece) (s : State) (this that : Next) →
+          LineGives g digits file obeyed place piece s this → LineGives g digits file obeyed place piece s that → this ≡ that
+      line_once g digits file true place (DirectiveLine line) s this that p q =
+          given_once _ _ (outcome_once line) (λ outcome. acts_once g digits file (breaks_at file place) line outcome (listed file place line s)) this that p q
+      line_once g digits file false place (DirectiveLine line) s this that p q = both p q
+      line_once g digits file true place (TextRun words) s this that p q = run_of_text_once _ s words this that p q
+      line_once g digits file false place (TextRun words) s this that p q = both p q
 
       -- ## Files
 
@@ -165,20 +159,20 @@ module _ (ends : WordsEndInOneWay) where
       goes_once behind each (Passes limit) this that p q = both p q
 
       follows_once : (includes : Includes) → ((number : ℕ) (built_in : Bool) (s : State) (a b : Ended) → includes number built_in s a → includes number built_in s b → a ≡ b) →
-          (behind : Stand → State → Ended → Type 0) → ((stand : Stand) (s : State) (a b : Ended) → behind stand s a → behind stand s b → a ≡ b) →
+          (behind : Bool → State → Ended → Type 0) → ((holds : Bool) (s : State) (a b : Ended) → behind holds s a → behind holds s b → a ≡ b) →
           (next : Next) (this that : Ended) → Follows includes behind next this → Follows includes behind next that → this ≡ that
-      follows_once includes one behind each (On stand s) this that p q = each stand s this that p q
-      follows_once includes one behind each (Enter number built_in s) this that p q = given_once _ _ (one number built_in s) (goes_once (behind Obeyed) (each Obeyed)) this that p q
+      follows_once includes one behind each (On holds s) this that p q = each holds s this that p q
+      follows_once includes one behind each (Enter number built_in s) this that p q = given_once _ _ (one number built_in s) (goes_once (behind true) (each true)) this that p q
       follows_once includes one behind each (End ended) this that p q = both p q
 
       module _ (g : Gathered) (layout : Layout) where
         lines_once : (includes : Includes) → ((number : ℕ) (built_in : Bool) (s : State) (a b : Ended) → includes number built_in s a → includes number built_in s b → a ≡ b) →
-            (file : File) (pieces : List Piece) (stand : Stand) (place : ℕ) (s : State) (this that : Ended) →
-            LinesGive g layout includes file stand place pieces s this → LinesGive g layout includes file stand place pieces s that → this ≡ that
-        lines_once includes one file [] stand place s this that p q = both p q
-        lines_once includes one file (piece ∷ pieces) stand place s this that p q =
-            given_once _ _ (line_once g layout.digits file stand place piece s)
-            (follows_once includes one _ (λ stand s a b. lines_once includes one file pieces stand (suc place) s a b)) this that p q
+            (file : File) (pieces : List Piece) (before : List PassedLine) (s : State) (this that : Ended) →
+            LinesGive g layout includes file before pieces s this → LinesGive g layout includes file before pieces s that → this ≡ that
+        lines_once includes one file [] before s this that p q = both p q
+        lines_once includes one file (piece ∷ pieces) before s this that p q =
+            given_once _ _ (line_once g layout.digits file (is_obeyed_after before (mark_of piece)) (length before) piece s)
+            (follows_once includes one _ (λ holds s a b. lines_once includes one file pieces (passed_line piece holds ∷ before) s a b)) this that p q
 
         module _ (cuts : LinesAreUnique) where
           counted_once : (includes : Includes) → ((number : ℕ) (built_in : Bool) (s : State) (a b : Ended) → includes number built_in s a → includes number built_in s b → a ≡ b) →
@@ -187,8 +181,8 @@ module _ (ends : WordsEndInOneWay) where
           counted_once includes one number built_in None this that p q = both p q
           counted_once includes one number built_in (Some s) this that p q =
               let read : List Piece → File = λ pieces. record { number = number; built_in = built_in; pieces = pieces } in
-              given_once _ (λ pieces ended. LinesGive g layout includes (read pieces) Obeyed 0 pieces s ended) (λ a b pa pb. cuts _ a b pa pb)
-              (λ pieces a b pa pb. lines_once includes one (read pieces) pieces Obeyed 0 s a b pa pb) this that p q
+              given_once _ (λ pieces ended. LinesGive g layout includes (read pieces) [] pieces s ended) (λ a b pa pb. cuts _ a b pa pb)
+              (λ pieces a b pa pb. lines_once includes one (read pieces) pieces [] s a b pa pb) this that p q
 
           include_once : (nested number : ℕ) (built_in : Bool) (s : State) (this that : Ended) → IncludeGives g layout nested number built_in s this → IncludeGives g layout nested number built_in s that → this ≡ that
           unfolding IncludeGives

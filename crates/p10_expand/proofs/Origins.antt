@@ -23,13 +23,11 @@ use Rattle.p10_macros.specs.Endings.{Ending, Gives, Refused, TooMany}
 use Rattle.p10_macros.specs.Answers.{Defines}
 use Rattle.p10_expand.specs.declared.expanded.Obeyed.{Obeyed as ObeyedLine}
 use Rattle.p10_expand.specs.declared.expansion.digits.Digits.{Digits}
-use Rattle.p10_expand.specs.declared.expansion.stand.Stand.{Stand}
-use Rattle.p10_expand.specs.declared.expansion.stand.Stand.TheVariants.{Obeyed, Skipped}
-use Rattle.p10_expand.specs.Skips.{is_obeyed}
 use Rattle.p10_expand.specs.Conditionals.{Judged, Holds as Truth, Fails, Exceeds, Judges, answered, answered_at, asked_at}
 use Rattle.p10_expand.specs.Items.{lines_of, onto_line, ends_line, item_name, is_among, new_words}
-use Rattle.p10_expand.specs.Obeying.{State, Ended, Goes, Refuses, Passes, Next, On, Enter, End, File, refuse, words_before, begins_at, with_words, TextEnds, TextGives, RunGives, operand_place, included, is_header, defined_as, DefinitionGives, DefineGives, judged_next, ConditionGives, mark_word, Does, Acts, breaks_at, listed, passed, ObeyedGives, LineGives}
-use Rattle.p10_expand.specs.Expands.{Layout, Includes, GoesOn, Follows, LinesGive, counted, CountedGives, IncludeGives, Expansion, RootEnds, RootsGive, Expands, IsLaidOut, fresh, no_words, words_at}
+use Rattle.p10_expand.specs.Obeying.{State, Ended, Goes, Refuses, Passes, Next, On, Enter, End, File, refuse, words_before, begins_at, with_words, TextEnds, TextGives, RunGives, operand_place, included, is_header, defined_as, DefinitionGives, DefineGives, judged_next, ConditionGives, mark_word, Does, Acts, breaks_at, listed, passed, LineGives}
+use Rattle.p10_expand.specs.Groups.{PassedLine, is_obeyed_after}
+use Rattle.p10_expand.specs.Expands.{passed_line, Layout, Includes, GoesOn, Follows, LinesGive, counted, CountedGives, IncludeGives, Expansion, RootEnds, RootsGive, Expands, IsLaidOut, fresh, no_words, words_at}
 use Rattle.p10_expand.specs.declared.expanded.Expanded.{Expanded}
 use Rattle.p10_expand.specs.declared.expansion.fault.ExpandFault.{ExpandFault}
 use Rattle.p10_expand.specs.Answers.{IsExpansion, expansion_of}
@@ -174,7 +172,7 @@ module _ (g : Gathered) where
   EndedHolds (Passes limit) = Unit {0}
 
   abbrev NextHolds : Next → Type 0
-  NextHolds (On stand s) = StateHolds s
+  NextHolds (On holds s) = StateHolds s
   NextHolds (Enter number built_in s) = StateHolds s
   NextHolds (End ended) = EndedHolds ended
 
@@ -391,7 +389,7 @@ module _ (g : Gathered) where
   with_macros s macros h t = record { macros = t; words = h.words; obeyed = h.obeyed }
 
   defined_holds : (line : List Word) (s : State) (answer : Effect) (macros : Table) → StateHolds s → LineHolds line → TableHolds kept macros → NextHolds (defined_as line s answer macros)
-  defined_holds line s New macros h l t = next_if _ (End (Passes MACROS)) (On Obeyed (record s { macros = macros })) tt (with_macros s macros h t)
+  defined_holds line s New macros h l t = next_if _ (End (Passes MACROS)) (On true (record s { macros = macros })) tt (with_macros s macros h t)
   defined_holds line s Same macros h l t = with_macros s macros h t
   defined_holds line s Other macros h l t = (h, operand_lies line l)
 
@@ -400,7 +398,7 @@ module _ (g : Gathered) where
       subst NextHolds (sym is) (defined_holds line s answer macros h l (table_holds s.macros macros made built_in answer h.macros b defines))
 
   item_holds : (given : Bool) (line : List Word) (made : PlainMacro) (s new : State) (next : Next) → StateHolds s → StateHolds new → LineHolds line → MacroHolds kept made →
-      MatchBool given (next ≡ On Obeyed s) (DefinitionGives true line made new next) → NextHolds next
+      MatchBool given (next ≡ On true s) (DefinitionGives true line made new next) → NextHolds next
   item_holds true line made s new next h n l b is = subst NextHolds (sym is) h
   item_holds false line made s new next h n l b gives = definition_next_holds true line made new next n l b gives
 
@@ -410,35 +408,35 @@ module _ (g : Gathered) where
 
   included_holds : (line : List Word) (name : Text) (s : State) (found : Option ℕ) → StateHolds s → LineHolds line → NextHolds (included g line name s found)
   included_holds line name s None h l = (h, operand_lies line l)
-  included_holds line name s (Some number) h l = next_if (is_among s.once (name_of g number)) (On Obeyed s) (Enter number (is_header g number name) s) h h
+  included_holds line name s (Some number) h l = next_if (is_among s.once (name_of g number)) (On true s) (Enter number (is_header g number name) s) h h
 
-  does_holds : (digits : Digits) (file : File) (stand : Stand) (line : List Word) (directive : PlainDirective) (s : State) (next : Next) → StateHolds s → LineHolds line → DirectiveHolds directive →
-      Does g digits file stand line directive s next → NextHolds next
-  does_holds digits file stand line Null s next h l d is = subst NextHolds (sym is) h
-  does_holds digits file stand line (Include name angle) s next h l d is = subst NextHolds (sym is) (included_holds line name s (candidate_of g file.number name angle) h l)
-  does_holds digits file stand line (Define made) s next h l d gives = define_holds file.built_in line made s next h l d gives
-  does_holds digits file stand line (Undef name) s next h l d is = subst NextHolds (sym is) (with_macros s _ h (without_holds kept s.macros name h.macros))
-  does_holds digits file stand line (If condition) s next h l d gives = condition_holds digits line condition s next h l d gives
-  does_holds digits file stand line (Elif condition) s next h l d gives = condition_holds digits line condition s next h l d gives
-  does_holds digits file stand line (Ifdef name) s next h l d is = subst NextHolds (sym is) h
-  does_holds digits file stand line (Ifndef name) s next h l d is = subst NextHolds (sym is) h
-  does_holds digits file stand line Else s next h l d is = subst NextHolds (sym is) h
-  does_holds digits file stand line Endif s next h l d is = subst NextHolds (sym is) h
-  does_holds digits file stand line Once s next h l d is = subst NextHolds (sym is) (record { macros = h.macros; words = h.words; obeyed = h.obeyed })
-  does_holds digits file stand line InitDone s next h l d is = subst NextHolds (sym is) (with_holds s (mark_word line) h (mark_holds line l))
-  does_holds digits file stand line TaskLoop s next h l d is = subst NextHolds (sym is) (with_holds s (mark_word line) h (mark_holds line l))
-  does_holds digits file stand line OtherPragma s next h l d is = subst NextHolds (sym is) h
+  does_holds : (digits : Digits) (file : File) (line : List Word) (directive : PlainDirective) (s : State) (next : Next) → StateHolds s → LineHolds line → DirectiveHolds directive →
+      Does g digits file line directive s next → NextHolds next
+  does_holds digits file line Null s next h l d is = subst NextHolds (sym is) h
+  does_holds digits file line (Include name angle) s next h l d is = subst NextHolds (sym is) (included_holds line name s (candidate_of g file.number name angle) h l)
+  does_holds digits file line (Define made) s next h l d gives = define_holds file.built_in line made s next h l d gives
+  does_holds digits file line (Undef name) s next h l d is = subst NextHolds (sym is) (with_macros s _ h (without_holds kept s.macros name h.macros))
+  does_holds digits file line (If condition) s next h l d gives = condition_holds digits line condition s next h l d gives
+  does_holds digits file line (Elif condition) s next h l d gives = condition_holds digits line condition s next h l d gives
+  does_holds digits file line (Ifdef name) s next h l d is = subst NextHolds (sym is) h
+  does_holds digits file line (Ifndef name) s next h l d is = subst NextHolds (sym is) h
+  does_holds digits file line Else s next h l d is = subst NextHolds (sym is) h
+  does_holds digits file line Endif s next h l d is = subst NextHolds (sym is) h
+  does_holds digits file line Once s next h l d is = subst NextHolds (sym is) (record { macros = h.macros; words = h.words; obeyed = h.obeyed })
+  does_holds digits file line InitDone s next h l d is = subst NextHolds (sym is) (with_holds s (mark_word line) h (mark_holds line l))
+  does_holds digits file line TaskLoop s next h l d is = subst NextHolds (sym is) (with_holds s (mark_word line) h (mark_holds line l))
+  does_holds digits file line OtherPragma s next h l d is = subst NextHolds (sym is) h
 
-  broken_holds : (breaks : Bool) (digits : Digits) (file : File) (stand : Stand) (line : List Word) (directive : PlainDirective) (s : State) (next : Next) → StateHolds s → LineHolds line → DirectiveHolds directive →
-      MatchBool breaks (next ≡ refuse s 2 (place_of line)) (Does g digits file stand line directive s next) → NextHolds next
-  broken_holds true digits file stand line directive s next h l d is = subst NextHolds (sym is) (h, place_lies line l)
-  broken_holds false digits file stand line directive s next h l d does = does_holds digits file stand line directive s next h l d does
+  broken_holds : (breaks : Bool) (digits : Digits) (file : File) (line : List Word) (directive : PlainDirective) (s : State) (next : Next) → StateHolds s → LineHolds line → DirectiveHolds directive →
+      MatchBool breaks (next ≡ refuse s 2 (place_of line)) (Does g digits file line directive s next) → NextHolds next
+  broken_holds true digits file line directive s next h l d is = subst NextHolds (sym is) (h, place_lies line l)
+  broken_holds false digits file line directive s next h l d does = does_holds digits file line directive s next h l d does
 
-  acts_hold : (digits : Digits) (file : File) (stand : Stand) (breaks : Bool) (line : List Word) (outcome : Outcome) (s : State) (next : Next) → StateHolds s → LineHolds line → IsOutcome line outcome →
-      Acts g digits file stand breaks line outcome s next → NextHolds next
-  acts_hold digits file stand breaks line (Read directive) s next h l o acts = broken_holds breaks digits file stand line directive s next h l (directive_holds directive line l o) acts
-  acts_hold digits file stand breaks line BadForm s next h l o is = subst NextHolds (sym is) (h, place_lies line l)
-  acts_hold digits file stand breaks line (BadDefinition at) s next h l o is = subst NextHolds (sym is) (h, bad_lies at line l o)
+  acts_hold : (digits : Digits) (file : File) (breaks : Bool) (line : List Word) (outcome : Outcome) (s : State) (next : Next) → StateHolds s → LineHolds line → IsOutcome line outcome →
+      Acts g digits file breaks line outcome s next → NextHolds next
+  acts_hold digits file breaks line (Read directive) s next h l o acts = broken_holds breaks digits file line directive s next h l (directive_holds directive line l o) acts
+  acts_hold digits file breaks line BadForm s next h l o is = subst NextHolds (sym is) (h, place_lies line l)
+  acts_hold digits file breaks line (BadDefinition at) s next h l o is = subst NextHolds (sym is) (h, bad_lies at line l o)
 
   -- ## Lines
 
@@ -450,22 +448,18 @@ module _ (g : Gathered) where
   listed_holds file place line s h l =
       listed_if file.built_in s _ h (record { macros = h.macros; words = h.words; obeyed = each_joined ListedHolds s.obeyed (_ ∷ []) h.obeyed ((line_all line l, place_lies line l, line_is line l), tt) })
 
-  passed_holds : (file : File) (stand : Stand) (place : ℕ) (line : List Word) (s : State) → StateHolds s → LineHolds line → NextHolds (passed file stand place line s)
-  passed_holds file stand place line s h l = next_if (breaks_at file place) (refuse (listed file place line s) 2 (place_of line)) _ (listed_holds file place line s h l, place_lies line l) h
-
-  obeyed_if : (obeyed : Bool) (digits : Digits) (file : File) (stand : Stand) (place : ℕ) (line : List Word) (s : State) (next : Next) → StateHolds s → LineHolds line →
-      MatchBool obeyed (ObeyedGives g digits file stand place line (listed file place line s) next) (next ≡ passed file stand place line s) → NextHolds next
-  obeyed_if true digits file stand place line s next h l (outcome, is, acts) = acts_hold digits file stand (breaks_at file place) line outcome (listed file place line s) next (listed_holds file place line s h l) l is acts
-  obeyed_if false digits file stand place line s next h l is = subst NextHolds (sym is) (passed_holds file stand place line s h l)
+  passed_holds : (file : File) (place : ℕ) (line : List Word) (s : State) → StateHolds s → LineHolds line → NextHolds (passed file place line s)
+  passed_holds file place line s h l = next_if (breaks_at file place) (refuse (listed file place line s) 2 (place_of line)) _ (listed_holds file place line s h l, place_lies line l) h
 
   abbrev PieceHolds : Piece → Type 0
   PieceHolds (DirectiveLine line) = LineHolds line
   PieceHolds (TextRun words) = AllByRecursion InText words
 
-  line_holds : (digits : Digits) (file : File) (stand : Stand) (place : ℕ) (piece : Piece) (s : State) (next : Next) → StateHolds s → PieceHolds piece → LineGives g digits file stand place piece s next → NextHolds next
-  line_holds digits file stand place (DirectiveLine line) s next h p gives = obeyed_if (is_obeyed stand (mark_of (DirectiveLine line))) digits file stand place line s next h p gives
-  line_holds digits file Obeyed place (TextRun words) s next h p gives = run_of_text_holds file.built_in s words next h p gives
-  line_holds digits file (Skipped chosen inner) place (TextRun words) s next h p is = subst NextHolds (sym is) h
+  line_holds : (digits : Digits) (file : File) (obeyed : Bool) (place : ℕ) (piece : Piece) (s : State) (next : Next) → StateHolds s → PieceHolds piece → LineGives g digits file obeyed place piece s next → NextHolds next
+  line_holds digits file true place (DirectiveLine line) s next h p (outcome, is, acts) = acts_hold digits file (breaks_at file place) line outcome (listed file place line s) next (listed_holds file place line s h p) p is acts
+  line_holds digits file false place (DirectiveLine line) s next h p is = subst NextHolds (sym is) (passed_holds file place line s h p)
+  line_holds digits file true place (TextRun words) s next h p gives = run_of_text_holds file.built_in s words next h p gives
+  line_holds digits file false place (TextRun words) s next h p is = subst NextHolds (sym is) h
 
   -- the word is one of these, which are those of the file
   record IsOf (number : ℕ) (words : List Word) (word : Word) : Type 0 where
@@ -502,19 +496,19 @@ module _ (g : Gathered) where
   goes_hold behind each (Passes limit) ended h is = subst EndedHolds (sym is) tt
 
   follows_hold : (includes : Includes) → ((number : ℕ) (built_in : Bool) (s : State) (ended : Ended) → StateHolds s → includes number built_in s ended → EndedHolds ended) →
-      (behind : Stand → State → Ended → Type 0) → ((stand : Stand) (s : State) (ended : Ended) → StateHolds s → behind stand s ended → EndedHolds ended) →
+      (behind : Bool → State → Ended → Type 0) → ((holds : Bool) (s : State) (ended : Ended) → StateHolds s → behind holds s ended → EndedHolds ended) →
       (next : Next) (ended : Ended) → NextHolds next → Follows includes behind next ended → EndedHolds ended
-  follows_hold includes one behind each (On stand s) ended h gives = each stand s ended h gives
-  follows_hold includes one behind each (Enter number built_in s) ended h (within, entered, gives) = goes_hold (behind Obeyed) (each Obeyed) within ended (one number built_in s within h entered) gives
+  follows_hold includes one behind each (On holds s) ended h gives = each holds s ended h gives
+  follows_hold includes one behind each (Enter number built_in s) ended h (within, entered, gives) = goes_hold (behind true) (each true) within ended (one number built_in s within h entered) gives
   follows_hold includes one behind each (End other) ended h is = subst EndedHolds (sym is) h
 
   module _ (layout : Layout) where
     lines_end : (includes : Includes) → ((number : ℕ) (built_in : Bool) (s : State) (ended : Ended) → StateHolds s → includes number built_in s ended → EndedHolds ended) →
-        (file : File) (pieces : List Piece) (stand : Stand) (place : ℕ) (s : State) (ended : Ended) → StateHolds s → AllByRecursion PieceHolds pieces → LinesGive g layout includes file stand place pieces s ended → EndedHolds ended
-    lines_end includes one file [] stand place s ended h p is = subst EndedHolds (sym is) h
-    lines_end includes one file (piece ∷ pieces) stand place s ended h p (next, gives, follows) =
-        follows_hold includes one _ (λ stand s ended h behind. lines_end includes one file pieces stand (suc place) s ended h p.1 behind) next ended
-        (line_holds layout.digits file stand place piece s next h p.0 gives) follows
+        (file : File) (pieces : List Piece) (before : List PassedLine) (s : State) (ended : Ended) → StateHolds s → AllByRecursion PieceHolds pieces → LinesGive g layout includes file before pieces s ended → EndedHolds ended
+    lines_end includes one file [] before s ended h p is = subst EndedHolds (sym is) h
+    lines_end includes one file (piece ∷ pieces) before s ended h p (next, gives, follows) =
+        follows_hold includes one _ (λ holds s ended h behind. lines_end includes one file pieces (passed_line piece holds ∷ before) s ended h p.1 behind) next ended
+        (line_holds layout.digits file (is_obeyed_after before (mark_of piece)) (length before) piece s next h p.0 gives) follows
 
     abbrev OptionHolds : Option State → Type 0
     OptionHolds None = Unit {0}
@@ -533,7 +527,7 @@ module _ (g : Gathered) where
           (number : ℕ) (built_in : Bool) (found : Option State) (ended : Ended) → OptionHolds found → CountedGives g layout includes number built_in found ended → EndedHolds ended
       counted_end includes one number built_in None ended h is = subst EndedHolds (sym is) tt
       counted_end includes one number built_in (Some s) ended h (pieces, cut, gives) =
-          lines_end includes one (record { number = number; built_in = built_in; pieces = pieces }) pieces Obeyed 0 s ended h (pieces_hold number (words_at layout number) pieces cut (words_at layout number) pieces cut (each_itself pieces) (texts number)) gives
+          lines_end includes one (record { number = number; built_in = built_in; pieces = pieces }) pieces [] s ended h (pieces_hold number (words_at layout number) pieces cut (words_at layout number) pieces cut (each_itself pieces) (texts number)) gives
 
       include_end : (nested number : ℕ) (built_in : Bool) (s : State) (ended : Ended) → StateHolds s → IncludeGives g layout nested number built_in s ended → EndedHolds ended
       unfolding IncludeGives

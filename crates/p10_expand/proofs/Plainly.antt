@@ -8,13 +8,14 @@ use Rattle.p10_base.specs.Gathered.{Gathered, count_of, text_of}
 use Rattle.p10_base.specs.Words.{PlainWord, plain_word}
 use Rattle.p10_lex.proofs.Uniqueness.{same_words}
 use Rattle.p10_direct.specs.Lines.{Piece, AreCut}
-use Rattle.p10_direct.proofs.Plainly.{bare, bare_words, bare_piece, cond_map, cut_bare}
+use Rattle.p10_direct.proofs.Plainly.{bare, bare_words, bare_piece, cond_map, cut_bare, mark_bare}
 use Rattle.p10_expand.specs.declared.expanded.Obeyed.{Obeyed as ObeyedLine}
 use Rattle.p10_expand.specs.declared.expansion.digits.Digits.{Digits}
-use Rattle.p10_expand.specs.declared.expansion.stand.Stand.{Stand}
-use Rattle.p10_expand.specs.declared.expansion.stand.Stand.TheVariants.{Obeyed}
-use Rattle.p10_expand.specs.Obeying.{State, Ended, Goes, Refuses, Passes, Next, On, Enter, End, File}
-use Rattle.p10_expand.specs.Expands.{Layout, words_at, AreWords, IsLaidOut, counted, Includes, GoesOn, Follows, LinesGive, CountedGives, FileGives, IncludeGives, Expansion, no_words, fresh, RootEnds, RootsGive, Expands, ExpansionsAreUnique}
+use Rattle.p10_expand.specs.Obeying.{State, Ended, Goes, Refuses, Passes, Next, On, Enter, End, File, LineGives}
+use Rattle.p10_direct.specs.declared.mark.Mark.{Mark}
+use Rattle.p10_direct.specs.Balance.{mark_of}
+use Rattle.p10_expand.specs.Groups.{PassedLine, is_obeyed_after}
+use Rattle.p10_expand.specs.Expands.{passed_line, Layout, words_at, AreWords, IsLaidOut, counted, Includes, GoesOn, Follows, LinesGive, CountedGives, FileGives, IncludeGives, Expansion, no_words, fresh, RootEnds, RootsGive, Expands, ExpansionsAreUnique}
 use Rattle.p10_expand.specs.Plain.{PlainObeyed, plain_obeyed, PlainExpansion, plain_answer, ExpandsToOnce}
 use Rattle.p10_expand.proofs.PlainlyObeying.{bare_obeyed, bare_state, bare_ended, bare_next, bare_file, bare_digits, line_bare}
 
@@ -52,23 +53,25 @@ goes_bare behind behind' each (Goes s) ended goes = each s ended goes
 goes_bare behind behind' each (Refuses s refusal) ended is = ap bare_ended is
 goes_bare behind behind' each (Passes limit) ended is = ap bare_ended is
 
-follows_bare : (includes bare_includes : Includes) → KeepsIncludes includes bare_includes → (behind behind' : Stand → State → Ended → Type 0) →
-    ((stand : Stand) (s : State) (ended : Ended) → behind stand s ended → behind' stand (bare_state s) (bare_ended ended)) → (next : Next) (ended : Ended) →
+follows_bare : (includes bare_includes : Includes) → KeepsIncludes includes bare_includes → (behind behind' : Bool → State → Ended → Type 0) →
+    ((holds : Bool) (s : State) (ended : Ended) → behind holds s ended → behind' holds (bare_state s) (bare_ended ended)) → (next : Next) (ended : Ended) →
     Follows includes behind next ended → Follows bare_includes behind' (bare_next next) (bare_ended ended)
-follows_bare includes bare_includes keeps behind behind' each (On stand s) ended follows = each stand s ended follows
+follows_bare includes bare_includes keeps behind behind' each (On holds s) ended follows = each holds s ended follows
 follows_bare includes bare_includes keeps behind behind' each (Enter number built_in s) ended (within, gives, goes) =
-    (bare_ended within, keeps number built_in s within gives, goes_bare (behind Obeyed) (behind' Obeyed) (each Obeyed) within ended goes)
+    (bare_ended within, keeps number built_in s within gives, goes_bare (behind true) (behind' true) (each true) within ended goes)
 follows_bare includes bare_includes keeps behind behind' each (End other) ended is = ap bare_ended is
 
 module _ (g : Gathered) (layout : Layout) where
-  lines_bare : (includes bare_includes : Includes) → KeepsIncludes includes bare_includes → (file : File) (pieces : List Piece) (stand : Stand) (place : ℕ) (s : State) (ended : Ended) →
-      LinesGive g layout includes file stand place pieces s ended → LinesGive g (bare_layout layout) bare_includes (bare_file file) stand place (map bare_piece pieces) (bare_state s) (bare_ended ended)
-  lines_bare includes bare_includes keeps file [] stand place s ended is = ap bare_ended is
-  lines_bare includes bare_includes keeps file (piece ∷ pieces) stand place s ended (next, gives, follows) = (
-    bare_next next,
-    line_bare g layout.digits file stand place piece s next gives,
-    follows_bare includes bare_includes keeps _ _ (λ stand s ended. lines_bare includes bare_includes keeps file pieces stand (suc place) s ended) next ended follows,
-  )
+  lines_bare : (includes bare_includes : Includes) → KeepsIncludes includes bare_includes → (file : File) (pieces : List Piece) (before : List PassedLine) (s : State) (ended : Ended) →
+      LinesGive g layout includes file before pieces s ended → LinesGive g (bare_layout layout) bare_includes (bare_file file) before (map bare_piece pieces) (bare_state s) (bare_ended ended)
+  lines_bare includes bare_includes keeps file [] before s ended is = ap bare_ended is
+  lines_bare includes bare_includes keeps file (piece ∷ pieces) before s ended (next, gives, follows) =
+      subst (λ (part : Mark). (next : Next) × LineGives g (bare_digits layout.digits) (bare_file file) (is_obeyed_after before part) (length before) (bare_piece piece) (bare_state s) next
+      × Follows bare_includes (λ holds s ended. LinesGive g (bare_layout layout) bare_includes (bare_file file) (record { mark = part; holds = holds } ∷ before) (map bare_piece pieces) s ended) next (bare_ended ended)) (sym (mark_bare piece)) (
+        bare_next next,
+        line_bare g layout.digits file (is_obeyed_after before (mark_of piece)) (length before) piece s next gives,
+        follows_bare includes bare_includes keeps _ _ (λ holds s ended. lines_bare includes bare_includes keeps file pieces (passed_line piece holds ∷ before) s ended) next ended follows,
+      )
 
   -- ## Files
 
@@ -78,7 +81,7 @@ module _ (g : Gathered) (layout : Layout) where
   read_bare includes bare_includes keeps number built_in (Some s) ended (pieces, cut, gives) = (
     map bare_piece pieces,
     subst (λ (words : List Word). AreCut words (map bare_piece pieces)) (sym (words_bare layout number)) (cut_bare (words_at layout number) pieces cut),
-    lines_bare includes bare_includes keeps (record { number = number; built_in = built_in; pieces = pieces }) pieces Obeyed 0 s ended gives,
+    lines_bare includes bare_includes keeps (record { number = number; built_in = built_in; pieces = pieces }) pieces [] s ended gives,
   )
 
   file_bare : (includes bare_includes : Includes) → KeepsIncludes includes bare_includes → (number : ℕ) (built_in : Bool) (s : State) (ended : Ended) →

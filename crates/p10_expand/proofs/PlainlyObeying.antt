@@ -11,7 +11,7 @@ use Rattle.p10_direct.specs.Lines.{Piece, DirectiveLine, TextRun}
 use Rattle.p10_direct.specs.Balance.{mark_of}
 use Rattle.p10_direct.specs.Directives.{PlainMacro, PlainDirective, Null, Include, Define, Undef, If, Elif, Ifdef, Ifndef, Else, Endif, Once, InitDone, TaskLoop, OtherPragma, Outcome, Read, BadForm, BadDefinition, place_of, texts_of}
 use Rattle.p10_direct.specs.Conditions.{HasTruth}
-use Rattle.p10_direct.proofs.Plainly.{bare, bare_words, bare_piece, bare_macro, bare_directive, bare_outcome, cond_map, mark_bare, marks_bare, unbalanced_bare, place_bare, outcome_bare, truth_bare, truth_of_bare}
+use Rattle.p10_direct.proofs.Plainly.{bare, bare_words, bare_piece, bare_macro, bare_directive, bare_outcome, cond_map, marks_bare, unbalanced_bare, place_bare, outcome_bare, truth_bare, truth_of_bare}
 use Rattle.p10_macros.specs.declared.table.Effect.{Effect}
 use Rattle.p10_macros.specs.declared.table.Effect.TheVariants.{New, Same, Other}
 use Rattle.p10_macros.specs.Table.{Table, macro_named, own_of}
@@ -21,13 +21,10 @@ use Rattle.p10_macros.specs.Ends.{Ends}
 use Rattle.p10_macros.proofs.Plainly.{bare_table, bare_all, bare_ending, named_bare, without_bare, own_bare, defines_bare, plain_bare, written_bare, ends_bare}
 use Rattle.p10_expand.specs.declared.expanded.Obeyed.{Obeyed as ObeyedLine}
 use Rattle.p10_expand.specs.declared.expansion.digits.Digits.{Digits}
-use Rattle.p10_expand.specs.declared.expansion.stand.Stand.{Stand}
-use Rattle.p10_expand.specs.declared.expansion.stand.Stand.TheVariants.{Obeyed, Skipped}
 use Rattle.p10_expand.specs.Guards.{guarded_name, defines_as_nothing, closes_last, is_lone_endif, is_endif_there, ends_with_endif, guards, is_guarded}
-use Rattle.p10_expand.specs.Skips.{is_obeyed, stand_behind, stand_of_group}
 use Rattle.p10_expand.specs.Conditionals.{is_defined, RunEnds, asked_inside, asked, asked_at, digit_at, answered_at, answered, Judged, Holds, Fails, Exceeds, Judges, JudgesCondition}
 use Rattle.p10_expand.specs.Items.{ends_line, onto_line, lines_of, item_name, is_among, given_after, new_words}
-use Rattle.p10_expand.specs.Obeying.{State, Ended, Goes, Refuses, Passes, Next, On, Enter, End, File, refuse, begins_at, words_before, with_words, TextEnds, TextGives, ItemsGive, RunGives, operand_place, is_header, included, defined_as, DefinitionGives, DefineGives, judged_next, ConditionGives, mark_word, Does, Acts, is_place, breaks_at, begins_guard, listed, passed, ObeyedGives, DirectiveGives, LineGives}
+use Rattle.p10_expand.specs.Obeying.{State, Ended, Goes, Refuses, Passes, Next, On, Enter, End, File, refuse, begins_at, words_before, with_words, TextEnds, TextGives, ItemsGive, RunGives, operand_place, is_header, included, defined_as, DefinitionGives, DefineGives, judged_next, ConditionGives, mark_word, Does, Acts, is_place, breaks_at, begins_guard, listed, passed, ObeyedGives, LineGives}
 use Rattle.p10_base.specs.declared.report.TheConstants.Limit.{MACROS, MOST_MACROS}
 
 -- ## What is known between two lines
@@ -51,7 +48,7 @@ bare_ended (Refuses s refusal) = Refuses (bare_state s) refusal
 bare_ended (Passes limit) = Passes limit
 
 abbrev pub bare_next : Next → Next
-bare_next (On stand s) = On stand (bare_state s)
+bare_next (On holds s) = On holds (bare_state s)
 bare_next (Enter number built_in s) = Enter number built_in (bare_state s)
 bare_next (End ended) = End (bare_ended ended)
 
@@ -140,7 +137,7 @@ with_bare s words = ap (λ (all : List Word). let new : State = record (bare_sta
 
 text_ends_bare : (s : State) (words : List Word) (ending : Ending (List Sourced)) (next : Next) → TextEnds s words ending next → TextEnds (bare_state s) (bare_words words) (bare_ending ending) (bare_next next)
 text_ends_bare s words (Gives made left) next is =
-    ap bare_next is ∙ ap (λ (all : List Word). On Obeyed (record (bare_state s) { words = all; left = left })) (map-append bare s.words (sourced_words made) ∙ ap (λ all. bare_words s.words ++ all) (sym (plain_bare made)))
+    ap bare_next is ∙ ap (λ (all : List Word). On true (record (bare_state s) { words = all; left = left })) (map-append bare s.words (sourced_words made) ∙ ap (λ all. bare_words s.words ++ all) (sym (plain_bare made)))
 text_ends_bare s words (Refused number at) next (made, left, runs, is) = (
   bare_all made,
   left,
@@ -208,14 +205,14 @@ operand_bare (hash ∷ name ∷ operand ∷ words) = refl
 
 included_bare : (g : Gathered) (line : List Word) (name : Text) (s : State) (found : Option ℕ) → bare_next (included g line name s found) ≡ included g (bare_words line) name (bare_state s) found
 included_bare g line name s None = ap (refuse (bare_state s) 5) (sym (operand_bare line))
-included_bare g line name s (Some number) = sym (cond_map bare_next (is_among s.once (name_of g number)) (On Obeyed s) (Enter number (is_header g number name) s) _ _ refl refl)
+included_bare g line name s (Some number) = sym (cond_map bare_next (is_among s.once (name_of g number)) (On true s) (Enter number (is_header g number name) s) _ _ refl refl)
 
 -- ## Definitions
 
 defined_as_bare : (line : List Word) (s : State) (answer : Effect) (macros : Table) → bare_next (defined_as line s answer macros) ≡ defined_as (bare_words line) (bare_state s) answer (bare_table macros)
 defined_as_bare line s New macros =
-    sym (ap (λ n. cond (nat_lt MOST_MACROS n) (End (Passes MACROS)) (On Obeyed (record (bare_state s) { macros = bare_table macros }))) (own_bare macros)
-    ∙ cond_map bare_next (nat_lt MOST_MACROS (own_of macros)) (End (Passes MACROS)) (On Obeyed (record s { macros = macros })) _ _ refl refl)
+    sym (ap (λ n. cond (nat_lt MOST_MACROS n) (End (Passes MACROS)) (On true (record (bare_state s) { macros = bare_table macros }))) (own_bare macros)
+    ∙ cond_map bare_next (nat_lt MOST_MACROS (own_of macros)) (End (Passes MACROS)) (On true (record s { macros = macros })) _ _ refl refl)
 defined_as_bare line s Same macros = refl
 defined_as_bare line s Other macros = ap (refuse (bare_state s) 4) (sym (operand_bare line))
 
@@ -235,32 +232,32 @@ mark_word_bare : (line : List Word) → mark_word (bare_words line) ≡ bare_wor
 mark_word_bare [] = refl
 mark_word_bare (hash ∷ words) = ap (λ (last : Word). record last { kind = Mark } ∷ []) (last_bare hash words)
 
-marks_line : (line : List Word) (s : State) (next : Next) → next ≡ On Obeyed (with_words s (mark_word line)) → bare_next next ≡ On Obeyed (with_words (bare_state s) (mark_word (bare_words line)))
-marks_line line s next is = ap bare_next is ∙ ap (On Obeyed) (with_bare s (mark_word line) ∙ ap (with_words (bare_state s)) (sym (mark_word_bare line)))
+marks_line : (line : List Word) (s : State) (next : Next) → next ≡ On true (with_words s (mark_word line)) → bare_next next ≡ On true (with_words (bare_state s) (mark_word (bare_words line)))
+marks_line line s next is = ap bare_next is ∙ ap (On true) (with_bare s (mark_word line) ∙ ap (with_words (bare_state s)) (sym (mark_word_bare line)))
 
-does_bare : (g : Gathered) (digits : Digits) (file : File) (stand : Stand) (line : List Word) (directive : PlainDirective) (s : State) (next : Next) → Does g digits file stand line directive s next →
-    Does g (bare_digits digits) (bare_file file) stand (bare_words line) (bare_directive directive) (bare_state s) (bare_next next)
-does_bare g digits file stand line Null s next is = ap bare_next is
-does_bare g digits file stand line (Include name angle) s next is = ap bare_next is ∙ included_bare g line name s (candidate_of g file.number name angle)
-does_bare g digits file stand line (Define made) s next gives = define_bare file.built_in line made s next gives
-does_bare g digits file stand line (Undef name) s next is = ap bare_next is ∙ ap (λ (macros : Table). On Obeyed (record (bare_state s) { macros = macros })) (sym (without_bare s.macros name))
-does_bare g digits file stand line (If condition) s next gives = group_bare digits line condition s next gives
-does_bare g digits file stand line (Elif condition) s next gives = group_bare digits line condition s next gives
-does_bare g digits file stand line (Ifdef name) s next is = ap bare_next is ∙ ap (λ b. On (stand_of_group b) (bare_state s)) (sym (defined_bare s.macros name))
-does_bare g digits file stand line (Ifndef name) s next is = ap bare_next is ∙ ap (λ b. On (stand_of_group (not b)) (bare_state s)) (sym (defined_bare s.macros name))
-does_bare g digits file stand line Else s next is = ap bare_next is
-does_bare g digits file stand line Endif s next is = ap bare_next is
-does_bare g digits file stand line Once s next is = ap bare_next is
-does_bare g digits file stand line InitDone s next is = marks_line line s next is
-does_bare g digits file stand line TaskLoop s next is = marks_line line s next is
-does_bare g digits file stand line OtherPragma s next is = ap bare_next is
+does_bare : (g : Gathered) (digits : Digits) (file : File) (line : List Word) (directive : PlainDirective) (s : State) (next : Next) → Does g digits file line directive s next →
+    Does g (bare_digits digits) (bare_file file) (bare_words line) (bare_directive directive) (bare_state s) (bare_next next)
+does_bare g digits file line Null s next is = ap bare_next is
+does_bare g digits file line (Include name angle) s next is = ap bare_next is ∙ included_bare g line name s (candidate_of g file.number name angle)
+does_bare g digits file line (Define made) s next gives = define_bare file.built_in line made s next gives
+does_bare g digits file line (Undef name) s next is = ap bare_next is ∙ ap (λ (macros : Table). On true (record (bare_state s) { macros = macros })) (sym (without_bare s.macros name))
+does_bare g digits file line (If condition) s next gives = group_bare digits line condition s next gives
+does_bare g digits file line (Elif condition) s next gives = group_bare digits line condition s next gives
+does_bare g digits file line (Ifdef name) s next is = ap bare_next is ∙ ap (λ b. On b (bare_state s)) (sym (defined_bare s.macros name))
+does_bare g digits file line (Ifndef name) s next is = ap bare_next is ∙ ap (λ b. On (not b) (bare_state s)) (sym (defined_bare s.macros name))
+does_bare g digits file line Else s next is = ap bare_next is
+does_bare g digits file line Endif s next is = ap bare_next is
+does_bare g digits file line Once s next is = ap bare_next is
+does_bare g digits file line InitDone s next is = marks_line line s next is
+does_bare g digits file line TaskLoop s next is = marks_line line s next is
+does_bare g digits file line OtherPragma s next is = ap bare_next is
 
-acts_bare : (g : Gathered) (digits : Digits) (file : File) (stand : Stand) (breaks : Bool) (line : List Word) (outcome : Outcome) (s : State) (next : Next) → Acts g digits file stand breaks line outcome s next →
-    Acts g (bare_digits digits) (bare_file file) stand breaks (bare_words line) (bare_outcome outcome) (bare_state s) (bare_next next)
-acts_bare g digits file stand breaks line BadForm s next is = ap bare_next is ∙ ap (refuse (bare_state s) 1) (sym (place_bare line))
-acts_bare g digits file stand breaks line (BadDefinition at) s next is = ap bare_next is
-acts_bare g digits file stand breaks line (Read directive) s next acts =
-    match_map breaks (λ is. ap bare_next is ∙ ap (refuse (bare_state s) 2) (sym (place_bare line))) (does_bare g digits file stand line directive s next) acts
+acts_bare : (g : Gathered) (digits : Digits) (file : File) (breaks : Bool) (line : List Word) (outcome : Outcome) (s : State) (next : Next) → Acts g digits file breaks line outcome s next →
+    Acts g (bare_digits digits) (bare_file file) breaks (bare_words line) (bare_outcome outcome) (bare_state s) (bare_next next)
+acts_bare g digits file breaks line BadForm s next is = ap bare_next is ∙ ap (refuse (bare_state s) 1) (sym (place_bare line))
+acts_bare g digits file breaks line (BadDefinition at) s next is = ap bare_next is
+acts_bare g digits file breaks line (Read directive) s next acts =
+    match_map breaks (λ is. ap bare_next is ∙ ap (refuse (bare_state s) 2) (sym (place_bare line))) (does_bare g digits file line directive s next) acts
 
 -- ## Include guards
 
@@ -333,36 +330,27 @@ listed_bare file place line s =
     sym (cond_map bare_state file.built_in s (record s { obeyed = s.obeyed ++ (record { words = line; span = place_of line; guard = begins_guard file place }) ∷ [] }) _ _ refl
     (ap (λ (lines : List ObeyedLine). let new : State = record (bare_state s) { obeyed = lines } in new) (sym all)))
 
-passed_bare : (file : File) (stand : Stand) (place : ℕ) (line : List Word) (s : State) → bare_next (passed file stand place line s) ≡ passed (bare_file file) stand place (bare_words line) (bare_state s)
-passed_bare file stand place line s =
+passed_bare : (file : File) (place : ℕ) (line : List Word) (s : State) → bare_next (passed file place line s) ≡ passed (bare_file file) place (bare_words line) (bare_state s)
+passed_bare file place line s =
     let there = refuse (listed (bare_file file) place (bare_words line) (bare_state s)) 2 (place_of (bare_words line)) in
-    let behind = On (stand_behind stand (mark_of (DirectiveLine (bare_words line)))) (bare_state s) in
-    sym (ap (λ b. cond b there behind) (breaks_bare file place)
-    ∙ cond_map bare_next (breaks_at file place) (refuse (listed file place line s) 2 (place_of line)) (On (stand_behind stand (mark_of (DirectiveLine line))) s) _ _
+    sym (ap (λ b. cond b there (On true (bare_state s))) (breaks_bare file place)
+    ∙ cond_map bare_next (breaks_at file place) (refuse (listed file place line s) 2 (place_of line)) (On true s) _ _
     (ap (λ state. refuse state 2 (place_of (bare_words line))) (sym (listed_bare file place line s)) ∙ ap (refuse (bare_state (listed file place line s)) 2) (place_bare line))
-    (ap (λ mark. On (stand_behind stand mark) (bare_state s)) (mark_bare (DirectiveLine line))))
+    refl)
 
-obeyed_bare : (g : Gathered) (digits : Digits) (file : File) (stand : Stand) (place : ℕ) (line : List Word) (s : State) (next : Next) → ObeyedGives g digits file stand place line s next →
-    ObeyedGives g (bare_digits digits) (bare_file file) stand place (bare_words line) (bare_state s) (bare_next next)
-obeyed_bare g digits file stand place line s next (outcome, is, acts) = (
+obeyed_bare : (g : Gathered) (digits : Digits) (file : File) (place : ℕ) (line : List Word) (s : State) (next : Next) → ObeyedGives g digits file place line s next →
+    ObeyedGives g (bare_digits digits) (bare_file file) place (bare_words line) (bare_state s) (bare_next next)
+obeyed_bare g digits file place line s next (outcome, is, acts) = (
   bare_outcome outcome,
   outcome_bare line outcome is,
-  subst (λ (b : Bool). Acts g (bare_digits digits) (bare_file file) stand b (bare_words line) (bare_outcome outcome) (bare_state s) (bare_next next)) (sym (breaks_bare file place)) (acts_bare g digits file stand (breaks_at file place) line outcome s next acts),
+  subst (λ (b : Bool). Acts g (bare_digits digits) (bare_file file) b (bare_words line) (bare_outcome outcome) (bare_state s) (bare_next next)) (sym (breaks_bare file place)) (acts_bare g digits file (breaks_at file place) line outcome s next acts),
 )
 
-directive_bare : (g : Gathered) (digits : Digits) (file : File) (stand : Stand) (place : ℕ) (line : List Word) (s : State) (next : Next) → DirectiveGives g digits file stand place line s next →
-    DirectiveGives g (bare_digits digits) (bare_file file) stand place (bare_words line) (bare_state s) (bare_next next)
-directive_bare g digits file stand place line s next gives =
-    let obeyed : State → Type 0 = λ state. ObeyedGives g (bare_digits digits) (bare_file file) stand place (bare_words line) state (bare_next next) in
-    let on_bare : State = listed (bare_file file) place (bare_words line) (bare_state s) in
-    subst (λ mark. MatchBool (is_obeyed stand mark) (obeyed on_bare) (bare_next next ≡ passed (bare_file file) stand place (bare_words line) (bare_state s))) (sym (mark_bare (DirectiveLine line)))
-    (match_map (is_obeyed stand (mark_of (DirectiveLine line)))
-    (λ does. subst obeyed (listed_bare file place line s) (obeyed_bare g digits file stand place line (listed file place line s) next does))
-    (λ is. ap bare_next is ∙ passed_bare file stand place line s) gives)
-
 -- what a line does, with the same words elsewhere in memory
-pub line_bare : (g : Gathered) (digits : Digits) (file : File) (stand : Stand) (place : ℕ) (piece : Piece) (s : State) (next : Next) → LineGives g digits file stand place piece s next →
-    LineGives g (bare_digits digits) (bare_file file) stand place (bare_piece piece) (bare_state s) (bare_next next)
-line_bare g digits file stand place (DirectiveLine line) s next gives = directive_bare g digits file stand place line s next gives
-line_bare g digits file Obeyed place (TextRun words) s next gives = run_gives_bare file.built_in s words next gives
-line_bare g digits file (Skipped chosen inner) place (TextRun words) s next is = ap bare_next is
+pub line_bare : (g : Gathered) (digits : Digits) (file : File) (obeyed : Bool) (place : ℕ) (piece : Piece) (s : State) (next : Next) → LineGives g digits file obeyed place piece s next →
+    LineGives g (bare_digits digits) (bare_file file) obeyed place (bare_piece piece) (bare_state s) (bare_next next)
+line_bare g digits file true place (DirectiveLine line) s next gives =
+    subst (λ state. ObeyedGives g (bare_digits digits) (bare_file file) place (bare_words line) state (bare_next next)) (listed_bare file place line s) (obeyed_bare g digits file place line (listed file place line s) next gives)
+line_bare g digits file false place (DirectiveLine line) s next is = ap bare_next is ∙ passed_bare file place line s
+line_bare g digits file true place (TextRun words) s next gives = run_gives_bare file.built_in s words next gives
+line_bare g digits file false place (TextRun words) s next is = ap bare_next is

@@ -1,5 +1,5 @@
 -- From one line of a file to the next.
-use Rattle.std.proofs.Common.{◌≡◌, ℕ, zero, suc, ◌+◌, ◌-◌, ◌<◌, List, [], ◌∷◌, map, drop, get_or, length, Bool, Err, Option, Some, IfSome, Vec, Global, slice_get, refl, ap, sym, ◌∙◌, subst, add-one, arith}
+use Rattle.std.proofs.Common.{◌≡◌, ℕ, zero, suc, ◌+◌, ◌-◌, ◌<◌, List, [], ◌∷◌, map, drop, get_or, length, Bool, true, Err, Option, Some, IfSome, Vec, Global, slice_get, refl, ap, sym, ◌∙◌, subst, add-one, arith}
 use Rattle.std.proofs.Math.Seq.{drop-cons}
 use Rattle.std.proofs.lemmas.List.{length-map, get_or-map}
 use Rattle.std.proofs.lemmas.Option.{slice_get_read}
@@ -18,12 +18,18 @@ use Rattle.p10_expand.specs.declared.expansion.fault.ExpandFault.TheVariants.{Ov
 use Rattle.p10_expand.specs.declared.expansion.state.State.{State as CodedState}
 use Rattle.p10_expand.specs.declared.expansion.texts.Texts.{Texts}
 use Rattle.p10_expand.specs.private.Steps.{AreTexts, IsCut, Steps, Reaches, layout_of}
+use Rattle.p10_direct.specs.declared.mark.Mark.{Mark}
+use Rattle.p10_direct.specs.Balance.{mark_of}
 use Rattle.p10_expand.specs.declared.expansion.stand.Stand.{Stand}
 use Rattle.p10_expand.specs.declared.expansion.stand.Stand.TheVariants.{Obeyed}
+use Rattle.p10_expand.specs.Groups.{PassedLine, open_after, is_obeyed_after}
+use Rattle.p10_expand.specs.private.Skipping.{is_obeyed, stand_after}
+use Rattle.p10_expand.proofs.Skipping.{Agrees, obeyed_alike, next_agrees}
+use Rattle.p10_expand.proofs.Unbroken.{Unbroken, unbroken_first, GoesOnward, line_passed}
 use Rattle.p10_expand.specs.Obeying.{State, Ended, Goes, Refuses, Passes, Next, On, Enter, End, File, LineGives}
 use Rattle.p10_expand.specs.Before.{ComeInOrder}
 use Rattle.p10_expand.proofs.InOrder.{PiecesInOrder}
-use Rattle.p10_expand.specs.Expands.{Layout, Follows, Includes, LinesGive, counted, CountedGives, FileGives, IncludeGives, words_at}
+use Rattle.p10_expand.specs.Expands.{Layout, passed_line, Follows, LinesGive, counted, CountedGives, FileGives, IncludeGives, words_at}
 use Rattle.p10_base.specs.declared.report.TheConstants.Limit.{NESTED_INCLUDES}
 
 -- a line, and those behind it
@@ -51,29 +57,56 @@ pub entered_nowhere : (g : Gathered) (layout : Layout) (nested number : ℕ) (bu
 unfolding IncludeGives
 entered_nowhere g layout nested number built_in s none = rw none refl
 
+-- the lines from a place on of a file are reached, and stand there: what comes of them after the lines before is what is wanted
+pub record Walks (g : Gathered) (layout : Layout) (nested : ℕ) (file : File) (stand : Stand) (place : ℕ) (pieces : List Piece) (s : State) (wanted : Ended → Type 0) : Type 0 where
+  pub before : List PassedLine
+  pub many : length before ≡ place
+  pub agrees : Agrees (open_after before) stand
+  pub unbroken : Unbroken file before pieces
+  pub leads : (ended : Ended) → LinesGive g layout (IncludeGives g layout nested) file before pieces s ended → wanted ended
+
 module _ (g : Gathered) (layout : Layout) (nested : ℕ) (file : File) (items : List Line) (place : ℕ) (other : Line) (there : place < length items) (stand : Stand) (s : State)
-    (ordered : PiecesInOrder (map piece_of (drop place items))) (wanted : Ended → Type 0) (leads : (ended : Ended) → LinesGive g layout (IncludeGives g layout nested) file stand place (map piece_of (drop place items)) s ended → wanted ended) where
+    (ordered : PiecesInOrder (map piece_of (drop place items))) (wanted : Ended → Type 0) (walks : Walks g layout nested file stand place (map piece_of (drop place items)) s wanted)
+    (part : Mark) (part_is : part ≡ mark_of (piece_of (get_or items place other))) (obeyed : Bool) (obeyed_is : obeyed ≡ is_obeyed stand part) where
   -- what comes of the line, whose words come in order
   abbrev GivesHere : Next → Type 0
-  GivesHere next = ComeInOrder 0 (words_of (piece_of (get_or items place other))) → LineGives g layout.digits file stand place (piece_of (get_or items place other)) s next
+  GivesHere next = ComeInOrder 0 (words_of (piece_of (get_or items place other))) → LineGives g layout.digits file obeyed place (piece_of (get_or items place other)) s next
 
-  -- what comes of the line is followed by what comes of those behind it
+  -- it comes of it after the lines before
+  gives_after : (next : Next) → GivesHere next → LineGives g layout.digits file (is_obeyed_after walks.before (mark_of (piece_of (get_or items place other)))) (length walks.before) (piece_of (get_or items place other)) s next
+  gives_after next gives =
+      let same : obeyed ≡ is_obeyed_after walks.before (mark_of (piece_of (get_or items place other))) = obeyed_is ∙ ap (is_obeyed stand) part_is ∙ obeyed_alike (open_after walks.before) stand (mark_of (piece_of (get_or items place other))) walks.agrees in
+      subst (λ b. LineGives g layout.digits file b (length walks.before) (piece_of (get_or items place other)) s next) same
+      (subst (λ n. LineGives g layout.digits file obeyed n (piece_of (get_or items place other)) s next) (sym walks.many) (gives (here_and_behind items place other there ordered).0))
+
+  -- what comes of the line is followed by what comes of those after it
   follow : (next : Next) → GivesHere next → (ended : Ended) →
-      Follows (IncludeGives g layout nested) (λ stand s ended. LinesGive g layout (IncludeGives g layout nested) file stand (suc place) (map piece_of (drop (place + 1) items)) s ended) next ended → wanted ended
-  follow next gives ended follows = leads ended (rw (line_here items place other there) (next, gives (here_and_behind items place other there ordered).0, follows))
+      Follows (IncludeGives g layout nested) (λ holds s ended. LinesGive g layout (IncludeGives g layout nested) file (passed_line (piece_of (get_or items place other)) holds ∷ walks.before) (map piece_of (drop (place + 1) items)) s ended) next ended → wanted ended
+  follow next gives ended follows =
+      walks.leads ended (subst (λ pieces. LinesGive g layout (IncludeGives g layout nested) file walks.before pieces s ended) (sym (line_here items place other there)) (next, gives_after next gives, follows))
+
+  -- the lines after it are reached, where this one goes on
+  walks_on : (holds : Bool) (next : Next) (new : State) (after : Stand) → after ≡ stand_after stand part holds → GivesHere next → GoesOnward next →
+      ((ended : Ended) → LinesGive g layout (IncludeGives g layout nested) file (passed_line (piece_of (get_or items place other)) holds ∷ walks.before) (map piece_of (drop (place + 1) items)) new ended → wanted ended) →
+      Walks g layout nested file after (place + 1) (map piece_of (drop (place + 1) items)) new wanted
+  walks_on holds next new after after_is gives on leads =
+      let unbroken : Unbroken file walks.before (piece_of (get_or items place other) ∷ map piece_of (drop (place + 1) items)) = subst (Unbroken file walks.before) (line_here items place other there) walks.unbroken in
+      let passed = line_passed g layout.digits file walks.before (piece_of (get_or items place other)) (map piece_of (drop (place + 1) items)) _ s next unbroken (gives_after next gives) on in
+      record {
+        before = passed_line (piece_of (get_or items place other)) holds ∷ walks.before;
+        many = omega (arith, walks.many);
+        agrees = subst (Agrees (open_after (passed_line (piece_of (get_or items place other)) holds ∷ walks.before))) (sym (after_is ∙ ap (λ mark. stand_after stand mark holds) part_is))
+            (next_agrees (open_after walks.before) stand (mark_of (piece_of (get_or items place other))) holds walks.agrees passed.belongs);
+        unbroken = passed.next holds;
+        leads = leads;
+      }
 
   pub ends : (ended : Ended) → GivesHere (End ended) → wanted ended
   ends ended gives = follow (End ended) gives ended refl
 
-  next_place : (next : Stand) (new : State) (ended : Ended) → LinesGive g layout (IncludeGives g layout nested) file next (place + 1) (map piece_of (drop (place + 1) items)) new ended →
-      LinesGive g layout (IncludeGives g layout nested) file next (suc place) (map piece_of (drop (place + 1) items)) new ended
-  next_place next new ended rest =
-      let same : place + 1 ≡ suc place = omega arith in
-      subst (λ (n : ℕ). LinesGive g layout (IncludeGives g layout nested) file next n (map piece_of (drop (place + 1) items)) new ended) same rest
-
-  pub goes_on : (next : Stand) (new : State) → GivesHere (On next new) → (ended : Ended) →
-      LinesGive g layout (IncludeGives g layout nested) file next (place + 1) (map piece_of (drop (place + 1) items)) new ended → wanted ended
-  goes_on next new gives ended rest = follow (On next new) gives ended (next_place next new ended rest)
+  pub goes_on : (holds : Bool) (new : State) (after : Stand) → after ≡ stand_after stand part holds → GivesHere (On holds new) →
+      Walks g layout nested file after (place + 1) (map piece_of (drop (place + 1) items)) new wanted
+  goes_on holds new after after_is gives = walks_on holds (On holds new) new after after_is gives tt (λ ended rest. follow (On holds new) gives ended rest)
 
   pub too_deep : (number : ℕ) (built_in : Bool) (new : State) → GivesHere (Enter number built_in new) → nested ≡ 0 → wanted (Passes NESTED_INCLUDES)
   too_deep number built_in new gives none =
@@ -89,14 +122,15 @@ module _ (g : Gathered) (layout : Layout) (nested : ℕ) (file : File) (items : 
   within_passes number built_in new passed gives some within =
       follow (Enter number built_in new) gives (Passes passed) (Passes passed, entered_within g layout nested number built_in new _ some within, refl)
 
-  pub within_goes : (number : ℕ) (built_in : Bool) (new left : State) → GivesHere (Enter number built_in new) → 0 < nested →
-      FileGives g layout (IncludeGives g layout (nested - 1)) number built_in new (Goes left) → (ended : Ended) →
-      LinesGive g layout (IncludeGives g layout nested) file Obeyed (place + 1) (map piece_of (drop (place + 1) items)) left ended → wanted ended
-  within_goes number built_in new left gives some within ended rest =
-      follow (Enter number built_in new) gives ended (Goes left, entered_within g layout nested number built_in new _ some within, next_place Obeyed left ended rest)
+  pub within_goes : (number : ℕ) (built_in : Bool) (new left : State) (after : Stand) → after ≡ stand_after stand part true → GivesHere (Enter number built_in new) → 0 < nested →
+      FileGives g layout (IncludeGives g layout (nested - 1)) number built_in new (Goes left) →
+      Walks g layout nested file after (place + 1) (map piece_of (drop (place + 1) items)) left wanted
+  within_goes number built_in new left after after_is gives some within =
+      walks_on true (Enter number built_in new) left after after_is gives tt
+      (λ ended rest. follow (Enter number built_in new) gives ended (Goes left, entered_within g layout nested number built_in new _ some within, rest))
 
   -- a line that gives no words
-  pub fails : (fault : ExpandFault) (new : CodedState) → (ComeInOrder 0 (words_of (piece_of (get_or items place other))) → Steps (LineGives g layout.digits file stand place (piece_of (get_or items place other)) s) (Err fault) new) → Reaches wanted (Err fault) new
+  pub fails : (fault : ExpandFault) (new : CodedState) → (ComeInOrder 0 (words_of (piece_of (get_or items place other))) → Steps (LineGives g layout.digits file obeyed place (piece_of (get_or items place other)) s) (Err fault) new) → Reaches wanted (Err fault) new
   fails (Over passed) new gives = ends (Passes passed) gives
   fails Memory new gives = tt
 
@@ -136,8 +170,14 @@ words_here texts number words stands held is =
     get_or-map (λ words. words.items) texts.words.now number words [] (omega (arith, held, stands.laid_out.words.all, length-map texts.words.now (λ words. words.items))) ∙ ap (λ words. words.items) (sym is)
 
 -- a file begins with its first line, once its words are counted
-pub file_begins : (g : Gathered) (layout : Layout) (includes : Includes) (number : ℕ) (built_in : Bool) (s new : State) (pieces : List Piece) (count : ℕ) → counted built_in count s ≡ Some new → count ≡ length (words_at layout number) → AreCut (words_at layout number) pieces →
-    (ended : Ended) → LinesGive g layout includes (record { number = number; built_in = built_in; pieces = pieces }) Obeyed 0 pieces new ended → FileGives g layout includes number built_in s ended
-file_begins g layout includes number built_in s new pieces count is same cut ended gives =
+pub file_begins : (g : Gathered) (layout : Layout) (nested number : ℕ) (built_in : Bool) (s new : State) (pieces : List Piece) (count : ℕ) → counted built_in count s ≡ Some new → count ≡ length (words_at layout number) → AreCut (words_at layout number) pieces →
+    Walks g layout nested (record { number = number; built_in = built_in; pieces = pieces }) Obeyed 0 pieces new (FileGives g layout (IncludeGives g layout nested) number built_in s)
+file_begins g layout nested number built_in s new pieces count is same cut =
     let found : counted built_in (length (words_at layout number)) s ≡ Some new = subst (λ (n : ℕ). counted built_in n s ≡ Some new) same is in
-    subst (λ (found : Option State). CountedGives g layout includes number built_in found ended) (sym found) (pieces, cut, gives)
+    record {
+      before = [];
+      many = refl;
+      agrees = refl;
+      unbroken = unbroken_first (record { number = number; built_in = built_in; pieces = pieces });
+      leads = λ ended gives. subst (λ (found : Option State). CountedGives g layout (IncludeGives g layout nested) number built_in found ended) (sym found) (pieces, cut, gives);
+    }

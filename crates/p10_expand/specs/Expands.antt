@@ -7,10 +7,10 @@ use Rattle.p10_base.specs.Gathered.{Gathered, count_of, text_of}
 use Rattle.p10_base.specs.Words.{plain_word}
 use Rattle.p10_lex.specs.Lexes.{Answers}
 use Rattle.p10_direct.specs.Lines.{Piece, AreCut}
+use Rattle.p10_direct.specs.Balance.{mark_of}
 use Rattle.p10_expand.specs.declared.expanded.Obeyed.{Obeyed as ObeyedLine}
 use Rattle.p10_expand.specs.declared.expansion.digits.Digits.{Digits}
-use Rattle.p10_expand.specs.declared.expansion.stand.Stand.{Stand}
-use Rattle.p10_expand.specs.declared.expansion.stand.Stand.TheVariants.{Obeyed}
+use Rattle.p10_expand.specs.Groups.{PassedLine, is_obeyed_after}
 use Rattle.p10_expand.specs.Obeying.{State, Ended, Goes, Refuses, Passes, Next, On, Enter, End, File, LineGives}
 use Rattle.p10_base.specs.declared.report.TheConstants.Limit.{EXPANDED_WORDS, NESTED_INCLUDES, MOST_NESTED_INCLUDES, MOST_EXPANDED_WORDS}
 
@@ -47,34 +47,38 @@ counted false count s = if nat_le count s.left then Some (record s { left = s.le
 abbrev pub Includes : Type 1
 Includes = ℕ → Bool → State → Ended → Type 0
 
--- the lines behind an included file come next where its end is reached; they stand in no skipped group
+-- the lines after an included file come next where its end is reached
 abbrev pub GoesOn : (State → Ended → Type 0) → Ended → Ended → Type 0
 GoesOn behind (Goes s) ended = behind s ended
 GoesOn behind (Refuses s refusal) ended = ended ≡ Refuses s refusal
 GoesOn behind (Passes limit) ended = ended ≡ Passes limit
 
 -- what comes of the lines from one on, where that one gives this
-abbrev pub Follows : Includes → (Stand → State → Ended → Type 0) → Next → Ended → Type 0
-Follows includes behind (On stand s) ended = behind stand s ended
+abbrev pub Follows : Includes → (Bool → State → Ended → Type 0) → Next → Ended → Type 0
+Follows includes behind (On holds s) ended = behind holds s ended
 Follows includes behind (Enter number built_in s) ended =
-    (within : Ended) × includes number built_in s within × GoesOn (behind Obeyed) within ended
+    (within : Ended) × includes number built_in s within × GoesOn (behind true) within ended
 Follows includes behind (End other) ended = ended ≡ other
 
+-- a line that is passed, whose condition holds or doesn't
+abbrev pub passed_line : Piece → Bool → PassedLine
+passed_line piece holds = record { mark = mark_of piece; holds = holds }
+
 module _ (g : Gathered) (layout : Layout) where
-  -- what comes of these lines, the last of a file, the first of which has this place and stands there: they come in order, and
-  -- an include line stands for the lines of a file
-  abbrev pub LinesGive : Includes → File → Stand → ℕ → List Piece → State → Ended → Type 0
-  LinesGive includes file stand place [] s ended = ended ≡ Goes s
-  LinesGive includes file stand place (piece ∷ pieces) s ended =
-      (next : Next) × LineGives g layout.digits file stand place piece s next
-      × Follows includes (λ stand s ended. LinesGive includes file stand (suc place) pieces s ended) next ended
+  -- what comes of these lines, the last of a file, after those before them, of which the last comes first: they come in order, those
+  -- in chosen groups are obeyed, and an include line stands for the lines of a file
+  abbrev pub LinesGive : Includes → File → List PassedLine → List Piece → State → Ended → Type 0
+  LinesGive includes file before [] s ended = ended ≡ Goes s
+  LinesGive includes file before (piece ∷ pieces) s ended =
+      (next : Next) × LineGives g layout.digits file (is_obeyed_after before (mark_of piece)) (length before) piece s next
+      × Follows includes (λ holds s ended. LinesGive includes file (passed_line piece holds ∷ before) pieces s ended) next ended
 
   -- what comes of a file where its words were counted
   abbrev pub CountedGives : Includes → ℕ → Bool → Option State → Ended → Type 0
   CountedGives includes number built_in None ended = ended ≡ Passes EXPANDED_WORDS
   CountedGives includes number built_in (Some s) ended =
       (pieces : List Piece) × AreCut (words_at layout number) pieces
-      × LinesGive includes (record { number = number; built_in = built_in; pieces = pieces }) Obeyed 0 pieces s ended
+      × LinesGive includes (record { number = number; built_in = built_in; pieces = pieces }) [] pieces s ended
 
   -- what comes of a file: its words are counted, then its lines are expanded
   abbrev pub FileGives : Includes → ℕ → Bool → State → Ended → Type 0

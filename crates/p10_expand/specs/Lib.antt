@@ -7,7 +7,7 @@ pub mod Gathering
 pub mod Setting
 pub mod Gathered
 pub mod Guards
-pub mod Skips
+pub mod Groups
 pub mod Conditionals
 pub mod Items
 pub mod Obeying

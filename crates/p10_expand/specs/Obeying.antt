@@ -8,7 +8,7 @@ use Rattle.p10_base.specs.declared.report.Limit.{Limit}
 use Rattle.p10_base.specs.Gathered.{Gathered, name_of, text_of, candidate_of}
 use Rattle.p10_base.specs.Words.{Text}
 use Rattle.p10_direct.specs.Lines.{Piece, DirectiveLine, TextRun}
-use Rattle.p10_direct.specs.Balance.{mark_of, first_unbalanced}
+use Rattle.p10_direct.specs.Balance.{first_unbalanced}
 use Rattle.p10_direct.specs.Directives.{PlainMacro, PlainDirective, Null, Include, Define, Undef, If, Elif, Ifdef, Ifndef, Else, Endif, Once, InitDone, TaskLoop, OtherPragma, Outcome, Read, BadForm, BadDefinition, IsOutcome, place_of}
 use Rattle.p10_lex.specs.Literals.{inside}
 use Rattle.p10_base.specs.Names.{with_name}
@@ -20,11 +20,8 @@ use Rattle.p10_macros.specs.Endings.{Ending, Gives, Refused, TooMany}
 use Rattle.p10_macros.specs.Answers.{Defines}
 use Rattle.p10_expand.specs.declared.expanded.Obeyed.{Obeyed as ObeyedLine}
 use Rattle.p10_expand.specs.declared.expansion.digits.Digits.{Digits}
-use Rattle.p10_expand.specs.declared.expansion.stand.Stand.{Stand}
-use Rattle.p10_expand.specs.declared.expansion.stand.Stand.TheVariants.{Obeyed, Skipped}
 use Rattle.p10_expand.specs.Headers.{header_of}
 use Rattle.p10_expand.specs.Guards.{is_guarded}
-use Rattle.p10_expand.specs.Skips.{is_obeyed, stand_behind, stand_of_group, stand_of_else}
 use Rattle.p10_expand.specs.Conditionals.{refusal_of, is_defined, RunEnds, Judged, Holds, Fails, Exceeds, JudgesCondition}
 use Rattle.p10_expand.specs.Items.{lines_of, is_among, given_after, new_words}
 use Rattle.p10_base.specs.Codes.{directive_number}
@@ -60,9 +57,9 @@ pub data Ended : Type 0 where
 
 -- what comes of one line
 pub data Next : Type 0 where
-  -- the line behind it, which stands there
-  On : Stand → State → Next
-  -- the lines of a file, and then the line behind it; whether the file is a built-in header
+  -- the line after it; whether the condition of this one holds, which counts for nothing where it has none
+  On : Bool → State → Next
+  -- the lines of a file, and then the line after it; whether the file is a built-in header
   Enter : ℕ → Bool → State → Next
   -- nothing more
   End : Ended → Next
@@ -94,7 +91,7 @@ with_words s words = record s { words = s.words ++ words }
 
 -- what comes of a run of text with this expansion; a refused one stands for the replacement of the words before the refused use
 abbrev pub TextEnds : State → List Word → Ending (List Sourced) → Next → Type 0
-TextEnds s words (Gives made left) next = next ≡ On Obeyed (record s { words = s.words ++ sourced_words made; left = left })
+TextEnds s words (Gives made left) next = next ≡ On true (record s { words = s.words ++ sourced_words made; left = left })
 TextEnds s words (Refused number at) next =
     (made : List Sourced) × (left : ℕ) × RunEnds s.macros (words_before at words) s.left (Gives made left) × (next ≡ refuse (with_words s (sourced_words made)) number at)
 TextEnds s words TooMany next = next ≡ End (Passes EXPANDED_WORDS)
@@ -133,7 +130,7 @@ is_header g number name = is_some_text name (inside 60 62 (name_of g number)) &&
 abbrev pub included : Gathered → List Word → Text → State → Option ℕ → Next
 included g line name s None = refuse s (directive_number IncludeNotFound) (operand_place line)
 included g line name s (Some number) =
-    if is_among s.once (name_of g number) then On Obeyed s
+    if is_among s.once (name_of g number) then On true s
     else Enter number (is_header g number name) s
 
 -- ## Definitions
@@ -141,8 +138,8 @@ included g line name s (Some number) =
 -- what comes of a definition with this effect on the macros (C99 6.10.3p2): none where the name has the same definition; it is
 -- refused where the name has another one
 abbrev pub defined_as : List Word → State → Effect → Table → Next
-defined_as line s New macros = if nat_lt MOST_MACROS (own_of macros) then End (Passes MACROS) else On Obeyed (record s { macros = macros })
-defined_as line s Same macros = On Obeyed (record s { macros = macros })
+defined_as line s New macros = if nat_lt MOST_MACROS (own_of macros) then End (Passes MACROS) else On true (record s { macros = macros })
+defined_as line s Same macros = On true (record s { macros = macros })
 defined_as line s Other macros = refuse s (directive_number code.BadDefinition) (operand_place line)
 
 -- what comes of a definition, in a built-in header or not
@@ -153,7 +150,7 @@ DefinitionGives built_in line made s next =
 -- a definition of a built-in header is an item, which is given once
 abbrev pub ItemGives : List Word → PlainMacro → State → Next → Type 0
 ItemGives line made s next =
-    MatchBool (is_among s.given made.name) (next ≡ On Obeyed s) (DefinitionGives true line made (record s { given = s.given ++ made.name ∷ [] }) next)
+    MatchBool (is_among s.given made.name) (next ≡ On true s) (DefinitionGives true line made (record s { given = s.given ++ made.name ∷ [] }) next)
 
 -- what comes of a definition, which is an item in a built-in header
 abbrev pub DefineGives : Bool → List Word → PlainMacro → State → Next → Type 0
@@ -164,11 +161,11 @@ DefineGives false line made s next = DefinitionGives false line made s next
 
 -- what comes of a line whose condition was judged
 abbrev pub judged_next : State → Judged → Next
-judged_next s (Holds truth left) = On (stand_of_group truth) (record s { left = left })
+judged_next s (Holds truth left) = On truth (record s { left = left })
 judged_next s (Fails refusal) = End (Refuses s refusal)
 judged_next s Exceeds = End (Passes EXPANDED_WORDS)
 
--- a group is chosen where its condition holds
+-- what comes of a line with a condition
 abbrev pub ConditionGives : Digits → List Word → List Word → State → Next → Type 0
 ConditionGives digits line condition s next =
     (judged : Judged) × JudgesCondition digits s.macros (place_of line) condition s.left judged × (next ≡ judged_next s judged)
@@ -178,30 +175,30 @@ abbrev pub mark_word : List Word → List Word
 mark_word [] = []
 mark_word (hash ∷ words) = record (slice_index_or (hash ∷ words) (length (hash ∷ words) - 1) hash) { kind = Mark } ∷ []
 
--- what an obeyed directive does, at a line that stands there
-abbrev pub Does : Gathered → Digits → File → Stand → List Word → PlainDirective → State → Next → Type 0
-Does g digits file stand line Null s next = next ≡ On Obeyed s
-Does g digits file stand line (Include name angle) s next = next ≡ included g line name s (candidate_of g file.number name angle)
-Does g digits file stand line (Define made) s next = DefineGives file.built_in line made s next
-Does g digits file stand line (Undef name) s next = next ≡ On Obeyed (record s { macros = without_macro s.macros name })
-Does g digits file stand line (If condition) s next = ConditionGives digits line condition s next
-Does g digits file stand line (Elif condition) s next = ConditionGives digits line condition s next
-Does g digits file stand line (Ifdef name) s next = next ≡ On (stand_of_group (is_defined s.macros name)) s
-Does g digits file stand line (Ifndef name) s next = next ≡ On (stand_of_group (not (is_defined s.macros name))) s
-Does g digits file stand line Else s next = next ≡ On (stand_of_else stand) s
-Does g digits file stand line Endif s next = next ≡ On Obeyed s
-Does g digits file stand line Once s next = next ≡ On Obeyed (record s { once = with_name s.once (name_of g file.number) })
-Does g digits file stand line InitDone s next = next ≡ On Obeyed (with_words s (mark_word line))
-Does g digits file stand line TaskLoop s next = next ≡ On Obeyed (with_words s (mark_word line))
-Does g digits file stand line OtherPragma s next = next ≡ On Obeyed s
+-- what an obeyed directive does
+abbrev pub Does : Gathered → Digits → File → List Word → PlainDirective → State → Next → Type 0
+Does g digits file line Null s next = next ≡ On true s
+Does g digits file line (Include name angle) s next = next ≡ included g line name s (candidate_of g file.number name angle)
+Does g digits file line (Define made) s next = DefineGives file.built_in line made s next
+Does g digits file line (Undef name) s next = next ≡ On true (record s { macros = without_macro s.macros name })
+Does g digits file line (If condition) s next = ConditionGives digits line condition s next
+Does g digits file line (Elif condition) s next = ConditionGives digits line condition s next
+Does g digits file line (Ifdef name) s next = next ≡ On (is_defined s.macros name) s
+Does g digits file line (Ifndef name) s next = next ≡ On (not (is_defined s.macros name)) s
+Does g digits file line Else s next = next ≡ On true s
+Does g digits file line Endif s next = next ≡ On true s
+Does g digits file line Once s next = next ≡ On true (record s { once = with_name s.once (name_of g file.number) })
+Does g digits file line InitDone s next = next ≡ On true (with_words s (mark_word line))
+Does g digits file line TaskLoop s next = next ≡ On true (with_words s (mark_word line))
+Does g digits file line OtherPragma s next = next ≡ On true s
 
 -- what comes of an obeyed line with this outcome: one of another form is refused, then one that breaks the structure of the
 -- file's conditionals
-abbrev pub Acts : Gathered → Digits → File → Stand → Bool → List Word → Outcome → State → Next → Type 0
-Acts g digits file stand breaks line BadForm s next = next ≡ refuse s (directive_number BadDirective) (place_of line)
-Acts g digits file stand breaks line (BadDefinition at) s next = next ≡ refuse s (directive_number code.BadDefinition) at
-Acts g digits file stand breaks line (Read directive) s next =
-    MatchBool breaks (next ≡ refuse s (directive_number UnbalancedConditional) (place_of line)) (Does g digits file stand line directive s next)
+abbrev pub Acts : Gathered → Digits → File → Bool → List Word → Outcome → State → Next → Type 0
+Acts g digits file breaks line BadForm s next = next ≡ refuse s (directive_number BadDirective) (place_of line)
+Acts g digits file breaks line (BadDefinition at) s next = next ≡ refuse s (directive_number code.BadDefinition) at
+Acts g digits file breaks line (Read directive) s next =
+    MatchBool breaks (next ≡ refuse s (directive_number UnbalancedConditional) (place_of line)) (Does g digits file line directive s next)
 
 -- ## Lines
 
@@ -225,25 +222,18 @@ listed file place line s =
     else record s { obeyed = s.obeyed ++ (record { words = line; span = place_of line; guard = begins_guard file place }) ∷ [] }
 
 -- a line that isn't obeyed does nothing, unless it breaks the structure of the file's conditionals
-abbrev pub passed : File → Stand → ℕ → List Word → State → Next
-passed file stand place line s =
-    if breaks_at file place then refuse (listed file place line s) 2 (place_of line)
-    else On (stand_behind stand (mark_of (DirectiveLine line))) s
+abbrev pub passed : File → ℕ → List Word → State → Next
+passed file place line s = if breaks_at file place then refuse (listed file place line s) 2 (place_of line) else On true s
 
 -- what comes of an obeyed line that is listed
-abbrev pub ObeyedGives : Gathered → Digits → File → Stand → ℕ → List Word → State → Next → Type 0
-ObeyedGives g digits file stand place line s next =
-    (outcome : Outcome) × IsOutcome line outcome × Acts g digits file stand (breaks_at file place) line outcome s next
+abbrev pub ObeyedGives : Gathered → Digits → File → ℕ → List Word → State → Next → Type 0
+ObeyedGives g digits file place line s next =
+    (outcome : Outcome) × IsOutcome line outcome × Acts g digits file (breaks_at file place) line outcome s next
 
--- what comes of a directive line that stands there, at this place among the lines of its file: one that is obeyed is listed
-abbrev pub DirectiveGives : Gathered → Digits → File → Stand → ℕ → List Word → State → Next → Type 0
-DirectiveGives g digits file stand place line s next =
-    MatchBool (is_obeyed stand (mark_of (DirectiveLine line)))
-    (ObeyedGives g digits file stand place line (listed file place line s) next)
-    (next ≡ passed file stand place line s)
-
--- what comes of a line or a run of text that stands there, at this place among the lines of its file
-abbrev pub LineGives : Gathered → Digits → File → Stand → ℕ → Piece → State → Next → Type 0
-LineGives g digits file stand place (DirectiveLine line) s next = DirectiveGives g digits file stand place line s next
-LineGives g digits file Obeyed place (TextRun words) s next = RunGives file.built_in s words next
-LineGives g digits file (Skipped chosen inner) place (TextRun words) s next = next ≡ On (Skipped chosen inner) s
+-- what comes of a line or a run of text at this place among the lines of its file, which is obeyed or not; a directive that is obeyed is
+-- listed
+abbrev pub LineGives : Gathered → Digits → File → Bool → ℕ → Piece → State → Next → Type 0
+LineGives g digits file true place (DirectiveLine line) s next = ObeyedGives g digits file place line (listed file place line s) next
+LineGives g digits file false place (DirectiveLine line) s next = next ≡ passed file place line s
+LineGives g digits file true place (TextRun words) s next = RunGives file.built_in s words next
+LineGives g digits file false place (TextRun words) s next = next ≡ On true s

@@ -1,10 +1,4 @@
--- Lemmas by subject: which lines are obeyed; what there is; which names stay; where words stand.
-pub mod Standing
-pub mod Marks
-pub mod Unbroken
-pub mod PlainLines
-pub mod ChosenGroups
-pub mod UseWords
+-- Lemmas by subject: what there is; which names stay; where words stand.
 pub mod WordsEnd
 pub mod PartsThere
 pub mod LinesThere

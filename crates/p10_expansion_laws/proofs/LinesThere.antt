@@ -8,7 +8,6 @@ use Rattle.p10_base.specs.Codes.{directive_refusal, directive_number}
 use Rattle.p10_base.specs.declared.codes.DirectiveCode.TheVariants as code
 use Rattle.p10_base.specs.declared.report.TheConstants.Limit.{EXPANDED_WORDS}
 use Rattle.p10_direct.specs.Lines.{Piece, DirectiveLine, TextRun, words_of}
-use Rattle.p10_direct.specs.Balance.{mark_of}
 use Rattle.p10_direct.specs.Directives.{PlainMacro, PlainDirective, Null, Include, Define, Undef, If, Elif, Ifdef, Ifndef, Else, Endif, Once, InitDone, TaskLoop, OtherPragma, Outcome, Read, BadForm, BadDefinition, place_of}
 use Rattle.p10_direct.proofs.Outcomes.{one_outcome}
 use Rattle.p10_macros.specs.declared.table.Effect.{Effect}
@@ -19,13 +18,10 @@ use Rattle.p10_macros.specs.Endings.{Ending, Gives, Refused, TooMany}
 use Rattle.p10_macros.specs.Answers.{Defines}
 use Rattle.p10_macros.proofs.Fronts.{fronts_give}
 use Rattle.p10_expand.specs.declared.expansion.digits.Digits.{Digits}
-use Rattle.p10_expand.specs.declared.expansion.stand.Stand.{Stand}
-use Rattle.p10_expand.specs.declared.expansion.stand.Stand.TheVariants.{Obeyed, Skipped}
 use Rattle.p10_expand.specs.Before.{ComeInOrder}
 use Rattle.p10_expand.specs.Items.{lines_of, is_among, given_after, new_words}
-use Rattle.p10_expand.specs.Skips.{is_obeyed, stand_of_group, stand_of_else}
 use Rattle.p10_expand.specs.Conditionals.{refusal_of, is_defined, answered, RunEnds, Judged, Holds, Fails, Exceeds, Judges}
-use Rattle.p10_expand.specs.Obeying.{State, Passes, Next, On, End, File, refuse, listed, passed, breaks_at, with_words, mark_word, included, defined_as, judged_next, TextEnds, TextGives, RunGives, DefinitionGives, DefineGives, ConditionGives, Does, Acts, ObeyedGives, DirectiveGives, LineGives}
+use Rattle.p10_expand.specs.Obeying.{State, Passes, Next, On, End, File, refuse, listed, passed, breaks_at, with_words, mark_word, included, defined_as, judged_next, TextEnds, TextGives, RunGives, DefinitionGives, DefineGives, ConditionGives, Does, Acts, ObeyedGives, LineGives}
 use Rattle.p10_expand.proofs.Before.{words_before_give}
 use Rattle.p10_expand.proofs.InOrder.{new_in_order}
 use Rattle.p10_expansion_laws.proofs.WordsEnd.{words_end}
@@ -41,7 +37,7 @@ run_there : (macros : Table) (words : List Word) (left : ℕ) → (ending : Endi
 run_there macros words left = words_end macros None (map written words) left
 
 text_ends_there : (s : State) (words : List Word) → ComeInOrder 0 words → (ending : Ending (List Sourced)) → RunEnds s.macros words s.left ending → (next : Next) × TextEnds s words ending next
-text_ends_there s words order (Gives made left) runs = (On Obeyed (record s { words = s.words ++ sourced_words made; left = left }), refl)
+text_ends_there s words order (Gives made left) runs = (On true (record s { words = s.words ++ sourced_words made; left = left }), refl)
 text_ends_there s words order (Refused number at) runs =
     let (made, remaining, gives) = words_before_give fronts_give s.macros words s.left number at order runs in
     (refuse (with_words s (sourced_words made)) number at, (made, remaining, gives, refl))
@@ -74,7 +70,7 @@ definition_there built_in line made s =
 
 define_there : (built_in : Bool) (line : List Word) (made : PlainMacro) (s : State) → (next : Next) × DefineGives built_in line made s next
 define_there true line made s =
-    match_there (is_among s.given made.name) (λ next. next ≡ On Obeyed s) (DefinitionGives true line made (record s { given = s.given ++ made.name ∷ [] })) (On Obeyed s, refl) (definition_there true line made _)
+    match_there (is_among s.given made.name) (λ next. next ≡ On true s) (DefinitionGives true line made (record s { given = s.given ++ made.name ∷ [] })) (On true s, refl) (definition_there true line made _)
 define_there false line made s = definition_there false line made s
 
 -- ## Conditions
@@ -97,42 +93,38 @@ condition_there digits line condition s =
 -- ## Directives
 
 module _ (g : Gathered) (digits : Digits) (file : File) where
-  does_there : (stand : Stand) (line : List Word) (directive : PlainDirective) (s : State) → (next : Next) × Does g digits file stand line directive s next
-  does_there stand line Null s = (On Obeyed s, refl)
-  does_there stand line (Include name angle) s = (included g line name s (candidate_of g file.number name angle), refl)
-  does_there stand line (Define made) s = define_there file.built_in line made s
-  does_there stand line (Undef name) s = (On Obeyed (record s { macros = without_macro s.macros name }), refl)
-  does_there stand line (If condition) s = condition_there digits line condition s
-  does_there stand line (Elif condition) s = condition_there digits line condition s
-  does_there stand line (Ifdef name) s = (On (stand_of_group (is_defined s.macros name)) s, refl)
-  does_there stand line (Ifndef name) s = (On (stand_of_group (not (is_defined s.macros name))) s, refl)
-  does_there stand line Else s = (On (stand_of_else stand) s, refl)
-  does_there stand line Endif s = (On Obeyed s, refl)
-  does_there stand line Once s = (On Obeyed (record s { once = with_name s.once (name_of g file.number) }), refl)
-  does_there stand line InitDone s = (On Obeyed (with_words s (mark_word line)), refl)
-  does_there stand line TaskLoop s = (On Obeyed (with_words s (mark_word line)), refl)
-  does_there stand line OtherPragma s = (On Obeyed s, refl)
+  does_there : (line : List Word) (directive : PlainDirective) (s : State) → (next : Next) × Does g digits file line directive s next
+  does_there line Null s = (On true s, refl)
+  does_there line (Include name angle) s = (included g line name s (candidate_of g file.number name angle), refl)
+  does_there line (Define made) s = define_there file.built_in line made s
+  does_there line (Undef name) s = (On true (record s { macros = without_macro s.macros name }), refl)
+  does_there line (If condition) s = condition_there digits line condition s
+  does_there line (Elif condition) s = condition_there digits line condition s
+  does_there line (Ifdef name) s = (On (is_defined s.macros name) s, refl)
+  does_there line (Ifndef name) s = (On (not (is_defined s.macros name)) s, refl)
+  does_there line Else s = (On true s, refl)
+  does_there line Endif s = (On true s, refl)
+  does_there line Once s = (On true (record s { once = with_name s.once (name_of g file.number) }), refl)
+  does_there line InitDone s = (On true (with_words s (mark_word line)), refl)
+  does_there line TaskLoop s = (On true (with_words s (mark_word line)), refl)
+  does_there line OtherPragma s = (On true s, refl)
 
-  acts_there : (stand : Stand) (breaks : Bool) (line : List Word) (outcome : Outcome) (s : State) → (next : Next) × Acts g digits file stand breaks line outcome s next
-  acts_there stand breaks line BadForm s = (refuse s (directive_number code.BadDirective) (place_of line), refl)
-  acts_there stand breaks line (BadDefinition at) s = (refuse s (directive_number code.BadDefinition) at, refl)
-  acts_there stand breaks line (Read directive) s =
-      match_there breaks (λ next. next ≡ refuse s (directive_number code.UnbalancedConditional) (place_of line)) (Does g digits file stand line directive s)
-      (refuse s (directive_number code.UnbalancedConditional) (place_of line), refl) (does_there stand line directive s)
+  acts_there : (breaks : Bool) (line : List Word) (outcome : Outcome) (s : State) → (next : Next) × Acts g digits file breaks line outcome s next
+  acts_there breaks line BadForm s = (refuse s (directive_number code.BadDirective) (place_of line), refl)
+  acts_there breaks line (BadDefinition at) s = (refuse s (directive_number code.BadDefinition) at, refl)
+  acts_there breaks line (Read directive) s =
+      match_there breaks (λ next. next ≡ refuse s (directive_number code.UnbalancedConditional) (place_of line)) (Does g digits file line directive s)
+      (refuse s (directive_number code.UnbalancedConditional) (place_of line), refl) (does_there line directive s)
 
-  obeyed_there : (stand : Stand) (place : ℕ) (line : List Word) (s : State) → (next : Next) × ObeyedGives g digits file stand place line s next
-  obeyed_there stand place line s =
+  obeyed_there : (place : ℕ) (line : List Word) (s : State) → (next : Next) × ObeyedGives g digits file place line s next
+  obeyed_there place line s =
       let outcome = one_outcome line in
-      let (next, acts) = acts_there stand (breaks_at file place) line outcome.outcome s in
+      let (next, acts) = acts_there (breaks_at file place) line outcome.outcome s in
       (next, (outcome.outcome, outcome.is_outcome, acts))
 
-  directive_there : (stand : Stand) (place : ℕ) (line : List Word) (s : State) → (next : Next) × DirectiveGives g digits file stand place line s next
-  directive_there stand place line s =
-      match_there (is_obeyed stand (mark_of (DirectiveLine line))) (ObeyedGives g digits file stand place line (listed file place line s)) (λ next. next ≡ passed file stand place line s)
-      (obeyed_there stand place line (listed file place line s)) (passed file stand place line s, refl)
-
   -- a line whose words come in order gives something
-  pub line_there : (stand : Stand) (place : ℕ) (piece : Piece) (s : State) → ComeInOrder 0 (words_of piece) → (next : Next) × LineGives g digits file stand place piece s next
-  line_there stand place (DirectiveLine line) s order = directive_there stand place line s
-  line_there Obeyed place (TextRun words) s order = run_of_text_there file.built_in s words order
-  line_there (Skipped chosen inner) place (TextRun words) s order = (On (Skipped chosen inner) s, refl)
+  pub line_there : (obeyed : Bool) (place : ℕ) (piece : Piece) (s : State) → ComeInOrder 0 (words_of piece) → (next : Next) × LineGives g digits file obeyed place piece s next
+  line_there true place (DirectiveLine line) s order = obeyed_there place line (listed file place line s)
+  line_there false place (DirectiveLine line) s order = (passed file place line s, refl)
+  line_there true place (TextRun words) s order = run_of_text_there file.built_in s words order
+  line_there false place (TextRun words) s order = (On true s, refl)

@@ -1,5 +1,5 @@
 -- The program of files that have words expands to something.
-use Rattle.std.proofs.Common.{◌≡◌, ℕ, zero, suc, ◌<◌, ◌≤◌, List, [], ◌∷◌, ◌++◌, length, map, Bool, false, Option, Some, None, Result, Ok, Err, codes, refl, sym, ◌∙◌, ap, subst, inl, inr, arith, length-append}
+use Rattle.std.proofs.Common.{◌≡◌, ℕ, zero, suc, ◌<◌, ◌≤◌, List, [], ◌∷◌, ◌++◌, length, map, Bool, true, false, Option, Some, None, Result, Ok, Err, codes, refl, sym, ◌∙◌, ap, subst, inl, inr, arith, length-append}
 use Rattle.std.specs.Prelude.{slice_index_or}
 use Rattle.std.proofs.lemmas.Bool.{cases_order}
 use Rattle.std.proofs.lemmas.List.{get_or_append_left, get_or_past}
@@ -11,13 +11,13 @@ use Rattle.p10_base.specs.Gathered.{Gathered, count_of, text_of}
 use Rattle.p10_base.specs.Words.{PlainWord, plain_word}
 use Rattle.p10_lex.specs.Lexes.{Answers}
 use Rattle.p10_direct.specs.Lines.{Piece, AreCut}
+use Rattle.p10_direct.specs.Balance.{mark_of}
 use Rattle.p10_expand.specs.declared.expanded.Obeyed.{Obeyed as ObeyedLine}
-use Rattle.p10_expand.specs.declared.expansion.stand.Stand.{Stand}
-use Rattle.p10_expand.specs.declared.expansion.stand.Stand.TheVariants.{Obeyed}
 use Rattle.p10_expand.specs.Gathering.{HaveWords}
 use Rattle.p10_expand.specs.Includes.{word_of}
 use Rattle.p10_expand.specs.Obeying.{State, Ended, Goes, Refuses, Passes, Next, On, Enter, End, File}
-use Rattle.p10_expand.specs.Expands.{Layout, words_at, AreWords, IsLaidOut, counted, Includes, GoesOn, Follows, LinesGive, CountedGives, FileGives, IncludeGives, Expansion, fresh, no_words, RootEnds, RootsGive, Expands}
+use Rattle.p10_expand.specs.Groups.{PassedLine, is_obeyed_after}
+use Rattle.p10_expand.specs.Expands.{passed_line, Layout, words_at, AreWords, IsLaidOut, counted, Includes, GoesOn, Follows, LinesGive, CountedGives, FileGives, IncludeGives, Expansion, fresh, no_words, RootEnds, RootsGive, Expands}
 use Rattle.p10_expand.specs.Plain.{plain_answer}
 use Rattle.p10_expand.proofs.InOrder.{PiecesInOrder, file_in_order}
 use Rattle.p10_expansion_laws.specs.Existing.{ProgramsExpand}
@@ -35,21 +35,21 @@ goes_there behind each (Goes s) = each s
 goes_there behind each (Refuses s refusal) = (Refuses s refusal, refl)
 goes_there behind each (Passes limit) = (Passes limit, refl)
 
-follows_there : (includes : Includes) → EachThere includes → (behind : Stand → State → Ended → Type 0) → ((stand : Stand) (s : State) → (ended : Ended) × behind stand s ended) → (next : Next) →
+follows_there : (includes : Includes) → EachThere includes → (behind : Bool → State → Ended → Type 0) → ((holds : Bool) (s : State) → (ended : Ended) × behind holds s ended) → (next : Next) →
     (ended : Ended) × Follows includes behind next ended
-follows_there includes files behind each (On stand s) = each stand s
+follows_there includes files behind each (On holds s) = each holds s
 follows_there includes files behind each (Enter number built_in s) =
     let (within, gives) = files number built_in s in
-    let (ended, goes) = goes_there (behind Obeyed) (each Obeyed) within in
+    let (ended, goes) = goes_there (behind true) (each true) within in
     (ended, (within, gives, goes))
 follows_there includes files behind each (End ended) = (ended, refl)
 
 module _ (g : Gathered) (layout : Layout) (laid : IsLaidOut g layout) where
-  lines_there : (includes : Includes) → EachThere includes → (file : File) (pieces : List Piece) (stand : Stand) (place : ℕ) (s : State) → PiecesInOrder pieces → (ended : Ended) × LinesGive g layout includes file stand place pieces s ended
-  lines_there includes files file [] stand place s order = (Goes s, refl)
-  lines_there includes files file (piece ∷ pieces) stand place s order =
-      let (next, gives) = line_there g layout.digits file stand place piece s order.0 in
-      let (ended, follows) = follows_there includes files (λ stand s ended. LinesGive g layout includes file stand (suc place) pieces s ended) (λ stand s. lines_there includes files file pieces stand (suc place) s order.1) next in
+  lines_there : (includes : Includes) → EachThere includes → (file : File) (pieces : List Piece) (before : List PassedLine) (s : State) → PiecesInOrder pieces → (ended : Ended) × LinesGive g layout includes file before pieces s ended
+  lines_there includes files file [] before s order = (Goes s, refl)
+  lines_there includes files file (piece ∷ pieces) before s order =
+      let (next, gives) = line_there g layout.digits file (is_obeyed_after before (mark_of piece)) (length before) piece s order.0 in
+      let (ended, follows) = follows_there includes files (λ holds s ended. LinesGive g layout includes file (passed_line piece holds ∷ before) pieces s ended) (λ holds s. lines_there includes files file pieces (passed_line piece holds ∷ before) s order.1) next in
       (ended, (next, gives, follows))
 
   -- ## Files
@@ -74,7 +74,7 @@ module _ (g : Gathered) (layout : Layout) (laid : IsLaidOut g layout) where
   counted_there includes files number built_in None = (Passes EXPANDED_WORDS, refl)
   counted_there includes files number built_in (Some s) =
       let (pieces, cut, order) = pieces_there number in
-      let (ended, gives) = lines_there includes files (record { number = number; built_in = built_in; pieces = pieces }) pieces Obeyed 0 s order in
+      let (ended, gives) = lines_there includes files (record { number = number; built_in = built_in; pieces = pieces }) pieces [] s order in
       (ended, (pieces, cut, gives))
 
   file_there : (includes : Includes) → EachThere includes → (number : ℕ) (built_in : Bool) (s : State) → (ended : Ended) × FileGives g layout includes number built_in s ended

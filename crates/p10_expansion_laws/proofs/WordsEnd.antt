@@ -6,9 +6,8 @@ use Rattle.p10_macros.specs.Table.{Table}
 use Rattle.p10_macros.specs.Uses.{Sourced, Use, use_of, Stays, Wrong, Calls, replacement}
 use Rattle.p10_macros.specs.Endings.{Ending, Gives, Refused, TooMany, behind_word, behind_argument}
 use Rattle.p10_macros.specs.Ends.{Ends, EndsAll, Follows, place_of_use, no_words, word_stays, use_refused, use_replaced, no_arguments, argument_given, argument_refused, argument_too_long, replacement_made, replacement_too_long, values_refused, values_too_long}
-use Rattle.p10_expand.proofs.Counting.{together, Few, ends_few}
+use Rattle.p10_expand.proofs.Counting.{together, UseFew, use_few, Few, ends_few}
 use Rattle.p10_expansion_laws.specs.Existing.{WordsEnd}
-use Rattle.p10_expansion_laws.proofs.UseWords.{UseFew, use_few}
 
 module _ (table : Table) where
   -- an ending of words

@@ -1,6 +1,4 @@
 -- The definitions that the laws of this crate cite.
-pub mod Groups
-pub mod Chosen
 pub mod Samples
 pub mod Existing
 pub mod Staying

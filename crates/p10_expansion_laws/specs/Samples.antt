@@ -2,7 +2,7 @@
 use Rattle.std.specs.Prelude.{ℕ, ◌≡◌, suc, List, [], ◌∷◌, Bool, true, false, if◌then◌else◌}
 use Rattle.p10_direct.specs.declared.mark.Mark.{Mark}
 use Rattle.p10_direct.specs.declared.mark.Mark.TheVariants.{Opens, Elif, Else, Closes, Plain}
-use Rattle.p10_expansion_laws.specs.Groups.{PassedLine, is_obeyed_after}
+use Rattle.p10_expand.specs.Groups.{PassedLine, is_obeyed_after}
 
 -- a line with this mark and condition
 abbrev pub line : Mark → Bool → PassedLine

@@ -1,17 +1,9 @@
 //! Laws of the preprocessor: each is the contract of a function without a body.
 
-ghost use Rattle.p10_expansion_laws.specs.Chosen.{FilesGiveChosenGroups};
 ghost use Rattle.p10_expansion_laws.specs.Existing.{GatheringEnds, ProgramsExpand, WordsEnd};
 ghost use Rattle.p10_expansion_laws.specs.Placed.{WordsStandAtUses};
 ghost use Rattle.p10_expansion_laws.specs.Samples.{SmallConditionalsByHand};
 ghost use Rattle.p10_expansion_laws.specs.Staying.{NamesStayUncalled};
-
-/// Of a file comes just what its lines give where those are obeyed that stand in the chosen groups of all conditionals around
-/// them, the first whose condition holds, or the `#else`; and the condition of an `#elif` is looked at only where no earlier
-/// group was chosen (C99 6.10.1p6).
-pub fn files_give_chosen_groups()
-    ensures { FilesGiveChosenGroups }
-{}
 
 /// What small conditionals stand for, by hand: one with three groups, and one with others in it, for all truths of their
 /// conditions.

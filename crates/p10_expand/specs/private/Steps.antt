@@ -83,33 +83,22 @@ abbrev pub inner_of : Stand → ℕ
 inner_of Obeyed = 0
 inner_of (Skipped chosen inner) = inner
 
--- how many conditionals are open in a skipped group behind a line
-abbrev pub inner_behind : Step → ℕ
-inner_behind (step.On stand) = inner_of stand
-inner_behind _ = 0
-
 -- a file that is entered is one of so many
 abbrev pub EntersBelow : ℕ → Step → Type 0
 EntersBelow count (step.Enter number built_in) = number < count
 EntersBelow count _ = Unit {0}
 
--- no file is entered, and the line behind stands in no skipped group
+-- no file is entered
 abbrev pub Stays : Step → Type 0
-Stays (step.On Obeyed) = Unit {0}
+Stays (step.On holds) = Unit {0}
 Stays (step.Refused refusal) = Unit {0}
 Stays _ = ⊥
-
--- no file is entered, and no conditional is open behind the line in a skipped group
-abbrev pub Lies : Step → Type 0
-Lies (step.On stand) = inner_of stand ≡ 0
-Lies (step.Refused refusal) = Unit {0}
-Lies _ = ⊥
 
 -- ## Answers
 
 -- what comes of a line, as the code tells it, with this state behind it
 abbrev pub next_of : Step → CodedState → Next
-next_of (step.On stand) s = On stand (state_of s)
+next_of (step.On holds) s = On holds (state_of s)
 next_of (step.Enter number built_in) s = Enter number built_in (state_of s)
 next_of (step.Refused refusal) s = End (Refuses (state_of s) refusal)
 

@@ -5,16 +5,14 @@ ghost use Rattle.p10_base.specs.Gathered.{candidate_of, count_of};
 ghost use Rattle.p10_direct.specs.Form.{plain, plain_macro, BeginsWithHash};
 ghost use Rattle.p10_lex.specs.Literals.{inside};
 ghost use Rattle.p10_expand.specs.Headers.{header_of};
-ghost use Rattle.p10_expand.specs.Skips.{stand_of_group, stand_of_else};
 ghost use Rattle.p10_expand.specs.Obeying.{Does, ConditionGives, DefineGives, DefinitionGives, included, is_some_text, operand_place, mark_word, with_words};
 ghost use Rattle.p10_expand.specs.Obeying as obeying;
-ghost use Rattle.p10_expand.specs.private.Steps.{Steps, EntersBelow, Lies, inner_of, inner_behind, state_of, file_of, next_of};
+ghost use Rattle.p10_expand.specs.private.Steps.{Steps, EntersBelow, Stays, state_of, file_of, next_of};
 
 use crate::expansion::condition::{Verdict, defines, judge};
 use crate::expansion::digits::Digits;
 use crate::expansion::fault::ExpandFault;
 use crate::expansion::items::among;
-use crate::expansion::stand::Stand;
 use crate::expansion::state::State;
 use crate::expansion::step::Step;
 use crate::expansion::texts::File;
@@ -28,26 +26,24 @@ use std::alloc::{AllocError, Global};
 /// The most macros that are defined at once, without those of built-in headers (M6).
 const MOST_MACROS: usize = Limit::MOST_MACROS as usize;
 
-/// Obeys the directive of a line that stands there.
+/// Obeys the directive of a line.
 pub fn obey<'w, 's>(
     alloc: Global,
     sources: &'s Sources,
     digits: Digits<'s>,
     file: &File<'_, 'w, 's>,
     state: &mut State<'w, 's>,
-    stand: Stand,
     line: &'w [Word<'s>],
     directive: Directive<'w, 's>,
 ) -> Result<Step, ExpandFault>
     requires held { file.now.number < count_of sources.now }
     requires begins { BeginsWithHash line.now }
     ensures entered { IfOk result (EntersBelow (count_of sources.now)) }
-    ensures few { IfOk result (λ step. inner_behind step ≡ 0) }
-    ensures gives { Steps (Does sources.now digits.entry (file_of file.now) stand line.now (plain directive.entry) (state_of state.old)) result state.new }
+    ensures gives { Steps (Does sources.now digits.entry (file_of file.now) line.now (plain directive.entry) (state_of state.old)) result state.new }
 {
     match directive {
-        Directive::Null | Directive::Endif | Directive::OtherPragma => {
-            Ok(Step::On(Stand::Obeyed))
+        Directive::Null | Directive::Else | Directive::Endif | Directive::OtherPragma => {
+            Ok(Step::On(true))
         }
         Directive::Include { name, angle } => {
             Ok(include(sources, file.number, state, line, name, angle))
@@ -55,55 +51,25 @@ pub fn obey<'w, 's>(
         Directive::Define(made) => define(file.built_in, state, line, made),
         Directive::Undef(name) => {
             state.macros.undefine(name);
-            Ok(Step::On(Stand::Obeyed))
+            Ok(Step::On(true))
         }
         Directive::If(condition) | Directive::Elif(condition) => {
             choose(alloc, digits, state, line, condition)
         }
-        Directive::Ifdef(name) => Ok(Step::On(group(defines(&state.macros, name)))),
-        Directive::Ifndef(name) => Ok(Step::On(group(!defines(&state.macros, name)))),
-        Directive::Else => Ok(Step::On(otherwise(stand))),
+        Directive::Ifdef(name) => Ok(Step::On(defines(&state.macros, name))),
+        Directive::Ifndef(name) => Ok(Step::On(!defines(&state.macros, name))),
         Directive::Once => {
             let _ = state.once.add(sources.name(file.number).as_bytes())?;
-            Ok(Step::On(Stand::Obeyed))
+            Ok(Step::On(true))
         }
         Directive::InitDone | Directive::TaskLoop => {
             mark(state, line)?;
-            Ok(Step::On(Stand::Obeyed))
+            Ok(Step::On(true))
         }
     }
 }
 
-/// Where a group stands whose condition has this truth.
-fn group(truth: bool) -> Stand
-    ensures value { result ≡ stand_of_group truth }
-    ensures few { inner_of result ≡ 0 }
-{
-    if truth {
-        Stand::Obeyed
-    } else {
-        Stand::Skipped {
-            chosen: false,
-            inner: 0,
-        }
-    }
-}
-
-/// Where the group of an `#else` stands.
-fn otherwise(stand: Stand) -> Stand
-    ensures value { result ≡ stand_of_else stand }
-    ensures few { inner_of result ≡ 0 }
-{
-    match stand {
-        Stand::Skipped { chosen: false, .. } => Stand::Obeyed,
-        _ => Stand::Skipped {
-            chosen: true,
-            inner: 0,
-        },
-    }
-}
-
-/// Obeys an `#if` or `#elif`: its group is chosen where the condition holds.
+/// Obeys an `#if` or `#elif`.
 fn choose<'w, 's>(
     alloc: Global,
     digits: Digits<'s>,
@@ -112,7 +78,7 @@ fn choose<'w, 's>(
     condition: &[Word<'s>],
 ) -> Result<Step, ExpandFault>
     requires { BeginsWithHash line.now }
-    ensures entered { IfOk result Lies }
+    ensures entered { IfOk result Stays }
     ensures gives { Steps (ConditionGives digits.entry line.now condition.now (state_of state.old)) result state.new }
 {
     match judge(
@@ -125,7 +91,7 @@ fn choose<'w, 's>(
     )? {
         Verdict::Holds { truth, left } => {
             state.left = left;
-            Ok(Step::On(group(truth)))
+            Ok(Step::On(truth))
         }
         Verdict::Fails(refusal) => Ok(Step::Refused(refusal)),
     }
@@ -142,14 +108,13 @@ fn include<'w, 's>(
 ) -> Step
     requires { BeginsWithHash line.now }
     ensures entered { EntersBelow (count_of sources.now) result }
-    ensures few { inner_behind result ≡ 0 }
     ensures gives { next_of result state.now ≡ included sources.now line.now name.now (state_of state.now) (candidate_of sources.now from name.now angle) }
 {
     match sources.candidate(from, name, angle) {
         None => Step::Refused(Refusal::directive(DirectiveCode::IncludeNotFound, operand(line))),
         Some(number) => {
             if state.once.contains(sources.name(number).as_bytes()) {
-                Step::On(Stand::Obeyed)
+                Step::On(true)
             } else {
                 Step::Enter {
                     number,
@@ -207,12 +172,12 @@ fn define<'w, 's>(
     made: Macro<'w, 's>,
 ) -> Result<Step, ExpandFault>
     requires { BeginsWithHash line.now }
-    ensures entered { IfOk result Lies }
+    ensures entered { IfOk result Stays }
     ensures gives { Steps (DefineGives built_in line.now (plain_macro made.entry) (state_of state.old)) result state.new }
 {
     if built_in {
         if among(&state.given, made.name) {
-            return Ok(Step::On(Stand::Obeyed));
+            return Ok(Step::On(true));
         }
         state.given.push(made.name)?;
     }
@@ -227,7 +192,7 @@ fn define_macro<'w, 's>(
     made: Macro<'w, 's>,
 ) -> Result<Step, ExpandFault>
     requires { BeginsWithHash line.now }
-    ensures entered { IfOk result Lies }
+    ensures entered { IfOk result Stays }
     ensures gives { Steps (DefinitionGives built_in line.now (plain_macro made.entry) (state_of state.old)) result state.new }
 {
     match state.macros.define(made, built_in)? {
@@ -235,10 +200,10 @@ fn define_macro<'w, 's>(
             if MOST_MACROS < state.macros.own() {
                 Err(ExpandFault::Over(Limit::MACROS))
             } else {
-                Ok(Step::On(Stand::Obeyed))
+                Ok(Step::On(true))
             }
         }
-        Effect::Same => Ok(Step::On(Stand::Obeyed)),
+        Effect::Same => Ok(Step::On(true)),
         Effect::Other => Ok(Step::Refused(Refusal::directive(
             DirectiveCode::BadDefinition,
             operand(line),

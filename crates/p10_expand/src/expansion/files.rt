@@ -7,11 +7,12 @@ ghost use Rattle.p10_expand.specs.private.Steps.{CountsTo, Reaches, AreTexts, la
 
 use crate::expansion::fault::ExpandFault;
 use crate::expansion::line::expand_line;
-use crate::expansion::stand::Stand;
+use crate::expansion::stand::{Stand, after, is_followed};
 use crate::expansion::state::State;
 use crate::expansion::step::Step;
 use crate::expansion::texts::{File, Texts};
 use p10_base::{Limit, Refusal};
+use p10_direct::part_of;
 use std::alloc::Global;
 
 /// Expands a file, in which so many includes may be nested. The answer is the first refusal, or none where the end of the
@@ -36,17 +37,19 @@ pub fn expand_file<'w, 's>(
     };
     let mut stand = Stand::Obeyed;
     for (place, line) in file.cut.lines.as_slice().iter().enumerate() {
+        let part = part_of(line);
+        let obeyed = is_followed(stand, part);
         match expand_line(
             alloc,
             texts.sources,
             texts.digits,
             &file,
             state,
-            stand,
+            obeyed,
             place,
             line,
         )? {
-            Step::On(next) => stand = next,
+            Step::On(holds) => stand = after(stand, part, holds),
             Step::Refused(refusal) => return Ok(Some(refusal)),
             Step::Enter { number, built_in } => {
                 if nested == 0 {
@@ -55,7 +58,7 @@ pub fn expand_file<'w, 's>(
                 let within = expand_file(alloc, texts, state, number, built_in, nested - 1)?;
                 match within {
                     Some(refusal) => return Ok(Some(refusal)),
-                    None => stand = Stand::Obeyed,
+                    None => stand = after(stand, part, true),
                 }
             }
         }

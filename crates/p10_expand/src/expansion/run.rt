@@ -8,7 +8,6 @@ ghost use Rattle.p10_expand.specs.private.Running.{GivesBefore};
 
 use crate::expansion::fault::ExpandFault;
 use crate::expansion::items::new_items;
-use crate::expansion::stand::Stand;
 use crate::expansion::state::State;
 use crate::expansion::step::Step;
 use p10_base::{Limit, Span, Word};
@@ -47,7 +46,7 @@ fn expand_text<'w, 's>(
             let Replaced { words, left } = replaced;
             put_run(&mut state.words, words)?;
             state.left = left;
-            Ok(Step::On(Stand::Obeyed))
+            Ok(Step::On(true))
         }
         Err(ReplaceFault::Refused(refusal)) => {
             expand_before(alloc, state, words, refusal.span)?;

@@ -1,9 +1,9 @@
 use Rattle.std.proofs.Common.{◌≤◌, map, drop}
 use Rattle.p10_direct.specs.Lines.{piece_of}
-use Rattle.p10_expand.specs.Obeying.{Ended}
-use Rattle.p10_expand.specs.Expands.{LinesGive, FileGives, IncludeGives}
+use Rattle.p10_expand.specs.Expands.{FileGives, IncludeGives}
 use Rattle.p10_expand.specs.private.Steps.{layout_of, state_of, file_of, inner_of}
 use Rattle.p10_expand.proofs.InOrder.{PiecesInOrder}
+use Rattle.p10_expand.proofs.Walking.{Walks}
 use Rattle.p10_expand.proofs.expansion.files.+expand_file.Given as goal
 
 abbrev pub decreases-expand_file : goal.decreases-expand_file
@@ -13,10 +13,8 @@ decreases-expand_file l = l.nested
 abbrev pub invariant-loop-place : goal.invariant-loop-place
 invariant-loop-place l =
     let g = l.texts.sources.now in
-    let includes = IncludeGives g (layout_of l.texts) l.nested in
     record {
       few : inner_of l.stand ≤ l.place;
       ordered : PiecesInOrder (map piece_of (drop l.place l.line-items));
-      leads : (ended : Ended) → LinesGive g (layout_of l.texts) includes (file_of l.file) l.stand l.place (map piece_of (drop l.place l.line-items)) (state_of l.state) ended
-          → FileGives g (layout_of l.texts) includes l.number l.built_in (state_of l.fn.state) ended;
+      walks : Walks g (layout_of l.texts) l.nested (file_of l.file) l.stand l.place (map piece_of (drop l.place l.line-items)) (state_of l.state) (FileGives g (layout_of l.texts) (IncludeGives g (layout_of l.texts) l.nested) l.number l.built_in (state_of l.fn.state));
     }

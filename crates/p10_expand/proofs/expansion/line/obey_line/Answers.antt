@@ -7,10 +7,10 @@ use Rattle.p10_expand.proofs.expansion.line.obey_line.Goals as goal
 pub returns-then-breaks-clause-gives : goal.returns-then-breaks-clause-gives
 returns-then-breaks-clause-gives c =
     rw c.unbalanced.ensures
-    (broken c.args.sources.now c.args.digits (file_of c.args.file.now) c.args.stand c.args.place c.args.line.now (state_of c.args.state.now) _ c.in-Ok.ensures.read (sym c.breaks.ensures ∙ c.if-breaks.true))
+    (broken c.args.sources.now c.args.digits (file_of c.args.file.now) c.args.place c.args.line.now (state_of c.args.state.now) _ c.in-Ok.ensures.read (sym c.breaks.ensures ∙ c.if-breaks.true))
 
 pub returns-else-breaks-clause-gives : goal.returns-else-breaks-clause-gives
 returns-else-breaks-clause-gives c =
     steps_map _ _
-    (done c.args.sources.now c.args.digits (file_of c.args.file.now) c.args.stand c.args.place c.args.line.now (state_of c.args.state.now) (plain c.in-Ok.read) c.in-Ok.ensures.read (sym c.breaks.ensures ∙ c.if-breaks.false))
+    (done c.args.sources.now c.args.digits (file_of c.args.file.now) c.args.place c.args.line.now (state_of c.args.state.now) (plain c.in-Ok.read) c.in-Ok.ensures.read (sym c.breaks.ensures ∙ c.if-breaks.false))
     c.obey.result c.obey.new.state c.obey.ensures.gives

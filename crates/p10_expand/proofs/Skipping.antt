@@ -5,9 +5,8 @@ use Rattle.p10_direct.specs.declared.mark.Mark.{Mark}
 use Rattle.p10_direct.specs.declared.mark.Mark.TheVariants.{Opens, Elif, Else, Closes, Plain}
 use Rattle.p10_expand.specs.declared.expansion.stand.Stand.{Stand}
 use Rattle.p10_expand.specs.declared.expansion.stand.Stand.TheVariants.{Obeyed, Skipped}
-use Rattle.p10_expand.specs.Skips.{is_obeyed, stand_behind, stand_of_group, stand_of_else}
-use Rattle.p10_expansion_laws.specs.Groups.{Groups, outer_of, open_after_line, none_holds, is_chosen, are_chosen, is_obeyed_in}
-use Rattle.p10_expansion_laws.specs.Chosen.{condition_holds}
+use Rattle.p10_expand.specs.private.Skipping.{is_obeyed, stand_after}
+use Rattle.p10_expand.specs.Groups.{Groups, outer_of, open_after_line, none_holds, is_chosen, are_chosen, is_obeyed_in}
 
 -- a group of the conditional was chosen
 abbrev some_holds : Groups → Bool
@@ -51,16 +50,13 @@ lacks_not_all (suc inner) chosen (groups ∷ outer) p = ap (λ b. is_chosen grou
 
 -- ## Which lines are obeyed
 
-not_both : (b : Bool) → b ≡ false → b ≡ true → ⊥
-not_both b p q = cc
-
 opens_skipped : (chosen : Bool) (inner : ℕ) → is_obeyed (Skipped chosen inner) Opens ≡ false
 opens_skipped true zero = refl
 opens_skipped true (suc inner) = refl
 opens_skipped false zero = refl
 opens_skipped false (suc inner) = refl
 
-pub plain_skipped : (chosen : Bool) (inner : ℕ) → is_obeyed (Skipped chosen inner) Plain ≡ false
+plain_skipped : (chosen : Bool) (inner : ℕ) → is_obeyed (Skipped chosen inner) Plain ≡ false
 plain_skipped true zero = refl
 plain_skipped true (suc inner) = refl
 plain_skipped false zero = refl
@@ -141,66 +137,37 @@ some_more : (h : Bool) (groups : Groups) → some_holds groups ≡ true → some
 some_more true groups e = refl
 some_more false groups e = e
 
--- after a line that isn't obeyed
-pub skipped_on : (open' : List Groups) (stand : Stand) (mark : Mark) → Agrees open' stand → Belongs mark open' → is_obeyed stand mark ≡ false → (h : Bool) → Agrees (open_after_line mark h open') (stand_behind stand mark)
-skipped_on open' Obeyed Opens p fits e h = absurd cc
-skipped_on [] Obeyed Elif p fits e h = absurd fits
-skipped_on (groups ∷ outer) Obeyed Elif p fits e h =
+-- the line after one that breaks nothing stands where the open conditionals say
+pub next_agrees : (open' : List Groups) (stand : Stand) (mark : Mark) (h : Bool) → Agrees open' stand → Belongs mark open' → Agrees (open_after_line mark h open') (stand_after stand mark h)
+next_agrees open' Obeyed Opens true p fits = p
+next_agrees open' Obeyed Opens false p fits = (refl, refl, p)
+next_agrees [] Obeyed Elif h p fits = absurd fits
+next_agrees (groups ∷ outer) Obeyed Elif h p fits =
     let some = chosen_holds groups (and_left (is_chosen groups) (are_chosen outer) p) in
     (group_apart h groups some, some_more h groups some, and_right (is_chosen groups) (are_chosen outer) p)
-skipped_on open' Obeyed Else p fits e h = absurd cc
-skipped_on open' Obeyed Closes p fits e h = absurd cc
-skipped_on open' Obeyed Plain p fits e h = absurd cc
-skipped_on [] (Skipped chosen inner) mark p fits e h = absurd p
-skipped_on (groups ∷ outer) (Skipped chosen zero) Opens p fits e h = p
-skipped_on (groups ∷ outer) (Skipped true zero) Elif p fits e h = (group_apart h groups p.1, some_more h groups p.1, p.2)
-skipped_on (groups ∷ outer) (Skipped false zero) Elif p fits e h = absurd cc
-skipped_on (groups ∷ outer) (Skipped chosen zero) Else p fits e h = absurd (not_both _ e (else_skipped chosen))
-skipped_on (groups ∷ outer) (Skipped chosen zero) Closes p fits e h = absurd (not_both _ e (closes_skipped chosen))
-skipped_on (groups ∷ outer) (Skipped chosen zero) Plain p fits e h = p
-skipped_on (groups ∷ outer) (Skipped chosen (suc inner)) Opens p fits e h = p
-skipped_on (groups ∷ outer) (Skipped chosen (suc inner)) Elif p fits e h = p
-skipped_on (groups ∷ outer) (Skipped chosen (suc inner)) Else p fits e h = p
-skipped_on (groups ∷ outer) (Skipped chosen (suc inner)) Closes p fits e h = p
-skipped_on (groups ∷ outer) (Skipped chosen (suc inner)) Plain p fits e h = p
-
--- after an obeyed `#if`
-pub opens_on : (open' : List Groups) (stand : Stand) → Agrees open' stand → is_obeyed stand Opens ≡ true → (truth : Bool) →
-    Agrees (open_after_line Opens (condition_holds (stand_of_group truth)) open') (stand_of_group truth)
-opens_on open' Obeyed p e true = p
-opens_on open' Obeyed p e false = (refl, refl, p)
-opens_on open' (Skipped chosen inner) p e truth = absurd (not_both _ (opens_skipped chosen inner) e)
-
--- after an obeyed `#elif`
-pub elif_on : (open' : List Groups) (stand : Stand) → Agrees open' stand → is_obeyed stand Elif ≡ true → (truth : Bool) →
-    Agrees (open_after_line Elif (condition_holds (stand_of_group truth)) open') (stand_of_group truth)
-elif_on open' Obeyed p e truth = absurd cc
-elif_on [] (Skipped chosen inner) p e truth = absurd p
-elif_on (groups ∷ outer) (Skipped true zero) p e truth = absurd cc
-elif_on (groups ∷ outer) (Skipped false zero) p e true = ap (λ b. not b && are_chosen outer) p.1 ∙ p.2
-elif_on (groups ∷ outer) (Skipped false zero) p e false = (refl, p.1, p.2)
-elif_on (groups ∷ outer) (Skipped chosen (suc inner)) p e truth = absurd (not_both _ (inner_skipped chosen inner Elif) e)
-
--- after an obeyed `#else`
-pub else_on : (open' : List Groups) (stand : Stand) → Agrees open' stand → Belongs Else open' → is_obeyed stand Else ≡ true → (h : Bool) →
-    Agrees (open_after_line Else h open') (stand_of_else stand)
-else_on [] Obeyed p fits e h = absurd fits
-else_on (groups ∷ outer) Obeyed p fits e h =
+next_agrees [] Obeyed Else h p fits = absurd fits
+next_agrees (groups ∷ outer) Obeyed Else h p fits =
     let some = chosen_holds groups (and_left (is_chosen groups) (are_chosen outer) p) in
     (ap not some, refl, and_right (is_chosen groups) (are_chosen outer) p)
-else_on [] (Skipped chosen inner) p fits e h = absurd p
-else_on (groups ∷ outer) (Skipped true zero) p fits e h = (ap not p.1, refl, p.2)
-else_on (groups ∷ outer) (Skipped false zero) p fits e h = ap (λ b. not b && are_chosen outer) p.1 ∙ p.2
-else_on (groups ∷ outer) (Skipped chosen (suc inner)) p fits e h = absurd (not_both _ (inner_skipped chosen inner Else) e)
-
--- after an obeyed `#endif`
-pub closes_on : (open' : List Groups) (stand : Stand) → Agrees open' stand → is_obeyed stand Closes ≡ true → (h : Bool) → Agrees (open_after_line Closes h open') Obeyed
-closes_on open' Obeyed p e h = sym (outer_in_all open' p)
-closes_on [] (Skipped chosen inner) p e h = absurd p
-closes_on (groups ∷ outer) (Skipped chosen zero) p e h = p.2
-closes_on (groups ∷ outer) (Skipped chosen (suc inner)) p e h = absurd (not_both _ (inner_skipped chosen inner Closes) e)
-
--- after another obeyed line
-pub plain_on : (open' : List Groups) (stand : Stand) → Agrees open' stand → is_obeyed stand Plain ≡ true → Agrees open' Obeyed
-plain_on open' Obeyed p e = p
-plain_on open' (Skipped chosen inner) p e = absurd (not_both _ (plain_skipped chosen inner) e)
+next_agrees open' Obeyed Closes h p fits = sym (outer_in_all open' p)
+next_agrees open' Obeyed Plain h p fits = p
+next_agrees [] (Skipped chosen inner) mark h p fits = absurd p
+next_agrees (groups ∷ outer) (Skipped chosen zero) Opens h p fits = p
+next_agrees (groups ∷ outer) (Skipped true zero) Elif h p fits = (group_apart h groups p.1, some_more h groups p.1, p.2)
+next_agrees (groups ∷ outer) (Skipped false zero) Elif true p fits = ap (λ b. not b && are_chosen outer) p.1 ∙ p.2
+next_agrees (groups ∷ outer) (Skipped false zero) Elif false p fits = (refl, p.1, p.2)
+next_agrees (groups ∷ outer) (Skipped true zero) Else h p fits = (ap not p.1, refl, p.2)
+next_agrees (groups ∷ outer) (Skipped false zero) Else h p fits = ap (λ b. not b && are_chosen outer) p.1 ∙ p.2
+next_agrees (groups ∷ outer) (Skipped true zero) Closes h p fits = p.2
+next_agrees (groups ∷ outer) (Skipped false zero) Closes h p fits = p.2
+next_agrees (groups ∷ outer) (Skipped true zero) Plain h p fits = p
+next_agrees (groups ∷ outer) (Skipped false zero) Plain h p fits = p
+next_agrees (groups ∷ outer) (Skipped chosen (suc inner)) Opens h p fits = p
+next_agrees (groups ∷ outer) (Skipped true (suc inner)) Elif h p fits = p
+next_agrees (groups ∷ outer) (Skipped false (suc inner)) Elif h p fits = p
+next_agrees (groups ∷ outer) (Skipped true (suc inner)) Else h p fits = p
+next_agrees (groups ∷ outer) (Skipped false (suc inner)) Else h p fits = p
+next_agrees (groups ∷ outer) (Skipped true (suc inner)) Closes h p fits = p
+next_agrees (groups ∷ outer) (Skipped false (suc inner)) Closes h p fits = p
+next_agrees (groups ∷ outer) (Skipped true (suc inner)) Plain h p fits = p
+next_agrees (groups ∷ outer) (Skipped false (suc inner)) Plain h p fits = p
