@@ -1,0 +1,15 @@
+//! What holds of the names of programs that are read: each law is the contract of a function without a body.
+
+ghost use Rattle.p10_names.specs.Laws.{DefinitionsHaveNames, ProgramsAreNamed, DerivedCertificatesOfFilesHaveText};
+
+/// In trees that spell the words of expanded files each function is defined by a name of C.
+pub fn definitions_have_names()
+    ensures { DefinitionsHaveNames }
+{}
+
+/// The functions of a typed program of files have names of C, and the one where it begins is called `main`; so a certificate that is
+/// derived of it, where it is whole, has a text.
+pub fn programs_are_named()
+    ensures named { ProgramsAreNamed }
+    ensures texts { DerivedCertificatesOfFilesHaveText }
+{}
