@@ -8,7 +8,7 @@ use Rattle.p10_syn.specs.Symbols.{Symbol, Fixed}
 use Rattle.p10_syn.specs.Symbols as symbol
 use Rattle.p10_syn.specs.Trees.{Identifier, Declarator, Named, Unnamed, Pointer, Parenthesised, Array, Function, External, Outer, Defines}
 use Rattle.p10_syn.specs.Bare.{bare_qualifiers, bare_optional, bare_specifiers, bare_declarator, bare_parameters, bare_statements, bare_external, bare_externals}
-use Rattle.p10_syn.specs.Spelling.{spell_optional, spell_specifiers, spell_declarator, spell_parameters, spell_ellipsis, spell_statements, spell_external, spell_externals}
+use Rattle.p10_syn.specs.Spelling.{spell_optional, spell_declarator, spell_parameters, spell_ellipsis, spell_statements, spell_external, spell_externals}
 use Rattle.p10_elabd.specs.Shapes.{name_in}
 use Rattle.p10_names.proofs.Spelled.{kept_spell_qualifiers, kept_spell_specifiers, kept_spell_external}
 

@@ -17,7 +17,7 @@ use Rattle.p10_elabd.specs.declared.site.Site.TheVariants as site_is
 use Rattle.p10_elabd.specs.declared.lifetime.Lifetime.TheVariants as life_is
 use Rattle.p10_elabd.specs.Words.{storage_of}
 use Rattle.p10_elabd.specs.Declaring.{specified, declarator_passed, based}
-use Rattle.p10_elabd.specs.Standing.{PlainStanding, Passed}
+use Rattle.p10_elabd.specs.Standing.{Passed}
 use Rattle.p10_elabd.specs.Shapes.{FunctionType, DeclaredType, of_type, of_open_array, of_function, name_in}
 use Rattle.p10_elabs.specs.LocalDeclarations.{is_typedef}
 use Rattle.p10_elabs.specs.Addresses.{addresses_taken, constants_of}

@@ -1,5 +1,4 @@
 -- The functions of programs of files have names of C.
-use Rattle.std.specs.Prelude.{List}
 use Rattle.p10_derived_texts.proofs.Texts.{derived_have_text}
 use Rattle.p10_names.specs.Laws.{ProgramsAreNamed, DerivedCertificatesOfFilesHaveText}
 use Rattle.p10_names.proofs.Trees.{definitions_have_names}

@@ -1,21 +1,19 @@
 -- Trees that spell the words of an expansion define functions by names of C.
-use Rattle.std.proofs.Common.{◌≡◌, ℕ, ◌+◌, true, List, [], ◌∷◌, ◌++◌, length, map, Option, Some, None, refl, sym, subst}
+use Rattle.std.proofs.Common.{◌≡◌, ℕ, ◌+◌, true, List, [], ◌∷◌, ◌++◌, length, Option, Some, None, refl, sym, subst}
 use Rattle.std.specs.Prelude.{All}
 use Rattle.std.specs.List.{AllByRecursion}
 use Rattle.std.proofs.lemmas.List.Elements.{All-head, All-tail, All-weaker}
 use Rattle.p10_base.specs.declared.at.At.{At}
 use Rattle.p10_base.specs.declared.word.Kind.{Kind}
 use Rattle.p10_base.specs.declared.word.Kind.TheVariants as kind
-use Rattle.p10_base.specs.Gathered.{Gathered}
 use Rattle.p10_base.specs.Words.{Text, PlainWord}
 use Rattle.p10_syn.specs.declared.sign.Sign.{Sign}
 use Rattle.p10_syn.specs.Signs.{keywords, punctuators, sign_among}
 use Rattle.p10_syn.specs.Symbols.{Symbol, name_or, punctuator_or, symbol_in, symbol_of, symbols_of}
 use Rattle.p10_syn.specs.Symbols as symbol
-use Rattle.p10_syn.specs.Trees.{Identifier, External, Outer, Defines}
-use Rattle.p10_syn.specs.Spells.{SpellsRoot, SpellsFrom, Spells}
+use Rattle.p10_syn.specs.Trees.{External, Outer, Defines}
+use Rattle.p10_syn.specs.Spells.{SpellsFrom}
 use Rattle.p10_cert.specs.Lines.{is_name}
-use Rattle.p10_expand.specs.Plain.{PlainExpansion, ExpandsTo}
 use Rattle.p10_expand.proofs.PlainAnswers.{WordComes, words_come}
 use Rattle.p10_names.specs.Defining.{HasName}
 use Rattle.p10_names.specs.Laws.{DefinitionsHaveNames}

@@ -1,11 +1,9 @@
 -- Words of an expansion that are names are names of C.
-use Rattle.std.proofs.Common.{◌≡◌, ℕ, Bool, true, false, List, [], ◌∷◌, ◌++◌, map, Ok, refl, sym, ap, ◌∙◌, subst, arith}
+use Rattle.std.proofs.Common.{◌≡◌, ℕ, Bool, true, false, List, [], ◌∷◌, ◌++◌, map, refl, sym, ap, ◌∙◌, subst}
 use Rattle.std.specs.Prelude.{◌||◌, ◌&&◌, ◌==◌, All, nat_le, nat_lt, drop, if◌then◌else◌}
-use Rattle.std.specs.Char.{is_ascii_alphabetic, is_ascii_alphanumeric}
-use Rattle.std.specs.List.{list_all, Contains}
+use Rattle.std.specs.List.{list_all}
 use Rattle.std.proofs.lemmas.Bool.{and_parts}
-use Rattle.std.proofs.lemmas.List.Elements.{All-contains, All-nil, All-cons, All-weaker}
-use Rattle.p10_base.specs.declared.word.Kind.{Kind}
+use Rattle.std.proofs.lemmas.List.Elements.{All-contains, All-nil, All-cons}
 use Rattle.p10_base.specs.declared.word.Kind.TheVariants as kind
 use Rattle.p10_base.specs.Gathered.{Gathered, text_of}
 use Rattle.p10_base.specs.Words.{PlainWord, plain_word}
@@ -13,7 +11,7 @@ use Rattle.p10_lex.specs.Bytes.{is_nondigit as starts_name, is_name_byte as goes
 use Rattle.p10_lex.specs.Splices.{splice_length}
 use Rattle.p10_lex.specs.Lexemes.{IsName, begins_number}
 use Rattle.p10_lex.specs.Pieces.{begins_byte, IsPiece, Cut, State, beginning, is_include, Cuts, advance, word_before, words_of}
-use Rattle.p10_lex.specs.Lexes.{Lexes, Answers}
+use Rattle.p10_lex.specs.Lexes.{Lexes}
 use Rattle.p10_lex.specs.private.Runs.{after_comment, after_literal, after_header, punctuator_length}
 use Rattle.p10_lex.specs.private.Reading.{kind_of_quote, literal_at, comment_at, punctuator_at, header_at, cut_at}
 use Rattle.p10_lex.proofs.Again.{again}

@@ -1,12 +1,12 @@
 -- Where a function begins exactly its integer frame parameters are known.
-use Rattle.std.proofs.Common.{◌≡◌, ℕ, zero, suc, ◌+◌, ◌<◌, ◌≤◌, Bool, true, false, List, [], ◌∷◌, Option, Some, None, refl, sym, ap, ◌∙◌, arith, inl, inr}
-use Rattle.std.specs.Prelude.{slice_get, is_some, nat_eq, ltb, ◌||◌, ◌&&◌, if◌then◌else◌}
+use Rattle.std.proofs.Common.{◌≡◌, ℕ, zero, suc, ◌+◌, Bool, true, false, List, [], ◌∷◌, Some, None, refl, sym, ap, ◌∙◌, arith, inl, inr}
+use Rattle.std.specs.Prelude.{slice_get, is_some, ltb, ◌||◌, ◌&&◌, if◌then◌else◌}
 use Rattle.std.proofs.lemmas.Bool.{lt-ltb, le-ltb, ne_eqb, eq-eqb, cases_lt}
 use Rattle.p10_core.specs.Rows.{is_integer}
 use Rattle.p10_core.specs.Constants.{integer_of}
-use Rattle.p10_core.specs.Typed.{PlainVariable, PlainFunction}
+use Rattle.p10_core.specs.Typed.{PlainVariable}
 use Rattle.p10_core.specs.WholePrograms.{is_among, numbers_from}
-use Rattle.p10_cert.specs.Claims.{Value, Func}
+use Rattle.p10_cert.specs.Claims.{Value}
 use Rattle.p10_absx.specs.Abstract.{Abstract, only_range}
 use Rattle.p10_absx.specs.Environments.{known}
 use Rattle.p10_absx.specs.Entering.{parameter_claimed, claims_on, entries_from, entry_of_function}

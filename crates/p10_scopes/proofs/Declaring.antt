@@ -1,6 +1,6 @@
 -- A declaration ends normally alone, and then its variable is known, if it is an integer that is held in the frame.
 use Rattle.std.proofs.Common.{◌≡◌, ℕ, ◌<◌, Bool, true, false, List, [], ◌∷◌, length, Option, Some, None, refl, sym, ap, ◌∙◌, subst}
-use Rattle.std.specs.Prelude.{slice_get, is_some, ◌&&◌, if◌then◌else◌}
+use Rattle.std.specs.Prelude.{is_some, ◌&&◌, if◌then◌else◌}
 use Rattle.std.specs.Option.{option_map}
 use Rattle.p10_int.specs.declared.types.IntType.{IntType}
 use Rattle.p10_core.specs.Rows.{is_integer}

@@ -16,9 +16,9 @@ use Rattle.p10_fit.specs.Fits.{frame_integer, counter_type}
 use Rattle.p10_pass.specs.Passing.{Left, Manner, integer_declared, other_declared, declared, pass_statement}
 use Rattle.p10_known.specs.Typing.{AreOfTypes}
 use Rattle.p10_known.specs.Laws.{manner_in}
-use Rattle.p10_execution.specs.Scoping.{IsNumber, IsBefore}
+use Rattle.p10_execution.specs.Scoping.{IsNumber}
 use Rattle.p10_execution.proofs.TopDeclarations.{declares_here}
-use Rattle.p10_execution.proofs.ScopedEnds.{Scoped, MaybeScoped, EndsScoped}
+use Rattle.p10_execution.proofs.ScopedEnds.{MaybeScoped, EndsScoped}
 use Rattle.p10_execution.proofs.PassedScopes.{statement_scoped}
 use Rattle.p10_scopes.specs.Knowing.{KnowsScope, MaybeKnowsScope, EndsInScope, AreNew}
 use Rattle.p10_scopes.specs.Laws.{PassesKnowTheirScope}
