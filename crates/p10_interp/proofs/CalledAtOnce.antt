@@ -145,11 +145,11 @@ call_bounded p (suc m) depth g h xs held objects w mid paid after z l is e enter
 -- a call with its arguments
 pub called_by : (p : PlainProgram) (standing : List Held) (objects : List Object) (g : ℕ) (h : PlainFunction) (arguments : PlainValues) (cs : List Open) (before mid paid after : ℕ) (there depth : Depth) (z : ℤ) (none held : List Held) → slice_get p.functions g ≡ Some h → standing ≡ innermost_held cs → there ≡ deeper h depth → depth ≡ depth_of cs → none ≡ [] →
     Fills p standing objects h.variables arguments before none held mid → mid ≡ suc paid → Returns p held objects h.body paid z after → IsCalled p g arguments cs objects before there z after
-called_by p standing objects g h arguments cs before mid paid after there depth z none held is stands deep here empty fills e returns = λ s n f calls same calling l opens some w there_are.
+called_by p standing objects g h arguments cs before mid paid after there depth z none held is same_held deep here empty fills e returns = λ s n f calls same calling l opens some w there_are.
     let some_mid : 0 < mid = omega (arith, e) in
     let k = fills some_mid in
     let more : held ≡ k.more = k.now ∙ ap (λ xs. xs ++ k.more) empty in
-    ap (λ held. and_then (evaluate_all s held arguments (record w { left = before })) (λ xs w. s.call g xs w)) (sym (stands ∙ ap innermost_held opens)) ∙
+    ap (λ held. and_then (evaluate_all s held arguments (record w { left = before })) (λ xs w. s.call g xs w)) (sym (same_held ∙ ap innermost_held opens)) ∙
     (ap (λ o. and_then o (λ xs w. s.call g xs w)) (k.given s same some_mid w there_are) ∙
     (ap (λ call. call g k.xs (record w { left = mid })) calling ∙
     (call_bounded p n f.depth g h k.xs k.more objects w mid paid after z l is e k.enters (subst (λ held. Returns p held objects h.body paid z after) more returns) some there_are ∙

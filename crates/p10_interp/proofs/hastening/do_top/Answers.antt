@@ -27,6 +27,6 @@ returns-then-done-clause-fewer c = λ t.
 
 pub returns-clause-ok : goal.returns-clause-ok
 returns-clause-ok c = λ io.
-    top_back (plain_program c.args.p.now) (task_of c.in-Some.work) c.args.stacks.now (record c.args.stacks.now { tasks = c.pop.new.self }) c.do_at_once.new.stacks _ (state_of c.args.outside.now io) (state_of c.do_at_once.new.outside io) c.in_ok-done.done
+    top_back (plain_program c.args.p.now) (task_of c.in-Some.work) c.args.stacks.now (record c.args.stacks.now { tasks = c.pop.new.self }) c.do_at_once.new.stacks (record c.do_at_once.new.stacks { tasks = c.push.new.self }) (state_of c.args.outside.now io) (state_of c.do_at_once.new.outside io) c.in_ok-done.done
     (popped_rig c.args.stacks.now (record c.args.stacks.now { tasks = c.pop.new.self }) (task_of c.in-Some.work) refl refl c.in-Some.ensures) c.if-done.false (c.in_ok-done.ensures.ok io)
     (ap (λ tasks. rig_at tasks c.do_at_once.new.stacks.operands (calls_in c.do_at_once.new.stacks.calls)) c.in_ok-push.ensures.ok)

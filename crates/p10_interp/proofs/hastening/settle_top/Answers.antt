@@ -19,6 +19,6 @@ returns-then-done-clause-ok c = λ io.
 
 pub returns-clause-ok : goal.returns-clause-ok
 returns-clause-ok c = λ io.
-    top_left (plain_program c.args.p.now) (task_of c.in-Some.work) c.args.stacks.now (record c.args.stacks.now { tasks = c.pop.new.self }) c.settle_work.new.stacks _ (state_of c.args.outside.now io) (state_of c.settle_work.new.outside io) c.in_ok-done.done
+    top_left (plain_program c.args.p.now) (task_of c.in-Some.work) c.args.stacks.now (record c.args.stacks.now { tasks = c.pop.new.self }) c.settle_work.new.stacks (record c.settle_work.new.stacks { tasks = c.push.new.self }) (state_of c.args.outside.now io) (state_of c.settle_work.new.outside io) c.in_ok-done.done
     (popped_rig c.args.stacks.now (record c.args.stacks.now { tasks = c.pop.new.self }) (task_of c.in-Some.work) refl refl c.in-Some.ensures) c.if-done.false (c.in_ok-done.ensures.ok io)
     (ap (λ tasks. rig_at tasks c.settle_work.new.stacks.operands (calls_in c.settle_work.new.stacks.calls)) c.in_ok-push.ensures.ok)
