@@ -18,6 +18,7 @@ use Rattle.p10_interp.specs.private.Resuming.{proceed}
 use Rattle.p10_interp.specs.private.Acts.{next_act}
 use Rattle.p10_interp.specs.private.Weights.{weights}
 use Rattle.p10_interp.specs.private.Arriving.{Arrives, Falls}
+use Rattle.p10_interp.specs.private.Turning.{Turns}
 use Rattle.p10_interp.proofs.Right.{next_right}
 use Rattle.p10_interp.proofs.Lighter.{IsLighter, next_light}
 
@@ -65,18 +66,16 @@ with_tasks : (p : PlainProgram) (n : ℕ) (flow : Way) (t : Task) (k : List Task
 with_tasks p n flow t k s w e = ap (λ tasks. proceed p n (record { flow = flow_of flow; tasks = tasks; operands = s.operands; calls = calls_in s.calls }) w) e
 
 pub turned : (p : PlainProgram) (n : ℕ) (flow next : Way) (t : Task) (k : List Task) (s new : Stacks) (w v : State) (o : Progress Left) → tasks_in s.tasks ≡ t ∷ k → w.left ≤ n → o ≡ proceed p n (rig_of (flow_of flow) s) w →
-    Moves (next_act p (flow_of flow) t k s.operands (calls_in s.calls) w) (Ok next) new v → o ≡ proceed p n (rig_of (flow_of next) new) v
-turned p n flow next t k s new w v o is l e h = e ∙ (with_tasks p n flow t k s w is ∙ moved p n flow next t k s.operands (calls_in s.calls) w v new l h)
+    Turns p (rig_with flow t k s.operands (calls_in s.calls)) w (Ok next) new v → o ≡ proceed p n (rig_of (flow_of next) new) v
+turned p n flow next t k s new w v o is l e h = e ∙ (with_tasks p n flow t k s w is ∙ h.same n l)
 
 pub turn_stopped : (p : PlainProgram) (n : ℕ) (flow : Way) (halt : Halt) (t : Task) (k : List Task) (s new : Stacks) (w v : State) (o : Progress Left) (r : Result Pause Halt) → tasks_in s.tasks ≡ t ∷ k → w.left ≤ n → o ≡ proceed p n (rig_of (flow_of flow) s) w → r ≡ Err halt →
-    Moves (next_act p (flow_of flow) t k s.operands (calls_in s.calls) w) (Err halt) new v → Arrives p n o r new v
-turn_stopped p n flow halt t k s new w v o r is l e stops h =
-    subst (λ r. Arrives p n o r new v) (sym stops)
-    (arrived p n o _ (Err halt) new v (e ∙ with_tasks p n flow t k s w is) (stopped p n flow halt t k s.operands (calls_in s.calls) w v new l h))
+    Turns p (rig_with flow t k s.operands (calls_in s.calls)) w (Err halt) new v → Arrives p n o r new v
+turn_stopped p n flow halt t k s new w v o r is l e stops h = subst (λ r. Arrives p n o r new v) (sym stops) (arrived p n o _ (Err halt) new v (e ∙ with_tasks p n flow t k s w is) (h n l))
 
 pub turn_lighter : (p : PlainProgram) (flow next : Way) (t : Task) (k : List Task) (s new : Stacks) (w v : State) → tasks_in s.tasks ≡ t ∷ k →
-    Moves (next_act p (flow_of flow) t k s.operands (calls_in s.calls) w) (Ok next) new v → IsLess (weights (tasks_in s.tasks)) (rig_of (flow_of next) new) w v
-turn_lighter p flow next t k s new w v is h = subst (λ tasks. IsLess (weights tasks) (rig_of (flow_of next) new) w v) (sym is) (lighter p flow next t k s.operands (calls_in s.calls) w v new h)
+    Turns p (rig_with flow t k s.operands (calls_in s.calls)) w (Ok next) new v → IsLess (weights (tasks_in s.tasks)) (rig_of (flow_of next) new) w v
+turn_lighter p flow next t k s new w v is h = subst (λ tasks. IsLess (weights tasks) (rig_of (flow_of next) new) w v) (sym is) (record { few = h.few; less = h.less })
 
 -- a step was taken, or less is left to be done
 pub falls_by : (first most now left a left_now : ℕ) → left ≡ a → left_now ≤ left → (left ≤ left_now → now < most) → most ≤ first → (left_now < a) ⊎ ((left_now ≡ a) × (now < first))

@@ -40,3 +40,8 @@ pub mod Entered
 pub mod Traded
 pub mod Answered
 pub mod Settled
+pub mod AtOnce
+pub mod Executed
+pub mod CalledAtOnce
+pub mod TurnedAtOnce
+pub mod Hastened

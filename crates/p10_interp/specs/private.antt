@@ -25,4 +25,8 @@ pub mod Trading
 pub mod Parts
 pub mod Placing
 pub mod Settling
+pub mod AtOnce
+pub mod Executing
+pub mod CallingAtOnce
+pub mod Turning
 pub mod Reserving

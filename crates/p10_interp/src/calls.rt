@@ -58,6 +58,16 @@ impl<'p> Calls<'p> {
         }
     }
 
+    /// What stands for the variables of the innermost call.
+    pub fn standing(&self) -> &[Held]
+        ensures { map held_of result.now ≡ innermost_held (calls_in self.now) }
+    {
+        match self.bases.last() {
+            Some(base) => from_place(&self.held, base.held),
+            None => &[],
+        }
+    }
+
     /// The variable of the function of the innermost call with a number.
     pub fn variable(&self, number: u32) -> Option<&'p Variable<'p>>
         ensures { option_map (λ v. plain_variable v.now) result ≡ slice_get (innermost_variables (calls_in self.now)) number }
@@ -293,6 +303,17 @@ fn held_at(held: &[Held], from: usize, variable: u32) -> Option<Held>
         Some(held[place as usize])
     } else {
         None
+    }
+}
+
+/// What stands from a place on.
+fn from_place(held: &[Held], from: usize) -> &[Held]
+    ensures { result.now ≡ drop from held.now }
+{
+    if from < held.len() {
+        &held[from..]
+    } else {
+        &[]
     }
 }
 

@@ -125,7 +125,7 @@ fn bytes_with(variables: &[Variable<'_>], before: u128) -> Option<u128>
 }
 
 /// The greatest depths rise to a depth.
-fn raise(depth: Depth, outside: &mut Outside)
+pub fn raise(depth: Depth, outside: &mut Outside)
     ensures { (io : Around) → state_of outside.new io ≡ raised (calls_deep depth) (state_of outside.old io) }
 {
     outside.calls = outside.calls.max(depth.calls);

@@ -47,7 +47,7 @@ pub fn member(
 }
 
 /// How many scalars of a structure stand before a member (C99 6.7.2.1p13); none where their number passes that of all addresses.
-fn scalars_before(types: &Types<'_>, t: &CType, number: u32) -> Option<u64>
+pub fn scalars_before(types: &Types<'_>, t: &CType, number: u32) -> Option<u64>
     requires structures { AreWholeStructures (plain_types types.now) }
     ensures { (p : PlainProgram) → p.structures ≡ plain_types types.now → IfSome result (λ n. n ≡ scalars_before p (bare p.structures (plain_type t.now)) number) }
 {

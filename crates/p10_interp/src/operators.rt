@@ -185,7 +185,7 @@ fn calculate(op: BinOp, t: IntType, a: i128, b: i128, span: Span) -> Result<i128
 }
 
 /// Whether the operands are values of the operator's type, but for the count of a shift.
-fn are_operands(op: BinOp, t: IntType, a: i128, b: i128) -> bool
+pub fn are_operands(op: BinOp, t: IntType, a: i128, b: i128) -> bool
     ensures { IsTrue result → InRange t a × IsRightOperand op t b }
 {
     match op {

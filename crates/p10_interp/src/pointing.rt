@@ -70,7 +70,7 @@ pub fn inner(
 }
 
 /// What an array has as its elements.
-fn element_of(t: &CType) -> &CType
+pub fn element_of(t: &CType) -> &CType
     ensures { plain_type result.now ≡ element_type (plain_type t.now) }
 {
     match &t.form {
@@ -80,7 +80,7 @@ fn element_of(t: &CType) -> &CType
 }
 
 /// How many elements an array has.
-fn count_of(t: &CType) -> u64
+pub fn count_of(t: &CType) -> u64
     ensures { result ≡ element_count (plain_type t.now) }
 {
     match &t.form {

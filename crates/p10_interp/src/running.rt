@@ -10,10 +10,10 @@ ghost use Rattle.p10_interp.specs.private.Resuming.{proceed};
 ghost use Rattle.p10_interp.specs.private.Arriving.{Arrives, Falls};
 ghost use Rattle.p10_interp.specs.private.Running.{Comes};
 
-use crate::acting::next_act;
 use crate::holding::is_held;
 use crate::outside::Outside;
 use crate::stacks::Stacks;
+use crate::turning::turn;
 use crate::work::{Flow, Halt, Pause};
 use p10_core::Program;
 
@@ -83,7 +83,7 @@ pub fn advance<'p>(
     let left = outside.left;
     let mut flow = flow;
     while let Some(work) = stacks.tasks.pop() {
-        flow = next_act(p, flow, work, stacks, outside)?;
+        flow = turn(p, flow, work, stacks, outside)?;
         if outside.left < left || is_held(stacks, outside) {
             return Ok(Pause::Held(flow));
         }

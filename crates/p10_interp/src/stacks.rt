@@ -3,6 +3,7 @@
 ghost use Rattle.std.specs.Prelude.{◌≡◌, []};
 
 use crate::calls::Calls;
+use crate::held::Held;
 use crate::queue::Queue;
 use crate::tasks::{Operands, Tasks};
 use p10_meaning::Scalar;
@@ -16,6 +17,8 @@ pub struct Stacks<'p> {
     pub calls: Calls<'p>,
     /// Room for the arguments of a call while it is entered.
     pub arguments: Queue<Scalar>,
+    /// Room for the frame of a call that is made at once.
+    pub frame: Vec<Held>,
 }
 
 impl<'p> Stacks<'p> {
@@ -33,6 +36,7 @@ impl<'p> Stacks<'p> {
             operands: Operands::new(alloc),
             calls: Calls::new(alloc),
             arguments: Queue::new(alloc),
+            frame: Vec::new(alloc),
         }
     }
 }

@@ -207,7 +207,7 @@ fn begin_copy<'p>(
 }
 
 /// A block begins, without a step (C99 6.8.2).
-fn begin_block<'p>(items: &'p [Stmt], stacks: &mut Stacks<'p>) -> Result<(), Halt>
+pub fn begin_block<'p>(items: &'p [Stmt], stacks: &mut Stacks<'p>) -> Result<(), Halt>
     ensures { (f : Open) (calls : List Open) (w : State) → calls_in stacks.old.calls ≡ f ∷ calls → Answers (goes_on (execute_statements (plain_statements items.now) ∷ (end_block ∷ tasks_in stacks.old.tasks)) stacks.old.operands (in_new_block f ∷ calls) w) result (rig_of normal stacks.new) w }
 {
     stacks.calls.enter_block()?;

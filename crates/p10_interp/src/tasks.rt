@@ -45,6 +45,11 @@ impl<'p> Tasks<'p> {
         }
     }
 
+    /// Whether no work is left.
+    pub fn is_empty(&self) -> bool {
+        self.items.is_empty()
+    }
+
     /// Takes the piece on top.
     pub fn pop(&mut self) -> Option<Work<'p>>
         ensures { MatchOption result (tasks_in self.old ≡ []) (λ work. tasks_in self.old ≡ task_of work ∷ tasks_in self.new) }

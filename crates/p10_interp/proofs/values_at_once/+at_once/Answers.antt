@@ -1,0 +1,57 @@
+-- Each form is what the code calls it.
+use Rattle.std.proofs.Common.{◌≡◌, ◌∙◌, sym, ap, refl, map, option_map}
+use Rattle.std.specs.Int.{w128}
+use Rattle.std.proofs.lemmas.Int.{to_z-of_z}
+use Rattle.p10_core.specs.declared.typed.Place.{Place}
+use Rattle.p10_core.specs.declared.typed.Value.{Value}
+use Rattle.p10_core.specs.Types.{plain_type}
+use Rattle.p10_core.specs.Typed.{read, decay, convert, cast, logic, index, dereference}
+use Rattle.p10_core.specs.Views.{plain_form, plain_value, plain_place, plain_place_form}
+use Rattle.p10_meaning.specs.declared.pointers.Scalar.TheVariants.{Int}
+use Rattle.p10_interp.specs.private.Standing.{held_of}
+use Rattle.p10_interp.proofs.AtOnce.{by_form, by_place, read_by, paid}
+use Rattle.p10_interp.proofs.values_at_once.+at_once.Goals as goal
+
+pub number_at_once-returns-in-Read : goal.number_at_once-returns-in-Read
+number_at_once-returns-in-Read t c = λ s e.
+    by_form s (map held_of c.args.around.now.held.now) c.args.value.now.at (plain_type c.args.value.now.ty) _ _ _ _ _ _ _ (ap plain_form c.in-Read.is ∙ ap (λ (q : Place). read (plain_place q)) (sym c.deref.ensures)) (ap Int (to_z-of_z w128 c.read_number.result (record { sfits = c.read_number.type_inv }))) (c.read_number.ensures c.args.value.now.at s e)
+
+pub number_at_once-returns-in-Convert : goal.number_at_once-returns-in-Convert
+number_at_once-returns-in-Convert t c = λ s e.
+    by_form s (map held_of c.args.around.now.held.now) c.args.value.now.at (plain_type c.args.value.now.ty) _ _ _ _ _ _ _ (ap plain_form c.in-Convert.is ∙ ap (λ (v : Value). convert (plain_value v)) (sym c.deref-in-Convert.ensures)) (ap Int (to_z-of_z w128 c.converted_at_once.result (record { sfits = c.converted_at_once.type_inv }))) (c.converted_at_once.ensures c.args.value.now.at s e)
+
+pub number_at_once-returns-in-Cast : goal.number_at_once-returns-in-Cast
+number_at_once-returns-in-Cast t c = λ s e.
+    by_form s (map held_of c.args.around.now.held.now) c.args.value.now.at (plain_type c.args.value.now.ty) _ _ _ _ _ _ _ (ap plain_form c.in-Cast.is ∙ ap (λ (v : Value). cast (plain_value v)) (sym c.deref-in-Cast.ensures)) (ap Int (to_z-of_z w128 c.cast_at_once.result (record { sfits = c.cast_at_once.type_inv }))) (c.cast_at_once.ensures c.args.value.now.at s e)
+
+pub number_at_once-returns-in-Logic : goal.number_at_once-returns-in-Logic
+number_at_once-returns-in-Logic t c = λ s e.
+    by_form s (map held_of c.args.around.now.held.now) c.args.value.now.at (plain_type c.args.value.now.ty) _ _ _ _ _ _ _ (ap plain_form c.in-Logic.is ∙ (ap (λ (a : Value). logic c.in-Logic.op (plain_value a) (plain_value c.in-Logic.b.value)) (sym c.deref-in-Logic.ensures) ∙
+    ap (λ (b : Value). logic c.in-Logic.op (plain_value c.deref-in-Logic.result.now) (plain_value b)) (sym c.deref-in-Logic-2.ensures))) (ap Int (to_z-of_z w128 c.logic_at_once.result (record { sfits = c.logic_at_once.type_inv }))) (c.logic_at_once.ensures c.args.value.now.at s e)
+
+pub place_at_once-returns-in-Index : goal.place_at_once-returns-in-Index
+place_at_once-returns-in-Index t c = λ s e.
+    by_place s (map held_of c.args.around.now.held.now) c.args.place.now.at (plain_type c.args.place.now.ty) _ _ _ _ _ _ (ap plain_place_form c.in-Index.is ∙ (ap (λ (a : Value). index (plain_value a) (plain_value c.in-Index.index.value)) (sym c.deref.ensures) ∙
+    ap (λ (b : Value). index (plain_value c.deref.result.now) (plain_value b)) (sym c.deref-in-Index.ensures))) (c.index_at_once.ensures (plain_type c.args.place.now.ty) c.args.place.now.at s e)
+
+pub place_at_once-returns-in-Deref : goal.place_at_once-returns-in-Deref
+place_at_once-returns-in-Deref t c = λ s e.
+    by_place s (map held_of c.args.around.now.held.now) c.args.place.now.at (plain_type c.args.place.now.ty) _ _ _ _ _ _ (ap plain_place_form c.in-Deref.is ∙ ap (λ (v : Value). dereference (plain_value v)) (sym c.deref-in-Deref.ensures)) (c.dereference_at_once.ensures (plain_type c.args.place.now.ty) c.args.place.now.at s e)
+
+pub pointer_at_once-returns-in-Read : goal.pointer_at_once-returns-in-Read
+pointer_at_once-returns-in-Read t c = λ s e.
+    by_form s (map held_of c.args.around.now.held.now) c.args.value.now.at (plain_type c.args.value.now.ty) _ _ _ _ _ _ _ (ap plain_form c.in-Read.is ∙ ap (λ (q : Place). read (plain_place q)) (sym c.deref.ensures)) refl (c.read_pointer.ensures c.args.value.now.at s e)
+
+pub pointer_at_once-returns-in-Decay : goal.pointer_at_once-returns-in-Decay
+pointer_at_once-returns-in-Decay t c = λ s e.
+    by_form s (map held_of c.args.around.now.held.now) c.args.value.now.at (plain_type c.args.value.now.ty) _ _ _ _ _ _ _ (ap plain_form c.in-Decay.is ∙ ap (λ (q : Place). decay (plain_place q)) (sym c.deref-in-Decay.ensures)) refl (c.decay_at_once.ensures (plain_type c.args.value.now.ty) c.args.value.now.at s e)
+
+pub read_number-returns : goal.read_number-returns
+read_number-returns t c = λ at s e.
+    read_by s (map held_of c.args.around.now.held.now) at (plain_type c.args.t.now) (plain_place c.args.place.now) _ _ c.pays.new.left c.cell_at_once-cell.new.left _ _ _ (option_map (λ x. x.now) c.cell_at_once-cell.result) (ap Int (to_z-of_z w128 c.number_in.result (record { sfits = c.number_in.type_inv }))) (sym c.is_structure.ensures ∙ c.if-is_structure.false) (paid _ _ _ c.pays.ensures c.if-not-pays.false)
+    (λ y h. c.cell_at_once-cell.ensures (plain_type c.args.t.now) y h s e) c.number_in.ensures
+
+pub read_pointer-returns : goal.read_pointer-returns
+read_pointer-returns t c = λ at s e.
+    read_by s (map held_of c.args.around.now.held.now) at (plain_type c.args.t.now) (plain_place c.args.place.now) _ _ c.pays.new.left c.cell_at_once-cell.new.left _ _ _ (option_map (λ x. x.now) c.cell_at_once-cell.result) refl (sym c.is_structure.ensures ∙ c.if-is_structure.false) (paid _ _ _ c.pays.ensures c.if-not-pays.false)
+    (λ y h. c.cell_at_once-cell.ensures (plain_type c.args.t.now) y h s e) c.pointer_in.ensures

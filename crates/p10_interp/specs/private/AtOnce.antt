@@ -1,0 +1,60 @@
+-- What is found at once: trees that take steps and change nothing else.
+use Rattle.std.specs.Prelude.{◌≡◌, ℕ, suc, ◌<◌, Bool, true, false, List, map, ℤ, Option, Some, None, Result, Ok, Err}
+use Rattle.p10_base.specs.declared.at.At.{At}
+use Rattle.p10_int.specs.declared.operators.Stop.{Stop}
+use Rattle.p10_core.specs.Types.{PlainType}
+use Rattle.p10_core.specs.Typed.{PlainForm, PlainPlace, PlainPlaceForm, place_at}
+use Rattle.p10_core.specs.Views.{plain_program}
+use Rattle.p10_meaning.specs.declared.pointers.Scalar.{Scalar}
+use Rattle.p10_meaning.specs.declared.pointers.Scalar.TheVariants.{Int}
+use Rattle.p10_meaning.specs.declared.pointers.Cell.{Cell}
+use Rattle.p10_meaning.specs.declared.pointers.Ptr.{Ptr}
+use Rattle.p10_meaning.specs.Objects.{Object}
+use Rattle.p10_meaning.specs.Scalars.{converted_to}
+use Rattle.p10_meaning.specs.States.{State, Progress, gives, and_then}
+use Rattle.p10_meaning.specs.Values.{Setting, Held, Element, is_void, perform, locate, find_place, read_target}
+use Rattle.p10_interp.specs.declared.surroundings.Surroundings.{Surroundings}
+use Rattle.p10_interp.specs.private.Standing.{held_of}
+
+-- where a step is left, this is what a piece gives in each state with these objects and so many steps, and it leaves all but the
+-- steps as it was
+abbrev pub Finds : {A : Type 0} → (State → Progress A) → List Object → ℕ → A → ℕ → Type 0
+Finds run objects before x after = 0 < after → (w : State) → w.objects ≡ objects → run (record w { left = before }) ≡ gives x (record w { left = after })
+
+-- the same of a tree in the innermost call of a program
+abbrev pub Settles : {A : Type 0} → Surroundings → (Setting → List Held → State → Progress A) → ℕ → A → ℕ → Type 0
+Settles around run before x after = (s : Setting) → s.program ≡ plain_program around.p.now → Finds (run s (map held_of around.held.now)) around.store.now.objects before x after
+
+-- the same of a form of a value, wherever it stands
+abbrev pub Performs : Surroundings → PlainType → PlainForm → ℕ → Scalar → ℕ → Type 0
+Performs around t form before x after = (at : At) → Settles around (λ s held. perform s held at t form) before (Some x) after
+
+-- what is read from a place
+abbrev pub read_at_place : PlainPlace → PlainType → Setting → List Held → State → Progress Scalar
+read_at_place q t s held w = and_then (locate s held q w) (λ target w. read_target (place_at q).span t held target w)
+
+-- a cell that was found holds a scalar
+abbrev pub IsHolding : Option Cell → Scalar → Type 0
+IsHolding None x = ⊥
+IsHolding (Some cell) x = cell.value ≡ Some x
+
+-- a step was taken and another one is left, or none is left
+abbrev pub Pays : Bool → ℕ → ℕ → Type 0
+Pays true before after = before ≡ suc after
+Pays false before after = after ≡ 0
+
+-- a result was found without a step, or no step is left
+abbrev pub IsFound : {A : Type 0} → Result A Stop → ℕ → A → ℕ → Type 0
+IsFound r before x after = 0 < after → (after ≡ before) × (r ≡ Ok x)
+
+-- the same of a form of a place, wherever it stands
+abbrev pub Locates : Surroundings → PlainType → PlainPlaceForm → ℕ → Ptr → ℕ → Type 0
+Locates around t form before q after = (at : At) → Settles around (λ s held. find_place s held at t form) before (Element q) after
+
+-- a number was converted to a type that isn't `void` without a step, or no step is left
+abbrev pub IsConverted : PlainType → ℤ → ℕ → ℤ → ℕ → Type 0
+IsConverted t a before z after = 0 < after → (after ≡ before) × ((converted_to t (Int a) ≡ Int z) × (is_void t ≡ false))
+
+-- a scalar was taken from a cell that was found, without a step, or no step is left
+abbrev pub IsTaken : Option Cell → ℕ → Scalar → ℕ → Type 0
+IsTaken cell before x after = 0 < after → (after ≡ before) × IsHolding cell x
