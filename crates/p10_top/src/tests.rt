@@ -171,8 +171,8 @@ fn check<F: Files>(
     for word in words {
         given.push(String::from_str(alloc, word)?)?;
     }
-    let mut out = MemSink::new(alloc, 100, want.out_fails)?;
-    let mut err = MemSink::new(alloc, 100, want.err_fails)?;
+    let mut out = MemSink::new(alloc, 200, want.out_fails)?;
+    let mut err = MemSink::new(alloc, 200, want.err_fails)?;
     let status = p10_main(alloc, &given, files, &mut input, &mut out, &mut err);
     assert_eq!(rt; status, want.status, "{}{}", want.out, want.err);
     assert_eq!(rt; out.taken(), want.out.as_bytes(), "{}", want.out);
