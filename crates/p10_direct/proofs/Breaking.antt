@@ -56,7 +56,7 @@ open_is (suc n) (Elif ∷ before) = open_is (suc n) before
 open_is zero (Plain ∷ before) = open_is zero before
 open_is (suc n) (Plain ∷ before) = open_is (suc n) before
 
--- ## What is closed behind a line
+-- ## What is closed after a line
 
 -- how many `#endif` close a conditional that begins before these lines
 abbrev pub excess : List Mark → ℕ

@@ -5,8 +5,7 @@ use Rattle.std.proofs.lemmas.Bool.{and_parts}
 use Rattle.p10_base.specs.declared.span.Span.{Span}
 use Rattle.p10_base.specs.declared.word.Kind.{Kind}
 use Rattle.p10_base.specs.declared.word.Kind.TheVariants.{Name, Number, Char, Str, Punct, Mark}
-use Rattle.p10_base.specs.declared.word.Word.{Word}
-use Rattle.p10_base.specs.Words.{Text, is_name, is_name_kind, is_punctuator_kind, is_punctuator, plain_word}
+use Rattle.p10_base.specs.Words.{PlainWord, Text, is_name, is_name_kind, is_punctuator_kind, is_punctuator}
 use Rattle.p10_direct.specs.Directives.{PlainMacro, Define, Definition, opens_list, is_ellipsis, AreParameters, Continues, IsList, HasNoList, DefinesBehind, Defines, IsDefinition, macro_of, is_bad, DefinesBadly, Outcome, Read, BadForm, BadDefinition}
 use Rattle.p10_direct.specs.private.Reading.{Parameters, Wrong, Listed, behind_parameters, parameters_of, judged, judged_or_wrong, listed, has_list, defined_of, definition_read, definition_of}
 
@@ -28,38 +27,38 @@ name_is_none Punct e = absurd cc
 name_is_none Mark e = refl
 
 -- a name is no punctuator
-pub name_no_punctuator : (text : Text) (word : Word) → is_name_kind word.kind ≡ true → is_punctuator text (plain_word word) ≡ false
-name_no_punctuator text word name = ap (λ b. b && bytes_eq word.text.now text) (name_is_none word.kind name)
+pub name_no_punctuator : (text : Text) (word : PlainWord) → is_name_kind word.kind ≡ true → is_punctuator text word ≡ false
+name_no_punctuator text word name = ap (λ b. b && bytes_eq word.text text) (name_is_none word.kind name)
 
 -- a punctuator is no other
-pub other_punctuator : (text other : Text) (word : Word) → bytes_eq text other ≡ false → is_punctuator text (plain_word word) ≡ true → is_punctuator other (plain_word word) ≡ false
+pub other_punctuator : (text other : Text) (word : PlainWord) → bytes_eq text other ≡ false → is_punctuator text word ≡ true → is_punctuator other word ≡ false
 other_punctuator text other word differ is =
-    let same : word.text.now ≡ text = is_text _ _ (and_parts (is_punctuator_kind word.kind) (bytes_eq word.text.now text) is).1 in
+    let same : word.text ≡ text = is_text _ _ (and_parts (is_punctuator_kind word.kind) (bytes_eq word.text text) is).1 in
     ap (λ t. is_punctuator_kind word.kind && bytes_eq t other) same ∙ ap (λ b. is_punctuator_kind word.kind && b) differ ∙ and_false (is_punctuator_kind word.kind)
 
 -- a name is no other
-pub other_name : (text other : Text) (word : Word) → bytes_eq text other ≡ false → is_name text (plain_word word) ≡ true → is_name other (plain_word word) ≡ false
+pub other_name : (text other : Text) (word : PlainWord) → bytes_eq text other ≡ false → is_name text word ≡ true → is_name other word ≡ false
 other_name text other word differ is =
-    let same : word.text.now ≡ text = is_text _ _ (and_parts (is_name_kind word.kind) (bytes_eq word.text.now text) is).1 in
+    let same : word.text ≡ text = is_text _ _ (and_parts (is_name_kind word.kind) (bytes_eq word.text text) is).1 in
     ap (λ t. is_name_kind word.kind && bytes_eq t other) same ∙ ap (λ b. is_name_kind word.kind && b) differ ∙ and_false (is_name_kind word.kind)
 
 -- a parameter is no `)`
-parameter_no_close : (word : Word) → is_name_kind word.kind || is_ellipsis word ≡ true → is_punctuator (codes ")") (plain_word word) ≡ false
+parameter_no_close : (word : PlainWord) → is_name_kind word.kind || is_ellipsis word ≡ true → is_punctuator (codes ")") word ≡ false
 parameter_no_close word e =
-    elim (is_name_kind word.kind) as (λ b. is_name_kind word.kind ≡ b → b || is_ellipsis word ≡ true → is_punctuator (codes ")") (plain_word word) ≡ false)
+    elim (is_name_kind word.kind) as (λ b. is_name_kind word.kind ≡ b → b || is_ellipsis word ≡ true → is_punctuator (codes ")") word ≡ false)
     [ true ↦ λ name e. name_no_punctuator (codes ")") word name | false ↦ λ no e. other_punctuator (codes "...") (codes ")") word refl e ] refl e
 
 -- ## Parameter lists
 
 -- a list of parameters that goes on
-params_again : (before : List Word) (word : Word) (parameters words body : List Word) → AreParameters (word ∷ parameters) → Continues parameters words body → behind_parameters before (word ∷ words) ≡ Listed (before ++ word ∷ parameters) body
+params_again : (before : List PlainWord) (word : PlainWord) (parameters words body : List PlainWord) → AreParameters (word ∷ parameters) → Continues parameters words body → behind_parameters before (word ∷ words) ≡ Listed (before ++ word ∷ parameters) body
 params_again before word [] (close ∷ words) body are (closes, same) =
-    ap (λ b. cond b (cond (is_name_kind word.kind || is_ellipsis word) (Listed (before ++ word ∷ []) words) Wrong) (cond (is_punctuator (codes ",") (plain_word close) && is_name_kind word.kind) (behind_parameters (before ++ word ∷ []) words) Wrong)) closes
+    ap (λ b. cond b (cond (is_name_kind word.kind || is_ellipsis word) (Listed (before ++ word ∷ []) words) Wrong) (cond (is_punctuator (codes ",") close && is_name_kind word.kind) (behind_parameters (before ++ word ∷ []) words) Wrong)) closes
     ∙ ap (λ b. cond b (Listed (before ++ word ∷ []) words) Wrong) are
     ∙ ap (Listed (before ++ word ∷ [])) same
 params_again before word [] [] body are continues = absurd continues
 params_again before word (next ∷ parameters) (comma ∷ other ∷ words) body (name, are) (is, same, continues) =
-    ap (λ b. cond b (cond (is_name_kind word.kind || is_ellipsis word) (Listed (before ++ word ∷ []) (other ∷ words)) Wrong) (cond (is_punctuator (codes ",") (plain_word comma) && is_name_kind word.kind) (behind_parameters (before ++ word ∷ []) (other ∷ words)) Wrong)) (other_punctuator (codes ",") (codes ")") comma refl is)
+    ap (λ b. cond b (cond (is_name_kind word.kind || is_ellipsis word) (Listed (before ++ word ∷ []) (other ∷ words)) Wrong) (cond (is_punctuator (codes ",") comma && is_name_kind word.kind) (behind_parameters (before ++ word ∷ []) (other ∷ words)) Wrong)) (other_punctuator (codes ",") (codes ")") comma refl is)
     ∙ ap (λ b. cond (b && is_name_kind word.kind) (behind_parameters (before ++ word ∷ []) (other ∷ words)) Wrong) is
     ∙ ap (λ b. cond b (behind_parameters (before ++ word ∷ []) (other ∷ words)) Wrong) name
     ∙ ap (λ w. behind_parameters (before ++ word ∷ []) (w ∷ words)) same
@@ -69,11 +68,11 @@ params_again before word (next ∷ parameters) (comma ∷ []) body are continues
 params_again before word (next ∷ parameters) [] body are continues = absurd continues
 
 -- the first parameter is no `)`
-first_no_close : (word : Word) (parameters : List Word) → AreParameters (word ∷ parameters) → is_punctuator (codes ")") (plain_word word) ≡ false
+first_no_close : (word : PlainWord) (parameters : List PlainWord) → AreParameters (word ∷ parameters) → is_punctuator (codes ")") word ≡ false
 first_no_close word [] are = parameter_no_close word are
 first_no_close word (next ∷ parameters) (name, are) = name_no_punctuator (codes ")") word name
 
-list_again : (parameters words body : List Word) → AreParameters parameters → IsList parameters words body → parameters_of words ≡ Listed parameters body
+list_again : (parameters words body : List PlainWord) → AreParameters parameters → IsList parameters words body → parameters_of words ≡ Listed parameters body
 list_again [] (close ∷ words) body are (closes, same) = ap (λ b. cond b (Listed [] words) (behind_parameters [] (close ∷ words))) closes ∙ ap (Listed []) same
 list_again [] [] body are list = absurd list
 list_again (word ∷ parameters) (other ∷ words) body are (same, continues) =
@@ -83,54 +82,54 @@ list_again (word ∷ parameters) (other ∷ words) body are (same, continues) =
 list_again (word ∷ parameters) [] body are list = absurd list
 
 -- what was read are the parameters before and a list of parameters
-abbrev TookMore : List Word → List Word → Parameters → Type 0
+abbrev TookMore : List PlainWord → List PlainWord → Parameters → Type 0
 TookMore before words Wrong = Unit {0}
-TookMore before words (Listed all body) = (word : Word) × (parameters : List Word) × (all ≡ before ++ word ∷ parameters) × AreParameters (word ∷ parameters) × IsList (word ∷ parameters) words body
+TookMore before words (Listed all body) = (word : PlainWord) × (parameters : List PlainWord) × (all ≡ before ++ word ∷ parameters) × AreParameters (word ∷ parameters) × IsList (word ∷ parameters) words body
 
-one_more : (before : List Word) (word comma : Word) (words : List Word) (found : Parameters) → is_name_kind word.kind ≡ true → is_punctuator (codes ",") (plain_word comma) ≡ true → TookMore (before ++ word ∷ []) words found → TookMore before (word ∷ comma ∷ words) found
+one_more : (before : List PlainWord) (word comma : PlainWord) (words : List PlainWord) (found : Parameters) → is_name_kind word.kind ≡ true → is_punctuator (codes ",") comma ≡ true → TookMore (before ++ word ∷ []) words found → TookMore before (word ∷ comma ∷ words) found
 one_more before word comma words Wrong name is took = tt
 one_more before word comma (w ∷ words) (Listed all body) name is (next, parameters, same, are, list) =
     (word, next ∷ parameters, same ∙ append_assoc before (word ∷ []) (next ∷ parameters), (name, are), (refl, (is, list.0, list.1)))
 one_more before word comma [] (Listed all body) name is (next, parameters, same, are, list) = absurd list
 
-params_take : (before words : List Word) → TookMore before words (behind_parameters before words)
+params_take : (before words : List PlainWord) → TookMore before words (behind_parameters before words)
 params_take before [] = tt
 params_take before (word ∷ []) = tt
 params_take before (word ∷ separator ∷ words) =
     let more = before ++ word ∷ [] in
-    elim (is_punctuator (codes ")") (plain_word separator)) as (λ b. is_punctuator (codes ")") (plain_word separator) ≡ b → TookMore before (word ∷ separator ∷ words) (cond b (cond (is_name_kind word.kind || is_ellipsis word) (Listed more words) Wrong) (cond (is_punctuator (codes ",") (plain_word separator) && is_name_kind word.kind) (behind_parameters more words) Wrong))) [
+    elim (is_punctuator (codes ")") separator) as (λ b. is_punctuator (codes ")") separator ≡ b → TookMore before (word ∷ separator ∷ words) (cond b (cond (is_name_kind word.kind || is_ellipsis word) (Listed more words) Wrong) (cond (is_punctuator (codes ",") separator && is_name_kind word.kind) (behind_parameters more words) Wrong))) [
       | true ↦ λ closes. elim (is_name_kind word.kind || is_ellipsis word) as (λ b. is_name_kind word.kind || is_ellipsis word ≡ b → TookMore before (word ∷ separator ∷ words) (cond b (Listed more words) Wrong))
           [ true ↦ λ are. (word, [], refl, are, (refl, (closes, refl))) | false ↦ λ no. tt ] refl
-      | false ↦ λ goes_on. elim (is_punctuator (codes ",") (plain_word separator) && is_name_kind word.kind) as (λ b. is_punctuator (codes ",") (plain_word separator) && is_name_kind word.kind ≡ b → TookMore before (word ∷ separator ∷ words) (cond b (behind_parameters more words) Wrong)) [
-        | true ↦ λ both. let h = and_parts (is_punctuator (codes ",") (plain_word separator)) (is_name_kind word.kind) both in one_more before word separator words (behind_parameters more words) h.1 h.0 (params_take more words)
+      | false ↦ λ goes_on. elim (is_punctuator (codes ",") separator && is_name_kind word.kind) as (λ b. is_punctuator (codes ",") separator && is_name_kind word.kind ≡ b → TookMore before (word ∷ separator ∷ words) (cond b (behind_parameters more words) Wrong)) [
+        | true ↦ λ both. let h = and_parts (is_punctuator (codes ",") separator) (is_name_kind word.kind) both in one_more before word separator words (behind_parameters more words) h.1 h.0 (params_take more words)
         | false ↦ λ no. tt
       ] refl
     ] refl
 
-abbrev TookList : List Word → Parameters → Type 0
+abbrev TookList : List PlainWord → Parameters → Type 0
 TookList words Wrong = Unit {0}
 TookList words (Listed parameters body) = AreParameters parameters × IsList parameters words body
 
-as_list : (words : List Word) (found : Parameters) → TookMore [] words found → TookList words found
+as_list : (words : List PlainWord) (found : Parameters) → TookMore [] words found → TookList words found
 as_list words Wrong took = tt
 as_list words (Listed all body) (word, parameters, same, are, list) = subst (λ l. AreParameters l × IsList l words body) (sym same) (are, list)
 
-list_takes : (words : List Word) → TookList words (parameters_of words)
+list_takes : (words : List PlainWord) → TookList words (parameters_of words)
 list_takes [] = tt
 list_takes (word ∷ words) =
-    elim (is_punctuator (codes ")") (plain_word word)) as (λ b. is_punctuator (codes ")") (plain_word word) ≡ b → TookList (word ∷ words) (cond b (Listed [] words) (behind_parameters [] (word ∷ words))))
+    elim (is_punctuator (codes ")") word) as (λ b. is_punctuator (codes ")") word ≡ b → TookList (word ∷ words) (cond b (Listed [] words) (behind_parameters [] (word ∷ words))))
     [ true ↦ λ closes. (tt, (closes, refl)) | false ↦ λ no. as_list (word ∷ words) (behind_parameters [] (word ∷ words)) (params_take [] (word ∷ words)) ] refl
 
 -- ## Definitions
 
-abbrev definition : Word → Option (List Word) → List Word → Definition
+abbrev definition : PlainWord → Option (List PlainWord) → List PlainWord → Definition
 definition name parameters body = record { name = name; parameters = parameters; body = body }
 
-no_list : (name : Word) (words : List Word) → HasNoList name words → has_list name words ≡ false
+no_list : (name : PlainWord) (words : List PlainWord) → HasNoList name words → has_list name words ≡ false
 no_list name [] none = refl
 no_list name (word ∷ words) none = none
 
-behind_again : (name : Word) (parameters : Option (List Word)) (body words : List Word) → DefinesBehind name parameters body words → defined_of name words ≡ Some (definition name parameters body)
+behind_again : (name : PlainWord) (parameters : Option (List PlainWord)) (body words : List PlainWord) → DefinesBehind name parameters body words → defined_of name words ≡ Some (definition name parameters body)
 behind_again name None body words (none, same) =
     ap (λ b. cond b (listed name (parameters_of (drop 1 words))) (Some (definition name None words))) (no_list name words none) ∙ ap (λ l. Some (definition name None l)) same
 behind_again name (Some parameters) body (paren ∷ words) (opens, are, list) =
@@ -139,14 +138,14 @@ behind_again name (Some parameters) body (paren ∷ words) (opens, are, list) =
 behind_again name (Some parameters) body [] defines = absurd defines
 
 -- a definition is read as itself
-pub read_again : (d : Definition) (words : List Word) → Defines d words → definition_read words ≡ Some d
+pub read_again : (d : Definition) (words : List PlainWord) → Defines d words → definition_read words ≡ Some d
 read_again d (name ∷ words) (same, is, defines) =
     ap (λ b. cond b (defined_of name words) None) is
     ∙ behind_again name d.parameters d.body words defines
     ∙ ap (λ n. Some (definition n d.parameters d.body)) same
 read_again d [] defines = absurd defines
 
-pub define_again : (whole : Span) (d : Definition) (words : List Word) → Defines d words → definition_of whole words ≡ judged d
+pub define_again : (whole : Span) (d : Definition) (words : List PlainWord) → Defines d words → definition_of whole words ≡ judged d
 define_again whole d (name ∷ words) (same, is, defines) =
     ap (λ b. cond b (judged_or_wrong (defined_of name words)) (BadDefinition whole)) is
     ∙ ap judged_or_wrong (behind_again name d.parameters d.body words defines)
@@ -154,15 +153,15 @@ define_again whole d (name ∷ words) (same, is, defines) =
 define_again whole d [] defines = absurd defines
 
 -- what is read is a definition
-abbrev Took : List Word → Option Definition → Type 0
+abbrev Took : List PlainWord → Option Definition → Type 0
 Took words None = Unit {0}
 Took words (Some d) = Defines d words
 
-listed_takes : (name paren : Word) (words : List Word) (found : Parameters) → is_name_kind name.kind ≡ true → opens_list name paren ≡ true → TookList words found → Took (name ∷ paren ∷ words) (listed name found)
+listed_takes : (name paren : PlainWord) (words : List PlainWord) (found : Parameters) → is_name_kind name.kind ≡ true → opens_list name paren ≡ true → TookList words found → Took (name ∷ paren ∷ words) (listed name found)
 listed_takes name paren words Wrong is opens took = tt
 listed_takes name paren words (Listed parameters body) is opens (are, list) = (refl, is, (opens, are, list))
 
-defined_takes : (name : Word) (words : List Word) → is_name_kind name.kind ≡ true → Took (name ∷ words) (defined_of name words)
+defined_takes : (name : PlainWord) (words : List PlainWord) → is_name_kind name.kind ≡ true → Took (name ∷ words) (defined_of name words)
 defined_takes name [] is = (refl, is, (tt, refl))
 defined_takes name (word ∷ words) is =
     elim (opens_list name word) as (λ b. opens_list name word ≡ b → Took (name ∷ word ∷ words) (cond b (listed name (parameters_of words)) (Some (definition name None (word ∷ words))))) [
@@ -170,43 +169,43 @@ defined_takes name (word ∷ words) is =
       | false ↦ λ none. (refl, is, (none, refl))
     ] refl
 
-read_takes : (words : List Word) → Took words (definition_read words)
+read_takes : (words : List PlainWord) → Took words (definition_read words)
 read_takes [] = tt
 read_takes (name ∷ words) =
     elim (is_name_kind name.kind) as (λ b. is_name_kind name.kind ≡ b → Took (name ∷ words) (cond b (defined_of name words) None))
     [ true ↦ λ is. defined_takes name words is | false ↦ λ no. tt ] refl
 
 -- what is read is the one definition
-pub read_is : (words : List Word) (found : Option Definition) → found ≡ definition_read words → IsDefinition words found
+pub read_is : (words : List PlainWord) (found : Option Definition) → found ≡ definition_read words → IsDefinition words found
 read_is words found e = λ d. (
   (λ defines. e ∙ read_again d words defines),
   (λ same. subst (Took words) (sym e ∙ same) (read_takes words)),
 )
 
--- ## What comes of the words behind `define`
+-- ## What comes of the words after `define`
 
 -- a good macro is spelled, and a bad definition is one
-abbrev pub Judges : Span → List Word → Outcome → Type 0
+abbrev pub Judges : Span → List PlainWord → Outcome → Type 0
 Judges whole words (Read (Define plain)) = (d : Definition) × Defines d words × (is_bad d ≡ false) × (macro_of d ≡ plain)
 Judges whole words (Read _) = ⊥
 Judges whole words (BadDefinition at) = DefinesBadly whole at words
 Judges whole words BadForm = Unit {0}
 
-bad_named : (whole at : Span) (d : Definition) (words : List Word) → Defines d words → is_bad d ≡ true → at ≡ d.name.at → DefinesBadly whole at words
+bad_named : (whole at : Span) (d : Definition) (words : List PlainWord) → Defines d words → is_bad d ≡ true → at ≡ d.name.at → DefinesBadly whole at words
 bad_named whole at d (name ∷ words) defines bad same = inr (d, defines, bad, same)
 bad_named whole at d [] defines bad same = absurd defines
 
-judges : (whole : Span) (d : Definition) (words : List Word) (outcome : Outcome) → Defines d words → outcome ≡ judged d → Judges whole words outcome
+judges : (whole : Span) (d : Definition) (words : List PlainWord) (outcome : Outcome) → Defines d words → outcome ≡ judged d → Judges whole words outcome
 judges whole d words outcome defines e =
     subst (λ o. Judges whole words o) (sym e)
     (elim (is_bad d) as (λ b. is_bad d ≡ b → Judges whole words (cond b (BadDefinition d.name.at) (Read (Define (macro_of d)))))
     [ true ↦ λ bad. bad_named whole d.name.at d words defines bad refl | false ↦ λ good. (d, defines, good, refl) ] refl)
 
-took_judges : (whole : Span) (words : List Word) (found : Option Definition) → Took words found → Judges whole words (judged_or_wrong found)
+took_judges : (whole : Span) (words : List PlainWord) (found : Option Definition) → Took words found → Judges whole words (judged_or_wrong found)
 took_judges whole words None took = tt
 took_judges whole words (Some d) took = judges whole d words (judged d) took refl
 
-pub define_takes : (whole : Span) (words : List Word) → Judges whole words (definition_of whole words)
+pub define_takes : (whole : Span) (words : List PlainWord) → Judges whole words (definition_of whole words)
 define_takes whole [] = refl
 define_takes whole (name ∷ words) =
     elim (is_name_kind name.kind) as (λ b. is_name_kind name.kind ≡ b → Judges whole (name ∷ words) (cond b (judged_or_wrong (defined_of name words)) (BadDefinition whole))) [
@@ -214,11 +213,11 @@ define_takes whole (name ∷ words) =
       | false ↦ λ no. inl (no, refl)
     ] refl
 
-pub good_again : (whole : Span) (d : Definition) (words : List Word) (plain : PlainMacro) → Defines d words → is_bad d ≡ false → macro_of d ≡ plain → definition_of whole words ≡ Read (Define plain)
+pub good_again : (whole : Span) (d : Definition) (words : List PlainWord) (plain : PlainMacro) → Defines d words → is_bad d ≡ false → macro_of d ≡ plain → definition_of whole words ≡ Read (Define plain)
 good_again whole d words plain defines good same =
     define_again whole d words defines ∙ ap (λ b. cond b (BadDefinition d.name.at) (Read (Define (macro_of d)))) good ∙ ap (λ m. Read (Define m)) same
 
-pub bad_again : (whole at : Span) (words : List Word) → DefinesBadly whole at words → definition_of whole words ≡ BadDefinition at
+pub bad_again : (whole at : Span) (words : List PlainWord) → DefinesBadly whole at words → definition_of whole words ≡ BadDefinition at
 bad_again whole at [] same = ap BadDefinition (sym same)
 bad_again whole at (name ∷ words) bad =
     elim bad [

@@ -10,4 +10,3 @@ pub mod Climbs
 pub mod Trees
 pub mod Truths
 pub mod Heads
-pub mod Plainly

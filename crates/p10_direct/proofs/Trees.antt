@@ -53,7 +53,7 @@ module _ {A : Type 0} (algebra : Algebra A) where
   fold (Joined op left right) = algebra.join op (fold left) (fold right)
   fold (Chosen test first second) = algebra.choose (fold test) (fold first) (fold second)
 
-  -- what is to be found of a condition with these words behind it
+  -- what is to be found of a condition with these words after it
   abbrev pub result : Condition → List Token → Found A
   result t rest = record { what = fold t; depth = depth_of t; rest = rest }
 
@@ -142,7 +142,7 @@ module _ {A : Type 0} (algebra : Algebra A) where
 
   -- ## What is read is spelled
 
-  -- a left operand: its words, and no tighter operator behind it
+  -- a left operand: its words, and no tighter operator after it
   record IsLeft (level : ℕ) (tokens : List Token) (f : Found A) : Type 0 where
     tree : Condition
     formed : IsFormed tree
@@ -236,7 +236,7 @@ module _ {A : Type 0} (algebra : Algebra A) where
         stops = r.ends;
       }
 
-  -- a left operand behind which no operator of the level stands
+  -- a left operand after which no operator of the level stands
   record IsEnd (level : ℕ) (tokens : List Token) (f : Found A) : Type 0 where
     last : IsLeft level tokens f
     ends : operator_at level f.rest ≡ None

@@ -1,7 +1,8 @@
 -- The truth of the words of a condition, and that they are one condition at most.
-use Rattle.std.proofs.Common.{◌≡◌, ℕ, ℤ, ◌+◌, ◌-◌, ◌<◌, ◌≤◌, zero, suc, max, List, [], ◌∷◌, drop, Bool, true, false, not, cond, refl, sym, ◌∙◌, ap, subst, arith, Option, Some, None, option_map, option_and_then, IfSome, IfNone}
+use Rattle.std.proofs.Common.{◌≡◌, ℕ, ℤ, ◌+◌, ◌-◌, ◌<◌, ◌≤◌, zero, suc, max, List, [], ◌∷◌, map, drop, Bool, true, false, not, cond, refl, sym, ◌∙◌, ap, subst, arith, Option, Some, None, option_map, option_and_then, IfSome, IfNone}
 use Rattle.std.proofs.lemmas.Option.{none-some, same_Some}
 use Rattle.p10_base.specs.declared.word.Word.{Word}
+use Rattle.p10_base.specs.Words.{PlainWord, plain_word}
 use Rattle.p10_direct.specs.declared.operator.Binary.{Binary}
 use Rattle.p10_direct.specs.declared.part.Part.{Part}
 use Rattle.p10_direct.specs.Tokens.{Token, tokens_of}
@@ -27,7 +28,7 @@ tree_is (Joined op left right) = ap (λ l. Joined op l (fold trees right)) (tree
 tree_is (Chosen test first second) =
     ap (λ t. Chosen t (fold trees first) (fold trees second)) (tree_is test) ∙ ap (λ f. Chosen test f (fold trees second)) (tree_is first) ∙ ap (Chosen test first) (tree_is second)
 
-pub one_condition : (words : List Word) (this that : Condition) → SpellsCondition words this → SpellsCondition words that → this ≡ that
+pub one_condition : (words : List PlainWord) (this that : Condition) → SpellsCondition words this → SpellsCondition words that → this ≡ that
 one_condition words this that a b =
     let budget = max (depth_of this) (depth_of that) in
     let first = climb_again trees this budget a.formed (omega arith) in
@@ -64,11 +65,11 @@ numbered f number e =
     elim (is_nil f.rest) as (λ b. is_nil f.rest ≡ b → cond b f.what.value None ≡ Some number → Numbered f number)
     [ true ↦ λ nil e. record { whole = nil_is f.rest nil; value = e } | false ↦ λ more e. absurd (none-some number e) ] refl e
 
-all_words : (words : List Word) → from 0 words ≡ tokens_of words
+all_words : (words : List Word) → from 0 words ≡ tokens_of (map plain_word words)
 unfolding from
 all_words words = refl
 
-found_holds : (words : List Word) (o : Option (Found Value)) (number : ℤ) → climb values 512 0 (from 0 words) ≡ o → IfSome o (λ f. f.depth ≤ 512) → number_of o ≡ Some number → HasTruth words (not (is_zero number))
+found_holds : (words : List Word) (o : Option (Found Value)) (number : ℤ) → climb values 512 0 (from 0 words) ≡ o → IfSome o (λ f. f.depth ≤ 512) → number_of o ≡ Some number → HasTruth (map plain_word words) (not (is_zero number))
 found_holds words None number e shallow n = absurd (none-some number n)
 found_holds words (Some f) number e shallow n =
     let took : Took values 0 (from 0 words) f = climb_takes values 512 0 (from 0 words) f (omega arith) e in
@@ -82,9 +83,9 @@ found_holds words (Some f) number e shallow n =
       truth_is = refl;
     }
 
-pub truth_holds : (words : List Word) (number : Option ℤ) (answer : Option Bool) → answer ≡ option_map (λ n. not (is_zero n)) number → number ≡ number_of (climb values 512 0 (from 0 words)) → IfSome (climb values 512 0 (from 0 words)) (λ f. f.depth ≤ 512) → IfSome answer (HasTruth words)
-truth_holds words None answer is n shallow = subst (λ a. IfSome a (HasTruth words)) (sym is) tt
-truth_holds words (Some number) answer is n shallow = subst (λ a. IfSome a (HasTruth words)) (sym is) (found_holds words (climb values 512 0 (from 0 words)) number refl shallow (sym n))
+pub truth_holds : (words : List Word) (number : Option ℤ) (answer : Option Bool) → answer ≡ option_map (λ n. not (is_zero n)) number → number ≡ number_of (climb values 512 0 (from 0 words)) → IfSome (climb values 512 0 (from 0 words)) (λ f. f.depth ≤ 512) → IfSome answer (HasTruth (map plain_word words))
+truth_holds words None answer is n shallow = subst (λ a. IfSome a (HasTruth (map plain_word words))) (sym is) tt
+truth_holds words (Some number) answer is n shallow = subst (λ a. IfSome a (HasTruth (map plain_word words))) (sym is) (found_holds words (climb values 512 0 (from 0 words)) number refl shallow (sym n))
 
 pub shallow_read : (words : List Word) (o : Option (Found Value)) (answer : Option Part) → option_map (found_of words) answer ≡ o → IfSome answer (λ part. part.depth ≤ 512) → IfSome o (λ f. f.depth ≤ 512)
 shallow_read words o None e shallow = subst (λ x. IfSome x (λ f. f.depth ≤ 512)) e tt
@@ -93,17 +94,17 @@ shallow_read words o (Some part) e shallow = subst (λ x. IfSome x (λ f. f.dept
 pub shallow_first : (budget depth : ℕ) → (budget ≡ 0 → ⊥) → depth ≤ budget - 1 + 1 → depth ≤ budget
 shallow_first budget depth some shallow = let p = some_budget budget some in omega (arith, shallow, p)
 
-none_holds : (words : List Word) → None ≡ number_of (climb values 512 0 (from 0 words)) → (truth : Bool) → HasTruth words truth → ⊥
+none_holds : (words : List Word) → None ≡ number_of (climb values 512 0 (from 0 words)) → (truth : Bool) → HasTruth (map plain_word words) truth → ⊥
 none_holds words none truth h =
     let again : climb values 512 0 (from 0 words) ≡ Some (result values h.tree []) =
     ap (climb values 512 0) (all_words words ∙ h.spells.spelled) ∙ climb_again values h.tree 512 h.spells.formed h.shallow in
     none-some h.number (none ∙ ap number_of again ∙ ap (λ (v : Value). v.value) (value_is h.tree) ∙ h.value)
 
-pub truth_fails : (words : List Word) (number : Option ℤ) (answer : Option Bool) → answer ≡ option_map (λ n. not (is_zero n)) number → number ≡ number_of (climb values 512 0 (from 0 words)) → IfNone answer ((truth : Bool) → HasTruth words truth → ⊥)
-truth_fails words None answer is n = subst (λ a. IfNone a ((truth : Bool) → HasTruth words truth → ⊥)) (sym is) (none_holds words n)
-truth_fails words (Some number) answer is n = subst (λ a. IfNone a ((truth : Bool) → HasTruth words truth → ⊥)) (sym is) tt
+pub truth_fails : (words : List Word) (number : Option ℤ) (answer : Option Bool) → answer ≡ option_map (λ n. not (is_zero n)) number → number ≡ number_of (climb values 512 0 (from 0 words)) → IfNone answer ((truth : Bool) → HasTruth (map plain_word words) truth → ⊥)
+truth_fails words None answer is n = subst (λ a. IfNone a ((truth : Bool) → HasTruth (map plain_word words) truth → ⊥)) (sym is) (none_holds words n)
+truth_fails words (Some number) answer is n = subst (λ a. IfNone a ((truth : Bool) → HasTruth (map plain_word words) truth → ⊥)) (sym is) tt
 
--- ## Reading behind a left operand
+-- ## Reading after a left operand
 
 pub no_budget : (budget level : ℕ) (tokens : List Token) → budget ≡ 0 → None ≡ climb values budget level tokens
 no_budget budget level tokens none = sym (ap (λ b. climb values b level tokens) none ∙ climb_zero values level tokens)

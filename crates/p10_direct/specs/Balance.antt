@@ -1,7 +1,7 @@
 -- The structure of a file's conditionals (C99 6.10.1). Of a line only what it is to its conditional counts, by the second
 -- word alone; and an `#endif` closes the nearest conditional that is open.
 use Rattle.std.specs.Prelude.{ℕ, zero, suc, List, [], ◌∷◌, length, map, Bool, true, false, not, Option, Some, None, option_map, is_none, if◌then◌else◌}
-use Rattle.p10_base.specs.declared.word.Word.{Word}
+use Rattle.p10_base.specs.Words.{PlainWord}
 use Rattle.p10_direct.specs.declared.keyword.Keyword.{Keyword}
 use Rattle.p10_direct.specs.declared.keyword.Keyword.TheVariants.{If, Ifdef, Ifndef, Endif}
 use Rattle.p10_direct.specs.declared.keyword.Keyword.TheVariants as named
@@ -22,7 +22,7 @@ mark_of_keyword (Some Endif) = Closes
 mark_of_keyword _ = Plain
 
 -- the part of the directive that a word names
-abbrev pub mark_of_word : Word → Mark
+abbrev pub mark_of_word : PlainWord → Mark
 mark_of_word word = mark_of_keyword (keyword_of word)
 
 -- what a line is to the conditional in which it stands
@@ -53,7 +53,7 @@ abbrev pub is_before_else : Option Bool → Bool
 is_before_else (Some had_else) = not had_else
 is_before_else None = false
 
--- whether a line breaks the structure, between the lines before it, the nearest first, and those behind it
+-- whether a line breaks the structure, between the lines before it, the nearest first, and those after it
 abbrev pub is_break : List Mark → Mark → List Mark → Bool
 is_break before Opens after = not (is_closed zero after)
 is_break before Elif after = not (is_before_else (open_before zero before))

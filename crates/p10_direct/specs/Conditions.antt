@@ -1,7 +1,7 @@
 -- The conditions of `#if`: trees, the words that spell them, their depth and their truth (C99 6.10.1, 6.6, 6.5.15).
 use Rattle.std.specs.Prelude.{ℤ, ℕ, ◌≡◌, suc, max, ◌≤◌, ◌<◌, List, [], ◌∷◌, Bool, not, Some, codes}
 use Rattle.p10_int.specs.declared.operators.UnOp.{UnOp}
-use Rattle.p10_base.specs.declared.word.Word.{Word}
+use Rattle.p10_base.specs.Words.{PlainWord}
 use Rattle.p10_direct.specs.declared.operator.Binary.{Binary}
 use Rattle.p10_direct.specs.Tokens.{Token, tokens_of, sign_token}
 use Rattle.p10_direct.specs.Operators.{sign_text, binary_text, level_of_binary}
@@ -49,7 +49,7 @@ IsFormed (Joined op left right) = IsFormed left × IsFormed right × (level_of_b
 IsFormed (Chosen test first second) = IsFormed test × IsFormed first × IsFormed second × (1 ≤ level_of test)
 
 -- these words spell the condition
-pub record SpellsCondition (words : List Word) (tree : Condition) : Type 0 where
+pub record SpellsCondition (words : List PlainWord) (tree : Condition) : Type 0 where
   pub formed : IsFormed tree
   pub spelled : tokens_of words ≡ spell tree []
 
@@ -74,7 +74,7 @@ value_of (Joined op left right) = joined op (value_of left) (value_of right)
 value_of (Chosen test first second) = chosen (value_of test) (value_of first) (value_of second)
 
 -- the words are a condition of depth 512 at most, whose value doesn't stop and has this truth (C99 6.10.1p4)
-pub record HasTruth (words : List Word) (truth : Bool) : Type 0 where
+pub record HasTruth (words : List PlainWord) (truth : Bool) : Type 0 where
   pub tree : Condition
   pub spells : SpellsCondition words tree
   pub shallow : depth_of tree ≤ 512
@@ -84,4 +84,4 @@ pub record HasTruth (words : List Word) (truth : Bool) : Type 0 where
 
 -- words spell one condition at most
 abbrev pub ConditionsAreUnique : Type 0
-ConditionsAreUnique = (words : List Word) (this that : Condition) → SpellsCondition words this → SpellsCondition words that → this ≡ that
+ConditionsAreUnique = (words : List PlainWord) (this that : Condition) → SpellsCondition words this → SpellsCondition words that → this ≡ that

@@ -1,7 +1,8 @@
 //! The structure of a file's conditionals (C99 6.10.1).
 
 ghost use Rattle.std.specs.Prelude.{◌≡◌, ◌+◌, ◌^◌, ◌<◌, ◌≤◌, [], IfOk, map, reverse};
-ghost use Rattle.p10_direct.specs.Lines.{piece_of};
+ghost use Rattle.p10_base.specs.Words.{plain_word};
+ghost use Rattle.p10_direct.specs.Lines.{piece_of, DirectiveLine};
 ghost use Rattle.p10_direct.specs.Balance.{first_unbalanced, mark_of, mark_of_word};
 ghost use Rattle.p10_direct.specs.private.Breaks.{stray_from, unclosed_from, passed_back, earlier_of, Stacks};
 
@@ -35,14 +36,24 @@ pub fn part_of(line: &Line<'_, '_>) -> Mark
     ensures { result ≡ mark_of (piece_of line.now) }
 {
     match line {
-        Line::Directive([_, name, ..]) => mark_named(name),
+        Line::Directive(words) => part_of_words(words),
+        Line::Text(_) => Mark::Plain,
+    }
+}
+
+/// What a directive line with these words is to the conditional in which it stands.
+fn part_of_words(words: &[Word<'_>]) -> Mark
+    ensures { result ≡ mark_of (DirectiveLine (map plain_word words.now)) }
+{
+    match words {
+        [_, name, ..] => mark_named(name),
         _ => Mark::Plain,
     }
 }
 
 /// What a directive with this name is to the conditional in which it stands.
 fn mark_named(name: &Word<'_>) -> Mark
-    ensures { result ≡ mark_of_word name.now }
+    ensures { result ≡ mark_of_word (plain_word name.now) }
 {
     match directive_named(name) {
         Some(Keyword::If | Keyword::Ifdef | Keyword::Ifndef) => Mark::Opens,
@@ -109,8 +120,8 @@ fn first_unclosed(lines: &[Line<'_, '_>]) -> Option<usize>
     first
 }
 
-/// Passes over a line from behind. `first` is the place of the first conditional behind it that
-/// isn't closed, and `closing` tells how many `#endif` behind it close one that begins before them.
+/// Passes over a line on the way back. `first` is the place of the first conditional after it that
+/// isn't closed, and `closing` tells how many `#endif` after it close one that begins before them.
 fn pass_back(
     mark: Mark,
     place: usize,

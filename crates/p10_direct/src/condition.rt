@@ -1,10 +1,11 @@
 //! Tells the truth of a condition without memory.
 
-ghost use Rattle.std.specs.Prelude.{◌≡◌, ◌+◌, ◌≤◌, ◌<◌, drop, List, option_map, IfSome, IfNone, Bool, not};
+ghost use Rattle.std.specs.Prelude.{◌≡◌, ◌+◌, ◌≤◌, ◌<◌, drop, map, List, option_map, IfSome, IfNone, Bool, not};
 ghost use Rattle.p10_direct.specs.Conditions.{HasTruth, ConditionsAreUnique};
 ghost use Rattle.p10_direct.specs.private.Climbing.{values, climb, operand, choice, heads, operator_at, if_level, start_at, start_of, both_sides, number_of, is_nil};
 ghost use Rattle.p10_direct.specs.private.Parts.{from, found_of, start_read};
 ghost use Rattle.p10_base.specs.declared.word.Word.{Word};
+ghost use Rattle.p10_base.specs.Words.{plain_word};
 ghost use Rattle.p10_direct.specs.Tokens.{token_of};
 ghost use Rattle.p10_direct.specs.private.Signs.{binary_of};
 ghost use Rattle.p10_direct.specs.Values.{is_zero};
@@ -23,8 +24,8 @@ const MOST_DEPTH: u32 = 512;
 /// a name is 0 (C99 6.10.1p4). None where the words are no constant expression of depth 512 at
 /// most, or its value stops. Takes no memory.
 pub fn truth(words: &[Word<'_>]) -> Option<bool>
-    ensures holds { IfSome result (HasTruth words.now) }
-    ensures fails { IfNone result ((truth : Bool) → HasTruth words.now truth → ⊥) }
+    ensures holds { IfSome result (HasTruth (map plain_word words.now)) }
+    ensures fails { IfNone result ((truth : Bool) → HasTruth (map plain_word words.now) truth → ⊥) }
 {
     is_true(number(words))
 }
@@ -61,7 +62,7 @@ pub fn one_condition()
     ensures { ConditionsAreUnique }
 {}
 
-/// The place behind a word, or the place itself at the end of the words.
+/// The place after a word, or the place itself at the end of the words.
 fn behind(words: &[Word<'_>], place: usize) -> usize
     ensures { from result words.now ≡ drop 1 (from place words.now) }
 {
@@ -96,7 +97,7 @@ fn operator(words: &[Word<'_>], place: usize, level: u32) -> Option<Binary>
 
 /// The operator that the word is, where it binds at least so tightly.
 fn operator_word(word: &Word<'_>, level: u32) -> Option<Binary>
-    ensures { result ≡ if_level level (binary_of (token_of word.now)) }
+    ensures { result ≡ if_level level (binary_of (token_of (plain_word word.now))) }
 {
     let op = binary_operator(word)?;
     if level <= binding(op) { Some(op) } else { None }
@@ -115,7 +116,7 @@ fn start(words: &[Word<'_>], place: usize) -> Start
 
 /// How an operand begins with the word.
 fn start_word(word: &Word<'_>) -> Start
-    ensures { start_read result ≡ start_of (token_of word.now) }
+    ensures { start_read result ≡ start_of (token_of (plain_word word.now)) }
 {
     if word.is_punctuator(b"(") {
         return Start::Group;
@@ -217,7 +218,7 @@ fn join_parts(op: Binary, left: Part, right: Part) -> Part
     }
 }
 
-/// Reads `?` and its branches, whose parts have at most this depth, behind a test.
+/// Reads `?` and its branches, whose parts have at most this depth, after a test.
 #[cycle(condition)]
 fn read_choice(inner: u32, words: &[Word<'_>], test: Part) -> Option<Part>
     requires inner { inner < 512 }

@@ -1,6 +1,7 @@
 //! The constants of a condition (C99 6.10.1p4).
 
 ghost use Rattle.std.specs.Prelude.{◌≡◌, option_map};
+ghost use Rattle.p10_base.specs.Words.{plain_word};
 ghost use Rattle.p10_direct.specs.Constants.{constant_of, number_constant, signed_constant};
 ghost use Rattle.p10_direct.specs.Tokens.{token_of};
 ghost use Rattle.p10_direct.specs.private.Valued.{constant_read};
@@ -12,7 +13,7 @@ use p10_lex::{Integer, character_value, integer_constant};
 /// The constant that a word is: a number, a character, or 0 for a name.
 #[tactic(auto, unfolding(crate::specs::Constants::constant_of))]
 pub fn constant(word: &Word<'_>) -> Option<Constant>
-    ensures { option_map constant_read result ≡ constant_of (token_of word.now) }
+    ensures { option_map constant_read result ≡ constant_of (token_of (plain_word word.now)) }
 {
     match word.kind {
         Kind::Number => match integer_constant(word.text) {

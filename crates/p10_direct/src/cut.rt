@@ -1,6 +1,7 @@
 //! Cuts the words of a file into directive lines and runs of text.
 
 ghost use Rattle.std.specs.Prelude.{◌≡◌, ◌<◌, length, Some, IfOk, map};
+ghost use Rattle.p10_base.specs.Words.{plain_word};
 ghost use Rattle.p10_direct.specs.Lines.{AreCut, LinesAreUnique, piece_of, begins_directive};
 ghost use Rattle.p10_direct.specs.Cutting.{behind, split};
 ghost use Rattle.p10_direct.specs.private.Pieces.{first_piece_of};
@@ -15,9 +16,9 @@ use std::alloc::{AllocError, Global};
 /// conditionals are unbalanced.
 ///
 /// `words` are all words of the file, in their order. A line begins at the first word, and at each word
-/// that has `first` set. It fails only where memory is wanting.
+/// that has `first` set. It fails only where memory ran out.
 pub fn lines<'w, 's>(alloc: Global, words: &'w [Word<'s>]) -> Result<Lines<'w, 's>, AllocError>
-    ensures cut { IfOk result (λ found. AreCut words.now (map piece_of found.lines)) }
+    ensures cut { IfOk result (λ found. AreCut (map plain_word words.now) (map piece_of found.lines)) }
     ensures unbalanced { IfOk result (λ found. found.unbalanced ≡ first_unbalanced (map piece_of found.lines)) }
 {
     let mut lines = ListBuf::of(Vec::new(alloc));
@@ -36,10 +37,10 @@ pub fn one_cut()
     ensures { LinesAreUnique }
 {}
 
-/// The first line or run, and the words behind it.
+/// The first line or run, and the words after it.
 fn first_line<'w, 's>(words: &'w [Word<'s>]) -> (Line<'w, 's>, &'w [Word<'s>])
     requires { 0 < length words.now }
-    ensures value { Some (piece_of result.0, result.1.now) ≡ first_piece_of words.now }
+    ensures value { Some (piece_of result.0, map plain_word result.1.now) ≡ first_piece_of (map plain_word words.now) }
     ensures shorter { length result.1.now < length words.now }
 {
     if words[0].is_punctuator(b"#") {
@@ -55,17 +56,17 @@ fn first_line<'w, 's>(words: &'w [Word<'s>]) -> (Line<'w, 's>, &'w [Word<'s>])
 /// the first line begins; the second begins at the next word that has `first` set.
 pub fn split_line<'w, 's>(words: &'w [Word<'s>]) -> (&'w [Word<'s>], &'w [Word<'s>])
     requires { 0 < length words.now }
-    ensures value { (result.0.now, result.1.now) ≡ split (λ word. word.first) words.now }
+    ensures value { (map plain_word result.0.now, map plain_word result.1.now) ≡ split (λ word. word.first) (map plain_word words.now) }
     ensures shorter { length result.1.now < length words.now }
 {
     let after = behind_line(&words[1..]);
     (&words[..words.len() - after.len()], after)
 }
 
-/// The words before the first directive behind the first word, and those from there on.
+/// The words before the first directive after the first word, and those from there on.
 fn split_text<'w, 's>(words: &'w [Word<'s>]) -> (&'w [Word<'s>], &'w [Word<'s>])
     requires { 0 < length words.now }
-    ensures value { (result.0.now, result.1.now) ≡ split begins_directive words.now }
+    ensures value { (map plain_word result.0.now, map plain_word result.1.now) ≡ split begins_directive (map plain_word words.now) }
     ensures shorter { length result.1.now < length words.now }
 {
     let after = behind_text(&words[1..]);
@@ -74,7 +75,7 @@ fn split_text<'w, 's>(words: &'w [Word<'s>]) -> (&'w [Word<'s>], &'w [Word<'s>])
 
 /// The words from the first that begins a line on.
 fn behind_line<'w, 's>(words: &'w [Word<'s>]) -> &'w [Word<'s>]
-    ensures { result.now ≡ behind (λ word. word.first) words.now }
+    ensures { map plain_word result.now ≡ behind (λ word. word.first) (map plain_word words.now) }
 {
     let mut rest = words;
     while let [word, others @ ..] = rest {
@@ -88,7 +89,7 @@ fn behind_line<'w, 's>(words: &'w [Word<'s>]) -> &'w [Word<'s>]
 
 /// The words from the first that begins a directive on.
 fn behind_text<'w, 's>(words: &'w [Word<'s>]) -> &'w [Word<'s>]
-    ensures { result.now ≡ behind begins_directive words.now }
+    ensures { map plain_word result.now ≡ behind begins_directive (map plain_word words.now) }
 {
     let mut rest = words;
     while let [word, others @ ..] = rest {

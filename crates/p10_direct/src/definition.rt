@@ -2,7 +2,8 @@
 
 ghost use Rattle.std.specs.Prelude.{◌≡◌, ◌≤◌, [], map, length, true, option_map, IsSome, IfOk, OnErr, IsTrue};
 ghost use Rattle.std.specs.List.{list_any};
-ghost use Rattle.p10_direct.specs.Directives.{IsDefinition, IsFunctionLike, is_refused, has_repeated_text, repeats_a_parameter, has_ellipsis, is_ellipsis, has_bad_word, is_bad, texts_of};
+ghost use Rattle.p10_base.specs.Words.{plain_word, spellings_of};
+ghost use Rattle.p10_direct.specs.Directives.{IsDefinition, IsFunctionLike, is_refused, has_repeated_text, repeats_a_parameter, has_ellipsis, is_ellipsis, has_bad_word, is_bad};
 ghost use Rattle.p10_direct.specs.private.Telling.{TellsUnless, fault_of};
 ghost use Rattle.p10_direct.specs.Form.{plain_definition};
 ghost use Rattle.p10_direct.specs.private.Reading.{definition_of, definition_read, defined_of, judged, parameters_of, behind_parameters, parameter_of, has_list};
@@ -19,28 +20,28 @@ use std::collections::HashSet;
 enum Parameters<'w, 's> {
     /// None of the forms.
     Wrong,
-    /// The parameters, a last `...` among them, and the words behind the list.
+    /// The parameters, a last `...` among them, and the words after the list.
     Listed(ListBuf<Word<'s>>, &'w [Word<'s>]),
 }
 
-/// A parameter, and what the word behind it says.
+/// A parameter, and what the word after it says.
 #[derive(Clone, Copy)]
 enum Parameter<'s> {
     /// None of the forms.
     Wrong,
     /// A name or `...` as the last parameter.
     Last(Word<'s>),
-    /// A name with a comma behind it.
+    /// A name with a comma after it.
     Further(Word<'s>),
 }
 
-/// Reads the words behind `#define` as a directive; `whole` is the place of its line.
+/// Reads the words after `#define` as a directive; `whole` is the place of its line.
 pub fn define<'w, 's>(
     alloc: Global,
     whole: Span,
     words: &'w [Word<'s>],
 ) -> Result<Directive<'w, 's>, DirectFault>
-    ensures { TellsUnless (IsFunctionLike words.now) whole (definition_of whole words.now) result }
+    ensures { TellsUnless (IsFunctionLike (map plain_word words.now)) whole (definition_of whole (map plain_word words.now)) result }
 {
     match words {
         [name, others @ ..] if matches!(name.kind, Kind::Name) => {
@@ -54,26 +55,26 @@ pub fn define<'w, 's>(
     }
 }
 
-/// The definition that these words behind `#define` are, also one that is refused: a name, or a name
-/// with a parameter list directly behind it, and a replacement list (C99 6.10p1).
+/// The definition that these words after `#define` are, also one that is refused: a name, or a name
+/// with a parameter list directly after it, and a replacement list (C99 6.10p1).
 ///
 /// `words` go to the end of the line. `None` where they begin with no name, or with a parameter list of
-/// another form. It fails only where memory is wanting.
+/// another form. It fails only where memory ran out.
 pub fn read_definition<'w, 's>(
     alloc: Global,
     words: &'w [Word<'s>],
 ) -> Result<Option<Definition<'w, 's>>, AllocError>
-    ensures { IfOk result (λ found. IsDefinition words.now (option_map plain_definition found)) }
+    ensures { IfOk result (λ found. IsDefinition (map plain_word words.now) (option_map plain_definition found)) }
 {
     read_words(alloc, words)
 }
 
-/// Reads the words behind `#define`.
+/// Reads the words after `#define`.
 fn read_words<'w, 's>(
     alloc: Global,
     words: &'w [Word<'s>],
 ) -> Result<Option<Definition<'w, 's>>, AllocError>
-    ensures { IfOk result (λ found. option_map plain_definition found ≡ definition_read words.now) }
+    ensures { IfOk result (λ found. option_map plain_definition found ≡ definition_read (map plain_word words.now)) }
 {
     match words {
         [name, others @ ..] if matches!(name.kind, Kind::Name) => read_behind_name(
@@ -90,14 +91,14 @@ fn bad_definition(at: Span) -> DirectFault
     DirectFault::Refused(Refusal::directive(DirectiveCode::BadDefinition, at))
 }
 
-/// Reads the words behind the defined name.
+/// Reads the words after the defined name.
 fn read_behind_name<'w, 's>(
     alloc: Global,
     name: &Word<'s>,
     words: &'w [Word<'s>],
 ) -> Result<Option<Definition<'w, 's>>, AllocError>
-    ensures read { IfOk result (λ found. option_map plain_definition found ≡ defined_of name.now words.now) }
-    ensures memory { OnErr result (IsTrue (has_list name.now words.now)) }
+    ensures read { IfOk result (λ found. option_map plain_definition found ≡ defined_of (plain_word name.now) (map plain_word words.now)) }
+    ensures memory { OnErr result (IsTrue (has_list (plain_word name.now) (map plain_word words.now))) }
 {
     if !begins_list(name, words) {
         return Ok(Some(Definition {
@@ -119,7 +120,7 @@ fn read_behind_name<'w, 's>(
 
 /// Whether the words begin with the `(` of a parameter list.
 fn begins_list(name: &Word<'_>, words: &[Word<'_>]) -> bool
-    ensures { result ≡ has_list name.now words.now }
+    ensures { result ≡ has_list (plain_word name.now) (map plain_word words.now) }
 {
     match words {
         [] => false,
@@ -182,9 +183,14 @@ pub fn is_variadic(found: &Definition<'_, '_>) -> bool
 
 /// Whether `...` is among the words.
 fn has_ellipsis_among(words: &[Word<'_>]) -> bool
-    ensures { result ≡ list_any is_ellipsis words.now }
+    ensures { result ≡ list_any is_ellipsis (map plain_word words.now) }
 {
-    words.iter().any(|word| word.is_punctuator(b"..."))
+    for word in words {
+        if word.is_punctuator(b"...") {
+            return true;
+        }
+    }
+    false
 }
 
 /// Whether a parameter stands twice.
@@ -198,10 +204,10 @@ fn repeats_a_parameter(alloc: Global, found: &Definition<'_, '_>) -> Result<bool
     }
 }
 
-/// Whether a text stands twice. Each text is looked for in a set of those behind it and not among the words, since
+/// Whether a text stands twice. Each text is looked for in a set of those after it and not among the words, since
 /// a macro may have very many parameters.
 fn has_repeated_text(alloc: Global, words: &[Word<'_>]) -> Result<bool, AllocError>
-    ensures { IfOk result (λ repeated. repeated ≡ has_repeated_text (texts_of words.now)) }
+    ensures { IfOk result (λ repeated. repeated ≡ has_repeated_text (spellings_of (map plain_word words.now))) }
 {
     let mut behind = HashSet::new(alloc);
     let mut place = words.len();
@@ -216,11 +222,14 @@ fn has_repeated_text(alloc: Global, words: &[Word<'_>]) -> Result<bool, AllocErr
 
 /// Whether a replacement list has `#`, `##` or `...`.
 pub fn has_pasting(body: &[Word<'_>]) -> bool
-    ensures { result ≡ list_any is_refused body.now }
+    ensures { result ≡ list_any is_refused (map plain_word body.now) }
 {
-    body.iter().any(|word| word.is_punctuator(b"#")
-        || word.is_punctuator(b"##")
-        || word.is_punctuator(b"..."))
+    for word in body {
+        if word.is_punctuator(b"#") || word.is_punctuator(b"##") || word.is_punctuator(b"...") {
+            return true;
+        }
+    }
+    false
 }
 
 /// The names of the parameters.
@@ -228,7 +237,7 @@ fn parameter_names<'s>(
     alloc: Global,
     parameters: &Option<ListBuf<Word<'s>>>,
 ) -> Result<Option<ListBuf<&'s [u8]>>, AllocError>
-    ensures exact { IfOk result (λ names. option_map (map (λ name. name.now)) names ≡ option_map texts_of parameters.now) }
+    ensures exact { IfOk result (λ names. option_map (map (λ name. name.now)) names ≡ option_map spellings_of (option_map (map plain_word) parameters.now)) }
     ensures memory { OnErr result (IsSome parameters.now) }
 {
     match parameters {
@@ -242,7 +251,7 @@ fn parameter_names<'s>(
 
 /// The texts of the words.
 fn texts<'s>(alloc: Global, words: &[Word<'s>]) -> Result<ListBuf<&'s [u8]>, AllocError>
-    ensures { IfOk result (λ texts. map (λ text. text.now) texts ≡ texts_of words.now) }
+    ensures { IfOk result (λ texts. map (λ text. text.now) texts ≡ spellings_of (map plain_word words.now)) }
 {
     let mut texts = ListBuf::of(Vec::new(alloc));
     for word in words {
@@ -251,12 +260,12 @@ fn texts<'s>(alloc: Global, words: &[Word<'s>]) -> Result<ListBuf<&'s [u8]>, All
     Ok(texts)
 }
 
-/// Reads a parameter list behind its `(`.
+/// Reads a parameter list after its `(`.
 fn read_parameters<'w, 's>(
     alloc: Global,
     words: &'w [Word<'s>],
 ) -> Result<Parameters<'w, 's>, AllocError>
-    ensures { IfOk result (λ found. parameters_read found ≡ parameters_of words.now) }
+    ensures { IfOk result (λ found. parameters_read found ≡ parameters_of (map plain_word words.now)) }
 {
     match words {
         [close, body @ ..] if close.is_punctuator(b")") => Ok(Parameters::Listed(
@@ -272,7 +281,7 @@ fn read_further<'w, 's>(
     alloc: Global,
     words: &'w [Word<'s>],
 ) -> Result<Parameters<'w, 's>, AllocError>
-    ensures { IfOk result (λ found. parameters_read found ≡ behind_parameters [] words.now) }
+    ensures { IfOk result (λ found. parameters_read found ≡ behind_parameters [] (map plain_word words.now)) }
 {
     let mut parameters = ListBuf::of(Vec::new(alloc));
     let mut place = 0;
@@ -290,10 +299,10 @@ fn read_further<'w, 's>(
     Ok(Parameters::Wrong)
 }
 
-/// Reads a parameter, and the word behind it.
+/// Reads a parameter, and the word after it.
 fn read_parameter<'s>(words: &[Word<'s>]) -> Parameter<'s>
     requires { 2 ≤ length words.now }
-    ensures { parameter_read result ≡ parameter_of words.now }
+    ensures { parameter_read result ≡ parameter_of (map plain_word words.now) }
 {
     let (word, separator) = (&words[0], &words[1]);
     let named = matches!(word.kind, Kind::Name);

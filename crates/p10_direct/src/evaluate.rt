@@ -36,7 +36,7 @@ fn convert(unsigned: bool, value: i128) -> i128
     }
 }
 
-/// What an operator makes of the operand behind it.
+/// What an operator makes of the operand after it.
 pub fn apply_sign(op: UnOp, operand: Value) -> Value
     ensures { value_read result ≡ applied op (value_read operand) }
 {

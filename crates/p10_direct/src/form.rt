@@ -62,6 +62,6 @@ pub enum Directive<'w, 's> {
 pub enum DirectFault {
     /// D1 for an unknown directive or one of another form, D4 for a bad macro definition.
     Refused(Refusal),
-    /// Memory is wanting.
+    /// Memory ran out.
     Memory,
 }

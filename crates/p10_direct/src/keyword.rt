@@ -1,6 +1,7 @@
 //! The names of directives.
 
 ghost use Rattle.std.specs.Prelude.{◌≡◌};
+ghost use Rattle.p10_base.specs.Words.{plain_word};
 ghost use Rattle.p10_direct.specs.Keywords.{keyword_of};
 
 use p10_base::Word;
@@ -22,7 +23,7 @@ pub enum Keyword {
 
 /// The directive that the word names.
 pub fn directive_named(word: &Word<'_>) -> Option<Keyword>
-    ensures { result ≡ keyword_of word.now }
+    ensures { result ≡ keyword_of (plain_word word.now) }
 {
     if word.is_name(b"include") {
         Some(Keyword::Include)

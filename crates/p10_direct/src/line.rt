@@ -18,6 +18,6 @@ pub struct Lines<'w, 's> {
     pub lines: ListBuf<Line<'w, 's>>,
     /// The place among `lines` of the first directive that breaks the structure of conditionals:
     /// an `#elif`, `#else` or `#endif` that belongs to no open conditional, an `#elif` or `#else`
-    /// behind the `#else` of its conditional, or an `#if`, `#ifdef` or `#ifndef` without `#endif`.
+    /// after the `#else` of its conditional, or an `#if`, `#ifdef` or `#ifndef` without `#endif`.
     pub unbalanced: Option<usize>,
 }

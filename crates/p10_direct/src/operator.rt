@@ -1,6 +1,7 @@
 //! The operators of a condition.
 
 ghost use Rattle.std.specs.Prelude.{◌≡◌, ◌≤◌};
+ghost use Rattle.p10_base.specs.Words.{plain_word};
 ghost use Rattle.p10_direct.specs.private.Signs.{sign_of, binary_of, logical_of, comparison_of, arithmetical_of};
 ghost use Rattle.p10_direct.specs.Operators.{level_of_binary};
 ghost use Rattle.p10_direct.specs.Tokens.{token_of};
@@ -22,7 +23,7 @@ pub enum Binary {
 /// The operator that the word is before an operand.
 #[tactic(auto, unfolding(crate::specs::private::Signs::sign_of))]
 pub fn sign_operator(word: &Word<'_>) -> Option<UnOp>
-    ensures { result ≡ sign_of (token_of word.now) }
+    ensures { result ≡ sign_of (token_of (plain_word word.now)) }
 {
     if word.is_punctuator(b"+") {
         Some(UnOp::Plus)
@@ -40,7 +41,7 @@ pub fn sign_operator(word: &Word<'_>) -> Option<UnOp>
 /// The operator that the word is between two operands.
 #[tactic(auto, unfolding(crate::specs::private::Signs::binary_of))]
 pub fn binary_operator(word: &Word<'_>) -> Option<Binary>
-    ensures { result ≡ binary_of (token_of word.now) }
+    ensures { result ≡ binary_of (token_of (plain_word word.now)) }
 {
     if let Some(op) = logical(word) {
         return Some(op);
@@ -54,7 +55,7 @@ pub fn binary_operator(word: &Word<'_>) -> Option<Binary>
 /// `||`, `&&`, `|`, `^` or `&`.
 #[tactic(auto, unfolding(crate::specs::private::Signs::logical_of))]
 fn logical(word: &Word<'_>) -> Option<Binary>
-    ensures { result ≡ logical_of (token_of word.now) }
+    ensures { result ≡ logical_of (token_of (plain_word word.now)) }
 {
     if word.is_punctuator(b"||") {
         Some(Binary::OrElse)
@@ -74,7 +75,7 @@ fn logical(word: &Word<'_>) -> Option<Binary>
 /// `==`, `!=`, `<`, `>`, `<=` or `>=`.
 #[tactic(auto, unfolding(crate::specs::private::Signs::comparison_of))]
 fn comparison(word: &Word<'_>) -> Option<Binary>
-    ensures { result ≡ comparison_of (token_of word.now) }
+    ensures { result ≡ comparison_of (token_of (plain_word word.now)) }
 {
     if word.is_punctuator(b"==") {
         Some(Binary::Apply(BinOp::Eq))
@@ -96,7 +97,7 @@ fn comparison(word: &Word<'_>) -> Option<Binary>
 /// `<<`, `>>`, `+`, `-`, `*`, `/` or `%`.
 #[tactic(auto, unfolding(crate::specs::private::Signs::arithmetical_of))]
 fn arithmetical(word: &Word<'_>) -> Option<Binary>
-    ensures { result ≡ arithmetical_of (token_of word.now) }
+    ensures { result ≡ arithmetical_of (token_of (plain_word word.now)) }
 {
     if word.is_punctuator(b"<<") {
         Some(Binary::Apply(BinOp::Shl))

@@ -9,7 +9,7 @@ pub struct Part {
     pub value: Value,
     /// The depth of its tree.
     pub depth: u32,
-    /// The place of the word behind it.
+    /// The place of the word after it.
     pub place: usize,
 }
 

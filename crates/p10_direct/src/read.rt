@@ -1,6 +1,7 @@
 //! Reads one directive line.
 
-ghost use Rattle.std.specs.Prelude.{◌≡◌, ◌<◌, length, option_copied, IfOk, IfErr};
+ghost use Rattle.std.specs.Prelude.{◌≡◌, ◌<◌, length, map, option_copied, IfOk, IfErr};
+ghost use Rattle.p10_base.specs.Words.{plain_word};
 ghost use Rattle.p10_direct.specs.Directives.{Spells, IsFunctionLikeNamed, IsFunctionLikeBehind, place_of, Undef, Ifdef, Ifndef, Else, Endif, LinesHaveOneOutcome};
 ghost use Rattle.p10_lex.specs.Literals.{inside};
 ghost use Rattle.p10_direct.specs.Form.{plain, BeginsWithHash, IsFaultOf};
@@ -18,15 +19,15 @@ use std::alloc::Global;
 /// of another form; D4 for a bad definition, at the defined name, or at the directive where it has none.
 ///
 /// `line` has the words of one directive line, from its `#` on. A name that is defined with another list
-/// isn't told here. Memory may be wanting only where the line begins as the definition of a
+/// isn't told here. Memory may run out only where the line begins as the definition of a
 /// function-like macro, `#define NAME(`.
 pub fn directive<'w, 's>(
     alloc: Global,
     line: &'w [Word<'s>],
 ) -> Result<Directive<'w, 's>, DirectFault>
-    requires { BeginsWithHash line.now }
-    ensures read { IfOk result (λ found. Spells (plain found) line.now) }
-    ensures refused { IfErr result (IsFaultOf line.now) }
+    requires { BeginsWithHash (map plain_word line.now) }
+    ensures read { IfOk result (λ found. Spells (plain found) (map plain_word line.now)) }
+    ensures refused { IfErr result (IsFaultOf (map plain_word line.now)) }
 {
     read_behind(alloc, whole(line), &line[1..])
 }
@@ -39,7 +40,7 @@ pub fn one_outcome()
 /// The place of a directive: from its `#`, the first word of `line`, to the end of the last one.
 pub fn whole(line: &[Word<'_>]) -> Span
     requires { 0 < length line.now }
-    ensures { result ≡ place_of line.now }
+    ensures { result ≡ place_of (map plain_word line.now) }
 {
     Span {
         file: line[0].at.file,
@@ -55,13 +56,13 @@ pub fn bad_form(whole: Span) -> DirectFault
     DirectFault::Refused(Refusal::directive(DirectiveCode::BadDirective, whole))
 }
 
-/// Reads the words behind `#`.
+/// Reads the words after `#`.
 fn read_behind<'w, 's>(
     alloc: Global,
     whole: Span,
     words: &'w [Word<'s>],
 ) -> Result<Directive<'w, 's>, DirectFault>
-    ensures { TellsUnless (IsFunctionLikeBehind words.now) whole (outcome_behind whole words.now) result }
+    ensures { TellsUnless (IsFunctionLikeBehind (map plain_word words.now)) whole (outcome_behind whole (map plain_word words.now)) result }
 {
     match words {
         [] => Ok(Directive::Null),
@@ -69,14 +70,14 @@ fn read_behind<'w, 's>(
     }
 }
 
-/// Reads the words behind the name of a directive.
+/// Reads the words after the name of a directive.
 fn read_named<'w, 's>(
     alloc: Global,
     whole: Span,
     name: Option<Keyword>,
     words: &'w [Word<'s>],
 ) -> Result<Directive<'w, 's>, DirectFault>
-    ensures { TellsUnless (IsFunctionLikeNamed name words.now) whole (named_outcome whole name words.now) result }
+    ensures { TellsUnless (IsFunctionLikeNamed name (map plain_word words.now)) whole (named_outcome whole name (map plain_word words.now)) result }
 {
     match name {
         None => Err(bad_form(whole)),
@@ -94,7 +95,7 @@ fn read_named<'w, 's>(
 }
 
 fn include<'w, 's>(whole: Span, words: &'w [Word<'s>]) -> Result<Directive<'w, 's>, DirectFault>
-    ensures { Tells whole (include_of words.now) result }
+    ensures { Tells whole (include_of (map plain_word words.now)) result }
 {
     let [word] = words else {
         return Err(bad_form(whole));
@@ -113,7 +114,7 @@ fn include<'w, 's>(whole: Span, words: &'w [Word<'s>]) -> Result<Directive<'w, '
 
 /// The one name of the words.
 fn only_name<'s>(words: &[Word<'s>]) -> Option<&'s [u8]>
-    ensures { option_copied result ≡ only_name_of words.now }
+    ensures { option_copied result ≡ only_name_of (map plain_word words.now) }
 {
     match words {
         [word] if matches!(word.kind, Kind::Name) => Some(word.text),
@@ -122,7 +123,7 @@ fn only_name<'s>(words: &[Word<'s>]) -> Option<&'s [u8]>
 }
 
 fn undef<'w, 's>(whole: Span, words: &'w [Word<'s>]) -> Result<Directive<'w, 's>, DirectFault>
-    ensures { Tells whole (of_name Undef words.now) result }
+    ensures { Tells whole (of_name Undef (map plain_word words.now)) result }
 {
     match only_name(words) {
         Some(name) => Ok(Directive::Undef(name)),
@@ -131,7 +132,7 @@ fn undef<'w, 's>(whole: Span, words: &'w [Word<'s>]) -> Result<Directive<'w, 's>
 }
 
 fn ifdef<'w, 's>(whole: Span, words: &'w [Word<'s>]) -> Result<Directive<'w, 's>, DirectFault>
-    ensures { Tells whole (of_name Ifdef words.now) result }
+    ensures { Tells whole (of_name Ifdef (map plain_word words.now)) result }
 {
     match only_name(words) {
         Some(name) => Ok(Directive::Ifdef(name)),
@@ -140,7 +141,7 @@ fn ifdef<'w, 's>(whole: Span, words: &'w [Word<'s>]) -> Result<Directive<'w, 's>
 }
 
 fn ifndef<'w, 's>(whole: Span, words: &'w [Word<'s>]) -> Result<Directive<'w, 's>, DirectFault>
-    ensures { Tells whole (of_name Ifndef words.now) result }
+    ensures { Tells whole (of_name Ifndef (map plain_word words.now)) result }
 {
     match only_name(words) {
         Some(name) => Ok(Directive::Ifndef(name)),
@@ -149,7 +150,7 @@ fn ifndef<'w, 's>(whole: Span, words: &'w [Word<'s>]) -> Result<Directive<'w, 's
 }
 
 fn lone_else<'w, 's>(whole: Span, words: &'w [Word<'s>]) -> Result<Directive<'w, 's>, DirectFault>
-    ensures { Tells whole (alone Else words.now) result }
+    ensures { Tells whole (alone Else (map plain_word words.now)) result }
 {
     if words.is_empty() {
         Ok(Directive::Else)
@@ -159,7 +160,7 @@ fn lone_else<'w, 's>(whole: Span, words: &'w [Word<'s>]) -> Result<Directive<'w,
 }
 
 fn lone_endif<'w, 's>(whole: Span, words: &'w [Word<'s>]) -> Result<Directive<'w, 's>, DirectFault>
-    ensures { Tells whole (alone Endif words.now) result }
+    ensures { Tells whole (alone Endif (map plain_word words.now)) result }
 {
     if words.is_empty() {
         Ok(Directive::Endif)
@@ -169,7 +170,7 @@ fn lone_endif<'w, 's>(whole: Span, words: &'w [Word<'s>]) -> Result<Directive<'w
 }
 
 fn pragma<'w, 's>(whole: Span, words: &'w [Word<'s>]) -> Result<Directive<'w, 's>, DirectFault>
-    ensures { Tells whole (pragma_of words.now) result }
+    ensures { Tells whole (pragma_of (map plain_word words.now)) result }
 {
     match words {
         [] => Ok(Directive::OtherPragma),
@@ -185,9 +186,9 @@ fn pragma<'w, 's>(whole: Span, words: &'w [Word<'s>]) -> Result<Directive<'w, 's
     }
 }
 
-/// Reads the words behind `#pragma p10`.
+/// Reads the words after `#pragma p10`.
 fn own_pragma<'w, 's>(whole: Span, words: &'w [Word<'s>]) -> Result<Directive<'w, 's>, DirectFault>
-    ensures { Tells whole (own_of words.now) result }
+    ensures { Tells whole (own_of (map plain_word words.now)) result }
 {
     let [word] = words else {
         return Err(bad_form(whole));

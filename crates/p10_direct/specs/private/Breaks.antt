@@ -4,7 +4,7 @@ use Rattle.p10_direct.specs.declared.mark.Mark.{Mark}
 use Rattle.p10_direct.specs.declared.mark.Mark.TheVariants.{Opens, Elif, Else, Closes, Plain}
 use Rattle.p10_direct.specs.Balance.{is_closed}
 
--- the open conditionals behind a line, the innermost first, each with whether it had its `#else`; None where the line doesn't fit
+-- the open conditionals after a line, the innermost first, each with whether it had its `#else`; None where the line doesn't fit
 abbrev pub stack_step : Mark → List Bool → Option (List Bool)
 stack_step Opens pending = Some (false ∷ pending)
 stack_step Plain pending = Some pending
@@ -19,7 +19,7 @@ stack_step Closes [] = None
 abbrev pub Stacks : Mark → Bool → List Bool → List Bool → Type 0
 Stacks mark fits old new = MatchBool fits (stack_step mark old ≡ Some new) (stack_step mark old ≡ None)
 
--- a line doesn't fit, or the others are looked at behind it
+-- a line doesn't fit, or the others are looked at after it
 abbrev pub stray_behind : ℕ → (List Bool → Option ℕ) → Option (List Bool) → Option ℕ
 stray_behind place others None = Some place
 stray_behind place others (Some pending) = others pending
@@ -36,7 +36,7 @@ unclosed_from (Opens ∷ marks) place = if is_closed zero marks then unclosed_fr
 unclosed_from (_ ∷ marks) place = unclosed_from marks (suc place)
 
 -- the first conditional from a line on that isn't closed, and how many `#endif` from it on close one that begins before it, where
--- these are those behind the line
+-- these are those after the line
 abbrev pub passed_back : Mark → ℕ → Option ℕ × ℕ → Option ℕ × ℕ
 passed_back Opens place (first, zero) = (Some place, 0)
 passed_back Opens place (first, suc closing) = (first, closing)

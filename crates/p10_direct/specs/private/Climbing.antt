@@ -21,7 +21,7 @@ pub record Algebra (A : Type 0) : Type 0 where
 abbrev pub values : Algebra Value
 values = record { single = λ token constant. constant_value constant; grouped = λ v. v; apply = applied; join = joined; choose = chosen }
 
--- what was read, its depth, and what stands behind it
+-- what was read, its depth, and what stands after it
 pub record Found (A : Type 0) : Type 0 where
   pub what : A
   pub depth : ℕ
@@ -77,7 +77,7 @@ abbrev pub Reader : Type 0 → Type 0
 Reader A = ℕ → List Token → Option (Found A)
 
 module _ {A : Type 0} (algebra : Algebra A) where
-  -- an operand in parentheses, by what was read behind its `(`: a `)` has to follow, and the depth is one more
+  -- an operand in parentheses, by what was read after its `(`: a `)` has to follow, and the depth is one more
   abbrev pub closed : Found A → Option (Found A)
   closed f = if heads (codes ")") f.rest then Some (record { what = algebra.grouped f.what; depth = suc f.depth; rest = drop 1 f.rest }) else None
 
@@ -85,8 +85,8 @@ module _ {A : Type 0} (algebra : Algebra A) where
   abbrev pub signed : UnOp → Found A → Found A
   signed op f = record { what = algebra.apply op f.what; depth = suc f.depth; rest = f.rest }
 
-  -- an operand by its first word, and how that begins one; `tokens` stand behind it, and `inner` reads a whole condition
-  -- behind `(`, and behind an operator another operand, whose level is 11
+  -- an operand by its first word, and how that begins one; `tokens` stand after it, and `inner` reads a whole condition
+  -- after `(`, and after an operator another operand, whose level is 11
   abbrev pub begun : Reader A → Token → Start → List Token → Option (Found A)
   begun inner token Group tokens = option_and_then closed (inner 0 tokens)
   begun inner token (Sign op) tokens = option_map (signed op) (inner 11 tokens)
@@ -106,18 +106,18 @@ module _ {A : Type 0} (algebra : Algebra A) where
   abbrev pub kept : ℕ → (Found A → Option (Found A)) → Found A → Option (Found A)
   kept budget more f = if nat_le f.depth budget then more f else None
 
-  -- a left operand with the operator behind it, if there is one. Its right operand has to bind more tightly, so
-  -- operators of one level group from the left; `more` goes on behind both where they are at most `budget` deep
+  -- a left operand with the operator after it, if there is one. Its right operand has to bind more tightly, so
+  -- operators of one level group from the left; `more` goes on after both where they are at most `budget` deep
   abbrev pub chained : ℕ → (Found A → Option (Found A)) → Reader A → Found A → Option Binary → Option (Found A)
   chained budget more inner left None = Some left
   chained budget more inner left (Some op) = option_and_then (λ right. kept budget more (both_sides op left right)) (inner (suc (level_of_binary op)) (drop 1 left.rest))
 
-  -- a left operand behind which no operator may stand any more: nothing is read where one does
+  -- a left operand after which no operator may stand any more: nothing is read where one does
   abbrev pub ends_here : Found A → Option Binary → Option (Found A)
   ends_here left None = Some left
   ends_here left (Some op) = None
 
-  -- the operators behind a left operand, at most `n` of them, each with its right operand
+  -- the operators after a left operand, at most `n` of them, each with its right operand
   abbrev pub chain : ℕ → ℕ → ℕ → Reader A → Found A → Option (Found A)
   chain zero budget level inner left = ends_here left (operator_at level left.rest)
   chain (suc n) budget level inner left = chained budget (λ f. chain n budget level inner f) inner left (operator_at level left.rest)
@@ -126,7 +126,7 @@ module _ {A : Type 0} (algebra : Algebra A) where
   abbrev pub three_parts : Found A → Found A → Found A → Found A
   three_parts test first second = record { what = algebra.choose test.what first.what second.what; depth = suc (max test.depth (max first.depth second.depth)); rest = second.rest }
 
-  -- `?:` from behind its first branch on: a `:` has to follow and then the second branch, and the whole
+  -- `?:` from after its first branch on: a `:` has to follow and then the second branch, and the whole
   -- is at most `budget` deep
   abbrev pub second_branch : ℕ → Reader A → Found A → Found A → Option (Found A)
   second_branch budget inner test first =
@@ -143,7 +143,7 @@ module _ {A : Type 0} (algebra : Algebra A) where
   ended budget zero inner f = choice budget inner f
   ended budget (suc level) inner f = Some f
 
-  -- a condition of at least this level from behind its first operand on; each operator makes it deeper, so no more of
+  -- a condition of at least this level from after its first operand on; each operator makes it deeper, so no more of
   -- them follow than `budget` has depth left
   abbrev pub behind_left : ℕ → ℕ → Reader A → Found A → Option (Found A)
   behind_left budget level inner f = option_and_then (ended budget level inner) (chain (budget - f.depth) budget level inner f)
@@ -158,7 +158,7 @@ abbrev pub is_nil : List Token → Bool
 is_nil [] = true
 is_nil (token ∷ tokens) = false
 
--- the value of what was read, if nothing stands behind it
+-- the value of what was read, if nothing stands after it
 abbrev pub number_of : Option (Found Value) → Option ℤ
 number_of None = None
 number_of (Some f) = if is_nil f.rest then f.what.value else None

@@ -1,6 +1,7 @@
 -- Parts that the code has read, as the definitions see them.
-use Rattle.std.specs.Prelude.{ℕ, List, drop}
+use Rattle.std.specs.Prelude.{ℕ, List, drop, map}
 use Rattle.p10_base.specs.declared.word.Word.{Word}
+use Rattle.p10_base.specs.Words.{plain_word}
 use Rattle.p10_direct.specs.declared.part.Part.{Part}
 use Rattle.p10_direct.specs.declared.part.Start.{Start as Coded}
 use Rattle.p10_direct.specs.declared.part.Start.TheVariants as coded
@@ -11,9 +12,9 @@ use Rattle.p10_direct.specs.private.Climbing.{Found, Start, Group, Sign, Lone, N
 
 -- the words from a place on
 unfoldable pub from : ℕ → List Word → List Token
-from place words = tokens_of (drop place words)
+from place words = tokens_of (map plain_word (drop place words))
 
--- a part that the code has read of these words: its value, its depth, and the words behind it
+-- a part that the code has read of these words: its value, its depth, and the words after it
 abbrev pub found_of : List Word → Part → Found Value
 found_of words part = record { what = value_read part.value; depth = part.depth; rest = from part.place words }
 

@@ -13,7 +13,7 @@ use Rattle.p10_direct.specs.Form.{plain}
 abbrev pub fault_of : DirectiveCode → Span → DirectFault
 fault_of code at = Refused (directive_refusal code at)
 
--- an answer is this outcome of a line with this place, unless memory is wanting, which it may be only under this condition
+-- an answer is this outcome of a line with this place, unless memory ran out, which it may only under this condition
 abbrev pub TellsUnless : Type 0 → Span → Outcome → Result Directive DirectFault → Type 0
 TellsUnless condition whole outcome (Ok directive) = outcome ≡ Read (plain directive)
 TellsUnless condition whole outcome (Err (Refused refusal)) = refusal_of whole outcome ≡ Some refusal

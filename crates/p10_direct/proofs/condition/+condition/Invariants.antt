@@ -12,7 +12,7 @@ decreases-read_operand l = 2 * l.inner + 2
 abbrev pub decreases-read_choice : goal.decreases-read_choice
 decreases-read_choice l = 2 * l.inner + 2
 
--- all of the condition is what is read behind the left operand
+-- all of the condition is what is read after the left operand
 abbrev pub invariant-read-loop-op : goal.invariant-read-loop-op
 invariant-read-loop-op l = record {
   shallow : l.left.depth ≤ l.budget;

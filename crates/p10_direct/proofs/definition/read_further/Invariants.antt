@@ -1,4 +1,5 @@
-use Rattle.std.proofs.Common.{◌≡◌, ◌-◌, ◌≤◌, [], length, drop}
+use Rattle.std.proofs.Common.{◌≡◌, ◌-◌, ◌≤◌, [], length, map, drop}
+use Rattle.p10_base.specs.Words.{plain_word}
 use Rattle.p10_direct.specs.private.Reading.{behind_parameters}
 use Rattle.p10_direct.proofs.definition.read_further.Given as goal
 
@@ -6,7 +7,7 @@ use Rattle.p10_direct.proofs.definition.read_further.Given as goal
 abbrev pub invariant-loop-place : goal.invariant-loop-place
 invariant-loop-place l = record {
   within : l.place ≤ length l.words;
-  so_far : behind_parameters [] l.words ≡ behind_parameters l.parameters (drop l.place l.words);
+  so_far : behind_parameters [] (map plain_word l.words) ≡ behind_parameters (map plain_word l.parameters) (map plain_word (drop l.place l.words));
 }
 
 abbrev pub decreases-loop-place : goal.decreases-loop-place
