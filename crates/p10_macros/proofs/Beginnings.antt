@@ -2,7 +2,7 @@
 use Rattle.std.proofs.Common.{◌≡◌, ℕ, ◌+◌, ◌-◌, ◌<◌, ◌≤◌, List, [], ◌∷◌, length, take, Bool, true, false, Option, Some, None, Bor, inl, inr, refl, sym, subst, ap, ◌∙◌, arith}
 use Rattle.std.specs.Prelude.{reverse}
 use Rattle.std.proofs.lemmas.List.{length-reverse}
-use Rattle.p10_base.specs.Words.{Text}
+use Rattle.p10_base.specs.Words.{Text, plain_word}
 use Rattle.p10_direct.specs.Directives.{PlainMacro}
 use Rattle.p10_macros.specs.declared.origin.Origins.{Origins}
 use Rattle.p10_macros.specs.declared.pending.Traced.{Traced}
@@ -21,7 +21,7 @@ use Rattle.p10_macros.specs.private.Running.{OpenUse}
 use Rattle.p10_macros.specs.private.Origins.{has_macro}
 use Rattle.p10_macros.specs.private.Traces.{IsTraced}
 use Rattle.p10_macros.specs.private.Standing.{Plays, Stands, StandsBy, Role, NextWord, EndsArgument, EndsCall, role_of, place_among, State, KeepsFor, LeadsTo, FaultComes, AtUse, AtCall, IsReplacedIn, IsTooLong, IsOpenedIn}
-use Rattle.p10_macros.specs.private.Links.{argument_end, call_end, commas, HasExits}
+use Rattle.p10_macros.specs.private.Links.{word_of, argument_end, call_end, commas, HasExits}
 use Rattle.p10_macros.proofs.Standings.{HasNext, has_next, next_opens_is, next_closes, closed_at_once, closed_later}
 use Rattle.p10_macros.proofs.Lookups.{IsUsed, used_where_found, as_recursive, as_object, as_function, called_none, called_open, called_wrong, called_with}
 use Rattle.p10_macros.proofs.Links.{below_last}
@@ -49,9 +49,9 @@ top_by origins top items EndsCall stop (open' ∷ those) word words uses stands 
 has_top : (origins : Origins) (all : List Pending) (stop : ℕ) (those : List Open) (word : Sourced) (words : List Sourced) (uses : List OpenUse) → Stands origins all stop those (word ∷ words) uses → HasTop origins all stop those word words uses
 has_top origins [] stop [] word words uses stands = absurd stands
 has_top origins [] stop (open' ∷ those) word words uses stands = absurd stands
-has_top origins (top ∷ items) stop those word words uses stands = top_by origins top items (role_of items stop top.traced.word) stop those word words uses stands
+has_top origins (top ∷ items) stop those word words uses stands = top_by origins top items (role_of items stop (word_of top)) stop those word words uses stands
 
--- the words behind the next one, where it was taken
+-- the words after the next one, where it was taken
 popped_stands : (origins : Origins) (old new : Ahead) (stop : ℕ) (those : List Open) (word : Sourced) (words : List Sourced) (uses : List OpenUse) → new.words.items ≡ take (length old.words.items - 1) old.words.items →
     Stands origins (reverse old.words.items) stop those (word ∷ words) uses → Stands origins (reverse new.words.items) stop those words uses
 popped_stands origins old new stop those word words uses is stands =
@@ -186,17 +186,17 @@ call_right table old new made parameters name state at exits has inside same ope
 
 -- ## The name of a macro
 
-at_use_with : (table : Table) (run : Run) (plain : PlainMacro) (name : Traced) (given todo done : List Sourced) (uses : List OpenUse) (left : ℕ) → macro_used table (reverse run.pending.words.items) name.word ≡ Some plain →
+at_use_with : (table : Table) (run : Run) (plain : PlainMacro) (name : Traced) (given todo done : List Sourced) (uses : List OpenUse) (left : ℕ) → macro_used table (reverse run.pending.words.items) (plain_word name.word) ≡ Some plain →
     HasNext run.origins name (reverse run.pending.words.items) run.stop (reverse run.open.items) todo uses → KeepsFor run (record { given = given; todo = todo; done = done; uses = uses; left = left }) →
     AtUse table run plain name (record { given = given; todo = todo; done = done; uses = uses; left = left })
 at_use_with table run plain name given [] done uses left used next keeps = absurd next
 at_use_with table run plain name given (word ∷ words) done uses left used (traced, stands) keeps =
     let found : IsUsed table plain word words =
-    used_where_found table (reverse run.pending.words.items) name.word plain word words (next_opens_is run.origins (reverse run.pending.words.items) run.stop (reverse run.open.items) words uses stands) traced.word used in
+    used_where_found table (reverse run.pending.words.items) (plain_word name.word) plain word words (next_opens_is run.origins (reverse run.pending.words.items) run.stop (reverse run.open.items) words uses stands) traced.word used in
     record { word = word; words = words; todo = refl; traced = traced; stands = stands; keeps = keeps; is = found.is; calls = found.calls }
 
 -- a word that names a macro is a use of it
-pub at_use : (table : Table) (run : Run) (plain : PlainMacro) (next : Pending) (state : State) → macro_used table (reverse run.pending.words.items) next.traced.word ≡ Some plain → Plays run next NextWord state →
+pub at_use : (table : Table) (run : Run) (plain : PlainMacro) (next : Pending) (state : State) → macro_used table (reverse run.pending.words.items) (plain_word next.traced.word) ≡ Some plain → Plays run next NextWord state →
     AtUse table run plain next.traced state
 at_use table run plain next state used plays =
     at_use_with table run plain next.traced state.given state.todo state.done state.uses state.left used

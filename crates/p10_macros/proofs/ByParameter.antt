@@ -11,7 +11,7 @@ use Rattle.std.proofs.lemmas.Bool.Decides.{nat_tests}
 use Rattle.std.proofs.lemmas.Slice.Eq.{bytes_eq-Decides}
 use Rattle.p10_base.specs.declared.word.Word.{Word}
 use Rattle.p10_base.specs.Names.{place_in}
-use Rattle.p10_base.specs.Words.{Text, is_name_kind}
+use Rattle.p10_base.specs.Words.{Text, PlainWord, is_name_kind, plain_word}
 use Rattle.p10_macros.specs.declared.origin.Origins.{Origins}
 use Rattle.p10_macros.specs.declared.pending.Traced.{Traced}
 use Rattle.p10_macros.specs.Uses.{Sourced, value_of, texts_of}
@@ -21,7 +21,7 @@ use Rattle.p10_macros.specs.private.Places.{place_named, at_place, at_text, IsBe
 
 -- ## Places by texts
 
--- the first place of a list is that of its head, or stands behind it
+-- the first place of a list is that of its head, or stands after it
 position-cons : {A : Type 0} (test : A → Bool) (item : A) (items : List A) → position test (item ∷ items) ≡ cond (test item) (Some 0) (option_map suc (position test items))
 position-cons test item items = go (test item)
   where
@@ -99,14 +99,14 @@ has_all by_text texts place none has text =
 place_below : (texts : List Text) (text : Text) → IsBelow (length texts) (place_in texts text)
 place_below texts text place found = (position-Some (bytes_eq text) texts place [] found).0
 
-named_below : (texts : List Text) (word : Word) → IsBelow (length texts) (place_named texts word)
+named_below : (texts : List Text) (word : PlainWord) → IsBelow (length texts) (place_named texts word)
 named_below texts word = go (is_name_kind word.kind)
   where
-    go : (b : Bool) → IsBelow (length texts) (cond b (place_in texts word.text.now) None)
-    go true = place_below texts word.text.now
+    go : (b : Bool) → IsBelow (length texts) (cond b (place_in texts word.text) None)
+    go true = place_below texts word.text
     go false = λ place found. cc
 
-pub all_below : (parameters : Option (List Text)) (words : List Word) → All (IsBelow (length (texts_of parameters))) (places_of parameters words)
+pub all_below : (parameters : Option (List Text)) (words : List PlainWord) → All (IsBelow (length (texts_of parameters))) (places_of parameters words)
 all_below None words = All-nil (IsBelow 0)
 all_below (Some texts) [] = All-nil (IsBelow (length texts))
 all_below (Some texts) (word ∷ words) = All-cons (IsBelow (length texts)) (place_named texts word) (map (place_named texts) words) (named_below texts word) (all_below (Some texts) words)
@@ -117,14 +117,14 @@ nothing : (found : Option ℕ) → None ≡ at_place {A = List Sourced} found []
 nothing None = refl
 nothing (Some place) = refl
 
-named_value : (word : Word) → is_name_kind word.kind ≡ true → (texts : List Text) (values : List (List Sourced)) → value_of texts values word ≡ at_place (place_in texts word.text.now) values
+named_value : (word : PlainWord) → is_name_kind word.kind ≡ true → (texts : List Text) (values : List (List Sourced)) → value_of texts values word ≡ at_place (place_in texts word.text) values
 named_value word kind [] [] = refl
 named_value word kind [] (value ∷ values) = refl
-named_value word kind (parameter ∷ texts) [] = nothing (place_in (parameter ∷ texts) word.text.now)
+named_value word kind (parameter ∷ texts) [] = nothing (place_in (parameter ∷ texts) word.text)
 named_value word kind (parameter ∷ texts) (value ∷ values) =
-    ap (λ (b : Bool). cond (b && bytes_eq word.text.now parameter) (Some value) (value_of texts values word)) kind
-    ∙ go (bytes_eq word.text.now parameter) (place_in texts word.text.now) (named_value word kind texts values)
-    ∙ ap (λ (found : Option ℕ). at_place found (value ∷ values)) (sym (place_in-cons parameter word.text.now texts))
+    ap (λ (b : Bool). cond (b && bytes_eq word.text parameter) (Some value) (value_of texts values word)) kind
+    ∙ go (bytes_eq word.text parameter) (place_in texts word.text) (named_value word kind texts values)
+    ∙ ap (λ (found : Option ℕ). at_place found (value ∷ values)) (sym (place_in-cons parameter word.text texts))
   where
     go : (b : Bool) (found : Option ℕ) → value_of texts values word ≡ at_place found values →
         cond b (Some value) (value_of texts values word) ≡ at_place (cond b (Some 0) (option_map suc found)) (value ∷ values)
@@ -133,18 +133,18 @@ named_value word kind (parameter ∷ texts) (value ∷ values) =
     go false (Some place) again = again
 
 -- a word that is no name has none
-other_value : (word : Word) → is_name_kind word.kind ≡ false → (texts : List Text) (values : List (List Sourced)) → value_of texts values word ≡ None
+other_value : (word : PlainWord) → is_name_kind word.kind ≡ false → (texts : List Text) (values : List (List Sourced)) → value_of texts values word ≡ None
 other_value word kind [] [] = refl
 other_value word kind [] (value ∷ values) = refl
 other_value word kind (parameter ∷ texts) [] = refl
 other_value word kind (parameter ∷ texts) (value ∷ values) =
-    ap (λ (b : Bool). cond (b && bytes_eq word.text.now parameter) (Some value) (value_of texts values word)) kind ∙ other_value word kind texts values
+    ap (λ (b : Bool). cond (b && bytes_eq word.text parameter) (Some value) (value_of texts values word)) kind ∙ other_value word kind texts values
 
 -- the value of the parameter that a word names stands at the place of that parameter
-pub value_at : (texts : List Text) (values : List (List Sourced)) (word : Word) → value_of texts values word ≡ at_place (place_named texts word) values
+pub value_at : (texts : List Text) (values : List (List Sourced)) (word : PlainWord) → value_of texts values word ≡ at_place (place_named texts word) values
 value_at texts values word = go (is_name_kind word.kind) refl
   where
-    go : (b : Bool) → is_name_kind word.kind ≡ b → value_of texts values word ≡ at_place (cond b (place_in texts word.text.now) None) values
+    go : (b : Bool) → is_name_kind word.kind ≡ b → value_of texts values word ≡ at_place (cond b (place_in texts word.text) None) values
     go true kind = named_value word kind texts values
     go false kind = other_value word kind texts values
 
@@ -156,7 +156,7 @@ values_at origins [] (sourced ∷ these) are place = absurd are
 values_at origins (traced ∷ those) [] are place = absurd are
 
 -- what stands at the place of the parameter is the value of the word
-pub is_value : (texts : List Text) (word : Word) (place : Option ℕ) (values : List (List Traced)) (value : Option (List Traced)) → place ≡ place_named texts word → value ≡ at_place place values →
+pub is_value : (texts : List Text) (word : PlainWord) (place : Option ℕ) (values : List (List Traced)) (value : Option (List Traced)) → place ≡ place_named texts word → value ≡ at_place place values →
     (origins : Origins) (values' : List (List Sourced)) → AreValues origins values values' → IsValue origins value (value_of texts values' word)
 is_value texts word place values value named there origins values' are =
     let found : value_of texts values' word ≡ at_place place values' = value_at texts values' word ∙ ap (λ (p : Option ℕ). at_place p values') (sym named) in
@@ -166,3 +166,18 @@ is_value texts word place values value named there origins values' are =
     go : (p : Option ℕ) → IsValue origins (at_place p values) (at_place p values')
     go None = tt
     go (Some n) = values_at origins values values' are n
+
+-- ## The places that a macro keeps
+
+kept_there : (parameters : Option (List Text)) (body : List Word) (place : ℕ) (none : Word) → place < length (places_of parameters (map plain_word body)) →
+    slice_index_or (places_of parameters (map plain_word body)) place None ≡ place_named (texts_of parameters) (plain_word (slice_index_or body place none))
+kept_there None body place none less = absurd (omega arith)
+kept_there (Some texts) [] place none less = absurd (omega arith)
+kept_there (Some texts) (word ∷ body) zero none less = refl
+kept_there (Some texts) (word ∷ body) (suc place) none less = kept_there (Some texts) body place none (omega arith)
+
+-- the place that is kept for a word is that of the parameter which it names
+pub parameter_at : (parameters : Option (List Text)) (body : List Word) (all : List (Option ℕ)) (place : ℕ) (found : Option ℕ) (none : Word) → all ≡ places_of parameters (map plain_word body) → place < length all →
+    found ≡ slice_index_or all place None → found ≡ place_named (texts_of parameters) (plain_word (slice_index_or body place none))
+parameter_at parameters body all place found none is less there =
+    there ∙ ap (λ (l : List (Option ℕ)). slice_index_or l place None) is ∙ kept_there parameters body place none (subst (λ (l : List (Option ℕ)). place < length l) is less)

@@ -1,19 +1,19 @@
--- The arguments of a use end where the words behind its `(` leave parentheses.
+-- The arguments of a use end where the words after its `(` leave parentheses.
 use Rattle.std.proofs.Common.{◌≡◌, ℕ, suc, ◌+◌, ◌<◌, ◌≤◌, ◌==◌, List, [], ◌∷◌, length, Bool, true, false, ◌&&◌, ◌||◌, cond, Option, Some, None, refl, sym, subst, ap, ◌∙◌, arith}
 use Rattle.std.proofs.lemmas.Bool.Decides.{nat_tests}
-use Rattle.p10_base.specs.declared.word.Word.{Word}
+use Rattle.p10_base.specs.Words.{PlainWord}
 use Rattle.p10_macros.specs.declared.origin.Origins.{Origins}
 use Rattle.p10_macros.specs.declared.pending.Pending.{Pending}
 use Rattle.p10_macros.specs.declared.pending.Open.{Open}
-use Rattle.p10_macros.specs.Uses.{Sourced, Arguments, arguments_in, word_before, argument_before, closes, separates, depth_behind}
+use Rattle.p10_macros.specs.Uses.{Sourced, Arguments, arguments_in, word_before, argument_before, closes, separates, depth_after}
 use Rattle.p10_macros.specs.private.Running.{OpenUse}
-use Rattle.p10_macros.specs.private.Links.{argument_end, call_end, commas, IsLinked}
+use Rattle.p10_macros.specs.private.Links.{word_of, argument_end, call_end, commas, IsLinked}
 use Rattle.p10_macros.specs.private.Standing.{IsOpen, Stands, StandsBy, Role, NextWord, EndsArgument, EndsCall, role_of}
 use Rattle.p10_macros.specs.private.Traces.{IsTraced}
 use Rattle.p10_macros.proofs.Links.{separates_only, separates_no_end, as_deep, call_at_most, argument_at_most, linked_head, linked_tail}
 use Rattle.p10_macros.proofs.Standings.{stop_within, stands_word, at_stop, stands_empty}
 
--- the use with these arguments waiting, and these words behind it
+-- the use with these arguments waiting, and these words after it
 abbrev pub with_arguments : OpenUse → List (List Sourced) → List Sourced → OpenUse
 with_arguments use' others rest = record use' { waiting = others; rest = rest }
 
@@ -34,29 +34,29 @@ module _ (origins : Origins) (stop : ℕ) (those : List Open) (uses : List OpenU
   abbrev here : ℕ
   here = length items + 1
 
-  ends_call : (words : List Sourced) → Stands origins items stop those words uses → closes pending.traced.word ≡ true →
+  ends_call : (words : List Sourced) → Stands origins items stop those words uses → closes (word_of pending) ≡ true →
       IsCalled origins stop those uses (pending ∷ items) here here 0 (Some (record { first = []; others = []; rest = words }))
   ends_call words stands closed = (
     omega (arith, less),
     omega arith,
     λ open' use' same is.
-        let role : role_of items here pending.traced.word ≡ EndsCall =
-        ap (λ (b : Bool). cond b (cond (closes pending.traced.word) EndsCall EndsArgument) NextWord) (at_stop here (length items) refl) ∙ ap (λ (b : Bool). cond b EndsCall EndsArgument) closed in
+        let role : role_of items here (word_of pending) ≡ EndsCall =
+        ap (λ (b : Bool). cond b (cond (closes (word_of pending)) EndsCall EndsArgument) NextWord) (at_stop here (length items) refl) ∙ ap (λ (b : Bool). cond b EndsCall EndsArgument) closed in
         let behind : Stands origins items open'.stop those words uses = subst (λ (n : ℕ). Stands origins items n those words uses) (sym same) stands in
         subst (λ (r : Role). StandsBy origins (Stands origins items) pending r here (open' ∷ those) [] (with_arguments use' [] words ∷ uses)) (sym role) (refl, open_again origins open' use' [] words is, behind),
   )
 
   -- a comma in front of the other arguments
-  ends_argument : (call count : ℕ) (found : Option Arguments) → IsLinked (pending ∷ items) → separates pending.traced.word ≡ true → IsCalled origins stop those uses items (argument_end 0 items) call count found →
+  ends_argument : (call count : ℕ) (found : Option Arguments) → IsLinked (pending ∷ items) → separates (word_of pending) ≡ true → IsCalled origins stop those uses items (argument_end 0 items) call count found →
       IsCalled origins stop those uses (pending ∷ items) here call (suc count) (argument_before found)
   ends_argument call count None linked split is = is
   ends_argument call count (Some found) linked split (inside, counted, stands) = (
     inside,
     omega (arith, counted),
     λ open' use' same is.
-        let role : role_of items here pending.traced.word ≡ EndsArgument =
-        ap (λ (b : Bool). cond b (cond (closes pending.traced.word) EndsCall EndsArgument) NextWord) (at_stop here (length items) refl)
-        ∙ ap (λ (b : Bool). cond b EndsCall EndsArgument) (separates_no_end pending.traced.word split) in
+        let role : role_of items here (word_of pending) ≡ EndsArgument =
+        ap (λ (b : Bool). cond b (cond (closes (word_of pending)) EndsCall EndsArgument) NextWord) (at_stop here (length items) refl)
+        ∙ ap (λ (b : Bool). cond b EndsCall EndsArgument) (separates_no_end (word_of pending) split) in
         let next : Stands origins items pending.exits.argument (open' ∷ those) found.first (with_arguments use' found.others found.rest ∷ uses) =
         subst (λ (n : ℕ). Stands origins items n (open' ∷ those) found.first (with_arguments use' found.others found.rest ∷ uses)) (sym (linked_head pending items linked).argument) (stands open' use' same is) in
         subst (λ (r : Role). StandsBy origins (Stands origins items) pending r here (open' ∷ those) [] (with_arguments use' (found.first ∷ found.others) found.rest ∷ uses)) (sym role) (found.first, found.others, refl, split, next),
@@ -88,7 +88,7 @@ no_word origins items pending stop (open' ∷ those) uses false (word ∷ todo) 
 module _ (origins : Origins) (stop : ℕ) (those : List Open) (uses : List OpenUse) (depth : ℕ) (pending : Pending) (items : List Pending) (linked : IsLinked (pending ∷ items))
     (again : (depth : ℕ) (todo : List Sourced) → Stands origins items stop those todo uses → IsCalled origins stop those uses items (argument_end depth items) (call_end depth items) (commas depth items) (arguments_in depth todo)) where
   abbrev deeper : ℕ
-  deeper = depth_behind depth pending.traced.word
+  deeper = depth_after depth (word_of pending)
 
   -- what the places say, by what the word is
   abbrev CalledBy : Bool → Bool → Bool → List Sourced → Sourced → Type 0
@@ -105,10 +105,10 @@ module _ (origins : Origins) (stop : ℕ) (those : List Open) (uses : List OpenU
     other =
         ends_nothing origins stop those uses pending items low word (argument_end deeper items) (call_end deeper items) (commas deeper items) (arguments_in deeper todo) (argument_at_most deeper items) traced (again deeper todo stands)
 
-    called_by : (c s z : Bool) → closes pending.traced.word ≡ c → separates pending.traced.word ≡ s → (depth == 0) ≡ z → CalledBy c s z todo word
+    called_by : (c s z : Bool) → closes (word_of pending) ≡ c → separates (word_of pending) ≡ s → (depth == 0) ≡ z → CalledBy c s z todo word
     called_by true s true closed split flat = ends_call origins stop those uses pending items low todo stands closed
     called_by false true true closed split flat =
-        let same : deeper ≡ 0 = as_deep pending.traced.word depth (separates_only pending.traced.word split) closed ∙ is_zero depth flat in
+        let same : deeper ≡ 0 = as_deep (word_of pending) depth (separates_only (word_of pending) split) closed ∙ is_zero depth flat in
         subst (λ (n : ℕ). IsCalled origins stop those uses (pending ∷ items) (length items + 1) (call_end n items) (suc (commas 0 items)) (argument_before (arguments_in 0 todo))) (sym same)
         (ends_argument origins stop those uses pending items low (call_end 0 items) (commas 0 items) (arguments_in 0 todo) linked split (again 0 todo stands))
     called_by true true false closed split flat = other
@@ -128,9 +128,9 @@ module _ (origins : Origins) (stop : ℕ) (those : List Open) (uses : List OpenU
       IsCalled origins stop those uses (pending ∷ items) (argument_end depth (pending ∷ items)) (call_end depth (pending ∷ items)) (commas depth (pending ∷ items)) (arguments_in depth todo)
   called_role false c [] e stands = absurd stands
   called_role false c (word ∷ todo) e (traced, stands) =
-      subst (λ (w : Word). IsCalled origins stop those uses (pending ∷ items) (argument_end depth (pending ∷ items)) (call_end depth (pending ∷ items)) (commas depth (pending ∷ items))
-      (cond (closes w && (depth == 0)) (Some (record { first = []; others = []; rest = todo })) (cond (separates w && (depth == 0)) (argument_before (arguments_in 0 todo)) (word_before word (arguments_in (depth_behind depth w) todo)))))
-      traced.word (called_by word todo traced stands (closes pending.traced.word) (separates pending.traced.word) (depth == 0) refl refl refl)
+      subst (λ (w : PlainWord). IsCalled origins stop those uses (pending ∷ items) (argument_end depth (pending ∷ items)) (call_end depth (pending ∷ items)) (commas depth (pending ∷ items))
+      (cond (closes w && (depth == 0)) (Some (record { first = []; others = []; rest = todo })) (cond (separates w && (depth == 0)) (argument_before (arguments_in 0 todo)) (word_before word (arguments_in (depth_after depth w) todo)))))
+      traced.word (called_by word todo traced stands (closes (word_of pending)) (separates (word_of pending)) (depth == 0) refl refl refl)
   called_role true true todo e stands = at_end todo (no_word origins items pending stop those uses true todo stands) (let is : stop ≡ length items + 1 = grind (arith, nat_tests) in is)
   called_role true false todo e stands = at_end todo (no_word origins items pending stop those uses false todo stands) (let is : stop ≡ length items + 1 = grind (arith, nat_tests) in is)
 
@@ -140,4 +140,4 @@ is_called origins stop those uses depth [] todo linked stands =
     let empty = stands_empty origins stop those todo uses stands in
     subst (λ (l : List Sourced). IsCalled origins stop those uses [] 0 0 0 (arguments_in depth l)) (sym empty.2) (omega arith)
 is_called origins stop those uses depth (pending ∷ items) todo linked stands =
-    called_role origins stop those uses depth pending items linked (λ d t s. is_called origins stop those uses d items t (linked_tail pending items linked) s) (stop == length items + 1) (closes pending.traced.word) todo refl stands
+    called_role origins stop those uses depth pending items linked (λ d t s. is_called origins stop those uses d items t (linked_tail pending items linked) s) (stop == length items + 1) (closes (word_of pending)) todo refl stands

@@ -6,11 +6,12 @@ use Rattle.std.specs.List.Sorted.{IsPermutation, IsNonDecreasingBy}
 use Rattle.std.proofs.lemmas.Bool.{cases_lt}
 use Rattle.std.proofs.lemmas.Bool.Decides.{nat_tests}
 use Rattle.std.proofs.lemmas.List.{length-map}
+use Rattle.std.proofs.lemmas.Simd.{map-map}
 use Rattle.std.proofs.lemmas.List.Sums.{sum_by-cons, sum_by-append}
 use Rattle.std.proofs.lemmas.List.Sorted.{sum_by-IsPermutation}
 use Rattle.std.proofs.lemmas.List.Elements.{All-weaker, All-from_get_or}
 use Rattle.p10_base.specs.declared.word.Word.{Word}
-use Rattle.p10_base.specs.Words.{Text}
+use Rattle.p10_base.specs.Words.{Text, plain_word}
 use Rattle.p10_macros.specs.declared.pending.Traced.{Traced}
 use Rattle.p10_macros.specs.private.Places.{place_named, places_of, places_that, names, is_put, IsBelow, part_there}
 use Rattle.p10_macros.specs.Uses.{texts_of}
@@ -175,19 +176,19 @@ chosen_all before after values all count parameter whole within as_often moved u
 -- ## The words of a replacement list
 
 -- the places of words of the list
-pub chosen_below : (parameters : Option (List Text)) (body : List Word) (all : List (Option ℕ)) (places : List ℕ) (test : Option ℕ → Bool) → 0 < length (texts_of parameters) → all ≡ places_of parameters body →
+pub chosen_below : (parameters : Option (List Text)) (body : List Word) (all : List (Option ℕ)) (places : List ℕ) (test : Option ℕ → Bool) → 0 < length (texts_of parameters) → all ≡ places_of parameters (map plain_word body) →
     places ≡ places_that test 0 all → All (λ (place : ℕ). place < length body) places
 chosen_below None body all places test some is chosen = absurd (omega (arith, some))
 chosen_below (Some texts) body all places test some is chosen =
-    let many : 0 + length (map (place_named texts) body) ≡ length body = omega (arith, length-map body (place_named texts)) in
+    let many : 0 + length (map (place_named texts) (map plain_word body)) ≡ length body = omega (arith, length-map (map plain_word body) (place_named texts), length-map body plain_word) in
     subst (λ (l : List ℕ). All (λ (place : ℕ). place < length body) l) (sym (chosen ∙ ap (places_that test 0) is))
-    (subst (λ (n : ℕ). All (λ (place : ℕ). place < n) (places_that test 0 (map (place_named texts) body))) many (places_below test 0 (map (place_named texts) body)))
+    (subst (λ (n : ℕ). All (λ (place : ℕ). place < n) (places_that test 0 (map (place_named texts) (map plain_word body)))) many (places_below test 0 (map (place_named texts) (map plain_word body))))
 
 -- for the others nothing is put
-pub parts_whole : {A : Type 0} (parameters : Option (List Text)) (body : List Word) (all : List (Option ℕ)) (places : List ℕ) (values : List (List Traced)) → 0 < length (texts_of parameters) → all ≡ places_of parameters body →
-    places ≡ places_that (is_put values) 0 all → (part : Word → List A) → ((word : Word) → is_put values (place_named (texts_of parameters) word) ≡ false → part word ≡ []) →
+pub parts_whole : {A : Type 0} (parameters : Option (List Text)) (body : List Word) (all : List (Option ℕ)) (places : List ℕ) (values : List (List Traced)) → 0 < length (texts_of parameters) → all ≡ places_of parameters (map plain_word body) →
+    places ≡ places_that (is_put values) 0 all → (part : Word → List A) → ((word : Word) → is_put values (place_named (texts_of parameters) (plain_word word)) ≡ false → part word ≡ []) →
     flat_map (λ (place : ℕ). part_there part (slice_get body place)) places ≡ flat_map part body
 parts_whole None body all places values some is chosen part empty = absurd (omega (arith, some))
 parts_whole {A} (Some texts) body all places values some is chosen part empty =
-    ap (λ (l : List ℕ). flat_map (λ (place : ℕ). part_there part (slice_get body place)) l) (chosen ∙ ap (places_that (is_put values) 0) is)
-    ∙ parts_chosen (place_named texts) (is_put values) part body empty 0 body refl
+    ap (λ (l : List ℕ). flat_map (λ (place : ℕ). part_there part (slice_get body place)) l) (chosen ∙ ap (places_that (is_put values) 0) (is ∙ map-map (place_named texts) plain_word body))
+    ∙ parts_chosen (λ (word : Word). place_named texts (plain_word word)) (is_put values) part body empty 0 body refl

@@ -4,10 +4,10 @@ use Rattle.p10_base.specs.declared.span.Span.{Span}
 use Rattle.p10_base.specs.Words.{Text, is_name_kind}
 use Rattle.p10_direct.specs.Directives.{PlainMacro}
 use Rattle.p10_macros.specs.Table.{Table, macro_named}
-use Rattle.p10_macros.specs.Uses.{Sourced, Arguments, Stays, Wrong, Calls, use_of, use_by, use_as, called, fitted, fitting, arguments_in, argument_before, word_before, opens, closes, separates, depth_behind, given, replacement}
-use Rattle.p10_macros.specs.Endings.{Ending, Gives, Refused, TooMany, behind_word, behind_argument}
+use Rattle.p10_macros.specs.Uses.{Sourced, Arguments, Stays, Wrong, Calls, use_of, use_by, use_as, called, fitted, fitting, arguments_in, argument_before, word_before, opens, closes, separates, depth_after, given, replacement}
+use Rattle.p10_macros.specs.Endings.{Ending, Gives, Refused, TooMany, after_word, after_argument}
 use Rattle.p10_macros.specs.Ends.{Ends, EndsAll, Follows, place_of_use, no_words, word_stays, use_refused, use_replaced, no_arguments, argument_given, argument_refused, argument_too_long, replacement_made, replacement_too_long, values_refused, values_too_long}
-use Rattle.p10_macros.specs.Fronts.{StandsBehind, FrontsGive}
+use Rattle.p10_macros.specs.Fronts.{StandsAfter, FrontsGive}
 
 -- ## Refusals inside a use are at its place
 
@@ -24,13 +24,13 @@ same_outer : (A B : Type 0) (outer : Option Span) (name : Sourced) (number : ℕ
 same_outer A B None name number at is = tt
 same_outer A B (Some outer) name number at is = is
 
-word_at : (outer : Option Span) (word : Sourced) (behind : Ending (List Sourced)) → IsAt outer behind → IsAt outer (behind_word word behind)
+word_at : (outer : Option Span) (word : Sourced) (behind : Ending (List Sourced)) → IsAt outer behind → IsAt outer (after_word word behind)
 word_at None word behind is = tt
 word_at (Some outer) word (Gives made left) is = tt
 word_at (Some outer) word (Refused number at) is = is
 word_at (Some outer) word TooMany is = tt
 
-argument_at : (outer : Option Span) (value : List Sourced) (behind : Ending (List (List Sourced))) → IsAt outer behind → IsAt outer (behind_argument value behind)
+argument_at : (outer : Option Span) (value : List Sourced) (behind : Ending (List (List Sourced))) → IsAt outer behind → IsAt outer (after_argument value behind)
 argument_at None value behind is = tt
 argument_at (Some outer) value (Gives made left) is = tt
 argument_at (Some outer) value (Refused number at) is = is
@@ -51,13 +51,13 @@ refused_again A B (Some outer) number at is = is
 mutual
   words_at : {table : Table} {outer : Option Span} {words : List Sourced} {left : ℕ} {ending : Ending (List Sourced)} → Ends table outer words left ending → IsAt outer ending
   words_at {outer = outer} no_words = given_nowhere outer _ _
-  words_at {outer = outer} (word_stays {word = word} {behind = behind} is ends gives) = subst (λ (e : Ending (List Sourced)). IsAt outer e) (sym gives) (word_at outer word behind (words_at ends))
+  words_at {outer = outer} (word_stays {word = word} {others = behind} is ends gives) = subst (λ (e : Ending (List Sourced)). IsAt outer e) (sym gives) (word_at outer word behind (words_at ends))
   words_at {outer = outer} (use_refused {word = word} {number = number} is refused) = subst (λ (e : Ending (List Sourced)). IsAt outer e) (sym refused) (at_place _ outer number word)
   words_at {outer = outer} (use_replaced {word = word} is all follows) = follows_at follows (arguments_at all)
 
   arguments_at : {table : Table} {outer : Option Span} {arguments : List (List Sourced)} {left : ℕ} {ending : Ending (List (List Sourced))} → EndsAll table outer arguments left ending → IsAt outer ending
   arguments_at {outer = outer} no_arguments = given_nowhere outer _ _
-  arguments_at {outer = outer} (argument_given {value = value} {behind = behind} first others gives) =
+  arguments_at {outer = outer} (argument_given {value = value} {others = behind} first others gives) =
       subst (λ (e : Ending (List (List Sourced))). IsAt outer e) (sym gives) (argument_at outer value behind (arguments_at others))
   arguments_at {outer = outer} (argument_refused {number = number} {at = at} first) = refused_again _ _ outer number at (words_at first)
   arguments_at {outer = outer} (argument_too_long first) = no_place _ outer
@@ -104,9 +104,9 @@ placed plain name [] (other ∷ front) word more is = cc
 placed plain name (part ∷ parts) [] word more is = let same : given plain name part ≡ word = cc in ap (λ (w : Sourced). w.word.at) (sym same)
 placed plain name (part ∷ parts) (other ∷ front) word more is = placed plain name parts front word more (let e : map (given plain name) parts ≡ front ++ word ∷ more = cc in e)
 
--- ## Uses with fewer words behind them
+-- ## Uses with fewer words after them
 
--- the arguments take these words, whatever stands behind
+-- the arguments take these words, whatever stands after
 record Takes (depth : ℕ) (words : List Sourced) (found : Arguments) : Type 0 where
   part : List Sourced
   is : words ≡ part ++ found.rest
@@ -114,7 +114,7 @@ record Takes (depth : ℕ) (words : List Sourced) (found : Arguments) : Type 0 w
 
 module _ (depth : ℕ) (word : Sourced) (words : List Sourced) (again : (depth : ℕ) (found : Arguments) → arguments_in depth words ≡ Some found → Takes depth words found) where
   abbrev deeper : ℕ
-  deeper = depth_behind depth word.word
+  deeper = depth_after depth word.word
 
   takes_last : (closes word.word && (depth == 0)) ≡ true → Takes depth (word ∷ words) (record { first = []; others = []; rest = words })
   takes_last ends = record { part = word ∷ []; is = refl; again = λ rest. rw ends refl }
@@ -159,7 +159,7 @@ takes depth [] found is = cc
 takes depth (word ∷ words) found is =
     takes_by depth word words (λ d f e. takes d words f e) (closes word.word && (depth == 0)) (separates word.word && (depth == 0)) refl refl found is
 
--- a use takes these words, whatever stands behind
+-- a use takes these words, whatever stands after
 record Uses (table : Table) (name : Sourced) (words : List Sourced) (plain : PlainMacro) (arguments : List (List Sourced)) (rest : List Sourced) : Type 0 where
   part : List Sourced
   is : words ≡ part ++ rest
@@ -182,11 +182,11 @@ called_never plain parameters (Some found) is = by (fitting parameters (found.fi
     by None is' = cc
     by (Some arguments) is' = cc
 
-module _ (table : Table) (name : Sourced) (kind : is_name_kind name.word.kind ≡ true) (plain : PlainMacro) (found : macro_named name.word.text.now table ≡ Some plain) where
+module _ (table : Table) (name : Sourced) (kind : is_name_kind name.word.kind ≡ true) (plain : PlainMacro) (found : macro_named name.word.text table ≡ Some plain) where
   -- what the word is a use of
   is_use : (parameters : Option (List Text)) → plain.parameters ≡ parameters → (words : List Sourced) → use_of table name words ≡ use_as plain parameters name words
   is_use parameters same words =
-      ap (λ (b : Bool). cond b (use_by (macro_named name.word.text.now table) name words) Stays) kind ∙ ap (λ (o : Option PlainMacro). use_by o name words) found ∙ ap (λ (q : Option (List Text)). use_as plain q name words) same
+      ap (λ (b : Bool). cond b (use_by (macro_named name.word.text table) name words) Stays) kind ∙ ap (λ (o : Option PlainMacro). use_by o name words) found ∙ ap (λ (q : Option (List Text)). use_as plain q name words) same
 
   uses_object : (b : Bool) → name.from plain.name ≡ b → plain.parameters ≡ None → (words : List Sourced) (plain' : PlainMacro) (arguments : List (List Sourced)) (rest : List Sourced) →
       cond b (Wrong 6) (Calls plain [] words) ≡ Calls plain' arguments rest → Uses table name words plain' arguments rest
@@ -244,33 +244,33 @@ module _ (table : Table) (name : Sourced) (kind : is_name_kind name.word.kind �
 uses_where : (table : Table) (name : Sourced) (words : List Sourced) (plain : PlainMacro) (arguments : List (List Sourced)) (rest : List Sourced) → use_of table name words ≡ Calls plain arguments rest → Uses table name words plain arguments rest
 uses_where table name words plain arguments rest is = by_kind (is_name_kind name.word.kind) refl is
   where
-    by_macro : (o : Option PlainMacro) → is_name_kind name.word.kind ≡ true → macro_named name.word.text.now table ≡ o → use_by o name words ≡ Calls plain arguments rest → Uses table name words plain arguments rest
+    by_macro : (o : Option PlainMacro) → is_name_kind name.word.kind ≡ true → macro_named name.word.text table ≡ o → use_by o name words ≡ Calls plain arguments rest → Uses table name words plain arguments rest
     by_macro None kind found is' = cc
     by_macro (Some made) kind found is' = uses_macro table name kind made found made.parameters refl words plain arguments rest is'
 
-    by_kind : (b : Bool) → is_name_kind name.word.kind ≡ b → cond b (use_by (macro_named name.word.text.now table) name words) Stays ≡ Calls plain arguments rest → Uses table name words plain arguments rest
+    by_kind : (b : Bool) → is_name_kind name.word.kind ≡ b → cond b (use_by (macro_named name.word.text table) name words) Stays ≡ Calls plain arguments rest → Uses table name words plain arguments rest
     by_kind false kind is' = cc
-    by_kind true kind is' = by_macro (macro_named name.word.text.now table) kind refl is'
+    by_kind true kind is' = by_macro (macro_named name.word.text table) kind refl is'
 
--- a word that stays does so with fewer words behind it
+-- a word that stays does so with fewer words after it
 stays_where : (table : Table) (name : Sourced) (front : List Sourced) (word : Sourced) (behind : List Sourced) → use_of table name (front ++ word ∷ behind) ≡ Stays → use_of table name front ≡ Stays
 stays_where table name front word behind is = by_kind (is_name_kind name.word.kind) refl is
   where
-    by_macro : (o : Option PlainMacro) → is_name_kind name.word.kind ≡ true → macro_named name.word.text.now table ≡ o → use_by o name (front ++ word ∷ behind) ≡ Stays → use_by o name front ≡ Stays
+    by_macro : (o : Option PlainMacro) → is_name_kind name.word.kind ≡ true → macro_named name.word.text table ≡ o → use_by o name (front ++ word ∷ behind) ≡ Stays → use_by o name front ≡ Stays
     by_macro None kind found is' = refl
     by_macro (Some made) kind found is' = stays_macro table name kind made found made.parameters refl front word behind is'
 
-    by_kind : (b : Bool) → is_name_kind name.word.kind ≡ b → cond b (use_by (macro_named name.word.text.now table) name (front ++ word ∷ behind)) Stays ≡ Stays → cond b (use_by (macro_named name.word.text.now table) name front) Stays ≡ Stays
+    by_kind : (b : Bool) → is_name_kind name.word.kind ≡ b → cond b (use_by (macro_named name.word.text table) name (front ++ word ∷ behind)) Stays ≡ Stays → cond b (use_by (macro_named name.word.text table) name front) Stays ≡ Stays
     by_kind false kind is' = refl
-    by_kind true kind is' = by_macro (macro_named name.word.text.now table) kind refl is'
+    by_kind true kind is' = by_macro (macro_named name.word.text table) kind refl is'
 
 -- ## The words before a refusal
 
 abbrev RefusesAt : Table → List Sourced → ℕ → Ending (List Sourced) → Type 0
-RefusesAt table words left (Refused number at) = StandsBehind table words left at
+RefusesAt table words left (Refused number at) = StandsAfter table words left at
 RefusesAt table words left _ = Unit {0}
 
--- a use was replaced, and a word behind it is refused: those between are given with the use
+-- a use was replaced, and a word after it is refused: those between are given with the use
 record StandsInRest (table : Table) (plain : PlainMacro) (name : Sourced) (rest : List Sourced) (values : Ending (List (List Sourced))) (at : Span) : Type 0 where
   front : List Sourced
   word : Sourced
@@ -285,22 +285,22 @@ abbrev FollowsAt : Table → PlainMacro → Sourced → List Sourced → Ending 
 FollowsAt table plain name rest values (Refused number at) = (at ≡ name.word.at) ⊎ StandsInRest table plain name rest values at
 FollowsAt table plain name rest values _ = Unit {0}
 
-word_in_front : (table : Table) (word : Sourced) (words : List Sourced) (left : ℕ) (behind : Ending (List Sourced)) → use_of table word words ≡ Stays → RefusesAt table words left behind → RefusesAt table (word ∷ words) left (behind_word word behind)
+word_in_front : (table : Table) (word : Sourced) (words : List Sourced) (left : ℕ) (behind : Ending (List Sourced)) → use_of table word words ≡ Stays → RefusesAt table words left behind → RefusesAt table (word ∷ words) left (after_word word behind)
 word_in_front table word words left (Gives made remaining) stays refuses = tt
 word_in_front table word words left TooMany stays refuses = tt
 word_in_front table word words left (Refused number at) stays refuses = record {
   front = word ∷ refuses.front;
   name = refuses.name;
-  behind = refuses.behind;
+  rest = refuses.rest;
   is = ap (λ (l : List Sourced). word ∷ l) refuses.is;
   place = refuses.place;
   made = word ∷ refuses.made;
   remaining = refuses.remaining;
-  gives = word_stays (stays_where table word refuses.front refuses.name refuses.behind (ap (λ (l : List Sourced). use_of table word l) (sym refuses.is) ∙ stays)) refuses.gives refl;
+  gives = word_stays (stays_where table word refuses.front refuses.name refuses.rest (ap (λ (l : List Sourced). use_of table word l) (sym refuses.is) ∙ stays)) refuses.gives refl;
 }
 
-at_once : (table : Table) (word : Sourced) (words : List Sourced) (left number : ℕ) (at : Span) → word.word.at ≡ at → StandsBehind table (word ∷ words) left at
-at_once table word words left number at place = record { front = []; name = word; behind = words; is = refl; place = place; made = []; remaining = left; gives = no_words }
+at_once : (table : Table) (word : Sourced) (words : List Sourced) (left number : ℕ) (at : Span) → word.word.at ≡ at → StandsAfter table (word ∷ words) left at
+at_once table word words left number at place = record { front = []; name = word; rest = words; is = refl; place = place; made = []; remaining = left; gives = no_words }
 
 use_in_front : (table : Table) (word : Sourced) (words : List Sourced) (left : ℕ) (plain : PlainMacro) (arguments : List (List Sourced)) (rest : List Sourced) (values : Ending (List (List Sourced))) (ending : Ending (List Sourced)) →
     use_of table word words ≡ Calls plain arguments rest → EndsAll table (Some word.word.at) arguments left values → FollowsAt table plain word rest values ending → RefusesAt table (word ∷ words) left ending
@@ -312,7 +312,7 @@ use_in_front table word words left plain arguments rest values (Refused number a
     record {
       front = word ∷ uses.part ++ those.front;
       name = those.word;
-      behind = those.behind;
+      rest = those.behind;
       is = ap (λ (l : List Sourced). word ∷ l) (uses.is ∙ ap (λ (l : List Sourced). uses.part ++ l) those.is ∙ sym (append_assoc uses.part those.front (those.word ∷ those.behind)));
       place = those.place;
       made = those.made;
@@ -324,17 +324,17 @@ replaced_in_front : (table : Table) (plain : PlainMacro) (name : Sourced) (rest 
     RefusesAt table (replacement plain name values ++ rest) remaining ending → FollowsAt table plain name rest (Gives values left) ending
 replaced_in_front table plain name rest values left remaining (Gives made more) costs refuses = tt
 replaced_in_front table plain name rest values left remaining TooMany costs refuses = tt
-replaced_in_front table plain name rest values left remaining (Refused number at) costs refuses = by (joined made rest refuses.front refuses.name refuses.behind refuses.is)
+replaced_in_front table plain name rest values left remaining (Refused number at) costs refuses = by (joined made rest refuses.front refuses.name refuses.rest refuses.is)
   where
     made : List Sourced
     made = replacement plain name values
 
-    by : IsIn made refuses.front refuses.name ⊎ IsInRest made rest refuses.front refuses.name refuses.behind → (at ≡ name.word.at) ⊎ StandsInRest table plain name rest (Gives values left) at
+    by : IsIn made refuses.front refuses.name ⊎ IsInRest made rest refuses.front refuses.name refuses.rest → (at ≡ name.word.at) ⊎ StandsInRest table plain name rest (Gives values left) at
     by (inl inside) = inl (sym refuses.place ∙ placed plain name _ refuses.front refuses.name inside.more inside.is)
     by (inr those) = inr (record {
       front = those.middle;
       word = refuses.name;
-      behind = refuses.behind;
+      behind = refuses.rest;
       is = those.rest_is;
       place = refuses.place;
       made = refuses.made;
@@ -345,7 +345,7 @@ replaced_in_front table plain name rest values left remaining (Refused number at
 mutual
   fronts : {table : Table} {outer : Option Span} {words : List Sourced} {left : ℕ} {ending : Ending (List Sourced)} → Ends table outer words left ending → outer ≡ None → RefusesAt table words left ending
   fronts no_words none = tt
-  fronts {table} (word_stays {word = word} {words = words} {left = left} {behind = behind} is ends gives) none =
+  fronts {table} (word_stays {word = word} {words = words} {left = left} {others = behind} is ends gives) none =
       subst (λ (e : Ending (List Sourced)). RefusesAt table (word ∷ words) left e) (sym gives) (word_in_front table word words left behind is (fronts ends none))
   fronts {table} (use_refused {outer = outer} {word = word} {words = words} {left = left} {number = number} is refused) none =
       subst (λ (e : Ending (List Sourced)). RefusesAt table (word ∷ words) left e) (sym refused) (at_once table word words left number (place_of_use outer word) (ap (λ (o : Option Span). place_of_use o word) (sym none)))

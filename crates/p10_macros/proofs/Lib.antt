@@ -19,11 +19,9 @@ pub mod Lookups
 pub mod Moves
 pub mod Beginnings
 pub mod Blocks
-pub mod LastFirst
 pub mod Tables
 pub mod Undefining
 pub mod Whole
 pub mod NoObject
 pub mod Fronts
-pub mod Plainly
 pub mod Numbers

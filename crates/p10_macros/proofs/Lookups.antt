@@ -2,12 +2,11 @@
 use Rattle.std.proofs.Common.{◌≡◌, ℕ, zero, suc, ◌==◌, List, [], ◌∷◌, length, Bool, true, false, ◌&&◌, ◌||◌, cond, Option, Some, None, ◌⊎◌, inl, inr, refl, sym, subst, ap, ◌∙◌, arith}
 use Rattle.std.specs.Prelude.{is_none}
 use Rattle.std.proofs.lemmas.Bool.Decides.{nat_tests}
-use Rattle.p10_base.specs.declared.word.Word.{Word}
-use Rattle.p10_base.specs.Words.{Text, is_name_kind}
+use Rattle.p10_base.specs.Words.{Text, PlainWord, is_name_kind}
 use Rattle.p10_direct.specs.Directives.{PlainMacro}
 use Rattle.p10_macros.specs.declared.pending.Pending.{Pending}
 use Rattle.p10_macros.specs.Table.{Table, macro_named}
-use Rattle.p10_macros.specs.Uses.{Sourced, Stays, Wrong, Calls, use_of, use_by, use_as, called, fitted, fitting, opens, closes, Arguments, arguments_in, argument_before, word_before, separates, depth_behind}
+use Rattle.p10_macros.specs.Uses.{Sourced, Stays, Wrong, Calls, use_of, use_by, use_as, called, fitted, fitting, opens, closes, Arguments, arguments_in, argument_before, word_before, separates, depth_after}
 use Rattle.p10_macros.specs.private.Looking.{next_opens, opens_on_top, used_where, macro_used}
 use Rattle.p10_macros.proofs.Standings.{next_closes}
 
@@ -34,13 +33,13 @@ used_none (Some plain) word words open' is none = go (is_none plain.parameters |
     go false e none' = as_stays plain plain.parameters word words (or_left (is_none plain.parameters) open' e) (sym is ∙ or_right (is_none plain.parameters) open' e)
 
 -- a word for which no macro is found begins no use
-pub stays_where : (table : Table) (items : List Pending) (name : Word) (sourced : Sourced) (words : List Sourced) → opens_on_top items ≡ next_opens words → name ≡ sourced.word →
+pub stays_where : (table : Table) (items : List Pending) (name : PlainWord) (sourced : Sourced) (words : List Sourced) → opens_on_top items ≡ next_opens words → name ≡ sourced.word →
     macro_used table items name ≡ None → use_of table sourced words ≡ Stays
-stays_where table items name sourced words is same none = go (is_name_kind sourced.word.kind) (ap (λ (w : Word). macro_used table items w) (sym same) ∙ none)
+stays_where table items name sourced words is same none = go (is_name_kind sourced.word.kind) (ap (λ (w : PlainWord). macro_used table items w) (sym same) ∙ none)
   where
-    go : (b : Bool) → cond b (used_where (opens_on_top items) (macro_named sourced.word.text.now table)) None ≡ None → cond b (use_by (macro_named sourced.word.text.now table) sourced words) Stays ≡ Stays
+    go : (b : Bool) → cond b (used_where (opens_on_top items) (macro_named sourced.word.text table)) None ≡ None → cond b (use_by (macro_named sourced.word.text table) sourced words) Stays ≡ Stays
     go false e = refl
-    go true e = used_none (macro_named sourced.word.text.now table) sourced words (opens_on_top items) is e
+    go true e = used_none (macro_named sourced.word.text table) sourced words (opens_on_top items) is e
 
 none_is : (parameters : Option (List Text)) → is_none parameters ≡ true → parameters ≡ None
 none_is None e = refl
@@ -67,15 +66,15 @@ used_some (Some other) plain word words open' is some = go (is_none other.parame
         subst (λ (p : PlainMacro). (use_by (Some other) word words ≡ use_as p p.parameters word words) × ((p.parameters ≡ None) ⊎ (next_opens words ≡ true))) same
         (refl, elim (or_cases (is_none other.parameters) open' e) [ inl none ↦ inl (none_is other.parameters none) | inr open'' ↦ inr (sym is ∙ open'') ])
 
-pub used_where_found : (table : Table) (items : List Pending) (name : Word) (plain : PlainMacro) (sourced : Sourced) (words : List Sourced) → opens_on_top items ≡ next_opens words → name ≡ sourced.word →
+pub used_where_found : (table : Table) (items : List Pending) (name : PlainWord) (plain : PlainMacro) (sourced : Sourced) (words : List Sourced) → opens_on_top items ≡ next_opens words → name ≡ sourced.word →
     macro_used table items name ≡ Some plain → IsUsed table plain sourced words
 used_where_found table items name plain sourced words is same some =
-    let both = go (is_name_kind sourced.word.kind) (ap (λ (w : Word). macro_used table items w) (sym same) ∙ some) in record { is = both.0; calls = both.1 }
+    let both = go (is_name_kind sourced.word.kind) (ap (λ (w : PlainWord). macro_used table items w) (sym same) ∙ some) in record { is = both.0; calls = both.1 }
   where
-    go : (b : Bool) → cond b (used_where (opens_on_top items) (macro_named sourced.word.text.now table)) None ≡ Some plain →
-        (cond b (use_by (macro_named sourced.word.text.now table) sourced words) Stays ≡ use_as plain plain.parameters sourced words) × ((plain.parameters ≡ None) ⊎ (next_opens words ≡ true))
+    go : (b : Bool) → cond b (used_where (opens_on_top items) (macro_named sourced.word.text table)) None ≡ Some plain →
+        (cond b (use_by (macro_named sourced.word.text table) sourced words) Stays ≡ use_as plain plain.parameters sourced words) × ((plain.parameters ≡ None) ⊎ (next_opens words ≡ true))
     go false e = cc
-    go true e = used_some (macro_named sourced.word.text.now table) plain sourced words (opens_on_top items) is e
+    go true e = used_some (macro_named sourced.word.text table) plain sourced words (opens_on_top items) is e
 
 -- ## A use of a macro
 
@@ -97,7 +96,7 @@ as_function plain parameters word paren words e from = rw (e, from) refl
 
 -- ## Arguments
 
--- a use of a macro without parameters, with a `)` directly behind the `(`
+-- a use of a macro without parameters, with a `)` directly after the `(`
 pub called_none : (plain : PlainMacro) (parameters : ℕ) (close : Sourced) (words : List Sourced) → parameters ≡ 0 → closes close.word ≡ true → called plain parameters (arguments_in 0 (close ∷ words)) ≡ Calls plain [] words
 called_none plain zero close words e closed = rw closed refl
 called_none plain (suc parameters) close words e closed = cc
@@ -117,7 +116,7 @@ more_by false false words word rest (Some found) e = λ same. cc
 not_first : (words : List Sourced) → next_closes words ≡ false → IsMore (arguments_in 0 words)
 not_first [] e = tt
 not_first (word ∷ words) e =
-    more_by (closes word.word && (0 == 0)) (separates word.word && (0 == 0)) words word (arguments_in 0 words) (arguments_in (depth_behind 0 word.word) words) (ap (λ (b : Bool). b && true) e)
+    more_by (closes word.word && (0 == 0)) (separates word.word && (0 == 0)) words word (arguments_in 0 words) (arguments_in (depth_after 0 word.word) words) (ap (λ (b : Bool). b && true) e)
 
 not_same : (a b : ℕ) → (a ≡ b → ⊥) → (a == b) ≡ false
 not_same a b other = grind (arith, nat_tests, other)

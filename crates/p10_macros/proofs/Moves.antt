@@ -3,7 +3,7 @@ use Rattle.std.proofs.Common.{◌≡◌, ℕ, ◌+◌, ◌<◌, ◌≤◌, List,
 use Rattle.std.specs.Prelude.{reverse}
 use Rattle.std.proofs.lemmas.List.{reverse-append, map-append, length-reverse}
 use Rattle.p10_base.specs.declared.span.Span.{Span}
-use Rattle.p10_base.specs.declared.word.Word.{Word}
+use Rattle.p10_base.specs.Words.{PlainWord, plain_word}
 use Rattle.p10_direct.specs.Directives.{PlainMacro}
 use Rattle.p10_macros.specs.declared.origin.Origins.{Origins}
 use Rattle.p10_macros.specs.declared.pending.Traced.{Traced}
@@ -17,13 +17,14 @@ use Rattle.p10_macros.specs.declared.known.Known.{Known}
 use Rattle.p10_macros.specs.private.KnownMacros.{plain_known}
 use Rattle.p10_macros.specs.Table.{Table}
 use Rattle.p10_macros.specs.Uses.{Sourced, closes, Stays, Wrong, Calls, use_of, replacement, Arguments, sourced_words}
-use Rattle.p10_macros.specs.Endings.{Ending, Refused, TooMany, behind_word}
+use Rattle.p10_macros.specs.Endings.{Ending, Refused, TooMany, after_word}
 use Rattle.p10_macros.specs.private.Running.{OpenUse, outer_of, Comes}
 use Rattle.p10_macros.specs.private.Origins.{Extends}
 use Rattle.p10_macros.specs.private.Traces.{IsTraced, AreTraced, AreValues}
 use Rattle.p10_macros.specs.private.Standing.{IsOpen, Stands, StandsBy, Role, NextWord, EndsArgument, EndsCall, role_of, place_among, State, Represents, Plays, NoneOutside, KeepsFor, given_with, done_with, LeadsTo, AdvancesBy, FaultComes, FailsBy, IsReplacedIn, IsTooLong, IsOpenedIn}
 use Rattle.p10_macros.specs.private.Putting.{Puts}
 use Rattle.p10_macros.specs.private.Looking.{macro_used, refusal_at}
+use Rattle.p10_macros.specs.private.Links.{word_of}
 use Rattle.p10_macros.proofs.Growing.{all_traced_more}
 use Rattle.p10_macros.proofs.Steps.{behind_one_more, step_given, step_stays, step_refused, step_replaced, step_too_long, step_opened, step_next, step_closed, step_closed_too_long, opened}
 use Rattle.p10_macros.proofs.Standings.{stop_within, at_stop, stands_more, stands_put, has_next, HasNext, next_opens_is, place_is, SamePlace, same_place}
@@ -50,8 +51,8 @@ traced_along o o' d d' these eo ed are = subst (λ (a : Origins). AreTraced a d'
 
 module _ (table : Table) (old new : Run) (name : Traced) (words_are : new.words.items ≡ given_with (reverse old.open.items) old.words.items name.word)
     (done_is : new.done.items ≡ done_with (reverse old.open.items) old.done.items name) (pending_is : new.pending ≡ old.pending) (open_is : new.open ≡ old.open)
-    (origins_is : new.origins ≡ old.origins) (left_is : new.left ≡ old.left) (stop_is : new.stop ≡ old.stop) (none : macro_used table (reverse old.pending.words.items) name.word ≡ None) where
-  -- the words behind it stand for what they stood for
+    (origins_is : new.origins ≡ old.origins) (left_is : new.left ≡ old.left) (stop_is : new.stop ≡ old.stop) (none : macro_used table (reverse old.pending.words.items) (plain_word name.word) ≡ None) where
+  -- the words after it stand for what they stood for
   stands_still : (words : List Sourced) (uses : List OpenUse) → Stands old.origins (reverse old.pending.words.items) old.stop (reverse old.open.items) words uses →
       Stands new.origins (reverse new.pending.words.items) new.stop (reverse new.open.items) words uses
   stands_still words uses = stands_along _ _ _ _ _ _ _ _ words uses origins_is (ap (λ (a : Ahead). reverse a.words.items) pending_is) stop_is (ap (λ (v : Vec Open Global). reverse v.items) open_is)
@@ -67,16 +68,16 @@ module _ (table : Table) (old new : Run) (name : Traced) (words_are : new.words.
       represents = record {
         stands = stands_still words [] stands;
         keeps = record {
-          given = words_are ∙ ap (λ (l : List Open). given_with l old.words.items name.word) opens
-              ∙ ap (λ (l : List Word). l ++ name.word ∷ []) keeps.given ∙ ap (λ (w : Word). sourced_words given ++ w ∷ []) traced.word ∙ sym (map-append (λ (s : Sourced). s.word) given (word ∷ []));
+          given = ap (map plain_word) (words_are ∙ ap (λ (l : List Open). given_with l old.words.items name.word) opens) ∙ map-append plain_word old.words.items (name.word ∷ [])
+              ∙ ap (λ (l : List PlainWord). l ++ plain_word name.word ∷ []) keeps.given ∙ ap (λ (w : PlainWord). sourced_words given ++ w ∷ []) traced.word ∙ sym (map-append (λ (s : Sourced). s.word) given (word ∷ []));
           done = traced_along _ _ _ _ _ origins_is (done_is ∙ ap (λ (l : List Open). done_with l old.done.items name) opens) keeps.done;
           outside = keeps.outside;
           left = left_is ∙ keeps.left;
         };
       };
       comes = λ ending (level, comes, is). (
-        behind_word word level,
-        subst (λ (d : List Sourced). Comes table [] (word ∷ words) d left (behind_word word level)) (sym keeps.outside)
+        after_word word level,
+        subst (λ (d : List Sourced). Comes table [] (word ∷ words) d left (after_word word level)) (sym keeps.outside)
             (step_given table word words left stays level (subst (λ (d : List Sourced). Comes table [] words d left level) keeps.outside comes)),
         is ∙ behind_one_more given word level,
       );
@@ -86,7 +87,7 @@ module _ (table : Table) (old new : Run) (name : Traced) (words_are : new.words.
       represents = record {
         stands = stands_still words (use' ∷ uses) stands;
         keeps = record {
-          given = words_are ∙ ap (λ (l : List Open). given_with l old.words.items name.word) opens ∙ keeps.given;
+          given = ap (map plain_word) (words_are ∙ ap (λ (l : List Open). given_with l old.words.items name.word) opens) ∙ keeps.given;
           done = traced_along _ _ _ _ _ origins_is (done_is ∙ ap (λ (l : List Open). done_with l old.done.items name) opens)
               (all_traced_last old.origins old.done.items done name word keeps.done traced);
           outside = keeps.outside;
@@ -103,7 +104,7 @@ module _ (table : Table) (old new : Run) (name : Traced) (words_are : new.words.
   stays_with given [] done uses left next keeps = absurd next
   stays_with given (word ∷ words) done uses left (traced, stands) keeps =
       given_by word words given done left traced
-      (stays_where table (reverse old.pending.words.items) name.word word words (next_opens_is old.origins (reverse old.pending.words.items) old.stop (reverse old.open.items) words uses stands) traced.word none)
+      (stays_where table (reverse old.pending.words.items) (plain_word name.word) word words (next_opens_is old.origins (reverse old.pending.words.items) old.stop (reverse old.open.items) words uses stands) traced.word none)
       (reverse old.open.items) uses (same_place old.origins (reverse old.pending.words.items) old.stop (reverse old.open.items) words uses stands) refl stands keeps
 
   pub moved_stays : (next : Pending) → next.traced ≡ name → AdvancesBy table old next NextWord new
@@ -142,7 +143,7 @@ module _ (table : Table) (old : Run) (plain : PlainMacro) (name : Traced) (state
               (stands_put new.origins puts.items made (reverse old.pending.words.items) old.stop (reverse old.open.items) rest state.uses puts.put
               (stands_more old.origins new.origins replaced.grown (reverse old.pending.words.items) old.stop (reverse old.open.items) rest state.uses stands));
           keeps = record {
-            given = replaced.words ∙ keeps.given;
+            given = ap (map plain_word) replaced.words ∙ keeps.given;
             done = traced_along _ _ _ _ _ refl replaced.done (all_traced_more old.origins new.origins replaced.grown old.done.items state.done keeps.done);
             outside = keeps.outside;
             left = refl;
@@ -195,7 +196,7 @@ module _ (table : Table) (old new : Run) (made : Bor Known) (name : Traced) (sta
           stands = stands_along _ _ _ _ _ _ _ _ found.first (opened_use ∷ state.uses) is'.origins (ap (λ (l : List Pending). reverse l) is'.pending) is'.stop opens
               (called is'.opened opened_use is'.the_stop (is_opened (reverse old.pending.words.items) todo is' stands));
           keeps = record {
-            given = is'.words ∙ keeps.given;
+            given = ap (map plain_word) is'.words ∙ keeps.given;
             done = traced_along _ _ _ _ _ is'.origins is'.done tt;
             outside = keeps.outside;
             left = is'.left ∙ keeps.left;
@@ -232,7 +233,7 @@ module _ (origins : Origins) (open' renewed : Open) (value : List Sourced) (belo
       Stands origins items stop (open' ∷ below) todo (use' ∷ uses) → Stands origins items stop (renewed ∷ below) todo (valued use' value ∷ uses)
   stands_valued [] stop todo use' uses stands = absurd stands
   stands_valued (pending ∷ items) stop todo use' uses stands =
-      valued_by items (λ stop' todo' use'' uses' stands'. stands_valued items stop' todo' use'' uses' stands') pending (role_of items stop pending.traced.word) stop todo use' uses stands
+      valued_by items (λ stop' todo' use'' uses' stands'. stands_valued items stop' todo' use'' uses' stands') pending (role_of items stop (word_of pending)) stop todo use' uses stands
 
 values_last : (origins : Origins) (those : List (List Traced)) (these : List (List Sourced)) (traced : List Traced) (value : List Sourced) → AreValues origins those these → AreTraced origins traced value →
     AreValues origins (those ++ traced ∷ []) (these ++ value ∷ [])
@@ -281,7 +282,7 @@ module _ (table : Table) (old new : Run) (pending : Pending) (open' renewed : Op
           (reversed renewed new.open.items opens_new)
           (stands_valued old.origins open' renewed done (reverse below) (renews done keeps.done) same_stop (reverse old.pending.words.items) pending.exits.argument next (record use' { waiting = others }) uses stands);
       keeps = record {
-        given = words_are ∙ keeps.given;
+        given = ap (map plain_word) words_are ∙ keeps.given;
         done = traced_along _ _ _ _ _ origins_is done_is tt;
         outside = keeps.outside;
         left = left_is ∙ keeps.left;
@@ -310,7 +311,7 @@ no_call table old new pending none = λ state plays.
 
 -- ## The last argument ends
 
--- what stands behind the end of a use
+-- what stands after the end of a use
 pub record IsEnding (origins : Origins) (items : List Pending) (open' : Open) (those : List Open) (todo : List Sourced) (uses : List OpenUse) : Type 0 where
   pub use' : OpenUse
   pub others : List OpenUse
@@ -371,7 +372,7 @@ module _ (table : Table) (old mid : Run) (pending : Pending) (open' : Open) (bel
                 (stands_put new.origins puts.items made (reverse old.pending.words.items) open'.stop (reverse below) ends.use'.rest ends.others puts.put
                 (stands_more old.origins new.origins grown (reverse old.pending.words.items) open'.stop (reverse below) ends.use'.rest ends.others ends.stands));
             keeps = record {
-              given = replaced.words ∙ words_are ∙ plays.keeps.given;
+              given = ap (map plain_word) (replaced.words ∙ words_are) ∙ plays.keeps.given;
               done = traced_along _ _ _ _ _ refl (replaced.done ∙ done_is) (all_traced_more old.origins new.origins grown open'.before.items ends.use'.before ends.is.before);
               outside = subst (λ (u : List OpenUse). NoneOutside u state.done) ends.uses_is plays.keeps.outside;
               left = refl;
@@ -405,14 +406,14 @@ module _ (table : Table) (old mid : Run) (pending : Pending) (open' : Open) (bel
 -- ## The role of the next word
 
 -- at the end of the innermost argument the next word ends it
-pub at_end : (run : Run) (next : Pending) (state : State) (c : Bool) → closes next.traced.word ≡ c → length run.pending.words.items < run.stop → Represents run (next ∷ reverse run.pending.words.items) state →
+pub at_end : (run : Run) (next : Pending) (state : State) (c : Bool) → closes (word_of next) ≡ c → length run.pending.words.items < run.stop → Represents run (next ∷ reverse run.pending.words.items) state →
     Plays run next (cond c EndsCall EndsArgument) state
 at_end run next state c closed more represents =
     let items : List Pending = reverse run.pending.words.items in
     let within : run.stop ≤ length (next ∷ items) = stop_within run.origins (next ∷ items) run.stop (reverse run.open.items) state.todo state.uses represents.stands in
     let is : run.stop ≡ length items + 1 = omega (arith, more, within, length-reverse run.pending.words.items) in
-    let role : role_of items run.stop next.traced.word ≡ cond c EndsCall EndsArgument =
-    ap (λ (b : Bool). cond b (cond (closes next.traced.word) EndsCall EndsArgument) NextWord) (at_stop run.stop (length items) is) ∙ ap (λ (b : Bool). cond b EndsCall EndsArgument) closed in
+    let role : role_of items run.stop (word_of next) ≡ cond c EndsCall EndsArgument =
+    ap (λ (b : Bool). cond b (cond (closes (word_of next)) EndsCall EndsArgument) NextWord) (at_stop run.stop (length items) is) ∙ ap (λ (b : Bool). cond b EndsCall EndsArgument) closed in
     record {
       stands = subst (λ (r : Role). StandsBy run.origins (Stands run.origins items) next r run.stop (reverse run.open.items) state.todo state.uses) role represents.stands;
       keeps = represents.keeps;

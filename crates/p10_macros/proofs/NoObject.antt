@@ -5,7 +5,7 @@ use Rattle.p10_base.specs.Words.{Text}
 use Rattle.p10_direct.specs.Directives.{PlainMacro}
 use Rattle.p10_macros.specs.Table.{Table, macro_named}
 use Rattle.p10_macros.specs.Uses.{Sourced, Stays, Wrong, Calls, use_of, use_by, use_as}
-use Rattle.p10_macros.specs.Endings.{Ending, Gives, Refused, TooMany, behind_word}
+use Rattle.p10_macros.specs.Endings.{Ending, Gives, Refused, TooMany, after_word}
 use Rattle.p10_macros.specs.Ends.{Ends, Follows, no_words, word_stays, use_refused, use_replaced, replacement_made, replacement_too_long, values_refused, values_too_long}
 use Rattle.p10_macros.specs.Left.{NamesObject, NoneNamesObject, NoObjectIsLeft}
 
@@ -17,7 +17,7 @@ object_used plain word words false e = cc
 names_use : (table : Table) (word : Sourced) (words : List Sourced) → NamesObject table word → use_of table word words ≡ Stays → ⊥
 names_use table word words names stays =
     object_used names.plain word words (word.from names.plain.name)
-    (sym (ap (λ (b : Bool). cond b (use_by (macro_named word.word.text.now table) word words) Stays) names.name
+    (sym (ap (λ (b : Bool). cond b (use_by (macro_named word.word.text table) word words) Stays) names.name
     ∙ ap (λ (o : Option PlainMacro). use_by o word words) names.defined
     ∙ ap (λ (o : Option (List Text)). use_as names.plain o word words) names.object_like) ∙ stays)
 
@@ -27,7 +27,7 @@ LeavesNone table (Gives made remaining) = NoneNamesObject table made
 LeavesNone table (Refused number at) = Unit {0}
 LeavesNone table TooMany = Unit {0}
 
-behind_none : (table : Table) (word : Sourced) (behind : Ending (List Sourced)) → (NamesObject table word → ⊥) → LeavesNone table behind → LeavesNone table (behind_word word behind)
+behind_none : (table : Table) (word : Sourced) (behind : Ending (List Sourced)) → (NamesObject table word → ⊥) → LeavesNone table behind → LeavesNone table (after_word word behind)
 behind_none table word (Gives made remaining) other leaves = (other, leaves)
 behind_none table word (Refused number at) other leaves = tt
 behind_none table word TooMany other leaves = tt
@@ -35,7 +35,7 @@ behind_none table word TooMany other leaves = tt
 mutual
   leaves_none : {table : Table} {outer : Option Span} {words : List Sourced} {left : ℕ} {ending : Ending (List Sourced)} → Ends table outer words left ending → LeavesNone table ending
   leaves_none no_words = tt
-  leaves_none {table} (word_stays {word = word} {words = words} {behind = behind} is ends gives) =
+  leaves_none {table} (word_stays {word = word} {words = words} {others = behind} is ends gives) =
       subst (λ (e : Ending (List Sourced)). LeavesNone table e) (sym gives) (behind_none table word behind (λ names. names_use table word words names is) (leaves_none ends))
   leaves_none {table} (use_refused is refused) = subst (λ (e : Ending (List Sourced)). LeavesNone table e) (sym refused) tt
   leaves_none (use_replaced is ends follows) = follows_none follows

@@ -5,7 +5,7 @@ use Rattle.p10_base.specs.Words.{Text, is_name_kind}
 use Rattle.p10_direct.specs.Directives.{PlainMacro}
 use Rattle.p10_macros.specs.Table.{Table, macro_named}
 use Rattle.p10_macros.specs.Uses.{Sourced, Arguments, opens, arguments_in, fitting, Use, Stays, Wrong, Calls, fitted, called, unless_recursive, use_as, use_by, use_of}
-use Rattle.p10_macros.specs.Endings.{Ending, Gives, Refused, TooMany, behind_word, behind_argument}
+use Rattle.p10_macros.specs.Endings.{Ending, Gives, Refused, TooMany, after_word, after_argument}
 use Rattle.p10_macros.specs.Ends.{Ends, EndsAll, Follows, no_words, word_stays, use_refused, use_replaced, no_arguments, argument_given, argument_refused, argument_too_long, replacement_made, replacement_too_long, values_refused, values_too_long}
 
 -- ## Uses
@@ -40,7 +40,7 @@ use_by_numbered None name words = tt
 use_by_numbered (Some plain) name words = use_as_numbered plain plain.parameters name words
 
 use_numbered : (table : Table) (name : Sourced) (words : List Sourced) → UseNumbered (use_of table name words)
-use_numbered table name words = use_if (is_name_kind name.word.kind) _ Stays (use_by_numbered (macro_named name.word.text.now table) name words) tt
+use_numbered table name words = use_if (is_name_kind name.word.kind) _ Stays (use_by_numbered (macro_named name.word.text table) name words) tt
 
 -- ## How the replacement ends
 
@@ -49,12 +49,12 @@ EndNumbered (Gives made left) = Unit {0}
 EndNumbered (Refused number at) = (6 ≤ number) × (number ≤ 8)
 EndNumbered TooMany = Unit {0}
 
-word_numbered : (word : Sourced) (behind : Ending (List Sourced)) → EndNumbered behind → EndNumbered (behind_word word behind)
+word_numbered : (word : Sourced) (behind : Ending (List Sourced)) → EndNumbered behind → EndNumbered (after_word word behind)
 word_numbered word (Gives made left) numbered = tt
 word_numbered word (Refused number at) numbered = numbered
 word_numbered word TooMany numbered = tt
 
-argument_numbered : (value : List Sourced) (behind : Ending (List (List Sourced))) → EndNumbered behind → EndNumbered (behind_argument value behind)
+argument_numbered : (value : List Sourced) (behind : Ending (List (List Sourced))) → EndNumbered behind → EndNumbered (after_argument value behind)
 argument_numbered value (Gives values left) numbered = tt
 argument_numbered value (Refused number at) numbered = numbered
 argument_numbered value TooMany numbered = tt
@@ -63,13 +63,13 @@ mutual
   -- words are refused by D6, D7 or D8
   pub ends_numbered : {table : Table} {outer : Option Span} {words : List Sourced} {left : ℕ} {ending : Ending (List Sourced)} → Ends table outer words left ending → EndNumbered ending
   ends_numbered no_words = tt
-  ends_numbered (word_stays {word = word} {behind = behind} is ends gives) = subst (λ (e : Ending (List Sourced)). EndNumbered e) (sym gives) (word_numbered word behind (ends_numbered ends))
+  ends_numbered (word_stays {word = word} {others = behind} is ends gives) = subst (λ (e : Ending (List Sourced)). EndNumbered e) (sym gives) (word_numbered word behind (ends_numbered ends))
   ends_numbered {table} (use_refused {word = word} {words = words} is gives) = subst (λ (e : Ending (List Sourced)). EndNumbered e) (sym gives) (subst UseNumbered is (use_numbered table word words))
   ends_numbered (use_replaced is ends follows) = follows_numbered follows (all_numbered ends)
 
   all_numbered : {table : Table} {outer : Option Span} {arguments : List (List Sourced)} {left : ℕ} {ending : Ending (List (List Sourced))} → EndsAll table outer arguments left ending → EndNumbered ending
   all_numbered no_arguments = tt
-  all_numbered (argument_given {value = value} {behind = behind} first others gives) = subst (λ (e : Ending (List (List Sourced))). EndNumbered e) (sym gives) (argument_numbered value behind (all_numbered others))
+  all_numbered (argument_given {value = value} {others = behind} first others gives) = subst (λ (e : Ending (List (List Sourced))). EndNumbered e) (sym gives) (argument_numbered value behind (all_numbered others))
   all_numbered (argument_refused first) = ends_numbered first
   all_numbered (argument_too_long first) = tt
 

@@ -4,7 +4,7 @@ use Rattle.p10_base.specs.declared.span.Span.{Span}
 use Rattle.p10_direct.specs.Directives.{PlainMacro}
 use Rattle.p10_macros.specs.Table.{Table}
 use Rattle.p10_macros.specs.Uses.{Sourced, replacement}
-use Rattle.p10_macros.specs.Endings.{Ending, Gives, behind_word}
+use Rattle.p10_macros.specs.Endings.{Ending, Gives, after_word}
 use Rattle.p10_macros.specs.Ends.{Ends, EndsAll, Follows, no_words, word_stays, use_refused, use_replaced, no_arguments, argument_given, argument_refused, argument_too_long, replacement_made, replacement_too_long, values_refused, values_too_long, WordsEndInOneWay}
 use Rattle.p10_macros.proofs.Unfolding.{unfolds}
 
@@ -26,7 +26,7 @@ mutual
       Ends table outer words left this → Ends table outer words left that → this ≡ that
   one_of_words no_words no_words = refl
   one_of_words (word_stays is ends gives) second =
-      let (behind, others, gives') = unfolds second is in gives ∙ ap (behind_word _) (one_of_words ends others) ∙ sym gives'
+      let (behind, others, gives') = unfolds second is in gives ∙ ap (after_word _) (one_of_words ends others) ∙ sym gives'
   one_of_words (use_refused is refused) second = refused ∙ sym (unfolds second is)
   one_of_words (use_replaced is ends follows) second =
       let (values, others, follows') = unfolds second is in one_of_use follows (one_of_arguments ends others) follows'
@@ -34,7 +34,7 @@ mutual
   one_of_arguments : {table : Table} {outer : Option Span} {arguments : List (List Sourced)} {left : ℕ} {this that : Ending (List (List Sourced))} →
       EndsAll table outer arguments left this → EndsAll table outer arguments left that → this ≡ that
   one_of_arguments no_arguments no_arguments = refl
-  one_of_arguments {table} {outer} (argument_given {arguments = arguments} {behind = behind} first others gives) (argument_given {behind = behind'} first' others' gives') =
+  one_of_arguments {table} {outer} (argument_given {arguments = arguments} {others = behind} first others gives) (argument_given {others = behind'} first' others' gives') =
       let e : _ ≡ _ = one_of_words first first' in
       let rest : behind ≡ behind' = one_of_arguments others (subst (λ (middle : ℕ). EndsAll table outer arguments middle behind') (sym (same_left e)) others') in
       let value : _ ≡ _ = same_value e in

@@ -5,7 +5,7 @@ use Rattle.std.specs.List.{flat_map, slice_get}
 use Rattle.std.proofs.lemmas.List.{reverse-append, map-append}
 use Rattle.p10_base.specs.declared.span.Span.{Span}
 use Rattle.p10_base.specs.declared.word.Word.{Word}
-use Rattle.p10_base.specs.Words.{Text}
+use Rattle.p10_base.specs.Words.{Text, plain_word}
 use Rattle.p10_direct.specs.Directives.{PlainMacro}
 use Rattle.p10_macros.specs.declared.origin.Origins.{Origins}
 use Rattle.p10_macros.specs.declared.pending.Traced.{Traced}
@@ -51,7 +51,7 @@ puts_more first second third front words both all left remaining e these those =
   costs = omega (arith, these.costs, those.costs, length-append front words, ap length e);
 }
 
--- the elements from a place on are the one there and those behind it
+-- the elements from a place on are the one there and those after it
 pub drop_from : {A : Type 0} (xs : List A) (place : ℕ) (none : A) → 0 < place → place ≤ length xs → drop (place - 1) xs ≡ slice_index_or xs (place - 1) none ∷ drop place xs
 drop_from {A = A} xs place none more less =
     let up : suc (place - 1) ≡ place = omega arith in
@@ -64,7 +64,7 @@ flat_less part (x ∷ xs) (suc index) = omega (arith, flat_less part xs index, l
 
 -- ## Chosen words
 
--- what comes of those behind so many of the chosen words
+-- what comes of those after so many of the chosen words
 abbrev pub parts_behind : (Word → List Traced) → List Word → Option (Vec ℕ Global) → ℕ → List Traced
 parts_behind part words None index = flat_map part (drop index words)
 parts_behind part words (Some places) index = flat_map (λ (place : ℕ). part_there part (slice_get words place)) (drop index places.items)
@@ -84,7 +84,7 @@ module _ (part : Word → List Traced) (words : List Word) where
       ap (λ (l : List ℕ). flat_map (λ (p : ℕ). part_there part (slice_get words p)) l) (drop_from places.items index 0 more less)
       ∙ ap (λ (o : Option Word). part_there part o ++ parts_behind part words (Some places) index) (there words place none (within (index - 1) 0 (omega arith)))
 
-  -- what comes of those behind is no more than what comes of all
+  -- what comes of those after is no more than what comes of all
   behind_less : (chosen : Option (Vec ℕ Global)) (index : ℕ) → length (parts_behind part words chosen index) ≤ length (chosen_parts part words chosen)
   behind_less None index = flat_less part words index
   behind_less (Some places) index = flat_less (λ (place : ℕ). part_there part (slice_get words place)) places.items index
@@ -93,12 +93,12 @@ module _ (part : Word → List Traced) (words : List Word) where
 
 -- what is put for a word is what stands for it
 pub part_is : (plain : PlainMacro) (values : List (List Traced)) (at : Span) (from : ℕ) (words : List Word) (place place' : ℕ) (none : Word) (parameter : Option ℕ) (value : Option (List Traced)) (traced : Traced) → place' ≡ place →
-    parameter ≡ place_named (texts_of plain.parameters) (slice_index_or words place' none) → value ≡ at_place parameter values → traced ≡ fresh (slice_index_or words place' none) at from →
+    parameter ≡ place_named (texts_of plain.parameters) (plain_word (slice_index_or words place' none)) → value ≡ at_place parameter values → traced ≡ fresh (slice_index_or words place' none) at from →
     value_or_word value traced ≡ part_of plain values at from (slice_index_or words place none)
 part_is plain values at from words place place' none parameter value traced same named there is =
     let word : Word = slice_index_or words place' none in
     ap (λ (v : Option (List Traced)). value_or_word v traced) (there ∙ ap (λ (p : Option ℕ). at_place p values) named)
-    ∙ ap (λ (t : Traced). value_or_word (at_place (place_named (texts_of plain.parameters) word) values) t) is
+    ∙ ap (λ (t : Traced). value_or_word (at_place (place_named (texts_of plain.parameters) (plain_word word)) values) t) is
     ∙ ap (λ (n : ℕ). part_of plain values at from (slice_index_or words n none)) same
 
 module _ (part : Word → List Traced) (words : List Word) (chosen : Option (Vec ℕ Global)) where

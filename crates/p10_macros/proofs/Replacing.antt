@@ -5,12 +5,14 @@ use Rattle.std.specs.List.{flat_map}
 use Rattle.std.proofs.lemmas.List.{map-append, length-map, length-reverse}
 use Rattle.p10_base.specs.declared.span.Span.{Span}
 use Rattle.p10_base.specs.declared.word.Word.{Word}
-use Rattle.p10_base.specs.Words.{Text, is_name, plain_word}
+use Rattle.p10_base.specs.Words.{Text, PlainWord, is_name, plain_word}
 use Rattle.p10_direct.specs.Directives.{PlainMacro}
 use Rattle.p10_macros.specs.declared.origin.Origins.{Origins}
 use Rattle.p10_macros.specs.declared.pending.Traced.{Traced}
 use Rattle.p10_macros.specs.declared.pending.Pending.{Pending}
 use Rattle.p10_macros.specs.declared.replaced.ReplaceFault.{ReplaceFault}
+use Rattle.p10_macros.specs.declared.known.Known.{Known}
+use Rattle.p10_macros.specs.private.KnownMacros.{plain_known}
 use Rattle.p10_macros.specs.Uses.{Sourced, given, value_of, value_or, texts_of, replacement}
 use Rattle.p10_macros.specs.private.Places.{at_place, place_named, gives}
 use Rattle.p10_macros.specs.private.Origins.{Extends, HasOne}
@@ -47,11 +49,11 @@ are_put origins (item ∷ items) [] words e are = absurd cc
 
 -- ## The words of the replacement list
 
-value_mapped : (f : List Sourced → List Sourced) (texts : List Text) (values : List (List Sourced)) (word : Word) → value_of texts (map f values) word ≡ option_map f (value_of texts values word)
+value_mapped : (f : List Sourced → List Sourced) (texts : List Text) (values : List (List Sourced)) (word : PlainWord) → value_of texts (map f values) word ≡ option_map f (value_of texts values word)
 value_mapped f [] [] word = refl
 value_mapped f [] (value ∷ values) word = refl
 value_mapped f (text ∷ texts) [] word = refl
-value_mapped f (text ∷ texts) (value ∷ values) word = go (is_name text (plain_word word)) (value_mapped f texts values word)
+value_mapped f (text ∷ texts) (value ∷ values) word = go (is_name text word) (value_mapped f texts values word)
   where
     go : (b : Bool) → value_of texts (map f values) word ≡ option_map f (value_of texts values word) →
         cond b (Some (f value)) (value_of texts (map f values) word) ≡ option_map f (cond b (Some value) (value_of texts values word))
@@ -61,15 +63,16 @@ value_mapped f (text ∷ texts) (value ∷ values) word = go (is_name text (plai
 module _ (origins : Origins) (plain : PlainMacro) (name : Sourced) (at : Span) (from : ℕ) (place : at ≡ name.word.at) (base : IsBase origins from plain.name name) where
   -- what is put for one
   part_traced : (values : List (List Traced)) (words : List (List Sourced)) (word : Word) → AreValues origins values (map (λ (value : List Sourced). map (given plain name) value) words) →
-      AreTraced origins (part_of plain values at from word) (map (given plain name) (value_or (value_of (texts_of plain.parameters) words word) word))
+      AreTraced origins (part_of plain values at from word) (map (given plain name) (value_or (value_of (texts_of plain.parameters) words (plain_word word)) (plain_word word)))
   part_traced values words word are =
       let texts : List Text = texts_of plain.parameters in
-      go (at_place (place_named texts word) values) (value_of texts words word)
-      (subst (λ (o : Option (List Sourced)). IsValue origins (at_place (place_named texts word) values) o) (value_mapped (λ (value : List Sourced). map (given plain name) value) texts words word)
-      (is_value texts word (place_named texts word) values (at_place (place_named texts word) values) refl refl origins (map (λ (value : List Sourced). map (given plain name) value) words) are))
+      let word' : PlainWord = plain_word word in
+      go (at_place (place_named texts word') values) (value_of texts words word')
+      (subst (λ (o : Option (List Sourced)). IsValue origins (at_place (place_named texts word') values) o) (value_mapped (λ (value : List Sourced). map (given plain name) value) texts words word')
+      (is_value texts word' (place_named texts word') values (at_place (place_named texts word') values) refl refl origins (map (λ (value : List Sourced). map (given plain name) value) words) are))
     where
       go : (v : Option (List Traced)) (o : Option (List Sourced)) → IsValue origins v (option_map (λ (value : List Sourced). map (given plain name) value) o) →
-          AreTraced origins (value_or_word v (fresh word at from)) (map (given plain name) (value_or o word))
+          AreTraced origins (value_or_word v (fresh word at from)) (map (given plain name) (value_or o (plain_word word)))
       go None None is = (written_traced origins word at from plain name place base, tt)
       go (Some value) (Some words') is = is
       go None (Some words') is = absurd is
@@ -83,11 +86,11 @@ module _ (origins : Origins) (plain : PlainMacro) (name : Sourced) (at : Span) (
 
   -- what is put for all
   list_traced : (values : List (List Traced)) (words : List (List Sourced)) (body : List Word) → AreValues origins values (map (λ (value : List Sourced). map (given plain name) value) words) →
-      AreTraced origins (flat_map (part_of plain values at from) body) (map (given plain name) (flat_map (λ (word : Word). value_or (value_of (texts_of plain.parameters) words word) word) body))
+      AreTraced origins (flat_map (part_of plain values at from) body) (map (given plain name) (flat_map (λ (word : PlainWord). value_or (value_of (texts_of plain.parameters) words word) word) (map plain_word body)))
   list_traced values words [] are = tt
   list_traced values words (word ∷ body) are =
-      let part : List Sourced = value_or (value_of (texts_of plain.parameters) words word) word in
-      let rest : List Sourced = flat_map (λ (w : Word). value_or (value_of (texts_of plain.parameters) words w) w) body in
+      let part : List Sourced = value_or (value_of (texts_of plain.parameters) words (plain_word word)) (plain_word word) in
+      let rest : List Sourced = flat_map (λ (w : PlainWord). value_or (value_of (texts_of plain.parameters) words w) w) (map plain_word body) in
       subst (λ (l : List Sourced). AreTraced origins (part_of plain values at from word ++ flat_map (part_of plain values at from) body) l) (sym (map-append (given plain name) part rest))
       (traced_both (part_of plain values at from word) (flat_map (part_of plain values at from) body) (map (given plain name) part) (map (given plain name) rest)
       (part_traced values words word are) (list_traced values words body are))
@@ -95,26 +98,32 @@ module _ (origins : Origins) (plain : PlainMacro) (name : Sourced) (at : Span) (
 -- ## The replacement
 
 -- what stands for the replacement list of a use, where the words of its arguments were made those of the use
-module _ (old middle new : Origins) (plain : PlainMacro) (name : Traced) (values values' : List (List Traced)) (from : ℕ) (grown : Extends old middle) (grown' : Extends middle new)
-    (first : HasOne old plain.name name.from middle from) (given' : AreGiven middle new name from values values') where
-  use_traced : (name' : Sourced) (words : List (List Sourced)) → IsTraced old name name' → AreValues old values words → AreTraced new (flat_map (part_of plain values' name.word.at from) plain.body) (replacement plain name' words)
+module _ (old middle new : Origins) (known : Known) (name : Traced) (values values' : List (List Traced)) (from : ℕ) (grown : Extends old middle) (grown' : Extends middle new)
+    (first : HasOne old (plain_known known).name name.from middle from) (given' : AreGiven middle new name from values values') where
+  abbrev plain : PlainMacro
+  plain = plain_known known
+
+  abbrev body : List Word
+  body = known.made.body.now
+
+  use_traced : (name' : Sourced) (words : List (List Sourced)) → IsTraced old name name' → AreValues old values words → AreTraced new (flat_map (part_of plain values' name.word.at from) body) (replacement plain name' words)
   use_traced name' words named are =
       let base : IsBase middle from plain.name name' = base_of old middle plain.name name name' from first named in
-      list_traced new plain name' name.word.at from (ap (λ (w : Word). w.at) named.word) (base_more middle new grown' from plain.name name' base) values' words plain.body
+      list_traced new plain name' name.word.at from (ap (λ (w : PlainWord). w.at) named.word) (base_more middle new grown' from plain.name name' base) values' words body
       (given' plain name' words (traced_more old middle grown name name' named) base (values_more old middle grown values words are))
 
-  pub is_replacement : (before behind : List Pending) (left remaining : ℕ) → PutsTraced before behind (flat_map (part_of plain values' name.word.at from) plain.body) left remaining → PutsReplacement old new before behind plain name values left remaining
+  pub is_replacement : (before behind : List Pending) (left remaining : ℕ) → PutsTraced before behind (flat_map (part_of plain values' name.word.at from) body) left remaining → PutsReplacement old new before behind plain name values left remaining
   is_replacement before behind left remaining puts name' words named are =
       let traced = use_traced name' words named are in record {
         items = puts.items;
         pending = puts.pending;
-        put = are_put new puts.items (flat_map (part_of plain values' name.word.at from) plain.body) (replacement plain name' words) puts.put traced;
-        costs = omega (arith, puts.costs, traced_length new (flat_map (part_of plain values' name.word.at from) plain.body) (replacement plain name' words) traced);
+        put = are_put new puts.items (flat_map (part_of plain values' name.word.at from) body) (replacement plain name' words) puts.put traced;
+        costs = omega (arith, puts.costs, traced_length new (flat_map (part_of plain values' name.word.at from) body) (replacement plain name' words) traced);
       }
 
-  pub is_short : (left : ℕ) (f : ReplaceFault) → Short f (left < length (flat_map (part_of plain values' name.word.at from) plain.body)) →
+  pub is_short : (left : ℕ) (f : ReplaceFault) → Short f (left < length (flat_map (part_of plain values' name.word.at from) body)) →
       (name' : Sourced) (words : List (List Sourced)) → IsTraced old name name' → AreValues old values words → Short f (left < length (replacement plain name' words))
   is_short left f short name' words named are =
-      let parts : List Traced = flat_map (part_of plain values' name.word.at from) plain.body in
+      let parts : List Traced = flat_map (part_of plain values' name.word.at from) body in
       short_by f (left < length parts) (left < length (replacement plain name' words)) short
       (λ less. omega (arith, less, traced_length new parts (replacement plain name' words) (use_traced name' words named are)))

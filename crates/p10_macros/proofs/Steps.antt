@@ -4,9 +4,9 @@ use Rattle.p10_base.specs.declared.span.Span.{Span}
 use Rattle.p10_direct.specs.Directives.{PlainMacro}
 use Rattle.p10_macros.specs.Table.{Table}
 use Rattle.p10_macros.specs.Uses.{Sourced, use_of, Stays, Wrong, Calls, replacement}
-use Rattle.p10_macros.specs.Endings.{Ending, Gives, Refused, TooMany, after, behind_word, behind_argument}
+use Rattle.p10_macros.specs.Endings.{Ending, Gives, Refused, TooMany, after, after_word, after_argument}
 use Rattle.p10_macros.specs.Ends.{Ends, EndsAll, place_of_use, no_words, word_stays, use_refused, use_replaced, no_arguments, argument_given, argument_refused, argument_too_long, replacement_made, replacement_too_long, values_refused, values_too_long}
-use Rattle.p10_macros.specs.private.Running.{OpenUse, outer_of, behind_words, Replaces, Returns, Closes, Comes}
+use Rattle.p10_macros.specs.private.Running.{OpenUse, outer_of, after_words, Replaces, Returns, Closes, Comes}
 
 closes_refused : (table : Table) (uses : List OpenUse) (number : ℕ) (at : Span) → Closes table uses (Refused number at) (Refused number at)
 closes_refused table [] number at = refl
@@ -16,12 +16,12 @@ closes_too_many : (table : Table) (uses : List OpenUse) → Closes table uses To
 closes_too_many table [] = refl
 closes_too_many table (use' ∷ uses) = refl
 
-pub behind_one_more : (done : List Sourced) (word : Sourced) (level : Ending (List Sourced)) → behind_words (done ++ word ∷ []) level ≡ behind_words done (behind_word word level)
+pub behind_one_more : (done : List Sourced) (word : Sourced) (level : Ending (List Sourced)) → after_words (done ++ word ∷ []) level ≡ after_words done (after_word word level)
 behind_one_more done word (Gives words left) = ap (λ (all : List Sourced). Gives all left) (append_assoc done (word ∷ []) words)
 behind_one_more done word (Refused number at) = refl
 behind_one_more done word TooMany = refl
 
-pub behind_none : (level : Ending (List Sourced)) → behind_words [] level ≡ level
+pub behind_none : (level : Ending (List Sourced)) → after_words [] level ≡ level
 behind_none (Gives words left) = refl
 behind_none (Refused number at) = refl
 behind_none TooMany = refl
@@ -30,13 +30,13 @@ behind_none TooMany = refl
 pub step_stays : (table : Table) (uses : List OpenUse) (word : Sourced) (words done : List Sourced) (left : ℕ) → use_of table word words ≡ Stays →
     (ending : Ending (List Sourced)) → Comes table uses words (done ++ word ∷ []) left ending → Comes table uses (word ∷ words) done left ending
 step_stays table uses word words done left is ending (level, ends, closes) =
-    (behind_word word level, word_stays is ends refl, subst (λ (l : Ending (List Sourced)). Closes table uses l ending) (behind_one_more done word level) closes)
+    (after_word word level, word_stays is ends refl, subst (λ (l : Ending (List Sourced)). Closes table uses l ending) (behind_one_more done word level) closes)
 
 -- a word that begins no use and stands in none is given
 pub step_given : (table : Table) (word : Sourced) (words : List Sourced) (left : ℕ) → use_of table word words ≡ Stays →
-    (level : Ending (List Sourced)) → Comes table [] words [] left level → Comes table [] (word ∷ words) [] left (behind_word word level)
+    (level : Ending (List Sourced)) → Comes table [] words [] left level → Comes table [] (word ∷ words) [] left (after_word word level)
 step_given table word words left is level (last, ends, closes) =
-    (behind_word word last, word_stays is ends refl, ap (λ (l : Ending (List Sourced)). behind_word word l) (closes ∙ behind_none last) ∙ sym (behind_none (behind_word word last)))
+    (after_word word last, word_stays is ends refl, ap (λ (l : Ending (List Sourced)). after_word word l) (closes ∙ behind_none last) ∙ sym (behind_none (after_word word last)))
 
 -- a use is refused
 pub step_refused : (table : Table) (uses : List OpenUse) (word : Sourced) (words done : List Sourced) (left number : ℕ) → use_of table word words ≡ Wrong number →
@@ -75,7 +75,7 @@ module _ (table : Table) (uses : List OpenUse) (word : Sourced) (words done : Li
   opened_returns : (left : ℕ) (value : Ending (List Sourced)) → Ends table (Some (place_of_use (outer_of uses) word)) first left value →
       (ending : Ending (List Sourced)) → Returns table (Comes table uses) (opened (outer_of uses) plain word done others rest) value ending → Comes table uses (word ∷ words) done left ending
   opened_returns left (Gives value left') ends ending (values, ends', replaces) =
-      opened_made left (behind_argument value values) (argument_given ends ends' refl) ending replaces
+      opened_made left (after_argument value values) (argument_given ends ends' refl) ending replaces
   opened_returns left (Refused number at) ends ending e = opened_made left (Refused number at) (argument_refused ends) ending e
   opened_returns left TooMany ends ending e = opened_made left TooMany (argument_too_long ends) ending e
 
@@ -98,7 +98,7 @@ module _ (table : Table) (uses : List OpenUse) (plain : PlainMacro) (name : Sour
 
   next_makes : (next : List Sourced) (others : List (List Sourced)) (value : List Sourced) (values : Ending (List (List Sourced))) (ending : Ending (List Sourced)) →
       Replaces (Comes table uses) (with_value (waits_for (next ∷ others)) done others) (after (λ more. (earlier ++ done ∷ []) ++ value ∷ more) values) ending →
-      Replaces (Comes table uses) (waits_for (next ∷ others)) (after (λ more. earlier ++ (done ++ []) ∷ more) (behind_argument value values)) ending
+      Replaces (Comes table uses) (waits_for (next ∷ others)) (after (λ more. earlier ++ (done ++ []) ∷ more) (after_argument value values)) ending
   next_makes next others value (Gives more left) ending replaces =
       subst (λ (all : List (List Sourced)). Replaces (Comes table uses) (waits_for (next ∷ others)) (Gives all left) ending) (values_again value more) replaces
   next_makes next others value (Refused number at) ending e = e
@@ -108,7 +108,7 @@ module _ (table : Table) (uses : List OpenUse) (plain : PlainMacro) (name : Sour
       Returns table (Comes table uses) (with_value (waits_for (next ∷ others)) done others) value ending →
       Returns table (Comes table uses) (waits_for (next ∷ others)) (Gives (done ++ []) left) ending
   next_returns next others left (Gives value left') ends ending (values, ends', replaces) =
-      (behind_argument value values, argument_given ends ends' refl, next_makes next others value values ending replaces)
+      (after_argument value values, argument_given ends ends' refl, next_makes next others value values ending replaces)
   next_returns next others left (Refused number at) ends ending e = (Refused number at, argument_refused ends, e)
   next_returns next others left TooMany ends ending e = (TooMany, argument_too_long ends, e)
 

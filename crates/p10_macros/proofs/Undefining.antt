@@ -1,10 +1,10 @@
 -- A macro that is undefined takes its name with it, and nothing else.
-use Rattle.std.proofs.Common.{◌≡◌, ℕ, ◌+◌, [], ◌∷◌, Bool, true, false, cond, not, bytes_eq, Option, Some, None, refl, sym, subst, ap, ◌∙◌, arith}
+use Rattle.std.proofs.Common.{◌≡◌, ℕ, ◌+◌, [], ◌∷◌, Bool, true, false, ◌&&◌, cond, not, bytes_eq, Option, Some, None, refl, sym, ap, ◌∙◌, arith}
 use Rattle.std.proofs.lemmas.List.Sums.{sum_by-cons}
 use Rattle.std.proofs.lemmas.Slice.Eq.{bytes_eq-Decides}
 use Rattle.p10_base.specs.Words.{Text}
 use Rattle.p10_direct.specs.Directives.{PlainMacro}
-use Rattle.p10_macros.specs.Table.{Entry, Table, macro_named, with_macro, behind_first, last_first, without_macro, own_of}
+use Rattle.p10_macros.specs.Table.{Entry, Table, macro_named, with_macro, without_macro, own_of}
 use Rattle.p10_macros.specs.Undefining.{NamedOnce, entry_named, own_named, TakesOneName, TakesOneOwn, StaysNamedOnce}
 
 same : (this that : Text) → bytes_eq this that ≡ true → this ≡ that
@@ -25,10 +25,6 @@ none_if : (b : Bool) (made : PlainMacro) (others : Option PlainMacro) → found_
 none_if true made others e = cc
 none_if false made others e = (refl, e)
 
--- a name that stands behind an entry isn't that of the entry
-none_behind : (entry first : Entry) (others : Table) → macro_named entry.made.name (first ∷ others) ≡ None → (bytes_eq entry.made.name first.made.name ≡ false) × (macro_named entry.made.name others ≡ None)
-none_behind entry first others none = none_if (bytes_eq entry.made.name first.made.name) first.made (macro_named entry.made.name others) none
-
 -- a name has a macro where it has an entry
 none_by : (table : Table) (name : Text) → entry_named name table ≡ None → macro_named name table ≡ None
 none_by [] name none = refl
@@ -46,68 +42,30 @@ none_of (entry ∷ table) name none = go (bytes_eq name entry.made.name) none (n
     go true e again = cc
     go false e again = again e
 
--- ## The last one in front of the others
-
-found_behind : (entry : Entry) (table : Table) (other : Text) → macro_named entry.made.name table ≡ None → entry_named other (behind_first entry table) ≡ entry_named other (entry ∷ table)
-found_behind entry [] other none = refl
-found_behind entry (first ∷ others) other none = go (bytes_eq other first.made.name) (bytes_eq other entry.made.name) refl refl
-  where
-    go : (a b : Bool) → bytes_eq other first.made.name ≡ a → bytes_eq other entry.made.name ≡ b →
-        found_if a first (found_if b entry (entry_named other others)) ≡ found_if b entry (found_if a first (entry_named other others))
-    go true true is_first is_entry =
-        let equal : bytes_eq entry.made.name first.made.name ≡ true = subst (λ (text : Text). bytes_eq text first.made.name ≡ true) (same other entry.made.name is_entry) is_first in
-        let differs : bytes_eq entry.made.name first.made.name ≡ false = (none_behind entry first others none).0 in
-        cc
-    go true false is_first is_entry = refl
-    go false true is_first is_entry = refl
-    go false false is_first is_entry = refl
-
-found_moved : (table : Table) (other : Text) → NamedOnce table → entry_named other (last_first table) ≡ entry_named other table
-found_moved [] other once = refl
-found_moved (entry ∷ table) other once =
-    found_behind entry (last_first table) other (none_by (last_first table) entry.made.name (found_moved table entry.made.name once.1 ∙ none_of table entry.made.name once.0))
-    ∙ ap (λ (o : Option Entry). found_if (bytes_eq other entry.made.name) entry o) (found_moved table other once.1)
-
--- a name that stands nowhere stands nowhere then
-none_moved : (table : Table) (other : Text) → NamedOnce table → macro_named other table ≡ None → macro_named other (last_first table) ≡ None
-none_moved table other once none = none_by (last_first table) other (found_moved table other once ∙ none_of table other none)
-
-once_behind : (entry : Entry) (table : Table) → macro_named entry.made.name table ≡ None → NamedOnce table → NamedOnce (behind_first entry table)
-once_behind entry [] none once = (refl, tt)
-once_behind entry (first ∷ others) none once =
-    let (differs, none') = none_behind entry first others none in
-    (ap (λ (b : Bool). found_if b entry.made (macro_named first.made.name others)) (apart entry.made.name first.made.name differs) ∙ once.0, (none', once.1))
-
-once_moved : (table : Table) → NamedOnce table → NamedOnce (last_first table)
-once_moved [] once = tt
-once_moved (entry ∷ table) once = once_behind entry (last_first table) (none_moved table entry.made.name once.1 once.0) (once_moved table once.1)
-
 -- ## One macro less
 
 pub takes_one_name : TakesOneName
-takes_one_name [] name other once = go (bytes_eq other name)
+takes_one_name [] name other = go (bytes_eq other name)
   where
     go : (b : Bool) → ◌≡◌ {A = Option Entry} None (cond b None None)
     go true = refl
     go false = refl
-takes_one_name (entry ∷ table) name other once = go (bytes_eq name entry.made.name) (bytes_eq other entry.made.name) (bytes_eq other name) refl refl refl (takes_one_name table name other once.1)
+takes_one_name (entry ∷ table) name other = go (bytes_eq name entry.made.name) (bytes_eq other entry.made.name) (bytes_eq other name) refl refl refl (takes_one_name table name other)
   where
     -- the other macros
     among : Option Entry
     among = entry_named other table
 
     go : (a b c : Bool) → bytes_eq name entry.made.name ≡ a → bytes_eq other entry.made.name ≡ b → bytes_eq other name ≡ c → entry_named other (without_macro table name) ≡ cond c None among →
-        entry_named other (cond a (last_first table) (entry ∷ without_macro table name)) ≡ cond c None (found_if b entry among)
-    go true b true is_entry is_other is_name again =
-        let equal : other ≡ entry.made.name = same other name is_name ∙ same name entry.made.name is_entry in
-        found_moved table other once.1 ∙ ap (λ (text : Text). entry_named text table) equal ∙ none_of table entry.made.name once.0
+        entry_named other (cond (not a) (entry ∷ without_macro table name) (without_macro table name)) ≡ cond c None (found_if b entry among)
+    go true b true is_entry is_other is_name again = again
     go true true false is_entry is_other is_name again =
         let equal : bytes_eq other name ≡ true = (bytes_eq-Decides other name).1 (same other entry.made.name is_other ∙ sym (same name entry.made.name is_entry)) in
-        cc
-    go true false false is_entry is_other is_name again = found_moved table other once.1
+        absurd cc
+    go true false false is_entry is_other is_name again = again
     go false true true is_entry is_other is_name again =
         let equal : bytes_eq name entry.made.name ≡ true = (bytes_eq-Decides name entry.made.name).1 (sym (same other name is_name) ∙ same other entry.made.name is_other) in
-        cc
+        absurd cc
     go false true false is_entry is_other is_name again = ap (λ (b : Bool). found_if b entry (entry_named other (without_macro table name))) is_other
     go false false c is_entry is_other is_name again =
         ap (λ (b : Bool). found_if b entry (entry_named other (without_macro table name))) is_other ∙ again
@@ -120,9 +78,9 @@ once_without (entry ∷ table) name once = go (bytes_eq name entry.made.name) (o
     none_left true = refl
     none_left false = none_of table entry.made.name once.0
 
-    go : (b : Bool) → NamedOnce (without_macro table name) → NamedOnce (cond b (last_first table) (entry ∷ without_macro table name))
-    go true again = once_moved table once.1
-    go false again = (none_by (without_macro table name) entry.made.name (takes_one_name table name entry.made.name once.1 ∙ none_left (bytes_eq entry.made.name name)), again)
+    go : (b : Bool) → NamedOnce (without_macro table name) → NamedOnce (cond (not b) (entry ∷ without_macro table name) (without_macro table name))
+    go true again = again
+    go false again = (none_by (without_macro table name) entry.made.name (takes_one_name table name entry.made.name ∙ none_left (bytes_eq entry.made.name name)), again)
 
 -- ## One macro more
 
@@ -143,26 +101,18 @@ stays_named_once = (once_without, once_with)
 
 -- ## Those that no built-in header defined
 
-own_first : (entry : Entry) (table : Table) → own_of (entry ∷ table) ≡ cond entry.builtin 0 1 + own_of table
-own_first entry table = sum_by-cons (λ (e : Entry). cond (not e.builtin) 1 0) entry table ∙ ap (λ (n : ℕ). n + own_of table) (go entry.builtin)
-  where
-    go : (b : Bool) → ◌≡◌ {A = ℕ} (cond (not b) 1 0) (cond b 0 1)
-    go true = refl
-    go false = refl
+own_first : (entry : Entry) (table : Table) → own_of (entry ∷ table) ≡ cond (not entry.builtin) 1 0 + own_of table
+own_first entry table = sum_by-cons (λ (e : Entry). cond (not e.builtin) 1 0) entry table
 
-own_behind : (entry : Entry) (table : Table) → own_of (behind_first entry table) ≡ own_of (entry ∷ table)
-own_behind entry [] = refl
-own_behind entry (first ∷ others) = omega (arith, own_first first (entry ∷ others), own_first entry others, own_first entry (first ∷ others), own_first first others)
-
-own_moved : (table : Table) → own_of (last_first table) ≡ own_of table
-own_moved [] = refl
-own_moved (entry ∷ table) = omega (arith, own_behind entry (last_first table), own_first entry (last_first table), own_first entry table, own_moved table)
+named_first : (name : Text) (entry : Entry) (table : Table) → own_named name (entry ∷ table) ≡ cond (bytes_eq name entry.made.name && not entry.builtin) 1 0 + own_named name table
+named_first name entry table = sum_by-cons (λ (e : Entry). cond (bytes_eq name e.made.name && not e.builtin) 1 0) entry table
 
 pub takes_one_own : TakesOneOwn
 takes_one_own [] name = refl
-takes_one_own (entry ∷ table) name = go (bytes_eq name entry.made.name) (takes_one_own table name)
+takes_one_own (entry ∷ table) name =
+    go (bytes_eq name entry.made.name) (takes_one_own table name) ∙ ap (λ (n : ℕ). n + own_of (without_macro (entry ∷ table) name)) (sym (named_first name entry table))
   where
     go : (b : Bool) → own_of table ≡ own_named name table + own_of (without_macro table name) →
-        own_of (entry ∷ table) ≡ cond b (cond entry.builtin 0 1) (own_named name table) + own_of (cond b (last_first table) (entry ∷ without_macro table name))
-    go true again = omega (arith, own_first entry table, own_moved table)
+        own_of (entry ∷ table) ≡ (cond (b && not entry.builtin) 1 0 + own_named name table) + own_of (cond (not b) (entry ∷ without_macro table name) (without_macro table name))
+    go true again = omega (arith, again, own_first entry table)
     go false again = omega (arith, again, own_first entry table, own_first entry (without_macro table name))

@@ -3,12 +3,12 @@ use Rattle.std.proofs.Common.{◌≡◌, ℕ, List, ◌∷◌, Option, Some, sym
 use Rattle.p10_base.specs.declared.span.Span.{Span}
 use Rattle.p10_macros.specs.Table.{Table}
 use Rattle.p10_macros.specs.Uses.{Sourced, Use, use_of, Stays, Wrong, Calls}
-use Rattle.p10_macros.specs.Endings.{Ending, Refused, behind_word}
+use Rattle.p10_macros.specs.Endings.{Ending, Refused, after_word}
 use Rattle.p10_macros.specs.Ends.{Ends, EndsAll, Follows, place_of_use, word_stays, use_refused, use_replaced}
 
--- what comes of a word that begins this, and of the words behind it
+-- what comes of a word that begins this, and of the words after it
 abbrev pub Unfolds : Table → Option Span → Sourced → List Sourced → ℕ → Ending (List Sourced) → Use → Type 0
-Unfolds table outer word words left ending Stays = (behind : Ending (List Sourced)) × Ends table outer words left behind × (ending ≡ behind_word word behind)
+Unfolds table outer word words left ending Stays = (behind : Ending (List Sourced)) × Ends table outer words left behind × (ending ≡ after_word word behind)
 Unfolds table outer word words left ending (Wrong number) = ending ≡ Refused number (place_of_use outer word)
 Unfolds table outer word words left ending (Calls plain arguments rest) =
     (values : Ending (List (List Sourced))) × EndsAll table (Some (place_of_use outer word)) arguments left values × Follows table outer plain word rest values ending

@@ -3,7 +3,7 @@ use Rattle.std.proofs.Common.{◌≡◌, ℕ, zero, suc, ◌<◌, ◌≤◌, Lis
 use Rattle.std.proofs.lemmas.List.{map-set, get_or-map, length-map}
 use Rattle.p10_base.specs.declared.span.Span.{Span}
 use Rattle.p10_base.specs.declared.word.Word.{Word}
-use Rattle.p10_base.specs.Words.{Text}
+use Rattle.p10_base.specs.Words.{Text, PlainWord, plain_word}
 use Rattle.p10_direct.specs.Directives.{PlainMacro}
 use Rattle.p10_macros.specs.declared.origin.Origins.{Origins}
 use Rattle.p10_macros.specs.declared.pending.Traced.{Traced}
@@ -64,20 +64,24 @@ base_of old new macro' name name' from has is = record {
 
 -- ## Words of a use
 
+-- a word at another place
+abbrev moved : Span → PlainWord → PlainWord
+moved at word = record word { at = at }
+
 -- a word at the place of a use stands for one that the use gives
-fresh_traced : (origins : Origins) (word : Word) (at : Span) (from : ℕ) (plain : PlainMacro) (name part : Sourced) → word ≡ part.word → at ≡ name.word.at → from ≤ count_of origins →
+fresh_traced : (origins : Origins) (word : Word) (at : Span) (from : ℕ) (plain : PlainMacro) (name part : Sourced) → plain_word word ≡ part.word → at ≡ name.word.at → from ≤ count_of origins →
     ((other : Text) → has_macro origins from other ≡ ((bytes_eq other plain.name || name.from other) || part.from other)) → IsTraced origins (fresh word at from) (given plain name part)
 fresh_traced origins word at from plain name part same place known both = record {
-  word = ap (λ (w : Word). (fresh w at from).word) same ∙ ap (λ (a : Span). (fresh part.word a from).word) place;
+  word = ap (moved at) same ∙ ap (λ (a : Span). moved a part.word) place;
   known = known;
   from = both;
 }
 
 -- a word of the replacement list
 pub written_traced : (origins : Origins) (word : Word) (at : Span) (from : ℕ) (plain : PlainMacro) (name : Sourced) → at ≡ name.word.at → IsBase origins from plain.name name →
-    IsTraced origins (fresh word at from) (given plain name (written word))
+    IsTraced origins (fresh word at from) (given plain name (written (plain_word word)))
 written_traced origins word at from plain name place base =
-    fresh_traced origins word at from plain name (written word) refl place base.known (λ other. base.base other ∙ or_no_more (bytes_eq other plain.name || name.from other))
+    fresh_traced origins word at from plain name (written (plain_word word)) refl place base.known (λ other. base.base other ∙ or_no_more (bytes_eq other plain.name || name.from other))
 
 -- a word of an argument
 word_given : (old new : Origins) (traced : Traced) (at : Span) (all : ℕ) (plain : PlainMacro) (name word : Sourced) → at ≡ name.word.at → IsTraced old traced word → IsJoined old traced.from plain.name name new all →
@@ -152,7 +156,7 @@ one_given first old new name from known own all next before value place after no
       less = subst (λ (n : ℕ). n ≤ count_of new) (sym same) (longer old new grown part.from known');
       joined = joined_known new own part.from next plain.name name' same (joined_now old new part.from next plain.name name' grown known' joined);
       are = subst (λ (n : ℕ). AreTraced new (slice_set value place traced) (given_first plain name' n words)) (sym behind) (next_given old new plain name' place none traced value words grown less so.are
-          (λ word held. subst (λ (t : Traced). IsTraced new t (given plain name' word)) (sym is) (word_given old new part name.word.at next plain name' word (ap (λ (w : Word). w.at) named.word) held joined)));
+          (λ word held. subst (λ (t : Traced). IsTraced new t (given plain name' word)) (sym is) (word_given old new part name.word.at next plain name' word (ap (λ (w : PlainWord). w.at) named.word) held joined)));
     }
 
 all_first : (plain : PlainMacro) (name : Sourced) (count : ℕ) (words : List Sourced) → length words ≤ count → given_first plain name count words ≡ map (given plain name) words

@@ -18,10 +18,10 @@ after change (Gives made left) = Gives (change made) left
 after change (Refused number at) = Refused number at
 after change TooMany = TooMany
 
--- with a word in front
-abbrev pub behind_word : Sourced → Ending (List Sourced) → Ending (List Sourced)
-behind_word word ending = after (λ words. word ∷ words) ending
+-- with this word before the others
+abbrev pub after_word : Sourced → Ending (List Sourced) → Ending (List Sourced)
+after_word word ending = after (λ words. word ∷ words) ending
 
--- with an argument in front
-abbrev pub behind_argument : List Sourced → Ending (List (List Sourced)) → Ending (List (List Sourced))
-behind_argument argument ending = after (λ arguments. argument ∷ arguments) ending
+-- with this argument before the others
+abbrev pub after_argument : List Sourced → Ending (List (List Sourced)) → Ending (List (List Sourced))
+after_argument argument ending = after (λ arguments. argument ∷ arguments) ending

@@ -7,11 +7,11 @@ use Rattle.p10_macros.specs.Endings.{Gives, Refused}
 use Rattle.p10_macros.specs.Ends.{Ends}
 
 -- one of the words stands at the place, and those before it have a replacement
-pub record StandsBehind (table : Table) (words : List Sourced) (left : ℕ) (at : Span) : Type 0 where
+pub record StandsAfter (table : Table) (words : List Sourced) (left : ℕ) (at : Span) : Type 0 where
   pub front : List Sourced
   pub name : Sourced
-  pub behind : List Sourced
-  pub is : words ≡ front ++ name ∷ behind
+  pub rest : List Sourced
+  pub is : words ≡ front ++ name ∷ rest
   pub place : name.word.at ≡ at
   pub made : List Sourced
   pub remaining : ℕ
@@ -19,4 +19,4 @@ pub record StandsBehind (table : Table) (words : List Sourced) (left : ℕ) (at 
 
 -- a refusal is at one of the words, and those before it have a replacement
 abbrev pub FrontsGive : Type 0
-FrontsGive = (table : Table) (words : List Sourced) (left number : ℕ) (at : Span) → Ends table None words left (Refused number at) → StandsBehind table words left at
+FrontsGive = (table : Table) (words : List Sourced) (left number : ℕ) (at : Span) → Ends table None words left (Refused number at) → StandsAfter table words left at

@@ -12,7 +12,7 @@ use Rattle.p10_macros.specs.Ends.{Ends}
 pub record NamesObject (table : Table) (sourced : Sourced) : Type 0 where
   pub name : is_name_kind sourced.word.kind ≡ true
   pub plain : PlainMacro
-  pub defined : macro_named sourced.word.text.now table ≡ Some plain
+  pub defined : macro_named sourced.word.text table ≡ Some plain
   pub object_like : plain.parameters ≡ None
 
 -- no word is the name of an object-like macro of the table

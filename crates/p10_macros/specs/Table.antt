@@ -1,10 +1,9 @@
 -- The macros that are defined (C99 6.10.3p1, p2, 6.10.3.5).
-use Rattle.std.specs.Prelude.{ℕ, ◌==◌, length, List, [], ◌∷◌, ◌++◌, Bool, true, false, ◌&&◌, not, Option, Some, None, bytes_eq, count_by, if◌then◌else◌}
+use Rattle.std.specs.Prelude.{ℕ, ◌==◌, length, List, [], ◌∷◌, ◌++◌, filter, Bool, true, false, ◌&&◌, not, Option, Some, None, bytes_eq, count_by, if◌then◌else◌}
 use Rattle.std.specs.List.{list_all, zip}
-use Rattle.p10_base.specs.declared.word.Word.{Word}
 use Rattle.p10_base.specs.declared.word.Kind.{Kind}
 use Rattle.p10_base.specs.declared.word.Kind.TheVariants.{Name, Number, Char, Str, Punct, Mark}
-use Rattle.p10_base.specs.Words.{Text}
+use Rattle.p10_base.specs.Words.{Text, PlainWord}
 use Rattle.p10_direct.specs.Directives.{PlainMacro}
 
 -- a macro that is defined, and whether a built-in header defined it
@@ -12,8 +11,8 @@ pub record Entry : Type 0 where
   pub made : PlainMacro
   pub builtin : Bool
 
--- the macros that are defined; no name stands twice, since only names that aren't there are put behind the others, so their order
--- means nothing
+-- the macros that are defined, in the order of their definitions; no name stands twice, since only a macro whose name isn't there is put
+-- after the others
 abbrev pub Table : Type 0
 Table = List Entry
 
@@ -35,15 +34,15 @@ same_kind Mark Mark = true
 same_kind _ _ = false
 
 -- whether two words have one kind and one spelling
-abbrev pub same_word : Word → Word → Bool
-same_word this that = same_kind this.kind that.kind && bytes_eq this.text.now that.text.now
+abbrev pub same_word : PlainWord → PlainWord → Bool
+same_word this that = same_kind this.kind that.kind && bytes_eq this.text that.text
 
 -- two lists have the same length, and each pair at one place passes the test
 abbrev pub same_lists : {A : Type 0} → (A → A → Bool) → List A → List A → Bool
 same_lists same these those = (length these == length those) && list_all (λ pair. same pair.0 pair.1) (zip these those)
 
 -- replacement lists are the same where their words are, by kind and spelling; C99 also asks for white space at the same places
-abbrev pub same_words : List Word → List Word → Bool
+abbrev pub same_words : List PlainWord → List PlainWord → Bool
 same_words these those = same_lists same_word these those
 
 -- whether two lists have the same texts in one order
@@ -62,25 +61,13 @@ same_macro this that = same_parameters this.parameters that.parameters && same_w
 
 -- ## Changes
 
--- with one more macro behind the others
+-- with one more macro after the others
 abbrev pub with_macro : Table → PlainMacro → Bool → Table
 with_macro table made builtin = table ++ (record { made = made; builtin = builtin }) ∷ []
 
--- with one more, as the second one behind the first, or alone
-abbrev pub behind_first : {A : Type 0} → A → List A → List A
-behind_first one [] = one ∷ []
-behind_first one (first ∷ others) = first ∷ one ∷ others
-
--- the last one in front of the others
-abbrev pub last_first : {A : Type 0} → List A → List A
-last_first [] = []
-last_first (one ∷ others) = behind_first one (last_first others)
-
--- without the macro of this name: the last one takes its place. The order of macros means nothing, and so no other one has to be moved,
--- however many there are
+-- without the macro of this name (C99 6.10.3.5p2)
 abbrev pub without_macro : Table → Text → Table
-without_macro [] name = []
-without_macro (entry ∷ table) name = if bytes_eq name entry.made.name then last_first table else entry ∷ without_macro table name
+without_macro table name = filter (λ (entry : Entry). not (bytes_eq name entry.made.name)) table
 
 -- how many of the macros no built-in header defined
 abbrev pub own_of : Table → ℕ

@@ -1,5 +1,5 @@
 -- What it is to undefine a macro: its name is taken away, and nothing else.
-use Rattle.std.specs.Prelude.{ℕ, ◌≡◌, ◌+◌, [], ◌∷◌, Bool, Option, Some, None, bytes_eq, if◌then◌else◌}
+use Rattle.std.specs.Prelude.{ℕ, ◌≡◌, ◌+◌, [], ◌∷◌, Bool, ◌&&◌, not, count_by, Option, Some, None, bytes_eq, if◌then◌else◌}
 use Rattle.p10_base.specs.Words.{Text}
 use Rattle.p10_direct.specs.Directives.{PlainMacro}
 use Rattle.p10_macros.specs.Table.{Entry, Table, macro_named, with_macro, without_macro, own_of}
@@ -14,17 +14,16 @@ abbrev pub entry_named : Text → Table → Option Entry
 entry_named name [] = None
 entry_named name (entry ∷ table) = if bytes_eq name entry.made.name then Some entry else entry_named name table
 
--- 1 where there is a macro of this name and no built-in header defined it, 0 else
+-- how many macros of this name no built-in header defined
 abbrev pub own_named : Text → Table → ℕ
-own_named name [] = 0
-own_named name (entry ∷ table) = if bytes_eq name entry.made.name then (if entry.builtin then 0 else 1) else own_named name table
+own_named name table = count_by (λ (entry : Entry). bytes_eq name entry.made.name && not entry.builtin) table
 
 -- without a macro its name has no entry, and each other name has the one that it had; a name that has none changes nothing
 -- (C99 6.10.3.5p2)
 abbrev pub TakesOneName : Type 0
-TakesOneName = (table : Table) (name other : Text) → NamedOnce table → entry_named other (without_macro table name) ≡ (if bytes_eq other name then None else entry_named other table)
+TakesOneName = (table : Table) (name other : Text) → entry_named other (without_macro table name) ≡ (if bytes_eq other name then None else entry_named other table)
 
--- of those that no built-in header defined there is one less exactly where the macro was one of them
+-- of those that no built-in header defined there are fewer by the ones of that name alone
 abbrev pub TakesOneOwn : Type 0
 TakesOneOwn = (table : Table) (name : Text) → own_of table ≡ own_named name table + own_of (without_macro table name)
 

@@ -1,8 +1,7 @@
 -- The uses of macros in a list of words, and what replaces them (C99 6.10.3, 6.10.3.1, 6.10.3.4).
 use Rattle.std.specs.Prelude.{ℕ, zero, ◌+◌, ◌-◌, ◌==◌, List, [], ◌∷◌, length, map, Bool, false, ◌&&◌, ◌||◌, Option, Some, None, bytes_eq, codes, if◌then◌else◌}
 use Rattle.std.specs.List.{flat_map}
-use Rattle.p10_base.specs.declared.word.Word.{Word}
-use Rattle.p10_base.specs.Words.{Text, is_name, is_name_kind, is_punctuator, plain_word}
+use Rattle.p10_base.specs.Words.{Text, PlainWord, is_name, is_name_kind, is_punctuator}
 use Rattle.p10_direct.specs.Directives.{PlainMacro}
 use Rattle.p10_macros.specs.Table.{Table, macro_named}
 use Rattle.p10_base.specs.Codes.{directive_number}
@@ -10,40 +9,40 @@ use Rattle.p10_base.specs.declared.codes.DirectiveCode.TheVariants.{RecursiveMac
 
 -- a word, and whether it comes from the replacement of the macro with a name
 pub record Sourced : Type 0 where
-  pub word : Word
+  pub word : PlainWord
   pub from : Text → Bool
 
 -- a word of the source comes from no macro
-abbrev pub written : Word → Sourced
+abbrev pub written : PlainWord → Sourced
 written word = record { word = word; from = λ name. false }
 
 -- the words, without what they come from
-abbrev pub sourced_words : List Sourced → List Word
+abbrev pub sourced_words : List Sourced → List PlainWord
 sourced_words words = map (λ (sourced : Sourced). sourced.word) words
 
 -- ## Arguments
 
--- what stands behind the `(` of a use: the first argument, the others, and the words behind the `)`
+-- what stands after the `(` of a use: the first argument, the others, and the words after the `)`
 pub record Arguments : Type 0 where
   pub first : List Sourced
   pub others : List (List Sourced)
   pub rest : List Sourced
 
 -- whether a word is the `(` of arguments
-abbrev pub opens : Word → Bool
-opens word = is_punctuator (codes "(") (plain_word word)
+abbrev pub opens : PlainWord → Bool
+opens word = is_punctuator (codes "(") word
 
 -- whether a word is the `)` of arguments
-abbrev pub closes : Word → Bool
-closes word = is_punctuator (codes ")") (plain_word word)
+abbrev pub closes : PlainWord → Bool
+closes word = is_punctuator (codes ")") word
 
 -- whether a word is the comma between arguments
-abbrev pub separates : Word → Bool
-separates word = is_punctuator (codes ",") (plain_word word)
+abbrev pub separates : PlainWord → Bool
+separates word = is_punctuator (codes ",") word
 
--- how many parentheses are open behind a word
-abbrev pub depth_behind : ℕ → Word → ℕ
-depth_behind depth word = if opens word then depth + 1 else if closes word then depth - 1 else depth
+-- how many parentheses are open after a word
+abbrev pub depth_after : ℕ → PlainWord → ℕ
+depth_after depth word = if opens word then depth + 1 else if closes word then depth - 1 else depth
 
 -- with one more word in front of the first argument
 abbrev pub word_before : Sourced → Option Arguments → Option Arguments
@@ -62,7 +61,7 @@ arguments_in depth [] = None
 arguments_in depth (word ∷ words) =
     if closes word.word && (depth == 0) then Some (record { first = []; others = []; rest = words })
     else if separates word.word && (depth == 0) then argument_before (arguments_in 0 words)
-    else word_before word (arguments_in (depth_behind depth word.word) words)
+    else word_before word (arguments_in (depth_after depth word.word) words)
 
 -- the arguments of a macro with so many parameters: `( )` is one argument without words, but none of a macro without
 -- parameters; none where their number is another one (C99 6.10.3p4)
@@ -78,10 +77,10 @@ pub data Use : Type 0 where
   Stays : Use
   -- a use that is refused by D6, D7 or D8
   Wrong : ℕ → Use
-  -- a use of a macro with these arguments, and the words behind it
+  -- a use of a macro with these arguments, and the words after it
   Calls : PlainMacro → List (List Sourced) → List Sourced → Use
 
--- a use with these arguments, if there are as many as parameters, and the words behind it
+-- a use with these arguments, if there are as many as parameters, and the words after it
 abbrev pub fitted : PlainMacro → List Sourced → Option (List (List Sourced)) → Use
 fitted plain rest None = Wrong (directive_number WrongArguments)
 fitted plain rest (Some arguments) = Calls plain arguments rest
@@ -109,7 +108,7 @@ use_by (Some plain) name words = use_as plain plain.parameters name words
 
 -- what a word begins where these words follow
 abbrev pub use_of : Table → Sourced → List Sourced → Use
-use_of table name words = if is_name_kind name.word.kind then use_by (macro_named name.word.text.now table) name words else Stays
+use_of table name words = if is_name_kind name.word.kind then use_by (macro_named name.word.text table) name words else Stays
 
 -- ## Replacements
 
@@ -120,12 +119,12 @@ given plain name part =
     record { word = record part.word { at = name.word.at }; from = λ macro'. bytes_eq macro' plain.name || name.from macro' || part.from macro' }
 
 -- the value of the parameter with this name
-abbrev pub value_of : List Text → List (List Sourced) → Word → Option (List Sourced)
-value_of (parameter ∷ parameters) (value ∷ values) word = if is_name parameter (plain_word word) then Some value else value_of parameters values word
+abbrev pub value_of : List Text → List (List Sourced) → PlainWord → Option (List Sourced)
+value_of (parameter ∷ parameters) (value ∷ values) word = if is_name parameter word then Some value else value_of parameters values word
 value_of _ _ word = None
 
 -- the value of the parameter that a word names, or the word itself where it names none
-abbrev pub value_or : Option (List Sourced) → Word → List Sourced
+abbrev pub value_or : Option (List Sourced) → PlainWord → List Sourced
 value_or None word = written word ∷ []
 value_or (Some value) word = value
 
@@ -136,4 +135,4 @@ texts_of (Some parameters) = parameters
 
 -- the replacement list with the values of its parameters (C99 6.10.3.1)
 abbrev pub replacement : PlainMacro → Sourced → List (List Sourced) → List Sourced
-replacement plain name values = map (given plain name) (flat_map (λ (word : Word). value_or (value_of (texts_of plain.parameters) values word) word) plain.body)
+replacement plain name values = map (given plain name) (flat_map (λ (word : PlainWord). value_or (value_of (texts_of plain.parameters) values word) word) plain.body)

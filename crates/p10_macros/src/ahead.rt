@@ -1,6 +1,6 @@
 //! The words that are still to be looked through.
 //!
-//! Each word knows the ends of the argument and of the call in which the words behind it stand: the next comma or `)`, and
+//! Each word knows the ends of the argument and of the call in which the words after it stand: the next comma or `)`, and
 //! the next `)`, that none of these words has in parentheses of its own. So the `)` of a use is found at once, and no word
 //! is passed again for each use around it.
 
@@ -64,7 +64,7 @@ impl<'s> Ahead<'s> {
         self.words.pop()
     }
 
-    /// Takes the next word, and tells the ends in front of which the words behind it stand.
+    /// Takes the next word, and tells the ends in front of which the words after it stand.
     pub fn skip(&mut self) -> Exits
         ensures taken { self.new.words.items ≡ take (length self.old.words.items - 1) self.old.words.items }
         ensures exits { HasExits result (reverse self.new.words.items) }
@@ -116,15 +116,15 @@ impl<'s> Ahead<'s> {
                     call: next.exits.call,
                 }
             } else if next.traced.word.is_punctuator(b"(") {
-                self.exits_behind(next.exits.call)
+                self.exits_after(next.exits.call)
             } else {
                 next.exits
             },
         }
     }
 
-    /// The ends in front of which the words behind a place stand; a place that no word has gives none.
-    fn exits_behind(&self, place: usize) -> Exits
+    /// The ends in front of which the words after a place stand; a place that no word has gives none.
+    fn exits_after(&self, place: usize) -> Exits
         ensures { result ≡ exits_past (reverse self.now.words.items) place }
     {
         if place == 0 {

@@ -1,6 +1,7 @@
 //! Replaces all uses of macros in a run of words.
 
 ghost use Rattle.std.specs.Prelude.{◌≡◌, map, reverse, IfOk, IfErr};
+ghost use Rattle.p10_base.specs.Words.{plain_word};
 ghost use Rattle.p10_macros.specs.private.Beginning.{unread, traced_of, IsBegun};
 ghost use Rattle.p10_macros.specs.Ends.{WordsEndInOneWay};
 ghost use Rattle.p10_macros.specs.Fronts.{FrontsGive};
@@ -26,8 +27,8 @@ pub fn replace<'s>(
     words: &[Word<'s>],
     left: u64,
 ) -> Result<Replaced<'s>, ReplaceFault>
-    ensures replaced { IfOk result (IsReplaced (table_of macros.now) words.now left) }
-    ensures refused { IfErr result (IsFault (table_of macros.now) words.now left) }
+    ensures replaced { IfOk result (IsReplaced (table_of macros.now) (map plain_word words.now) left) }
+    ensures refused { IfErr result (IsFault (table_of macros.now) (map plain_word words.now) left) }
 {
     let mut run = run_of(alloc, words, left)?;
     while let Some(next) = run.pending.pop() {

@@ -2,13 +2,14 @@
 //! in a run of words.
 //!
 //! Entry points: [`Macros`], the table; and [`replace`], which gives the words of a run after the replacement, or tells
-//! how it is refused. No name stands in a table twice, since only a name that isn't there is put behind the others.
+//! how it is refused. No name stands in a table twice, since only a name that isn't there is put after the others.
 //! Directives, files and conditions are left to the crates above.
 #![tactic(auto)]
 
 mod ahead;
 mod expansion;
 mod giving;
+mod kept;
 mod known;
 mod origin;
 mod own;

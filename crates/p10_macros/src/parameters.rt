@@ -5,7 +5,7 @@
 ghost use Rattle.std.specs.Prelude.{◌≡◌, map, IfOk};
 ghost use Rattle.p10_direct.specs.Form.{plain_macro};
 ghost use Rattle.p10_base.specs.Names.{place_in};
-ghost use Rattle.p10_base.specs.Words.{Text};
+ghost use Rattle.p10_base.specs.Words.{Text, plain_word};
 ghost use Rattle.p10_macros.specs.private.Places.{places_of, at_text, at_word};
 
 use p10_base::{Kind, Word};
@@ -46,7 +46,7 @@ fn places_by_text<'s>(
     by_text: &HashMap<&'s [u8], usize>,
     words: &[Word<'s>],
 ) -> Result<Vec<Option<usize>>, AllocError>
-    ensures { IfOk result (λ places. places.items ≡ map (at_word by_text.now) words.now) }
+    ensures { IfOk result (λ places. places.items ≡ map (at_word by_text.now) (map plain_word words.now)) }
 {
     let mut places = Vec::with_capacity(alloc, words.len())?;
     for word in words {
@@ -57,7 +57,7 @@ fn places_by_text<'s>(
 
 /// The place that a word has by its text, where it is a name.
 fn place_by_text<'s>(by_text: &HashMap<&'s [u8], usize>, word: &Word<'s>) -> Option<usize>
-    ensures { result ≡ at_word by_text.now word.now }
+    ensures { result ≡ at_word by_text.now (plain_word word.now) }
 {
     if !matches!(word.kind, Kind::Name) {
         return None;

@@ -33,6 +33,13 @@ impl<'s> Traced<'s> {
     }
 }
 
+/// Where the words of a use stand: at the place of its name; and the number of the set of macros that they come from.
+#[derive(Clone, Copy)]
+pub struct UseSite {
+    pub at: Span,
+    pub from: usize,
+}
+
 /// The ends of the argument and of the call in which pending words stand. A place is the number of pending words from the
 /// last one up to that place, and 0 is none.
 #[derive(Clone, Copy)]
@@ -47,7 +54,7 @@ pub struct Exits {
 #[derive(Clone, Copy)]
 pub struct Pending<'s> {
     pub traced: Traced<'s>,
-    /// The ends in front of which the words behind it stand.
+    /// The ends in front of which the words after it stand.
     pub exits: Exits,
 }
 

@@ -50,14 +50,10 @@ impl Places {
 
     /// The places, in order, of the words for which a use puts something, where the parameters have these values: of
     /// those that name no parameter, and of those that name one whose value has words or is missing.
-    pub fn chosen(
-        &self,
-        alloc: Global,
-        values: &[Vec<Traced<'_>>],
-    ) -> Result<Vec<usize>, AllocError>
+    pub fn chosen(&self, values: &[Vec<Traced<'_>>]) -> Result<Vec<usize>, AllocError>
         ensures { IfOk result (λ places. places.items ≡ places_that (is_put (lists_of values.now)) 0 self.now.all.items) }
     {
-        let mut places = Vec::new(alloc);
+        let mut places = Vec::new(*self.own.allocator());
         places.extend_from_slice(self.own.as_slice())?;
         for (parameter, named) in self.named.iter().enumerate() {
             if puts_words(values, parameter) {
@@ -94,7 +90,7 @@ impl Places {
         Ok(rows)
     }
 
-    /// Puts a place behind the others of the parameter that its word names, or behind those of the words that name
+    /// Puts a place after the others of the parameter that its word names, or after those of the words that name
     /// none.
     fn put(
         own: &mut Vec<usize>,

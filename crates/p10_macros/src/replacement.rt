@@ -7,22 +7,19 @@ ghost use Rattle.p10_macros.specs.private.Places.{chosen_count, chosen_parts, ch
 ghost use Rattle.p10_macros.specs.Uses.{Sourced, replacement};
 ghost use Rattle.p10_macros.specs.private.Origins.{Extends};
 ghost use Rattle.p10_macros.specs.private.Traces.{lists_of, IsTraced, AreValues};
-ghost use Rattle.p10_macros.specs.private.Putting.{IsPushed, Short, PutsTraced, PutsReplacement, part_of, value_or_word};
+ghost use Rattle.p10_macros.specs.private.Putting.{Short, PutsTraced, PutsReplacement, part_of, value_or_word};
 
 use crate::ahead::Ahead;
 use crate::giving::give_all;
 use crate::known::Known;
 use crate::origin::Origins;
-use crate::pending::Traced;
+use crate::pending::{Traced, UseSite};
 use crate::replaced::ReplaceFault;
 use crate::values::value_at;
-use p10_base::Span;
-use std::alloc::Global;
 
 /// Puts the replacement of a use on top of the pending words, where `left` words may still be made, and tells how many
 /// are left. The words of the values are made those of the use.
 pub fn put_replacement<'s>(
-    alloc: Global,
     pending: &mut Ahead<'s>,
     origins: &mut Origins<'s>,
     known: &Known<'_, 's>,
@@ -37,25 +34,26 @@ pub fn put_replacement<'s>(
 {
     let from = origins.with_macro(name.from, known.made.name)?;
     give_all(origins, name, from, values)?;
-    put_chosen(alloc, pending, known, values, name.word.at, from, left)
+    let site = UseSite {
+        at: name.word.at,
+        from,
+    };
+    put_chosen(pending, known, values, site, left)
 }
 
-/// Puts the replacement list of a use at the place `at` on top, where `from` is the number of the set of the macro and
-/// of those that its name comes from.
+/// Puts the replacement list of a use on top, whose words come from the macro and from those that its name comes from.
 fn put_chosen<'s>(
-    alloc: Global,
     pending: &mut Ahead<'s>,
     known: &Known<'_, 's>,
     values: &[Vec<Traced<'s>>],
-    at: Span,
-    from: usize,
+    site: UseSite,
     left: u64,
 ) -> Result<u64, ReplaceFault>
-    ensures ok { IfOk result (PutsTraced pending.old.words.items pending.new.words.items (flat_map (part_of (plain_known known.now) (lists_of values.now) at from) (plain_known known.now).body) left) }
-    ensures err { IfErr result (λ fault. Short fault (left < length (flat_map (part_of (plain_known known.now) (lists_of values.now) at from) (plain_known known.now).body))) }
+    ensures ok { IfOk result (PutsTraced pending.old.words.items pending.new.words.items (flat_map (part_of (plain_known known.now) (lists_of values.now) site.at site.from) known.now.made.body.now) left) }
+    ensures err { IfErr result (λ fault. Short fault (left < length (flat_map (part_of (plain_known known.now) (lists_of values.now) site.at site.from) known.now.made.body.now))) }
 {
-    let chosen = known.chosen(alloc, values)?;
-    put_list(pending, known, &chosen, values, at, from, left)
+    let chosen = known.chosen(values)?;
+    put_list(pending, known, &chosen, values, site, left)
 }
 
 /// Puts what stands for the chosen words of the replacement list on top, from the last one to the first.
@@ -64,20 +62,19 @@ fn put_list<'s>(
     known: &Known<'_, 's>,
     chosen: &Option<Vec<usize>>,
     values: &[Vec<Traced<'s>>],
-    at: Span,
-    from: usize,
+    site: UseSite,
     left: u64,
 ) -> Result<u64, ReplaceFault>
-    requires { IfSome chosen.now (λ places. All (λ place. place < length (plain_known known.now).body) places.items) }
-    ensures ok { IfOk result (PutsTraced pending.old.words.items pending.new.words.items (chosen_parts (part_of (plain_known known.now) (lists_of values.now) at from) (plain_known known.now).body chosen.now) left) }
-    ensures err { IfErr result (λ fault. Short fault (left < length (chosen_parts (part_of (plain_known known.now) (lists_of values.now) at from) (plain_known known.now).body chosen.now))) }
+    requires { IfSome chosen.now (λ places. All (λ place. place < length known.now.made.body.now) places.items) }
+    ensures ok { IfOk result (PutsTraced pending.old.words.items pending.new.words.items (chosen_parts (part_of (plain_known known.now) (lists_of values.now) site.at site.from) known.now.made.body.now chosen.now) left) }
+    ensures err { IfErr result (λ fault. Short fault (left < length (chosen_parts (part_of (plain_known known.now) (lists_of values.now) site.at site.from) known.now.made.body.now chosen.now))) }
 {
     let mut left = left;
     let mut index = count_chosen(known, chosen);
     while index > 0 {
         index -= 1;
         let place = place_chosen(chosen, index);
-        let word = Traced::at_use(known.made.body[place], at, from);
+        let word = Traced::at_use(known.made.body[place], site.at, site.from);
         left = put_part(
             pending,
             value_at(values, known.parameter(place)),
@@ -90,7 +87,7 @@ fn put_list<'s>(
 
 /// How many words of the replacement list are chosen.
 fn count_chosen(known: &Known<'_, '_>, chosen: &Option<Vec<usize>>) -> usize
-    ensures { result ≡ chosen_count (plain_known known.now).body chosen.now }
+    ensures { result ≡ chosen_count known.now.made.body.now chosen.now }
 {
     match chosen {
         None => known.made.body.len(),

@@ -2,6 +2,7 @@
 
 ghost use Rattle.std.specs.Prelude.{◌≡◌, ◌≤◌, [], ◌∷◌, reverse, option_map, option_copied, OnOk, IfErr, None, Some, is_none, ◌||◌, ◌++◌};
 ghost use Rattle.p10_base.specs.Codes.{directive_number};
+ghost use Rattle.p10_base.specs.Words.{plain_word};
 ghost use Rattle.p10_direct.specs.Form.{plain_macro};
 ghost use Rattle.p10_macros.specs.Table.{Table};
 ghost use Rattle.p10_macros.specs.private.KnownMacros.{plain_known};
@@ -79,13 +80,13 @@ fn put_done<'s>(run: &mut Run<'_, '_, 's>, word: Traced<'s>) -> Result<(), Repla
     Ok(())
 }
 
-/// The macro that the word uses, where these words are pending behind it.
+/// The macro that the word uses, where these words are pending after it.
 fn used<'m, 'w, 's>(
     macros: &'m Macros<'w, 's>,
     pending: &Ahead<'s>,
     name: &Traced<'s>,
 ) -> Option<&'m Known<'w, 's>>
-    ensures { option_map plain_known (option_copied result) ≡ macro_used (table_of macros.now) (reverse pending.now.words.items) name.now.word }
+    ensures { option_map plain_known (option_copied result) ≡ macro_used (table_of macros.now) (reverse pending.now.words.items) (plain_word name.now.word) }
 {
     if !matches!(name.word.kind, Kind::Name) {
         return None;
@@ -100,7 +101,7 @@ fn used<'m, 'w, 's>(
     }
 }
 
-/// Whether the name of this macro is a use, where these words are pending behind it.
+/// Whether the name of this macro is a use, where these words are pending after it.
 fn is_used(made: &Macro<'_, '_>, pending: &Ahead<'_>) -> bool
     ensures { result ≡ (is_none (plain_macro made.now).parameters || opens_on_top (reverse pending.now.words.items)) }
 {
@@ -131,7 +132,7 @@ fn begin_use<'m, 'w, 's>(
 }
 
 /// Begins the use of a function-like macro, whose `(` was the next word; `exits` are the ends in front of which the words
-/// behind that one stand.
+/// after that one stand.
 fn begin_call<'m, 'w, 's>(
     run: &mut Run<'m, 'w, 's>,
     known: &'m Known<'w, 's>,
@@ -193,7 +194,7 @@ fn put_open<'m, 'w, 's>(
     Ok(())
 }
 
-/// Puts the value of an argument behind those of the arguments before it.
+/// Puts the value of an argument after those of the arguments before it.
 fn put_argument<'s>(
     values: &mut Vec<Vec<Traced<'s>>>,
     value: Vec<Traced<'s>>,
@@ -263,7 +264,6 @@ fn replace_use<'m, 'w, 's>(
 {
     let mut values = values;
     run.left = put_replacement(
-        run.alloc,
         &mut run.pending,
         &mut run.origins,
         known,

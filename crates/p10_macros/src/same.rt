@@ -3,6 +3,7 @@
 ghost use Rattle.std.specs.Prelude.{◌≡◌, map, length, bytes_eq};
 ghost use Rattle.std.specs.List.{list_all, zip};
 ghost use Rattle.p10_direct.specs.Form.{plain_macro};
+ghost use Rattle.p10_base.specs.Words.{plain_word};
 ghost use Rattle.p10_macros.specs.Table as table;
 
 use p10_base::{Kind, Word};
@@ -43,7 +44,7 @@ fn each_text(these: &[&[u8]], those: &[&[u8]]) -> bool
 
 /// Whether the words are the same by kind and spelling.
 fn same_words(these: &[Word<'_>], those: &[Word<'_>]) -> bool
-    ensures { result ≡ table.same_words these.now those.now }
+    ensures { result ≡ table.same_words (map plain_word these.now) (map plain_word those.now) }
 {
     these.len() == those.len() && each_word(these, those)
 }
@@ -51,7 +52,7 @@ fn same_words(these: &[Word<'_>], those: &[Word<'_>]) -> bool
 /// Whether the words are the same, where there are as many.
 fn each_word(these: &[Word<'_>], those: &[Word<'_>]) -> bool
     requires { length these.now ≡ length those.now }
-    ensures { result ≡ list_all (λ pair. table.same_word pair.0 pair.1) (zip these.now those.now) }
+    ensures { result ≡ list_all (λ pair. table.same_word (plain_word pair.0) (plain_word pair.1)) (zip these.now those.now) }
 {
     these
         .iter()
@@ -61,7 +62,7 @@ fn each_word(these: &[Word<'_>], those: &[Word<'_>]) -> bool
 
 /// Whether two words have the same kind and spelling.
 fn same_word(this: &Word<'_>, that: &Word<'_>) -> bool
-    ensures { result ≡ table.same_word this.now that.now }
+    ensures { result ≡ table.same_word (plain_word this.now) (plain_word that.now) }
 {
     same_kind(this.kind, that.kind) && this.text == that.text
 }

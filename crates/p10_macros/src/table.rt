@@ -1,16 +1,18 @@
 //! The macros that are defined.
 
 ghost use Rattle.std.specs.Prelude.{◌≡◌};
-ghost use Rattle.p10_macros.specs.Known.{AreNamed, own_among};
+ghost use Rattle.p10_macros.specs.Table.{own_of};
+ghost use Rattle.p10_macros.specs.Known.{table_among, NamesAreFound};
 ghost use Rattle.p10_macros.specs.Undefining.{TakesOneName, TakesOneOwn, StaysNamedOnce};
 
+use crate::kept::{kept_at, put_at};
 use crate::known::Known;
 use crate::own::{own_if, own_in};
 use crate::places::Places;
 use crate::same::same_macro;
-use indexmap::IndexMap;
 use p10_direct::Macro;
 use std::alloc::{AllocError, Global};
+use std::collections::HashMap;
 
 /// What a definition does to the table.
 #[derive(Clone, Copy, Debug, PartialEq, Eq)]
@@ -23,13 +25,15 @@ pub enum Effect {
     Other,
 }
 
-/// The macros that are defined. Their order means nothing, since no name stands twice.
+/// The macros that are defined, in the order of their definitions. No name stands twice.
 #[derive(Drop)]
 pub struct Macros<'w, 's> {
-    known: IndexMap<&'s [u8], Known<'w, 's>>,
+    kept: Vec<Option<Known<'w, 's>>>,
+    /// The place of each macro among these, by its name.
+    places: HashMap<&'s [u8], usize>,
     own: usize,
-    ghost named: { AreNamed known.entries },
-    ghost counted: { own ≡ own_among known.entries },
+    ghost placed: { NamesAreFound kept.items places },
+    ghost counted: { own ≡ own_of (table_among kept.items) },
 }
 
 impl<'w, 's> Macros<'w, 's> {
@@ -44,7 +48,8 @@ impl<'w, 's> Macros<'w, 's> {
         ensures { table_of result ≡ [] }
     {
         Macros {
-            known: IndexMap::new(alloc),
+            kept: Vec::new(alloc),
+            places: HashMap::new(alloc),
             own: 0,
         }
     }
@@ -63,7 +68,10 @@ impl<'w, 's> Macros<'w, 's> {
     pub(crate) fn entry(&self, name: &'s [u8]) -> Option<&Known<'w, 's>>
         ensures { option_map plain_known (option_copied result) ≡ macro_named name.now (table_of self.now) }
     {
-        self.known.get(&name)
+        match self.places.get(name) {
+            None => None,
+            Some(place) => kept_at(self.kept.as_slice(), *place),
+        }
     }
 
     /// How many of the macros no built-in header defined.
@@ -73,7 +81,7 @@ impl<'w, 's> Macros<'w, 's> {
         self.own
     }
 
-    /// Defines a macro behind the others, unless its name is defined. `builtin` says that a built-in header
+    /// Defines a macro after the others, unless its name is defined. `builtin` says that a built-in header
     /// defines it.
     pub fn define(&mut self, made: Macro<'w, 's>, builtin: bool) -> Result<Effect, AllocError>
         ensures ok { IfOk result (λ answer. Defines (table_of self.old) (plain_macro made.entry) builtin answer (table_of self.new)) }
@@ -92,31 +100,38 @@ impl<'w, 's> Macros<'w, 's> {
         }
     }
 
-    /// Takes the macro with this name out of the table, if there is one. The last one takes its place, so that no
-    /// other one is moved.
+    /// Takes the macro with this name out of the table, if there is one. Its place stays empty, so that no other one is
+    /// moved, however many there are.
     pub fn undefine(&mut self, name: &'s [u8])
         ensures { table_of self.new ≡ without_macro (table_of self.old) name.now }
     {
-        let removed = self.known.swap_remove(&name);
-        self.own -= own_in(&removed);
+        match self.places.remove(name) {
+            None => {}
+            Some(place) => {
+                let removed = put_at(&mut self.kept, place, None);
+                self.own -= own_in(&removed);
+            }
+        }
     }
 
-    /// Puts a macro whose name isn't defined behind the others.
+    /// Puts a macro whose name isn't defined after the others.
     fn add(&mut self, made: Macro<'w, 's>, builtin: bool) -> Result<(), AllocError>
         requires { macro_named (plain_macro made).name (table_of self.old) ≡ None }
         ensures ok { OnOk result (table_of self.new ≡ with_macro (table_of self.old) (plain_macro made.entry) builtin) }
         ensures err { OnErr result (table_of self.new ≡ table_of self.old) }
     {
         // As the number of macros fits its type, so does that of some of them.
-        let count = self.known.len();
+        let place = self.kept.len();
         let own = own_if(builtin);
-        let places = Places::of(*self.known.allocator(), &made)?;
+        let places = Places::of(*self.kept.allocator(), &made)?;
+        self.kept.push(None)?;
+        self.places.insert(made.name, place)?;
         let known = Known {
             made,
             builtin,
             places,
         };
-        self.known.insert(known.made.name, known)?;
+        let _ = put_at(&mut self.kept, place, Some(known));
         self.own += own;
         Ok(())
     }

@@ -1,6 +1,7 @@
 -- How a replacement begins.
 use Rattle.std.specs.Prelude.{ℕ, ◌≡◌, List, [], map, reverse}
 use Rattle.p10_base.specs.declared.word.Word.{Word}
+use Rattle.p10_base.specs.Words.{PlainWord}
 use Rattle.p10_macros.specs.declared.pending.Pending.{Pending}
 use Rattle.p10_macros.specs.declared.pending.Traced.{Traced}
 use Rattle.p10_macros.specs.declared.pending.Run.{Run}
@@ -16,7 +17,7 @@ abbrev pub traced_of : List Pending → List Traced
 traced_of items = map (λ (pending : Pending). pending.traced) items
 
 -- all words are to be looked through
-abbrev pub start_of : List Word → ℕ → State
+abbrev pub start_of : List PlainWord → ℕ → State
 start_of words left = record { given = []; todo = map written words; done = []; uses = []; left = left }
 
 -- nothing is looked through yet

@@ -19,7 +19,7 @@ has_at sets set (Some place) = has sets set place
 unfoldable pub has_macro : Origins → ℕ → Text → Bool
 has_macro origins set name = has_at origins.sets.items set (place_in origins.names name)
 
--- names keep their places, and others have places behind them
+-- names keep their places, and others have places after them
 pub record Continues (old new : List Text) : Type 0 where
   pub longer : length old ≤ length new
   pub stays : (name : Text) (place : ℕ) → place_in old name ≡ Some place → place_in new name ≡ Some place

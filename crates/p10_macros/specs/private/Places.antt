@@ -4,17 +4,16 @@ use Rattle.std.specs.Global.{Global}
 use Rattle.std.specs.Borrow.{Bor}
 use Rattle.std.specs.List.{flat_map, slice_get}
 use Rattle.std.specs.HashMap.{HashMap, get_by}
-use Rattle.p10_base.specs.declared.word.Word.{Word}
-use Rattle.p10_base.specs.Words.{Text, is_name_kind}
+use Rattle.p10_base.specs.Words.{Text, PlainWord, is_name_kind}
 use Rattle.p10_base.specs.Names.{place_in}
 use Rattle.p10_macros.specs.declared.pending.Traced.{Traced}
 
 -- the place of the parameter that a word names: the first one with its text
-abbrev pub place_named : List Text → Word → Option ℕ
-place_named parameters word = if is_name_kind word.kind then place_in parameters word.text.now else None
+abbrev pub place_named : List Text → PlainWord → Option ℕ
+place_named parameters word = if is_name_kind word.kind then place_in parameters word.text else None
 
 -- the same for each word of a replacement list; none are kept for an object-like macro
-abbrev pub places_of : Option (List Text) → List Word → List (Option ℕ)
+abbrev pub places_of : Option (List Text) → List PlainWord → List (Option ℕ)
 places_of None words = []
 places_of (Some parameters) words = map (place_named parameters) words
 
@@ -28,8 +27,8 @@ abbrev pub at_text : {S : Type 0} → HashMap (Bor Text) ℕ S → Text → Opti
 at_text by_text text = get_by (λ key. bytes_eq text key.now) by_text
 
 -- what it has at the word, where that is a name
-abbrev pub at_word : {S : Type 0} → HashMap (Bor Text) ℕ S → Word → Option ℕ
-at_word by_text word = if is_name_kind word.kind then at_text by_text word.text.now else None
+abbrev pub at_word : {S : Type 0} → HashMap (Bor Text) ℕ S → PlainWord → Option ℕ
+at_word by_text word = if is_name_kind word.kind then at_text by_text word.text else None
 
 -- ## Places by parameters
 
@@ -51,7 +50,7 @@ IsBelow count found = (parameter : ℕ) → found ≡ Some parameter → paramet
 abbrev pub AreByParameter : List (Vec ℕ Global) → List (Option ℕ) → Type 0
 AreByParameter rows all = (parameter : ℕ) (none : Vec ℕ Global) → parameter < length rows → (slice_index_or rows parameter none).items ≡ places_that (names parameter) 0 all
 
--- the rows after one more place, that of a word that names a parameter or none: behind the others of that parameter
+-- the rows after one more place, that of a word that names a parameter or none: after the others of that parameter
 abbrev pub IsPutInRow : List (Vec ℕ Global) → List (Vec ℕ Global) → Option ℕ → ℕ → Type 0
 IsPutInRow old new found place =
     (parameter : ℕ) (none : Vec ℕ Global) → parameter < length old → (slice_index_or new parameter none).items ≡ (slice_index_or old parameter none).items ++ (if names parameter found then place ∷ [] else [])
@@ -78,12 +77,12 @@ part_there part None = []
 part_there part (Some word) = part word
 
 -- what comes of the chosen words, by what comes of each: of those at the places, or of all
-abbrev pub chosen_parts : {A : Type 0} → (Word → List A) → List Word → Option (Vec ℕ Global) → List A
+abbrev pub chosen_parts : {W A : Type 0} → (W → List A) → List W → Option (Vec ℕ Global) → List A
 chosen_parts part words None = flat_map part words
 chosen_parts part words (Some places) = flat_map (λ (place : ℕ). part_there part (slice_get words place)) places.items
 
 -- how many words are chosen
-abbrev pub chosen_count : List Word → Option (Vec ℕ Global) → ℕ
+abbrev pub chosen_count : {W : Type 0} → List W → Option (Vec ℕ Global) → ℕ
 chosen_count words None = length words
 chosen_count words (Some places) = length places.items
 

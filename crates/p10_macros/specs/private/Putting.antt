@@ -2,7 +2,7 @@
 use Rattle.std.specs.Prelude.{ℕ, ◌≡◌, ◌+◌, ◌≤◌, List, [], ◌∷◌, ◌++◌, length, map, reverse, ◌||◌, bytes_eq, Option, Some, None}
 use Rattle.p10_base.specs.declared.span.Span.{Span}
 use Rattle.p10_base.specs.declared.word.Word.{Word}
-use Rattle.p10_base.specs.Words.{Text}
+use Rattle.p10_base.specs.Words.{Text, plain_word}
 use Rattle.p10_direct.specs.Directives.{PlainMacro}
 use Rattle.p10_macros.specs.declared.origin.Origins.{Origins}
 use Rattle.p10_macros.specs.declared.pending.Traced.{Traced}
@@ -79,7 +79,7 @@ value_or_word (Some value) traced = value
 
 -- what stands for a word of the replacement list, where the arguments were made those of the use
 abbrev pub part_of : PlainMacro → List (List Traced) → Span → ℕ → Word → List Traced
-part_of plain values at from word = value_or_word (at_place (place_named (texts_of plain.parameters) word) values) (fresh word at from)
+part_of plain values at from word = value_or_word (at_place (place_named (texts_of plain.parameters) (plain_word word)) values) (fresh word at from)
 
 -- what is put for a use
 abbrev pub PutsReplacement : Origins → Origins → List Pending → List Pending → PlainMacro → Traced → List (List Traced) → ℕ → ℕ → Type 0

@@ -17,7 +17,7 @@ pub record OpenUse : Type 0 where
   pub before : List Sourced
   -- what came of the arguments before the one that is being replaced
   pub values : List (List Sourced)
-  -- the arguments behind that one, and the words behind the use
+  -- the arguments after that one, and the words after the use
   pub waiting : List (List Sourced)
   pub rest : List Sourced
 
@@ -26,14 +26,14 @@ abbrev pub outer_of : List OpenUse → Option Span
 outer_of [] = None
 outer_of (use' ∷ uses) = Some use'.place
 
--- the same ending, where these words stand in front of those that it gives
-abbrev pub behind_words : List Sourced → Ending (List Sourced) → Ending (List Sourced)
-behind_words done ending = after (λ words. done ++ words) ending
+-- the same ending, with these words before those that it gives
+abbrev pub after_words : List Sourced → Ending (List Sourced) → Ending (List Sourced)
+after_words done ending = after (λ words. done ++ words) ending
 
 -- what comes of words, where `done` came of those before them, and `Closes` says what comes of what comes of all these words
 abbrev pub ComesBy : Table → Option Span → (Ending (List Sourced) → Ending (List Sourced) → Type 0) → List Sourced → List Sourced → ℕ → Ending (List Sourced) → Type 0
 ComesBy table outer Closes todo done left ending =
-    (level : Ending (List Sourced)) × Ends table outer todo left level × Closes (behind_words done level) ending
+    (level : Ending (List Sourced)) × Ends table outer todo left level × Closes (after_words done level) ending
 
 -- what comes of a use with these values: `Comes` says what comes of the words that then stand in the place of the use
 abbrev pub Replaces : (List Sourced → List Sourced → ℕ → Ending (List Sourced) → Type 0) → OpenUse → Ending (List (List Sourced)) → Ending (List Sourced) → Type 0

@@ -17,7 +17,7 @@ has_in (part ∷ older) set number = if set == length older + 1 then in_part par
 unfoldable pub has : List Part → ℕ → ℕ → Bool
 has parts set number = has_in (reverse parts) set number
 
--- parts were put behind those that there were
+-- parts were put after those that there were
 pub record Grows (old new : List Part) : Type 0 where
   pub more : List Part
   pub is : new ≡ old ++ more

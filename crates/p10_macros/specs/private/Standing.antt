@@ -2,6 +2,7 @@
 use Rattle.std.specs.Prelude.{ℕ, ◌≡◌, ◌+◌, ◌*◌, ◌<◌, ◌==◌, List, [], ◌∷◌, ◌++◌, length, map, reverse, None, true, if◌then◌else◌, ◌⊎◌}
 use Rattle.p10_base.specs.declared.span.Span.{Span}
 use Rattle.p10_base.specs.declared.word.Word.{Word}
+use Rattle.p10_base.specs.Words.{PlainWord, plain_word}
 use Rattle.p10_base.specs.declared.report.Family.TheVariants.{D}
 use Rattle.p10_direct.specs.Directives.{PlainMacro}
 use Rattle.std.specs.Borrow.{Bor}
@@ -17,8 +18,9 @@ use Rattle.p10_macros.specs.private.KnownMacros.{plain_known}
 use Rattle.p10_macros.specs.Table.{Table}
 use Rattle.p10_macros.specs.Uses.{Sourced, closes, separates, use_of, use_as, called, arguments_in, replacement, sourced_words}
 use Rattle.p10_macros.specs.private.Looking.{next_opens}
+use Rattle.p10_macros.specs.private.Links.{word_of}
 use Rattle.p10_macros.specs.Endings.{Ending, Refused, TooMany}
-use Rattle.p10_macros.specs.private.Running.{OpenUse, Comes, behind_words}
+use Rattle.p10_macros.specs.private.Running.{OpenUse, Comes, after_words}
 use Rattle.p10_macros.specs.private.Origins.{Extends}
 use Rattle.p10_macros.specs.private.Traces.{IsTraced, AreTraced, AreValues}
 use Rattle.p10_macros.specs.private.Putting.{PutsReplacement, Short}
@@ -47,15 +49,15 @@ pub data Role : Type 0 where
   -- it is the `)` that ends that argument, which is the last one
   EndsCall : Role
 
--- the role of a word with these pending behind it, where the argument ends at the place `stop`
-abbrev pub role_of : List Pending → ℕ → Word → Role
+-- the role of a word with these pending after it, where the argument ends at the place `stop`
+abbrev pub role_of : List Pending → ℕ → PlainWord → Role
 role_of items stop word = if stop == length items + 1 then if closes word then EndsCall else EndsArgument else NextWord
 
--- a pending word with this role stands for what comes next, and `Stands` says that those behind it do
+-- a pending word with this role stands for what comes next, and `Stands` says that those after it do
 abbrev pub StandsBy : Origins → (ℕ → List Open → List Sourced → List OpenUse → Type 0) → Pending → Role → ℕ → List Open → List Sourced → List OpenUse → Type 0
 StandsBy origins Stands pending NextWord stop those (word ∷ todo) uses = IsTraced origins pending.traced word × Stands stop those todo uses
 StandsBy origins Stands pending EndsArgument stop (open' ∷ those) [] (use' ∷ uses) =
-    (next : List Sourced) × (others : List (List Sourced)) × (use'.waiting ≡ next ∷ others) × (separates pending.traced.word ≡ true)
+    (next : List Sourced) × (others : List (List Sourced)) × (use'.waiting ≡ next ∷ others) × (separates (word_of pending) ≡ true)
     × Stands pending.exits.argument (open' ∷ those) next (record use' { waiting = others } ∷ uses)
 StandsBy origins Stands pending EndsCall stop (open' ∷ those) [] (use' ∷ uses) = (use'.waiting ≡ []) × IsOpen origins open' use' × Stands open'.stop those use'.rest uses
 StandsBy origins Stands pending _ _ _ _ _ = ⊥
@@ -64,7 +66,7 @@ StandsBy origins Stands pending _ _ _ _ _ = ⊥
 -- innermost use first, stand for words and uses
 abbrev pub Stands : Origins → List Pending → ℕ → List Open → List Sourced → List OpenUse → Type 0
 Stands origins [] stop [] [] [] = stop ≡ 0
-Stands origins (pending ∷ items) stop those todo uses = StandsBy origins (Stands origins items) pending (role_of items stop pending.traced.word) stop those todo uses
+Stands origins (pending ∷ items) stop those todo uses = StandsBy origins (Stands origins items) pending (role_of items stop (word_of pending)) stop those todo uses
 Stands origins _ _ _ _ _ = ⊥
 
 -- ## The whole
@@ -80,7 +82,7 @@ pub record State : Type 0 where
 
 -- what comes of a state: the words that were given, and what comes of the others
 abbrev pub ComesOf : Table → State → Ending (List Sourced) → Type 0
-ComesOf table state ending = (level : Ending (List Sourced)) × Comes table state.uses state.todo state.done state.left level × (ending ≡ behind_words state.given level)
+ComesOf table state ending = (level : Ending (List Sourced)) × Comes table state.uses state.todo state.done state.left level × (ending ≡ after_words state.given level)
 
 -- nothing is done outside of uses, for such words were given
 abbrev pub NoneOutside : List OpenUse → List Sourced → Type 0
@@ -89,7 +91,7 @@ NoneOutside (use' ∷ uses) done = NoneOutside uses use'.before
 
 -- what is kept beside the pending words and the open uses stands for a state
 pub record Keeps (origins : Origins) (words : List Word) (those : List Traced) (remaining : ℕ) (state : State) : Type 0 where
-  pub given : words ≡ sourced_words state.given
+  pub given : map plain_word words ≡ sourced_words state.given
   pub done : AreTraced origins those state.done
   pub outside : NoneOutside state.uses state.done
   pub left : remaining ≡ state.left

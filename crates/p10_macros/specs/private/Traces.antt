@@ -1,7 +1,7 @@
 -- Words that are kept with numbers of sets of macros.
 use Rattle.std.specs.Prelude.{◌≡◌, ◌≤◌, List, [], ◌∷◌, map, Vec}
 use Rattle.std.specs.Global.{Global}
-use Rattle.p10_base.specs.Words.{Text}
+use Rattle.p10_base.specs.Words.{Text, plain_word}
 use Rattle.p10_macros.specs.declared.origin.Origins.{Origins}
 use Rattle.p10_macros.specs.declared.pending.Traced.{Traced}
 use Rattle.p10_macros.specs.Uses.{Sourced}
@@ -9,7 +9,7 @@ use Rattle.p10_macros.specs.private.Origins.{count_of, has_macro}
 
 -- a word that is kept with the number of a set of macros
 pub record IsTraced (origins : Origins) (traced : Traced) (sourced : Sourced) : Type 0 where
-  pub word : traced.word ≡ sourced.word
+  pub word : plain_word traced.word ≡ sourced.word
   pub known : traced.from ≤ count_of origins
   pub from : (name : Text) → has_macro origins traced.from name ≡ sourced.from name
 

@@ -3,7 +3,7 @@ use Rattle.std.specs.Prelude.{reverse}
 use Rattle.p10_macros.specs.private.Beginning.{unread, traced_of}
 use Rattle.p10_macros.proofs.expansion.pending_of.Given as goal
 
--- the words behind a place are pending
+-- the words after a place are pending
 abbrev pub invariant-loop-place : goal.invariant-loop-place
 invariant-loop-place l = record {
   inside : l.place ≤ length l.words;

@@ -10,7 +10,7 @@ use Rattle.p10_macros.proofs.replacement.put_list.Given as goal
 abbrev pub invariant-loop-index : goal.invariant-loop-index
 invariant-loop-index l = record {
   inside : l.index ≤ chosen_count l.known.made.body.now l.chosen;
-  puts : PutsTraced l.fn.pending.words.items l.pending.words.items (parts_behind (part_of (plain_known l.known) (lists_of l.values) l.at l.from) l.known.made.body.now l.chosen l.index) l.fn.left l.left;
+  puts : PutsTraced l.fn.pending.words.items l.pending.words.items (parts_behind (part_of (plain_known l.known) (lists_of l.values) l.site.at l.site.from) l.known.made.body.now l.chosen l.index) l.fn.left l.left;
 }
 
 abbrev pub decreases-loop-index : goal.decreases-loop-index

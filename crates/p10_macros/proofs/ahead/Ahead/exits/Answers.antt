@@ -10,7 +10,7 @@ returns-then-is_punctuator-2 c =
 pub returns-then-is_punctuator-3 : goal.returns-then-is_punctuator-3
 returns-then-is_punctuator-3 c =
     last_opening _ c.args.self.now.words.items _ c.as_slice.ensures.value c.in-len1-up.len_at_least c.args.self.now.linked _
-    c.exits_behind.ensures (sym c.is_punctuator-else-is_punctuator-2.ensures ∙ c.if-is_punctuator-3.true)
+    c.exits_after.ensures (sym c.is_punctuator-else-is_punctuator-2.ensures ∙ c.if-is_punctuator-3.true)
 
 pub returns-else-is_punctuator-3 : goal.returns-else-is_punctuator-3
 returns-else-is_punctuator-3 c =

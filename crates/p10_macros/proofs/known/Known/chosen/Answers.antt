@@ -13,10 +13,10 @@ some c = let l = c.args.self.now.counted in let e = c.is_empty.ensures in let f 
 
 pub returns-clause-within : goal.returns-clause-within
 returns-clause-within c =
-    chosen_below (plain_known c.args.self.now).parameters (plain_known c.args.self.now).body c.args.self.now.places.all.items c.in_ok-chosen.chosen.items (is_put (lists_of c.args.values.now))
+    chosen_below (plain_known c.args.self.now).parameters c.args.self.now.made.body.now c.args.self.now.places.all.items c.in_ok-chosen.chosen.items (is_put (lists_of c.args.values.now))
     (some c) c.args.self.now.placed c.in_ok-chosen.ensures
 
 pub returns-clause-whole : goal.returns-clause-whole
 returns-clause-whole c = λ part empty.
-    parts_whole (plain_known c.args.self.now).parameters (plain_known c.args.self.now).body c.args.self.now.places.all.items c.in_ok-chosen.chosen.items (lists_of c.args.values.now)
+    parts_whole (plain_known c.args.self.now).parameters c.args.self.now.made.body.now c.args.self.now.places.all.items c.in_ok-chosen.chosen.items (lists_of c.args.values.now)
     (some c) c.args.self.now.placed c.in_ok-chosen.ensures part empty

@@ -1,7 +1,7 @@
 use Rattle.std.proofs.Common.{sym, ap, ◌∙◌, inl, inr, arith}
 use Rattle.p10_macros.specs.declared.pending.Pending.{Pending}
 use Rattle.p10_macros.proofs.Links.{past_at, none_at}
-use Rattle.p10_macros.proofs.ahead.Ahead.exits_behind.Goals as goal
+use Rattle.p10_macros.proofs.ahead.Ahead.exits_after.Goals as goal
 
 pub returns-then-place-eq0 : goal.returns-then-place-eq0
 returns-then-place-eq0 c = sym (none_at c.args.self.now.words.items c.args.place (inl c.if-place-eq0.true))
