@@ -2,7 +2,7 @@
 use Rattle.std.proofs.Common.{◌≡◌, ℕ, suc, ◌<◌, ◌≤◌, ◌==◌, List, [], ◌∷◌, ◌++◌, map, Bool, true, false, ◌&&◌, cond, None, refl, sym, subst, ap, ◌∙◌, arith}
 use Rattle.std.proofs.lemmas.Bool.Decides.{nat_tests}
 use Rattle.p10_base.specs.declared.span.Span.{Span}
-use Rattle.p10_base.specs.declared.word.Word.{Word}
+use Rattle.p10_base.specs.Words.{PlainWord, plain_word}
 use Rattle.p10_base.specs.declared.report.Refusal.{Refusal}
 use Rattle.p10_base.specs.declared.report.Family.{Family}
 use Rattle.p10_macros.specs.declared.replaced.Replaced.{Replaced}
@@ -15,20 +15,20 @@ use Rattle.p10_macros.specs.Answers.{IsReplaced, IsFault}
 use Rattle.p10_macros.specs.Fronts.{FrontsGive}
 use Rattle.p10_macros.proofs.OneEnding.{one_ending}
 use Rattle.p10_expand.specs.Conditionals.{RunEnds, refusal_of}
-use Rattle.p10_expand.specs.Obeying.{State, Refuses, End, begins_at, words_before, with_words, TextGives}
+use Rattle.p10_expand.specs.Obeying.{State, RefusedBy, StopsWith, begins_at, words_before, with_words, TextGives}
 use Rattle.p10_expand.specs.private.Running.{GivesBefore}
 use Rattle.p10_expand.specs.Before.{ComeInOrder, WordsBeforeGive}
 
 -- words of which one is split off
-record SplitAt (words : List Word) (front : List Sourced) (name : Sourced) : Type 0 where
-  before : List Word
-  word : Word
-  behind : List Word
+record SplitAt (words : List PlainWord) (front : List Sourced) (name : Sourced) : Type 0 where
+  before : List PlainWord
+  word : PlainWord
+  behind : List PlainWord
   is : words ≡ before ++ word ∷ behind
   front_is : front ≡ map written before
   name_is : name ≡ written word
 
-split : (words : List Word) (front : List Sourced) (name : Sourced) (behind : List Sourced) → map written words ≡ front ++ name ∷ behind → SplitAt words front name
+split : (words : List PlainWord) (front : List Sourced) (name : Sourced) (behind : List Sourced) → map written words ≡ front ++ name ∷ behind → SplitAt words front name
 split [] [] name behind is = cc
 split [] (other ∷ front) name behind is = cc
 split (word ∷ words) [] name behind is = let same : written word ≡ name = cc in record { before = []; word = word; behind = words; is = refl; front_is = refl; name_is = sym same }
@@ -39,7 +39,7 @@ split (word ∷ words) (other ∷ front) name behind is =
       before = word ∷ rest.before;
       word = rest.word;
       behind = rest.behind;
-      is = ap (λ (l : List Word). word ∷ l) rest.is;
+      is = ap (λ (l : List PlainWord). word ∷ l) rest.is;
       front_is = ap (λ (s : Sourced). s ∷ front) (sym same) ∙ ap (λ (l : List Sourced). written word ∷ l) rest.front_is;
       name_is = rest.name_is;
     }
@@ -55,7 +55,7 @@ no_and true c e = e
 no_and false c e = refl
 
 -- the word at a place is found there, since the words before it begin before it
-found_at : (place : ℕ) (before : List Word) (word : Word) (behind : List Word) → ComeInOrder place (before ++ word ∷ behind) → (place ≤ word.at.start) × (words_before word.at (before ++ word ∷ behind) ≡ before)
+found_at : (place : ℕ) (before : List PlainWord) (word : PlainWord) (behind : List PlainWord) → ComeInOrder place (before ++ word ∷ behind) → (place ≤ word.at.start) × (words_before word.at (before ++ word ∷ behind) ≡ before)
 found_at place [] word behind order = (
   order.0,
   ap (λ (b : Bool). cond (b && (word.at.start == word.at.start)) [] (word ∷ words_before word.at behind)) (same_number word.at.file)
@@ -66,29 +66,29 @@ found_at place (first ∷ before) word behind order =
     let earlier : first.at.start < word.at.start = omega (arith, less) in
     let no' : begins_at word.at first ≡ false = no_and (first.at.file == word.at.file) (first.at.start == word.at.start) (other_number first.at.start word.at.start earlier) in (
       omega (arith, order.0, earlier),
-      ap (λ (b : Bool). cond b [] (first ∷ words_before word.at (before ++ word ∷ behind))) no' ∙ ap (λ (l : List Word). first ∷ l) rest,
+      ap (λ (b : Bool). cond b [] (first ∷ words_before word.at (before ++ word ∷ behind))) no' ∙ ap (λ (l : List PlainWord). first ∷ l) rest,
     )
 
 pub words_before_give : FrontsGive → WordsBeforeGive
 words_before_give fronts macros words left number at order ends =
     let stands = fronts macros (map written words) left number at ends in
-    let here : SplitAt words stands.front stands.name = split words stands.front stands.name stands.behind stands.is in
+    let here : SplitAt words stands.front stands.name = split words stands.front stands.name stands.rest stands.is in
     let place' : here.word.at ≡ at = ap (λ (s : Sourced). s.word.at) (sym here.name_is) ∙ stands.place in
-    let found = found_at 0 here.before here.word here.behind (subst (λ (l : List Word). ComeInOrder 0 l) here.is order) in
-    let before : words_before at words ≡ here.before = ap (λ (a : Span). words_before a words) (sym place') ∙ ap (λ (l : List Word). words_before here.word.at l) here.is ∙ found.1 in (
+    let found = found_at 0 here.before here.word here.behind (subst (λ (l : List PlainWord). ComeInOrder 0 l) here.is order) in
+    let before : words_before at words ≡ here.before = ap (λ (a : Span). words_before a words) (sym place') ∙ ap (λ (l : List PlainWord). words_before here.word.at l) here.is ∙ found.1 in (
       stands.made,
       stands.remaining,
-      subst (λ (l : List Word). Ends macros None (map written l) left (Gives stands.made stands.remaining)) (sym before)
+      subst (λ (l : List PlainWord). Ends macros None (map written l) left (Gives stands.made stands.remaining)) (sym before)
           (subst (λ (l : List Sourced). Ends macros None l left (Gives stands.made stands.remaining)) here.front_is stands.gives),
     )
 
 -- words that have a replacement
-module _ (macros : Table) (taken words : List Word) (left : ℕ) (same : taken ≡ words) (made : List Sourced) (remaining : ℕ) (gives : RunEnds macros words left (Gives made remaining)) where
+module _ (macros : Table) (taken words : List PlainWord) (left : ℕ) (same : taken ≡ words) (made : List Sourced) (remaining : ℕ) (gives : RunEnds macros words left (Gives made remaining)) where
   ends_so : (ending : Ending (List Sourced)) → RunEnds macros taken left ending → ending ≡ Gives made remaining
-  ends_so ending ends = one_ending macros None (map written words) left ending (Gives made remaining) (subst (λ (l : List Word). RunEnds macros l left ending) same ends) gives
+  ends_so ending ends = one_ending macros None (map written words) left ending (Gives made remaining) (subst (λ (l : List PlainWord). RunEnds macros l left ending) same ends) gives
 
   -- give it,
-  pub replaced_so : (replaced : Replaced) → IsReplaced macros taken left replaced → replaced.words.items ≡ sourced_words made
+  pub replaced_so : (replaced : Replaced) → IsReplaced macros taken left replaced → map plain_word replaced.words.items ≡ sourced_words made
   replaced_so replaced (other, ends, is) =
       let so : Gives other replaced.left ≡ Gives made remaining = ends_so (Gives other replaced.left) ends in
       let these : other ≡ made = cc in
@@ -109,9 +109,9 @@ module _ (macros : Table) (taken words : List Word) (left : ℕ) (same : taken �
 -- ## The answer
 
 -- a run that is refused at a place, behind what the words before it give
-pub refused_so : (s new : State) (words : List Word) (refusal : Refusal) → FrontsGive → ComeInOrder 0 words → IsFault s.macros words s.left (fault.Refused refusal) → GivesBefore s (words_before refusal.span words) new → TextGives s words (End (Refuses new refusal))
+pub refused_so : (s new : State) (words : List PlainWord) (refusal : Refusal) → FrontsGive → ComeInOrder 0 words → IsFault s.macros words s.left (fault.Refused refusal) → GivesBefore s (words_before refusal.span words) new → TextGives s words (StopsWith (RefusedBy new refusal))
 refused_so s new words refusal fronts order (family, ends) given =
     let (made, remaining, gives) = words_before_give fronts s.macros words s.left refusal.number refusal.span order ends in
     let state : new ≡ with_words s (sourced_words made) = given made remaining gives in
     let is : refusal ≡ refusal_of refusal.number refusal.span = ap (λ (f : Family). let r : Refusal = record { family = f; number = refusal.number; span = refusal.span } in r) family in
-    (Refused refusal.number refusal.span, ends, (made, remaining, gives, ap (λ (n : State). End (Refuses n refusal)) state ∙ ap (λ (r : Refusal). End (Refuses (with_words s (sourced_words made)) r)) is))
+    (Refused refusal.number refusal.span, ends, (made, remaining, gives, ap (λ (n : State). StopsWith (RefusedBy n refusal)) state ∙ ap (λ (r : Refusal). StopsWith (RefusedBy (with_words s (sourced_words made)) r)) is))

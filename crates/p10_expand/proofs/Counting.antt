@@ -2,12 +2,11 @@
 use Rattle.std.proofs.Common.{◌≡◌, ℕ, zero, suc, ◌+◌, ◌≤◌, ◌==◌, List, [], ◌∷◌, ◌++◌, length, map, Bool, true, false, ◌&&◌, if◌then◌else◌, Option, Some, None, sym, subst, arith, length-append}
 use Rattle.std.proofs.lemmas.List.{length-map}
 use Rattle.p10_base.specs.declared.span.Span.{Span}
-use Rattle.p10_base.specs.declared.word.Word.{Word}
-use Rattle.p10_base.specs.Words.{Text, is_name_kind}
+use Rattle.p10_base.specs.Words.{PlainWord, Text, is_name_kind}
 use Rattle.p10_direct.specs.Directives.{PlainMacro}
 use Rattle.p10_macros.specs.Table.{Table, macro_named}
-use Rattle.p10_macros.specs.Uses.{Sourced, written, sourced_words, Arguments, opens, closes, separates, depth_behind, word_before, argument_before, arguments_in, fitting, Use, Stays, Wrong, Calls, fitted, called, unless_recursive, use_as, use_by, use_of, replacement}
-use Rattle.p10_macros.specs.Endings.{Ending, Gives, Refused, TooMany, behind_word, behind_argument}
+use Rattle.p10_macros.specs.Uses.{Sourced, written, sourced_words, Arguments, opens, closes, separates, depth_after, word_before, argument_before, arguments_in, fitting, Use, Stays, Wrong, Calls, fitted, called, unless_recursive, use_as, use_by, use_of, replacement}
+use Rattle.p10_macros.specs.Endings.{Ending, Gives, Refused, TooMany, after_word, after_argument}
 use Rattle.p10_macros.specs.Ends.{Ends, EndsAll, Follows, no_words, word_stays, use_refused, use_replaced, no_arguments, argument_given, argument_refused, argument_too_long, replacement_made, replacement_too_long, values_refused, values_too_long}
 
 -- how many words stand in these lists
@@ -53,9 +52,9 @@ arguments_few : (depth : ℕ) (words : List Sourced) → ArgumentsFew (length wo
 arguments_few depth [] = tt
 arguments_few depth (word ∷ words) =
     arguments_if (suc (length words)) (closes word.word && (depth == 0)) (Some (record { first = []; others = []; rest = words })) _ (omega arith)
-    (arguments_if (suc (length words)) (separates word.word && (depth == 0)) (argument_before (arguments_in 0 words)) (word_before word (arguments_in (depth_behind depth word.word) words))
+    (arguments_if (suc (length words)) (separates word.word && (depth == 0)) (argument_before (arguments_in 0 words)) (word_before word (arguments_in (depth_after depth word.word) words))
     (argument_more (length words) (arguments_in 0 words) (arguments_few 0 words))
-    (word_more (length words) word (arguments_in (depth_behind depth word.word) words) (arguments_few (depth_behind depth word.word) words)))
+    (word_more (length words) word (arguments_in (depth_after depth word.word) words) (arguments_few (depth_after depth word.word) words)))
 
 fitting_few : (count parameters : ℕ) (lists : List (List Sourced)) → together lists ≤ count → ListsFew count (fitting parameters lists)
 fitting_few count zero [] p = p
@@ -94,7 +93,7 @@ use_by_few None name words = tt
 use_by_few (Some plain) name words = use_as_few plain plain.parameters name words
 
 pub use_few : (table : Table) (name : Sourced) (words : List Sourced) → UseFew (length words) (use_of table name words)
-use_few table name words = use_if (length words) (is_name_kind name.word.kind) _ Stays (use_by_few (macro_named name.word.text.now table) name words) tt
+use_few table name words = use_if (length words) (is_name_kind name.word.kind) _ Stays (use_by_few (macro_named name.word.text table) name words) tt
 
 -- ## How replacement ends
 
@@ -112,13 +111,13 @@ few_more less more middle before (Gives made left) p q few = (omega (arith, p, f
 few_more less more middle before (Refused number at) p q few = tt
 few_more less more middle before TooMany p q few = tt
 
-word_few : (count before : ℕ) (word : Sourced) (behind : Ending (List Sourced)) → Few count before behind → Few (suc count) before (behind_word word behind)
+word_few : (count before : ℕ) (word : Sourced) (behind : Ending (List Sourced)) → Few count before behind → Few (suc count) before (after_word word behind)
 word_few count before word (Gives made left) few = (omega (arith, few.0), few.1)
 word_few count before word (Refused number at) few = tt
 word_few count before word TooMany few = tt
 
 value_few : (count middle more before : ℕ) (value : List Sourced) (behind : Ending (List (List Sourced))) → length value + middle ≤ more → middle ≤ before →
-    AllFew (count + middle) middle behind → AllFew (count + more) before (behind_argument value behind)
+    AllFew (count + middle) middle behind → AllFew (count + more) before (after_argument value behind)
 value_few count middle more before value (Gives values left) p q few = (omega (arith, p, few.0), omega (arith, q, few.1))
 value_few count middle more before value (Refused number at) p q few = tt
 value_few count middle more before value TooMany p q few = tt
@@ -131,9 +130,9 @@ all_same less more before TooMany p few = tt
 mutual
   pub ends_few : {table : Table} {outer : Option Span} {words : List Sourced} {left : ℕ} {ending : Ending (List Sourced)} → Ends table outer words left ending → Few (length words + left) left ending
   ends_few no_words = (omega arith, omega arith)
-  ends_few (word_stays {word = word} {words = words} {left = left} {behind = behind} is ends gives) =
+  ends_few (word_stays {word = word} {words = words} {left = left} {others = behind} is ends gives) =
       subst (λ (e : Ending (List Sourced)). Few (suc (length words) + left) left e) (sym gives)
-      (few_more (suc (length words + left)) (suc (length words) + left) left left (behind_word word behind) (omega arith) (omega arith) (word_few (length words + left) left word behind (ends_few ends)))
+      (few_more (suc (length words + left)) (suc (length words) + left) left left (after_word word behind) (omega arith) (omega arith) (word_few (length words + left) left word behind (ends_few ends)))
   ends_few (use_refused {word = word} {words = words} {left = left} is gives) = subst (λ (e : Ending (List Sourced)). Few (suc (length words) + left) left e) (sym gives) tt
   ends_few {table} (use_replaced {word = word} {words = words} {left = left} {ending = ending} {arguments = arguments} {rest = rest} is ends follows) =
       let within : together arguments + length rest ≤ length words = subst (UseFew (length words)) is (use_few table word words) in
@@ -141,10 +140,10 @@ mutual
 
   all_few : {table : Table} {outer : Option Span} {arguments : List (List Sourced)} {left : ℕ} {ending : Ending (List (List Sourced))} → EndsAll table outer arguments left ending → AllFew (together arguments + left) left ending
   all_few no_arguments = (omega arith, omega arith)
-  all_few (argument_given {argument = argument} {value = value} {arguments = arguments} {left = left} {middle = middle} {behind = behind} first others gives) =
+  all_few (argument_given {argument = argument} {value = value} {arguments = arguments} {left = left} {middle = middle} {others = behind} first others gives) =
       let one : (length value + middle ≤ length argument + left) × (middle ≤ left) = ends_few first in
       subst (λ (e : Ending (List (List Sourced))). AllFew (together (argument ∷ arguments) + left) left e) (sym gives)
-      (all_same (together arguments + (length argument + left)) (together (argument ∷ arguments) + left) left (behind_argument value behind) (omega arith)
+      (all_same (together arguments + (length argument + left)) (together (argument ∷ arguments) + left) left (after_argument value behind) (omega arith)
       (value_few (together arguments) middle (length argument + left) left value behind one.0 one.1 (all_few others)))
   all_few (argument_refused first) = tt
   all_few (argument_too_long first) = tt
@@ -159,7 +158,7 @@ mutual
   follows_few count before values_too_long few = tt
 
 -- a run of words of a source
-pub run_few : (table : Table) (words : List Word) (left : ℕ) (ending : Ending (List Sourced)) → Ends table None (map written words) left ending → Few (length words + left) left ending
+pub run_few : (table : Table) (words : List PlainWord) (left : ℕ) (ending : Ending (List Sourced)) → Ends table None (map written words) left ending → Few (length words + left) left ending
 run_few table words left ending ends = subst (λ count. Few (count + left) left ending) (length-map words written) (ends_few ends)
 
 pub made_few : (made : List Sourced) → length (sourced_words made) ≡ length made

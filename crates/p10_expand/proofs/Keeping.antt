@@ -1,14 +1,13 @@
 -- What holds of all words holds of those that replacement gives.
-use Rattle.std.proofs.Common.{◌≡◌, ◌⊎◌, inl, inr, ℕ, zero, suc, ◌==◌, List, [], ◌∷◌, ◌++◌, map, length, Bool, true, false, ◌&&◌, if◌then◌else◌, Option, Some, None, bytes_eq, refl, sym, subst}
+use Rattle.std.proofs.Common.{◌≡◌, ◌⊎◌, inl, inr, ℕ, zero, suc, ◌==◌, List, [], ◌∷◌, ◌++◌, map, length, Bool, true, false, ◌&&◌, if◌then◌else◌, not, filter, Option, Some, None, bytes_eq, refl, sym, subst}
 use Rattle.std.proofs.lemmas.Slice.Eq.{bytes_eq-Decides}
 use Rattle.std.specs.List.{AllByRecursion, flat_map}
 use Rattle.p10_base.specs.declared.span.Span.{Span}
-use Rattle.p10_base.specs.declared.word.Word.{Word}
-use Rattle.p10_base.specs.Words.{Text, is_name, is_name_kind, plain_word}
+use Rattle.p10_base.specs.Words.{PlainWord, Text, is_name, is_name_kind}
 use Rattle.p10_direct.specs.Directives.{PlainMacro}
-use Rattle.p10_macros.specs.Table.{Entry, Table, macro_named, behind_first, last_first, without_macro}
-use Rattle.p10_macros.specs.Uses.{Sourced, written, sourced_words, Arguments, opens, closes, separates, depth_behind, word_before, argument_before, arguments_in, fitting, Use, Stays, Wrong, Calls, fitted, called, unless_recursive, use_as, use_by, use_of, given, value_of, value_or, texts_of, replacement}
-use Rattle.p10_macros.specs.Endings.{Ending, Gives, Refused, TooMany, behind_word, behind_argument}
+use Rattle.p10_macros.specs.Table.{Entry, Table, macro_named, without_macro}
+use Rattle.p10_macros.specs.Uses.{Sourced, written, sourced_words, Arguments, opens, closes, separates, depth_after, word_before, argument_before, arguments_in, fitting, Use, Stays, Wrong, Calls, fitted, called, unless_recursive, use_as, use_by, use_of, given, value_of, value_or, texts_of, replacement}
+use Rattle.p10_macros.specs.Endings.{Ending, Gives, Refused, TooMany, after_word, after_argument}
 use Rattle.p10_macros.specs.Ends.{Ends, EndsAll, Follows, place_of_use, no_words, word_stays, use_refused, use_replaced, no_arguments, argument_given, argument_refused, argument_too_long, replacement_made, replacement_too_long, values_refused, values_too_long}
 
 -- ## Lists
@@ -30,13 +29,9 @@ module _ {A : Type 0} (P : A → Type 0) where
   each_if true xs ys p q = p
   each_if false xs ys p q = q
 
-  each_behind : (x : A) (xs : List A) → P x → AllByRecursion P xs → AllByRecursion P (behind_first x xs)
-  each_behind x [] h p = (h, tt)
-  each_behind x (first ∷ others) h p = (p.0, (h, p.1))
-
-  pub each_moved : (xs : List A) → AllByRecursion P xs → AllByRecursion P (last_first xs)
-  each_moved [] p = tt
-  each_moved (x ∷ xs) p = each_behind x (last_first xs) p.0 (each_moved xs p.1)
+  pub each_kept : (test : A → Bool) (xs : List A) → AllByRecursion P xs → AllByRecursion P (filter test xs)
+  each_kept test [] p = tt
+  each_kept test (x ∷ xs) p = each_if (test x) (x ∷ filter test xs) (filter test xs) (p.0, each_kept test xs p.1) (each_kept test xs p.1)
 
 pub each_mapped : {A B : Type 0} (P : A → Type 0) (Q : B → Type 0) (f : A → B) → ((x : A) → P x → Q (f x)) → (xs : List A) → AllByRecursion P xs → AllByRecursion Q (map f xs)
 each_mapped P Q f h [] p = tt
@@ -55,13 +50,13 @@ each_flat P Q f h (x ∷ xs) p = each_joined Q (f x) (flat_map f xs) (h x p.0) (
 -- what holds of the words of a text, of the names of macros, of the parts that macros give, wherever these stand, and of the
 -- places of uses
 pub record Kept : Type 1 where
-  pub Stands : Word → Type 0
+  pub Stands : PlainWord → Type 0
   pub IsName : Text → Type 0
-  pub IsPart : Word → Type 0
+  pub IsPart : PlainWord → Type 0
   pub IsPlace : Span → Type 0
-  pub part : (word : Word) → Stands word → IsPart word
-  pub place : (word : Word) → Stands word → is_name_kind word.kind ≡ true → IsName word.text.now → IsPlace word.at
-  pub moved : (word : Word) (at : Span) → IsPart word → IsPart (record word { at = at })
+  pub part : (word : PlainWord) → Stands word → IsPart word
+  pub place : (word : PlainWord) → Stands word → is_name_kind word.kind ≡ true → IsName word.text → IsPlace word.at
+  pub moved : (word : PlainWord) (at : Span) → IsPart word → IsPart (record word { at = at })
 
 -- whether a word begins a use
 abbrev Begins : Use → Type 0
@@ -74,7 +69,7 @@ begins_if false x p = absurd p
 
 module _ (kept : Kept) where
   -- a word stands in the text, or is a part at the place of a use
-  abbrev pub Holds : Word → Type 0
+  abbrev pub Holds : PlainWord → Type 0
   Holds word = kept.Stands word ⊎ (kept.IsPart word × kept.IsPlace word.at)
 
   abbrev pub HoldsSourced : Sourced → Type 0
@@ -83,11 +78,11 @@ module _ (kept : Kept) where
   abbrev pub MacroHolds : PlainMacro → Type 0
   MacroHolds plain = kept.IsName plain.name × AllByRecursion kept.IsPart plain.body
 
-  part_of : (word : Word) → Holds word → kept.IsPart word
+  part_of : (word : PlainWord) → Holds word → kept.IsPart word
   part_of word (inl p) = kept.part word p
   part_of word (inr p) = p.0
 
-  place_of : (word : Word) → Holds word → is_name_kind word.kind ≡ true → kept.IsName word.text.now → kept.IsPlace word.at
+  place_of : (word : PlainWord) → Holds word → is_name_kind word.kind ≡ true → kept.IsName word.text → kept.IsPlace word.at
   place_of word (inl p) kind name = kept.place word p kind name
   place_of word (inr p) kind name = p.1
 
@@ -142,9 +137,9 @@ module _ (kept : Kept) where
   arguments_hold depth [] p = tt
   arguments_hold depth (word ∷ words) p =
       arguments_if (closes word.word && (depth == 0)) (Some (record { first = []; others = []; rest = words })) _ (tt, tt, p.1)
-      (arguments_if (separates word.word && (depth == 0)) (argument_before (arguments_in 0 words)) (word_before word (arguments_in (depth_behind depth word.word) words))
+      (arguments_if (separates word.word && (depth == 0)) (argument_before (arguments_in 0 words)) (word_before word (arguments_in (depth_after depth word.word) words))
       (argument_more (arguments_in 0 words) (arguments_hold 0 words p.1))
-      (word_more word (arguments_in (depth_behind depth word.word) words) p.0 (arguments_hold (depth_behind depth word.word) words p.1)))
+      (word_more word (arguments_in (depth_after depth word.word) words) p.0 (arguments_hold (depth_after depth word.word) words p.1)))
 
   fitting_holds : (parameters : ℕ) (lists : List (List Sourced)) → AllByRecursion (AllByRecursion HoldsSourced) lists → ListsHold (fitting parameters lists)
   fitting_holds zero [] p = tt
@@ -177,8 +172,8 @@ module _ (kept : Kept) where
 
   use_holds : (table : Table) (name : Sourced) (words : List Sourced) → TableHolds table → AllByRecursion HoldsSourced words → UseHolds (use_of table name words)
   use_holds table name words p q =
-      use_if (is_name_kind name.word.kind) (use_by (macro_named name.word.text.now table) name words) Stays
-      (use_by_holds (macro_named name.word.text.now table) name words (named_holds name.word.text.now table p) q) tt
+      use_if (is_name_kind name.word.kind) (use_by (macro_named name.word.text table) name words) Stays
+      (use_by_holds (macro_named name.word.text table) name words (named_holds name.word.text table p) q) tt
 
   -- a use begins with the name of a macro
   abbrev NameHolds : Text → Option PlainMacro → Type 0
@@ -195,15 +190,15 @@ module _ (kept : Kept) where
       name_if name (bytes_eq name entry.made.name) (Some entry.made) (macro_named name table)
       (λ same. subst kept.IsName (sym ((bytes_eq-Decides name entry.made.name).0 same)) p.0.0) (name_holds name table p.1)
 
-  name_used : (found : Option PlainMacro) (name : Sourced) (words : List Sourced) → NameHolds name.word.text.now found → Begins (use_by found name words) → kept.IsName name.word.text.now
+  name_used : (found : Option PlainMacro) (name : Sourced) (words : List Sourced) → NameHolds name.word.text found → Begins (use_by found name words) → kept.IsName name.word.text
   name_used None name words p begins = absurd begins
   name_used (Some plain) name words p begins = p
 
   use_place : (table : Table) (name : Sourced) (words : List Sourced) → TableHolds table → HoldsSourced name → Begins (use_of table name words) → kept.IsPlace name.word.at
   use_place table name words t p begins =
-      let found = macro_named name.word.text.now table in
+      let found = macro_named name.word.text table in
       let parts = begins_if (is_name_kind name.word.kind) (use_by found name words) begins in
-      place_of name.word p parts.0 (name_used found name words (name_holds name.word.text.now table t) parts.1)
+      place_of name.word p parts.0 (name_used found name words (name_holds name.word.text table t) parts.1)
 
   abbrev SourcedPart : Sourced → Type 0
   SourcedPart sourced = kept.IsPart sourced.word
@@ -216,12 +211,12 @@ module _ (kept : Kept) where
   value_if true x y p q = p
   value_if false x y p q = q
 
-  value_holds : (parameters : List Text) (values : List (List Sourced)) (word : Word) → AllByRecursion (AllByRecursion SourcedPart) values → ValueHolds (value_of parameters values word)
+  value_holds : (parameters : List Text) (values : List (List Sourced)) (word : PlainWord) → AllByRecursion (AllByRecursion SourcedPart) values → ValueHolds (value_of parameters values word)
   value_holds [] values word p = tt
   value_holds (parameter ∷ parameters) [] word p = tt
-  value_holds (parameter ∷ parameters) (value ∷ values) word p = value_if (is_name parameter (plain_word word)) (Some value) _ p.0 (value_holds parameters values word p.1)
+  value_holds (parameter ∷ parameters) (value ∷ values) word p = value_if (is_name parameter word) (Some value) _ p.0 (value_holds parameters values word p.1)
 
-  value_or_holds : (value : Option (List Sourced)) (word : Word) → ValueHolds value → kept.IsPart word → AllByRecursion SourcedPart (value_or value word)
+  value_or_holds : (value : Option (List Sourced)) (word : PlainWord) → ValueHolds value → kept.IsPart word → AllByRecursion SourcedPart (value_or value word)
   value_or_holds None word p q = (q, tt)
   value_or_holds (Some value) word p q = p
 
@@ -249,12 +244,12 @@ module _ (kept : Kept) where
   place_holds None name p q = q
   place_holds (Some at) name p q = p
 
-  behind_holds : (word : Sourced) (behind : Ending (List Sourced)) → HoldsSourced word → EndingHolds behind → EndingHolds (behind_word word behind)
+  behind_holds : (word : Sourced) (behind : Ending (List Sourced)) → HoldsSourced word → EndingHolds behind → EndingHolds (after_word word behind)
   behind_holds word (Gives made left) p q = (p, q)
   behind_holds word (Refused number at) p q = q
   behind_holds word TooMany p q = tt
 
-  argument_holds : (value : List Sourced) (behind : Ending (List (List Sourced))) → AllByRecursion HoldsSourced value → ValuesHold behind → ValuesHold (behind_argument value behind)
+  argument_holds : (value : List Sourced) (behind : Ending (List (List Sourced))) → AllByRecursion HoldsSourced value → ValuesHold behind → ValuesHold (after_argument value behind)
   argument_holds value (Gives made left) p q = (p, q)
   argument_holds value (Refused number at) p q = q
   argument_holds value TooMany p q = tt
@@ -263,7 +258,7 @@ module _ (kept : Kept) where
     ends_hold : {table : Table} {outer : Option Span} {words : List Sourced} {left : ℕ} {ending : Ending (List Sourced)} → Ends table outer words left ending →
         TableHolds table → OuterHolds outer → AllByRecursion HoldsSourced words → EndingHolds ending
     ends_hold no_words t o p = tt
-    ends_hold (word_stays {word = word} {behind = behind} is ends gives) t o p = subst EndingHolds (sym gives) (behind_holds word behind p.0 (ends_hold ends t o p.1))
+    ends_hold (word_stays {word = word} {others = behind} is ends gives) t o p = subst EndingHolds (sym gives) (behind_holds word behind p.0 (ends_hold ends t o p.1))
     ends_hold {table} (use_refused {outer = outer} {word = word} {words = words} is refused) t o p =
         let place = use_place table word words t p.0 (subst Begins (sym is) tt) in
         subst EndingHolds (sym refused) (place_holds outer word o place)
@@ -275,7 +270,7 @@ module _ (kept : Kept) where
     arguments_end : {table : Table} {outer : Option Span} {arguments : List (List Sourced)} {left : ℕ} {ending : Ending (List (List Sourced))} → EndsAll table outer arguments left ending →
         TableHolds table → OuterHolds outer → AllByRecursion (AllByRecursion HoldsSourced) arguments → ValuesHold ending
     arguments_end no_arguments t o p = tt
-    arguments_end (argument_given {value = value} {behind = behind} first others gives) t o p =
+    arguments_end (argument_given {value = value} {others = behind} first others gives) t o p =
         subst ValuesHold (sym gives) (argument_holds value behind (ends_hold first t o p.0) (arguments_end others t o p.1))
     arguments_end (argument_refused first) t o p = ends_hold first t o p.0
     arguments_end (argument_too_long first) t o p = tt
@@ -289,12 +284,11 @@ module _ (kept : Kept) where
     follows_hold values_too_long t o b n r v = tt
 
   -- what a run of words gives
-  pub run_holds : (table : Table) (words : List Word) (left : ℕ) (ending : Ending (List Sourced)) → Ends table None (map written words) left ending → TableHolds table → AllByRecursion kept.Stands words → EndingHolds ending
+  pub run_holds : (table : Table) (words : List PlainWord) (left : ℕ) (ending : Ending (List Sourced)) → Ends table None (map written words) left ending → TableHolds table → AllByRecursion kept.Stands words → EndingHolds ending
   run_holds table words left ending ends t p = ends_hold ends t tt (each_mapped kept.Stands HoldsSourced written (λ word stands. inl stands) words p)
 
   pub made_holds : (made : List Sourced) → AllByRecursion HoldsSourced made → AllByRecursion Holds (sourced_words made)
   made_holds made p = each_mapped HoldsSourced Holds (λ sourced. sourced.word) (λ sourced held. held) made p
 
   pub without_holds : (table : Table) (name : Text) → TableHolds table → TableHolds (without_macro table name)
-  without_holds [] name p = tt
-  without_holds (entry ∷ table) name p = each_if (λ (entry : Entry). MacroHolds entry.made) (bytes_eq name entry.made.name) (last_first table) (entry ∷ without_macro table name) (each_moved (λ (entry : Entry). MacroHolds entry.made) table p.1) (p.0, without_holds table name p.1)
+  without_holds table name p = each_kept (λ (entry : Entry). MacroHolds entry.made) (λ (entry : Entry). not (bytes_eq name entry.made.name)) table p

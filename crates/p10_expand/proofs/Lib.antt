@@ -1,5 +1,4 @@
 -- Lemmas of this crate.
-pub mod PlainIncludes
 pub mod Texts
 pub mod Naming
 pub mod Including
@@ -19,19 +18,19 @@ pub mod Known
 pub mod RootCount
 pub mod Answering
 pub mod ItemLines
+pub mod LineWords
 pub mod Answers
 pub mod Skipping
 pub mod Unbroken
 pub mod Walking
 pub mod Rooting
 pub mod Rows
+pub mod FirstLine
 pub mod OneExpansion
 pub mod Keeping
 pub mod Origins
 pub mod Counting
 pub mod Few
-pub mod PlainlyObeying
-pub mod Plainly
 pub mod Numbers
 pub mod PlainAnswers
 pub mod InOrder

@@ -1,9 +1,8 @@
 -- A text has one list of include lines, or one refusal, or passes one limit.
-use Rattle.std.proofs.Common.{◌≡◌, ◌≢◌, ℕ, List, [], ◌∷◌, map, Bool, sym, ◌∙◌, ap, subst, inl, inr}
+use Rattle.std.proofs.Common.{◌≡◌, ◌≢◌, ℕ, List, [], ◌∷◌, Bool, sym, ◌∙◌, ap, subst, inl, inr}
 use Rattle.std.specs.Prelude.{Result, Ok, Err}
 use Rattle.p10_base.specs.declared.report.Refusal.{Refusal}
 use Rattle.p10_base.specs.declared.report.Limit.{Limit}
-use Rattle.p10_base.specs.declared.word.Word.{Word}
 use Rattle.p10_lex.specs.declared.fault.LexFault.{LexFault}
 use Rattle.p10_lex.specs.declared.fault.LexFault.TheVariants.{Refused, Over, Memory}
 use Rattle.p10_base.specs.Words.{PlainWord}
@@ -14,7 +13,7 @@ use Rattle.p10_direct.specs.Directives.{Include, Spells, Read}
 use Rattle.p10_direct.proofs.Cuts.{cut_once}
 use Rattle.p10_direct.proofs.Outcomes.{one_outcome}
 use Rattle.p10_expand.specs.declared.place.Include.{Include as Wanted}
-use Rattle.p10_expand.specs.Includes.{word_of, NamedIn, HasIncludes}
+use Rattle.p10_expand.specs.Includes.{NamedIn, HasIncludes}
 
 -- ## Answers of lexing
 
@@ -85,7 +84,7 @@ same_include : (n m : List ℕ) (a b : Bool) → Read (Include n a) ≡ Read (In
 same_include n m a b same = (cc, cc)
 
 -- a line includes one name
-included_once : (line : List Word) (include other : Wanted) → Spells (Include include.name include.angle) line → Spells (Include other.name other.angle) line → include ≡ other
+included_once : (line : List PlainWord) (include other : Wanted) → Spells (Include include.name include.angle) line → Spells (Include other.name other.angle) line → include ≡ other
 included_once line include other is are =
     let outcome = one_outcome line in
     let same = same_include include.name other.name include.angle other.angle
@@ -107,6 +106,6 @@ named_once (DirectiveLine line ∷ pieces) includes others (inr (include, rest, 
 pub includes_once : (number : ℕ) (text : List ℕ) (includes others : List Wanted) → HasIncludes number text includes → HasIncludes number text others → includes ≡ others
 includes_once number text includes others has have =
     let words : has.words ≡ have.words = same_words number text has.words have.words has.lexes.2 have.lexes.2 in
-    let cut : AreCut (map word_of have.words) has.named.pieces = subst (λ ws. AreCut (map word_of ws) has.named.pieces) words has.named.cut in
-    let pieces : has.named.pieces ≡ have.named.pieces = cut_once (map word_of have.words) has.named.pieces have.named.pieces cut have.named.cut in
+    let cut : AreCut have.words has.named.pieces = subst (λ ws. AreCut ws has.named.pieces) words has.named.cut in
+    let pieces : has.named.pieces ≡ have.named.pieces = cut_once have.words has.named.pieces have.named.pieces cut have.named.cut in
     named_once have.named.pieces includes others (subst (λ ps. NamedIn ps includes) pieces has.named.named) have.named.named

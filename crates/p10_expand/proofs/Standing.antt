@@ -25,7 +25,6 @@ use Rattle.p10_expand.specs.Headers.{header_of}
 use Rattle.p10_expand.specs.Finding.{name_at, HasText, IsThere}
 use Rattle.p10_expand.specs.Gathered.{IsGathered, AreGathered}
 use Rattle.p10_expand.specs.Includes.{AreIncludes, HasIncludes}
-use Rattle.p10_expand.proofs.PlainIncludes.{includes_plain}
 use Rattle.p10_expand.specs.Gathering.{no_known, known_at, IsAt, IsNew, HasRoom, present}
 use Rattle.p10_expand.specs.private.Standing.{HasFront, Stands, AddsFile, FailsToAdd, Links, IsLocated, Fails}
 
@@ -214,13 +213,13 @@ text_last g h name text number next is =
     ∙ ap (λ (f : SourceFile). f.text) (get_or-append_seam g.files (record { name = name; text = text; links = [] }) [] no_file))
 
 pub file_added : (old new : Gathering) (g : Gathered) (place : Place) (depth number : ℕ) (name text body : List ℕ) (words read : List Word) (includes : List Include) →
-    number ≡ count_of old.sources → g ≡ with_file old.sources name text → new.sources ≡ g → name ≡ name_at place → body ≡ text_of g number → Answers number body (Ok (map plain_word words)) → read ≡ words → AreIncludes read includes →
+    number ≡ count_of old.sources → g ≡ with_file old.sources name text → new.sources ≡ g → name ≡ name_at place → body ≡ text_of g number → Answers number body (Ok (map plain_word words)) → read ≡ words → AreIncludes (map plain_word read) includes →
     new.known.items ≡ old.known.items ++ (record { place = place; depth = depth; includes = includes }) ∷ [] → AddsFile old new place depth text number
 file_added old new g place depth number name text body words read includes next with_it sources named body_is lexes same are known = record {
   includes = includes;
   next = next;
   sources = sources ∙ (with_it ∙ ap (λ n. with_file old.sources n text) named);
-  lexed = record { words = map plain_word words; lexes = subst (λ t. Answers number t (Ok (map plain_word words))) (body_is ∙ text_last old.sources g name text number next with_it) lexes; named = includes_plain words includes (subst (λ ws. AreIncludes ws includes) same are) };
+  lexed = record { words = map plain_word words; lexes = subst (λ t. Answers number t (Ok (map plain_word words))) (body_is ∙ text_last old.sources g name text number next with_it) lexes; named = subst (λ ws. AreIncludes (map plain_word ws) includes) same are };
   known = known;
 }
 

@@ -1,14 +1,13 @@
 -- Up to a line that is reached the structure of a file's conditionals isn't broken.
 use Rattle.std.proofs.Common.{subst, ◌≡◌, ℕ, zero, suc, List, [], ◌∷◌, length, map, Bool, true, false, not, ◌==◌, MatchBool, if◌then◌else◌, arith, refl, sym, ◌∙◌, ap, Option, Some, None, option_map}
-use Rattle.p10_base.specs.declared.word.Word.{Word}
 use Rattle.p10_direct.specs.declared.mark.Mark.{Mark}
 use Rattle.p10_direct.specs.declared.mark.Mark.TheVariants.{Opens, Elif, Else, Closes, Plain}
 use Rattle.p10_direct.specs.Lines.{Piece, DirectiveLine, TextRun}
 use Rattle.p10_direct.specs.Directives.{Outcome, Read, BadForm, BadDefinition, place_of}
 use Rattle.p10_direct.specs.Balance.{mark_of, open_before, is_before_else, is_break, first_break_of, first_unbalanced}
 use Rattle.p10_base.specs.Gathered.{Gathered}
-use Rattle.p10_expand.specs.declared.expansion.digits.Digits.{Digits}
-use Rattle.p10_expand.specs.Obeying.{State, Next, On, Enter, End, File, refuse, is_place, breaks_at, listed, passed, Acts, LineGives}
+use Rattle.p10_base.specs.Words.{PlainWord}
+use Rattle.p10_expand.specs.Obeying.{State, Next, GoesOn, EntersFile, StopsWith, File, refuse, is_place, breaks_at, listed, passed, Acts, LineGives}
 use Rattle.p10_expand.specs.Groups.{PassedLine, Groups, with_group, outer_of, open_after_line, open_after}
 use Rattle.p10_expand.proofs.Skipping.{Belongs}
 
@@ -146,38 +145,38 @@ passed_on : (file : File) (before : List PassedLine) (piece : Piece) (pieces : L
 passed_on file before piece pieces u p = go_on file before piece pieces _ refl u p
 
 -- text breaks nothing
-text_passed : (file : File) (before : List PassedLine) (words : List Word) (pieces : List Piece) → Unbroken file before (TextRun words ∷ pieces) → Passed file before (TextRun words) pieces
+text_passed : (file : File) (before : List PassedLine) (words : List PlainWord) (pieces : List Piece) → Unbroken file before (TextRun words ∷ pieces) → Passed file before (TextRun words) pieces
 text_passed file before words pieces u = record { belongs = plain_belongs (open_after before); next = λ h. record { none = u.none } }
 
 -- ## Lines that go on
 
 -- another line is reached
 abbrev pub GoesOnward : Next → Type 0
-GoesOnward (On holds s) = Unit {0}
-GoesOnward (Enter number built_in s) = Unit {0}
-GoesOnward (End ended) = ⊥
+GoesOnward (GoesOn holds s) = Unit {0}
+GoesOnward (EntersFile number built_in s) = Unit {0}
+GoesOnward (StopsWith ended) = ⊥
 
 onward_is : (next other : Next) → next ≡ other → GoesOnward next → GoesOnward other
 onward_is next other e p = subst GoesOnward e p
 
-pass_onward : (file : File) (before : List PassedLine) (line : List Word) (pieces : List Piece) (s : State) (next : Next) (breaks : Bool) → breaks_at file (length before) ≡ breaks → Unbroken file before (DirectiveLine line ∷ pieces) →
+pass_onward : (file : File) (before : List PassedLine) (line : List PlainWord) (pieces : List Piece) (s : State) (next : Next) (breaks : Bool) → breaks_at file (length before) ≡ breaks → Unbroken file before (DirectiveLine line ∷ pieces) →
     next ≡ passed file (length before) line s → GoesOnward next → Passed file before (DirectiveLine line) pieces
 pass_onward file before line pieces s next true e u is on = absurd (onward_is next _ (is ∙ if_true _ _ _ e) on)
 pass_onward file before line pieces s next false e u is on = passed_on file before (DirectiveLine line) pieces u e
 
-module _ (g : Gathered) (digits : Digits) (file : File) (before : List PassedLine) (line : List Word) (pieces : List Piece) (unbroken : Unbroken file before (DirectiveLine line ∷ pieces)) where
+module _ (g : Gathered) (file : File) (before : List PassedLine) (line : List PlainWord) (pieces : List Piece) (unbroken : Unbroken file before (DirectiveLine line ∷ pieces)) where
   read_onward : (breaks : Bool) (P : Type 0) (s : State) (next : Next) (at : Next) → breaks_at file (length before) ≡ breaks → MatchBool breaks (next ≡ at) P → (GoesOnward at → ⊥) → GoesOnward next → Passed file before (DirectiveLine line) pieces
   read_onward true P s next at e is none on = absurd (none (onward_is next at is on))
   read_onward false P s next at e does none on = passed_on file before (DirectiveLine line) pieces unbroken e
 
-  acts_onward : (outcome : Outcome) (s : State) (next : Next) → Acts g digits file (breaks_at file (length before)) line outcome s next → GoesOnward next → Passed file before (DirectiveLine line) pieces
+  acts_onward : (outcome : Outcome) (s : State) (next : Next) → Acts g file (breaks_at file (length before)) line outcome s next → GoesOnward next → Passed file before (DirectiveLine line) pieces
   acts_onward BadForm s next is on = absurd (onward_is next _ is on)
   acts_onward (BadDefinition at) s next is on = absurd (onward_is next _ is on)
   acts_onward (Read directive) s next acts on = read_onward (breaks_at file (length before)) _ s next (refuse s 2 (place_of line)) refl acts (λ p. p) on
 
 -- a line that goes on breaks nothing
-pub line_passed : (g : Gathered) (digits : Digits) (file : File) (before : List PassedLine) (piece : Piece) (pieces : List Piece) (obeyed : Bool) (s : State) (next : Next) → Unbroken file before (piece ∷ pieces) →
-    LineGives g digits file obeyed (length before) piece s next → GoesOnward next → Passed file before piece pieces
-line_passed g digits file before (TextRun words) pieces obeyed s next u gives on = text_passed file before words pieces u
-line_passed g digits file before (DirectiveLine line) pieces true s next u (outcome, is, acts) on = acts_onward g digits file before line pieces u outcome (listed file (length before) line s) next acts on
-line_passed g digits file before (DirectiveLine line) pieces false s next u is on = pass_onward file before line pieces s next (breaks_at file (length before)) refl u is on
+pub line_passed : (g : Gathered) (file : File) (before : List PassedLine) (piece : Piece) (pieces : List Piece) (obeyed : Bool) (s : State) (next : Next) → Unbroken file before (piece ∷ pieces) →
+    LineGives g file obeyed (length before) piece s next → GoesOnward next → Passed file before piece pieces
+line_passed g file before (TextRun words) pieces obeyed s next u gives on = text_passed file before words pieces u
+line_passed g file before (DirectiveLine line) pieces true s next u (outcome, is, acts) on = acts_onward g file before line pieces u outcome (listed file (length before) line s) next acts on
+line_passed g file before (DirectiveLine line) pieces false s next u is on = pass_onward file before line pieces s next (breaks_at file (length before)) refl u is on

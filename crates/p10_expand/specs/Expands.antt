@@ -1,130 +1,95 @@
 -- What the words of a program are after its directives are obeyed and its macros replaced (C99 5.1.1.2p1, phase 4; 6.10).
-use Rattle.std.specs.Prelude.{ℕ, ◌≡◌, zero, suc, ◌-◌, ◌<◌, nat_le, List, [], ◌∷◌, ◌++◌, length, map, slice_index_or, Bool, true, false, Option, Some, None, Result, Ok, Err, if◌then◌else◌, codes}
-use Rattle.p10_base.specs.declared.word.Word.{Word}
+use Rattle.std.specs.Prelude.{ℕ, ◌≡◌, zero, suc, ◌-◌, nat_le, List, [], ◌∷◌, ◌++◌, length, map, Bool, true, false, Option, Some, None, Result, Ok, Err, if◌then◌else◌}
 use Rattle.p10_base.specs.declared.report.Refusal.{Refusal}
 use Rattle.p10_base.specs.declared.report.Limit.{Limit}
-use Rattle.p10_base.specs.Gathered.{Gathered, count_of, text_of}
-use Rattle.p10_base.specs.Words.{plain_word}
+use Rattle.p10_base.specs.Gathered.{Gathered, text_of}
+use Rattle.p10_base.specs.Words.{PlainWord}
 use Rattle.p10_lex.specs.Lexes.{Answers}
 use Rattle.p10_direct.specs.Lines.{Piece, AreCut}
 use Rattle.p10_direct.specs.Balance.{mark_of}
-use Rattle.p10_expand.specs.declared.expanded.Obeyed.{Obeyed as ObeyedLine}
-use Rattle.p10_expand.specs.declared.expansion.digits.Digits.{Digits}
 use Rattle.p10_expand.specs.Groups.{PassedLine, is_obeyed_after}
-use Rattle.p10_expand.specs.Obeying.{State, Ended, Goes, Refuses, Passes, Next, On, Enter, End, File, LineGives}
+use Rattle.p10_expand.specs.Obeying.{PlainObeyed, State, Cause, RefusedBy, PassedLimit, Ended, Finished, Stopped, GoesOn, EntersFile, StopsWith, File, LineGives}
 use Rattle.p10_base.specs.declared.report.TheConstants.Limit.{EXPANDED_WORDS, NESTED_INCLUDES, MOST_NESTED_INCLUDES, MOST_EXPANDED_WORDS}
 
--- ## The words of the files
-
--- the words of each file, and the texts 0 and 1 of the answers to `defined`, with the places in memory where they lie
-pub record Layout : Type 0 where
-  pub words : List (List Word)
-  pub digits : Digits
-
--- the words of the file with a number
-abbrev pub words_at : Layout → ℕ → List Word
-words_at layout number = slice_index_or layout.words number []
-
--- these are the words of the first files (C99 6.4), which are so many
-pub record AreWords (g : Gathered) (count : ℕ) (words : List (List Word)) : Type 0 where
-  pub all : length words ≡ count
-  pub lexed : (number : ℕ) → number < count → Answers number (text_of g number) (Ok (map plain_word (slice_index_or words number [])))
-
--- these are the words of the files, and those texts
-pub record IsLaidOut (g : Gathered) (layout : Layout) : Type 0 where
-  pub words : AreWords g (count_of g) layout.words
-  pub zero_is : layout.digits.zero.now ≡ codes "0"
-  pub one_is : layout.digits.one.now ≡ codes "1"
-
--- ## Lines
+-- ## Files
 
 -- the state where the words of a file were counted, if they may be; those of a built-in header aren't counted
 abbrev pub counted : Bool → ℕ → State → Option State
 counted true count s = Some s
 counted false count s = if nat_le count s.left then Some (record s { left = s.left - count }) else None
 
--- what comes of an included file, by its number and whether it is a built-in header
-abbrev pub Includes : Type 1
-Includes = ℕ → Bool → State → Ended → Type 0
-
--- the lines after an included file come next where its end is reached
-abbrev pub GoesOn : (State → Ended → Type 0) → Ended → Ended → Type 0
-GoesOn behind (Goes s) ended = behind s ended
-GoesOn behind (Refuses s refusal) ended = ended ≡ Refuses s refusal
-GoesOn behind (Passes limit) ended = ended ≡ Passes limit
-
--- what comes of the lines from one on, where that one gives this
-abbrev pub Follows : Includes → (Bool → State → Ended → Type 0) → Next → Ended → Type 0
-Follows includes behind (On holds s) ended = behind holds s ended
-Follows includes behind (Enter number built_in s) ended =
-    (within : Ended) × includes number built_in s within × GoesOn (behind true) within ended
-Follows includes behind (End other) ended = ended ≡ other
-
 -- a line that is passed, whose condition holds or doesn't
 abbrev pub passed_line : Piece → Bool → PassedLine
 passed_line piece holds = record { mark = mark_of piece; holds = holds }
 
-module _ (g : Gathered) (layout : Layout) where
-  -- what comes of these lines, the last of a file, after those before them, of which the last comes first: they come in order, those
-  -- in chosen groups are obeyed, and an include line stands for the lines of a file
-  abbrev pub LinesGive : Includes → File → List PassedLine → List Piece → State → Ended → Type 0
-  LinesGive includes file before [] s ended = ended ≡ Goes s
-  LinesGive includes file before (piece ∷ pieces) s ended =
-      (next : Next) × LineGives g layout.digits file (is_obeyed_after before (mark_of piece)) (length before) piece s next
-      × Follows includes (λ holds s ended. LinesGive includes file (passed_line piece holds ∷ before) pieces s ended) next ended
+mutual
+  -- what comes of the file with a number, which is a built-in header or not, and in which so many includes may still be nested
+  pub data FileEnds (g : Gathered) : ℕ → ℕ → Bool → State → Ended → Type 0 where
+    -- its words (C99 6.4) are counted, and then its lines come in order
+    words_counted : {nested number : ℕ} {built_in : Bool} {s begun : State} {words : List PlainWord} {pieces : List Piece} {ended : Ended} →
+        Answers number (text_of g number) (Ok words) → counted built_in (length words) s ≡ Some begun → AreCut words pieces →
+        LinesEnd g nested (record { number = number; built_in = built_in; pieces = pieces }) [] pieces begun ended → FileEnds g nested number built_in s ended
+    too_many_words : {nested number : ℕ} {built_in : Bool} {s : State} {words : List PlainWord} →
+        Answers number (text_of g number) (Ok words) → counted built_in (length words) s ≡ None → FileEnds g nested number built_in s (Stopped (PassedLimit EXPANDED_WORDS))
 
-  -- what comes of a file where its words were counted
-  abbrev pub CountedGives : Includes → ℕ → Bool → Option State → Ended → Type 0
-  CountedGives includes number built_in None ended = ended ≡ Passes EXPANDED_WORDS
-  CountedGives includes number built_in (Some s) ended =
-      (pieces : List Piece) × AreCut (words_at layout number) pieces
-      × LinesGive includes (record { number = number; built_in = built_in; pieces = pieces }) [] pieces s ended
-
-  -- what comes of a file: its words are counted, then its lines are expanded
-  abbrev pub FileGives : Includes → ℕ → Bool → State → Ended → Type 0
-  FileGives includes number built_in s ended = CountedGives includes number built_in (counted built_in (length (words_at layout number)) s) ended
-
-  -- what comes of an included file, in which so many includes may still be nested, itself counted
-  unfoldable pub IncludeGives : ℕ → ℕ → Bool → State → Ended → Type 0
-  IncludeGives zero number built_in s ended = ended ≡ Passes NESTED_INCLUDES
-  IncludeGives (suc more) number built_in s ended = FileGives (IncludeGives more) number built_in s ended
+  -- what comes of these lines, the last of a file, after those before them, of which the last comes first; those in chosen groups are
+  -- obeyed
+  pub data LinesEnd (g : Gathered) : ℕ → File → List PassedLine → List Piece → State → Ended → Type 0 where
+    no_lines : {nested : ℕ} {file : File} {before : List PassedLine} {s : State} → LinesEnd g nested file before [] s (Finished s)
+    -- the next line comes after this one,
+    next_line : {nested : ℕ} {file : File} {before : List PassedLine} {piece : Piece} {pieces : List Piece} {s after : State} {holds : Bool} {ended : Ended} →
+        LineGives g file (is_obeyed_after before (mark_of piece)) (length before) piece s (GoesOn holds after) →
+        LinesEnd g nested file (passed_line piece holds ∷ before) pieces after ended → LinesEnd g nested file before (piece ∷ pieces) s ended
+    -- or after the lines of the file that it enters,
+    file_finished : {nested number : ℕ} {built_in : Bool} {file : File} {before : List PassedLine} {piece : Piece} {pieces : List Piece} {s entered after : State} {ended : Ended} →
+        LineGives g file (is_obeyed_after before (mark_of piece)) (length before) piece s (EntersFile number built_in entered) →
+        FileEnds g nested number built_in entered (Finished after) →
+        LinesEnd g (suc nested) file (passed_line piece true ∷ before) pieces after ended → LinesEnd g (suc nested) file before (piece ∷ pieces) s ended
+    -- whose end isn't always reached,
+    file_stopped : {nested number : ℕ} {built_in : Bool} {file : File} {before : List PassedLine} {piece : Piece} {pieces : List Piece} {s entered : State} {cause : Cause} →
+        LineGives g file (is_obeyed_after before (mark_of piece)) (length before) piece s (EntersFile number built_in entered) →
+        FileEnds g nested number built_in entered (Stopped cause) → LinesEnd g (suc nested) file before (piece ∷ pieces) s (Stopped cause)
+    -- and which isn't entered where no more includes may be nested
+    nested_too_deep : {file : File} {before : List PassedLine} {piece : Piece} {pieces : List Piece} {s : State} (number : ℕ) (built_in : Bool) (entered : State) →
+        LineGives g file (is_obeyed_after before (mark_of piece)) (length before) piece s (EntersFile number built_in entered) →
+        LinesEnd g zero file before (piece ∷ pieces) s (Stopped (PassedLimit NESTED_INCLUDES))
+    line_stops : {nested : ℕ} {file : File} {before : List PassedLine} {piece : Piece} {pieces : List Piece} {s : State} {cause : Cause} →
+        LineGives g file (is_obeyed_after before (mark_of piece)) (length before) piece s (StopsWith cause) →
+        LinesEnd g nested file before (piece ∷ pieces) s (Stopped cause)
 
 -- ## Roots
 
 -- the words of each root, the directives that were obeyed, and the refusal, if there is one
 pub record Expansion : Type 0 where
-  pub roots : List (List Word)
-  pub obeyed : List ObeyedLine
+  pub roots : List (List PlainWord)
+  pub obeyed : List PlainObeyed
   pub refusal : Option Refusal
 
 -- the state in which a root begins: without macros, names of files that are included once, and items
-abbrev pub fresh : List ObeyedLine → ℕ → State
+abbrev pub fresh : List PlainObeyed → ℕ → State
 fresh obeyed left = record { macros = []; once = []; given = []; words = []; obeyed = obeyed; left = left }
 
 -- the words of roots that aren't expanded
-abbrev pub no_words : List ℕ → List (List Word)
+abbrev pub no_words : List ℕ → List (List PlainWord)
 no_words numbers = map (λ number. []) numbers
 
--- what comes of the roots from one on that ends so, behind those with these words; those behind a refused one have no words
-abbrev pub RootEnds : (List (List Word) → List ObeyedLine → ℕ → Result Expansion Limit → Type 0) → List ℕ → List (List Word) → Ended → Result Expansion Limit → Type 0
-RootEnds behind others roots (Goes s) answer = behind (roots ++ s.words ∷ []) s.obeyed s.left answer
-RootEnds behind others roots (Refuses s refusal) answer =
-    answer ≡ Ok (record { roots = roots ++ s.words ∷ [] ++ no_words others; obeyed = s.obeyed; refusal = Some refusal })
-RootEnds behind others roots (Passes limit) answer = answer ≡ Err limit
+-- what comes of these roots after those with these words, where so many words may still be counted; 64 includes may be nested
+pub data RootsEnd (g : Gathered) : List ℕ → List (List PlainWord) → List PlainObeyed → ℕ → Result Expansion Limit → Type 0 where
+  no_roots : {roots : List (List PlainWord)} {obeyed : List PlainObeyed} {left : ℕ} → RootsEnd g [] roots obeyed left (Ok (record { roots = roots; obeyed = obeyed; refusal = None }))
+  root_finished : {number : ℕ} {numbers : List ℕ} {roots : List (List PlainWord)} {obeyed : List PlainObeyed} {left : ℕ} {s : State} {answer : Result Expansion Limit} →
+      FileEnds g MOST_NESTED_INCLUDES number false (fresh obeyed left) (Finished s) → RootsEnd g numbers (roots ++ s.words ∷ []) s.obeyed s.left answer →
+      RootsEnd g (number ∷ numbers) roots obeyed left answer
+  -- the roots after a refused one have no words
+  root_refused : {number : ℕ} {numbers : List ℕ} {roots : List (List PlainWord)} {obeyed : List PlainObeyed} {left : ℕ} {s : State} {refusal : Refusal} →
+      FileEnds g MOST_NESTED_INCLUDES number false (fresh obeyed left) (Stopped (RefusedBy s refusal)) →
+      RootsEnd g (number ∷ numbers) roots obeyed left (Ok (record { roots = roots ++ s.words ∷ [] ++ no_words numbers; obeyed = s.obeyed; refusal = Some refusal }))
+  limit_passed : {number : ℕ} {numbers : List ℕ} {roots : List (List PlainWord)} {obeyed : List PlainObeyed} {left : ℕ} {limit : Limit} →
+      FileEnds g MOST_NESTED_INCLUDES number false (fresh obeyed left) (Stopped (PassedLimit limit)) → RootsEnd g (number ∷ numbers) roots obeyed left (Err limit)
 
-module _ (g : Gathered) (layout : Layout) where
-  -- what comes of these roots, behind those with these words; 64 includes may be nested
-  abbrev pub RootsGive : List ℕ → List (List Word) → List ObeyedLine → ℕ → Result Expansion Limit → Type 0
-  RootsGive [] roots obeyed left answer = answer ≡ Ok (record { roots = roots; obeyed = obeyed; refusal = None })
-  RootsGive (number ∷ numbers) roots obeyed left answer =
-      (ended : Ended) × FileGives g layout (IncludeGives g layout MOST_NESTED_INCLUDES) number false (fresh obeyed left) ended
-      × RootEnds (λ roots obeyed left answer. RootsGive numbers roots obeyed left answer) numbers roots ended answer
-
-  -- what a program expands to, or the limit that it passes before a refusal
-  abbrev pub Expands : Result Expansion Limit → Type 0
-  Expands answer = RootsGive g.roots [] [] MOST_EXPANDED_WORDS answer
+-- what the program of these files expands to, or the limit that it passes before a refusal
+abbrev pub ExpandsTo : Gathered → Result Expansion Limit → Type 0
+ExpandsTo g answer = RootsEnd g g.roots [] [] MOST_EXPANDED_WORDS answer
 
 -- a program expands to one thing at most
-abbrev pub ExpansionsAreUnique : Type 0
-ExpansionsAreUnique =
-    (g : Gathered) (layout : Layout) (this that : Result Expansion Limit) → Expands g layout this → Expands g layout that → this ≡ that
+abbrev pub ExpandsToOnce : Type 0
+ExpandsToOnce = (g : Gathered) (this that : Result Expansion Limit) → ExpandsTo g this → ExpandsTo g that → this ≡ that

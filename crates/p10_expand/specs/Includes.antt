@@ -1,26 +1,23 @@
 -- The include lines of a file (C99 6.10.2).
-use Rattle.std.specs.Prelude.{ℕ, ◌≡◌, List, [], ◌∷◌, map, Bool, false, ◌⊎◌, Option, Some, None, Ok}
-use Rattle.p10_base.specs.declared.word.Word.{Word}
+use Rattle.std.specs.Prelude.{ℕ, ◌≡◌, List, [], ◌∷◌, Bool, false, ◌⊎◌, Option, Some, None, Ok}
 use Rattle.p10_base.specs.Words.{PlainWord}
 use Rattle.p10_lex.specs.Lexes.{Answers}
 use Rattle.p10_direct.specs.Directives.{Include, Spells}
-use Rattle.p10_direct.specs.declared.line.Line.{Line}
-use Rattle.p10_direct.specs.declared.line.Line.TheVariants as form
 use Rattle.p10_direct.specs.Form.{BeginsWithHash}
 use Rattle.p10_direct.specs.Lines.{Piece, DirectiveLine, TextRun, AreCut}
 use Rattle.p10_expand.specs.declared.place.Include.{Include as Wanted}
 
 -- a directive line begins with `#`
-abbrev pub Begins : Line → Type 0
-Begins (form.Directive words) = BeginsWithHash words.now
-Begins (form.Text words) = Unit {0}
+abbrev pub Begins : Piece → Type 0
+Begins (DirectiveLine words) = BeginsWithHash words
+Begins (TextRun words) = Unit {0}
 
 -- the include that stands where a number names none
 abbrev pub no_include : Wanted
 no_include = record { name = []; angle = false }
 
 -- what a line includes, if it is an include line
-abbrev pub IsNamedBy : List Word → Option Wanted → Type 0
+abbrev pub IsNamedBy : List PlainWord → Option Wanted → Type 0
 IsNamedBy line (Some include) = Spells (Include include.name include.angle) line
 IsNamedBy line None = (name : List ℕ) (angle : Bool) → Spells (Include name angle) line → ⊥
 
@@ -33,17 +30,13 @@ NamedIn (DirectiveLine line ∷ pieces) includes =
     ⊎ ((include : Wanted) × (rest : List Wanted) × IsNamedBy line (Some include) × (includes ≡ include ∷ rest) × NamedIn pieces rest)
 
 -- the include lines of a file with these words, in their order, also those of skipped groups
-pub record AreIncludes (words : List Word) (includes : List Wanted) : Type 0 where
+pub record AreIncludes (words : List PlainWord) (includes : List Wanted) : Type 0 where
   pub pieces : List Piece
   pub cut : AreCut words pieces
   pub named : NamedIn pieces includes
-
--- a word as one that borrows its text; where the text stands in memory doesn't count
-abbrev pub word_of : PlainWord → Word
-word_of word = record { kind = word.kind; text = record { ref_ptr = (0, 0); now = word.text }; at = word.at; first = word.first }
 
 -- the text of the file with this number has words, and these are its include lines
 pub record HasIncludes (number : ℕ) (text : List ℕ) (includes : List Wanted) : Type 0 where
   pub words : List PlainWord
   pub lexes : Answers number text (Ok words)
-  pub named : AreIncludes (map word_of words) includes
+  pub named : AreIncludes words includes

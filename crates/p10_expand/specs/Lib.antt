@@ -13,7 +13,6 @@ pub mod Items
 pub mod Obeying
 pub mod Expands
 pub mod Answers
-pub mod Plain
 pub mod Coming
 pub mod Before
 pub mod private

@@ -1,7 +1,6 @@
 //! Expansion: obeying the directives of a program's files, and replacing macros in their text.
 
 mod condition;
-mod digits;
 mod directives;
 mod fault;
 mod files;
@@ -15,16 +14,14 @@ mod state;
 mod step;
 mod texts;
 
-ghost use Rattle.std.specs.Prelude.{◌≡◌, ◌<◌, ◌^◌, [], ◌++◌, Some, length, replicate, sum_by, IfOk, IfErr};
+ghost use Rattle.std.specs.Prelude.{◌≡◌, ◌<◌, ◌^◌, [], ◌++◌, Some, length, map, replicate, sum_by, IfOk, IfErr};
 ghost use Rattle.p10_base.specs.Gathered.{count_of};
 ghost use Rattle.p10_expand.specs.Gathering.{HaveWords};
-ghost use Rattle.p10_expand.specs.Expands.{AreWords, ExpansionsAreUnique};
 ghost use Rattle.p10_expand.specs.Coming.{ExpansionComes};
-ghost use Rattle.p10_expand.specs.private.Steps.{AreCuts, AreTexts, lists_in};
-ghost use Rattle.p10_expand.specs.Answers.{IsExpansion, IsFault, expansion_of, lists_of};
+ghost use Rattle.p10_expand.specs.private.Steps.{AreWords, AreCuts, AreTexts, lists_in};
+ghost use Rattle.p10_expand.specs.Answers.{IsExpansion, IsFault, expansion_of, lists_of, plain_obeyed};
 
 use crate::expanded::{Expanded, Obeyed};
-use crate::expansion::digits::Digits;
 use crate::expansion::files::expand_file;
 use crate::expansion::state::State;
 use crate::expansion::texts::Texts;
@@ -32,9 +29,8 @@ use crate::includes::MOST_NESTED;
 pub use fault::ExpandFault;
 pub use laws::{expands_to_once, words_before_give};
 use p10_base::{Limit, ListBuf, Refusal, Sources, Word};
-use p10_direct::{Lines, lines, one_condition, one_cut, one_outcome};
+use p10_direct::{Lines, lines};
 use p10_lex::lex;
-use p10_macros::one_ending;
 use std::alloc::{AllocError, Global};
 
 /// The most words of files and of replacements (M4).
@@ -53,35 +49,21 @@ pub fn expand<'s>(alloc: Global, sources: &'s Sources) -> Result<Expanded<'s>, E
     // gave it, a word of a file but for its place, which is that of a macro's name in a text. What was obeyed are
     // directives of the files, a refusal's place lies in a file, and words can be counted by a `u32`.
     ensures comes { IfOk result (λ expanded. ExpansionComes sources.now (expansion_of expanded)) }
-    ensures few { IfOk result (λ expanded. sum_by length (expansion_of expanded).roots < 2 ^ 32) }
+    ensures few { IfOk result (λ expanded. sum_by length (lists_of expanded.roots) < 2 ^ 32) }
 {
     let words = words_of_files(alloc, sources)?;
     let texts = Texts {
         sources,
         words: &words,
         cuts: lines_of_files(alloc, &words)?,
-        digits: Digits {
-            zero: b"0",
-            one: b"1",
-        },
     };
     expand_roots(alloc, &texts)
-}
-
-/// A program expands to one thing at most: its words and refusal, or a passed limit.
-pub fn one_expansion()
-    ensures { ExpansionsAreUnique }
-{
-    one_ending();
-    one_cut();
-    one_outcome();
-    one_condition();
 }
 
 /// The words of each file.
 fn words_of_files<'s>(alloc: Global, sources: &'s Sources) -> Result<Vec<Vec<Word<'s>>>, AllocError>
     requires { HaveWords sources.now }
-    ensures { IfOk result (λ all. AreWords sources.now (count_of sources.now) (lists_in all)) }
+    ensures { IfOk result (λ all. AreWords sources.now (count_of sources.now) all.items) }
 {
     let mut all = Vec::new(alloc);
     for number in 0..sources.count() {
@@ -99,7 +81,7 @@ fn lines_of_files<'w, 's>(
     alloc: Global,
     files: &'w [Vec<Word<'s>>],
 ) -> Result<Vec<Lines<'w, 's>>, AllocError>
-    ensures { IfOk result (λ all. AreCuts (lists_of files.now) (length files.now) all.items) }
+    ensures { IfOk result (λ all. AreCuts files.now (length files.now) all.items) }
 {
     let mut all = Vec::new(alloc);
     for words in files {
@@ -148,7 +130,7 @@ fn refused<'s>(
     obeyed: ListBuf<Obeyed<'s>>,
     refusal: Refusal,
 ) -> Result<Expanded<'s>, AllocError>
-    ensures { IfOk result (λ expanded. expansion_of expanded ≡ record { roots = lists_in roots.entry ++ replicate others []; obeyed = obeyed.entry; refusal = Some refusal }) }
+    ensures { IfOk result (λ expanded. expansion_of expanded ≡ record { roots = lists_in roots.entry ++ replicate others []; obeyed = map plain_obeyed obeyed.entry; refusal = Some refusal }) }
 {
     let mut all = roots;
     for _ in 0..others {

@@ -1,6 +1,7 @@
 //! The include lines of a file.
 
-ghost use Rattle.std.specs.Prelude.{List, [], ◌∷◌, ◌++◌, IfOk, OnOk};
+ghost use Rattle.std.specs.Prelude.{List, [], ◌∷◌, ◌++◌, map, IfOk, OnOk};
+ghost use Rattle.p10_base.specs.Words.{plain_word};
 ghost use Rattle.p10_direct.specs.Form.{BeginsWithHash};
 ghost use Rattle.p10_direct.specs.Lines.{Piece, piece_of};
 ghost use Rattle.p10_expand.specs.Includes.{Begins, IsNamedBy, NamedIn, AreIncludes};
@@ -16,7 +17,7 @@ pub const MOST_NESTED: u32 = Limit::MOST_NESTED_INCLUDES as u32;
 
 /// The include lines of a file with these words, in their order, also those of skipped groups.
 pub fn includes_of(alloc: Global, words: &[Word<'_>]) -> Result<Vec<Include>, AllocError>
-    ensures { IfOk result (λ found. AreIncludes words.now found.items) }
+    ensures { IfOk result (λ found. AreIncludes (map plain_word words.now) found.items) }
 {
     let cut = lines(alloc, words)?;
     let mut includes = Vec::new(alloc);
@@ -32,7 +33,7 @@ fn push_include(
     line: &Line<'_, '_>,
     includes: &mut Vec<Include>,
 ) -> Result<(), AllocError>
-    requires { Begins line.now }
+    requires { Begins (piece_of line.now) }
     ensures { OnOk result ((pieces : List Piece) → NamedIn pieces includes.old.items → NamedIn (pieces ++ piece_of line.now ∷ []) includes.new.items) }
 {
     match line {
@@ -49,8 +50,8 @@ fn push_include(
 
 /// What a line includes, if it is an include line.
 fn include_of(alloc: Global, line: &[Word<'_>]) -> Result<Option<Include>, AllocError>
-    requires { BeginsWithHash line.now }
-    ensures { IfOk result (IsNamedBy line.now) }
+    requires { BeginsWithHash (map plain_word line.now) }
+    ensures { IfOk result (IsNamedBy (map plain_word line.now)) }
 {
     one_outcome();
     match directive(alloc, line) {

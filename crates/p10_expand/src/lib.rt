@@ -22,7 +22,7 @@ mod place;
 mod walk;
 
 pub use expanded::{Expanded, Obeyed};
-pub use expansion::{ExpandFault, expand, expands_to_once, one_expansion, words_before_give};
+pub use expansion::{ExpandFault, expand, expands_to_once, words_before_give};
 pub use fault::GatherFault;
 pub use laws::{ends_once, files_are_known, roots_are_named};
 pub use walk::gather;

@@ -55,7 +55,7 @@ pub fn gather<F: Files>(
     }
     let mut file: u32 = 0;
     while file < state.sources.count() {
-        if let Err(trouble) = follow(alloc, files, dirs, &mut state, file) {
+        if let Err(trouble) = follow(files, dirs, &mut state, file) {
             return Err(fault_of(trouble, state));
         }
         file += 1;
@@ -106,7 +106,6 @@ fn add_root<F: Files>(
 
 /// Follows the include lines of a file.
 fn follow<F: Files>(
-    alloc: Global,
     files: &mut F,
     dirs: &[String],
     state: &mut Gathering,
@@ -128,7 +127,7 @@ fn follow<F: Files>(
     let depth = known.depth + 1;
     let count = known.includes.as_slice().len();
     for at in 0..count {
-        follow_line(alloc, files, dirs, state, file, at, depth)?;
+        follow_line(files, dirs, state, file, at, depth)?;
     }
     Ok(())
 }
@@ -136,7 +135,6 @@ fn follow<F: Files>(
 /// Follows one include line of a file, by its place among the include lines; `depth` is the number of includes
 /// in the chain that leads to what it includes.
 fn follow_line<F: Files>(
-    alloc: Global,
     files: &mut F,
     dirs: &[String],
     state: &mut Gathering,
@@ -155,6 +153,7 @@ fn follow_line<F: Files>(
     ensures count { F.faults files.old ≤ F.faults files.new }
     ensures held { F.held files.new ≡ F.held files.old }
 {
+    let alloc = state.alloc;
     let include = state.include_at(file, at);
     let from = state.sources.name(file);
     let places = candidates(alloc, dirs, from, include)?;

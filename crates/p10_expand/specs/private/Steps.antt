@@ -4,11 +4,12 @@ use Rattle.std.specs.Borrow.{Bor}
 use Rattle.std.specs.declared.alloc.Global.{Global}
 use Rattle.p10_base.specs.declared.word.Word.{Word}
 use Rattle.p10_base.specs.declared.report.Refusal.{Refusal}
-use Rattle.p10_base.specs.Gathered.{count_of}
+use Rattle.p10_base.specs.Gathered.{Gathered, count_of, text_of}
+use Rattle.p10_lex.specs.Lexes.{Answers}
 use Rattle.p10_direct.specs.declared.line.Lines.{Lines}
 use Rattle.p10_direct.specs.Lines.{Piece, piece_of, AreCut}
 use Rattle.p10_direct.specs.Balance.{first_unbalanced}
-use Rattle.p10_base.specs.Words.{Text}
+use Rattle.p10_base.specs.Words.{PlainWord, Text, plain_word}
 use Rattle.p10_macros.specs.Answers.{table_of}
 use Rattle.p10_expand.specs.declared.expansion.fault.ExpandFault.{ExpandFault}
 use Rattle.p10_expand.specs.declared.expansion.fault.ExpandFault.TheVariants.{Over, Memory}
@@ -19,10 +20,9 @@ use Rattle.p10_expand.specs.declared.expansion.step.Step.{Step}
 use Rattle.p10_expand.specs.declared.expansion.step.Step.TheVariants as step
 use Rattle.p10_expand.specs.declared.expansion.texts.File.{File as CodedFile}
 use Rattle.p10_expand.specs.declared.expansion.texts.Texts.{Texts}
-use Rattle.p10_expand.specs.Obeying.{State, Ended, Goes, Refuses, Passes, Next, On, Enter, End, File}
-use Rattle.p10_expand.specs.Expands.{Layout, IsLaidOut}
+use Rattle.p10_expand.specs.Obeying.{State, RefusedBy, PassedLimit, Ended, Finished, Stopped, Next, GoesOn, EntersFile, StopsWith, File}
 use Rattle.p10_base.specs.declared.report.TheConstants.Limit.{EXPANDED_WORDS}
-use Rattle.p10_expand.specs.Answers.{lists_of}
+use Rattle.p10_expand.specs.Answers.{lists_of, plain_obeyed}
 
 -- ## Values
 
@@ -36,8 +36,8 @@ state_of s = record {
   macros = table_of s.macros;
   once = s.once;
   given = texts_in s.given.items;
-  words = s.words.items;
-  obeyed = s.obeyed;
+  words = map plain_word s.words.items;
+  obeyed = map plain_obeyed s.obeyed;
   left = s.left;
 }
 
@@ -49,30 +49,35 @@ pieces_of cut = map piece_of cut.lines
 abbrev pub file_of : CodedFile → File
 file_of file = record { number = file.number; built_in = file.built_in; pieces = pieces_of file.cut.now }
 
--- the words of all files, as the code has them
-abbrev pub layout_of : Texts → Layout
-layout_of texts = record { words = map (λ words. words.items) texts.words.now; digits = texts.digits }
+-- the words in a vector of vectors
+abbrev pub lists_in : Vec (Vec Word Global) Global → List (List PlainWord)
+lists_in all = map (map plain_word) (lists_of all.items)
 
--- the same of a vector of vectors
-abbrev pub lists_in : Vec (Vec Word Global) Global → List (List Word)
-lists_in all = lists_of all.items
+-- the words of a file among those of all
+abbrev pub words_at : List (Vec Word Global) → ℕ → List PlainWord
+words_at all number = map plain_word (slice_index_or (lists_of all) number [])
 
 -- ## What stands
 
+-- these are the words of the first files, which are so many (C99 6.4)
+pub record AreWords (g : Gathered) (count : ℕ) (all : List (Vec Word Global)) : Type 0 where
+  pub many : length all ≡ count
+  pub lexed : (number : ℕ) → number < count → Answers number (text_of g number) (Ok (words_at all number))
+
 -- a file's lines are those of its words
-pub record IsCut (words : List Word) (cut : Lines) : Type 0 where
+pub record IsCut (words : List PlainWord) (cut : Lines) : Type 0 where
   pub cut_so : AreCut words (pieces_of cut)
   pub unbalanced : cut.unbalanced ≡ first_unbalanced (pieces_of cut)
 
 -- the lines of the first files with these words, which are so many
-pub record AreCuts (words : List (List Word)) (count : ℕ) (cuts : List Lines) : Type 0 where
+pub record AreCuts (words : List (Vec Word Global)) (count : ℕ) (cuts : List Lines) : Type 0 where
   pub all : length cuts ≡ count
-  pub cut : (number : ℕ) → number < count → IfSome (slice_get cuts number) (IsCut (slice_index_or words number []))
+  pub cut : (number : ℕ) → number < count → IfSome (slice_get cuts number) (IsCut (words_at words number))
 
 -- the files are cut into words and lines
 pub record AreTexts (texts : Texts) : Type 0 where
-  pub laid_out : IsLaidOut texts.sources.now (layout_of texts)
-  pub cuts : AreCuts (layout_of texts).words (count_of texts.sources.now) texts.cuts.items
+  pub words : AreWords texts.sources.now (count_of texts.sources.now) texts.words.now
+  pub cuts : AreCuts texts.words.now (count_of texts.sources.now) texts.cuts.items
 
 -- the place of the first unbalanced line is known
 abbrev pub KnowsBalance : CodedFile → Type 0
@@ -96,16 +101,16 @@ Stays _ = ⊥
 
 -- ## Answers
 
--- what comes of a line, as the code tells it, with this state behind it
+-- what comes of a line, as the code tells it, with this state after it
 abbrev pub next_of : Step → CodedState → Next
-next_of (step.On holds) s = On holds (state_of s)
-next_of (step.Enter number built_in) s = Enter number built_in (state_of s)
-next_of (step.Refused refusal) s = End (Refuses (state_of s) refusal)
+next_of (step.On holds) s = GoesOn holds (state_of s)
+next_of (step.Enter number built_in) s = EntersFile number built_in (state_of s)
+next_of (step.Refused refusal) s = StopsWith (RefusedBy (state_of s) refusal)
 
--- what comes of a line is the answer, with this state behind it
+-- what comes of a line is the answer, with this state after it
 abbrev pub Steps : (Next → Type 0) → Result Step ExpandFault → CodedState → Type 0
 Steps gives (Ok found) s = gives (next_of found s)
-Steps gives (Err (Over limit)) s = gives (End (Passes limit))
+Steps gives (Err (Over limit)) s = gives (StopsWith (PassedLimit limit))
 Steps gives (Err Memory) s = Unit {0}
 
 -- the words of a file were counted, or are too many
@@ -114,9 +119,9 @@ CountsTo counted (Ok done) s = counted ≡ Some (state_of s)
 CountsTo counted (Err (Over passed)) s = (counted ≡ None) × (passed ≡ EXPANDED_WORDS)
 CountsTo counted (Err Memory) s = ⊥
 
--- what comes of a file is the answer, with this state behind it
+-- what comes of a file is the answer, with this state after it
 abbrev pub Reaches : (Ended → Type 0) → Result (Option Refusal) ExpandFault → CodedState → Type 0
-Reaches gives (Ok None) s = gives (Goes (state_of s))
-Reaches gives (Ok (Some refusal)) s = gives (Refuses (state_of s) refusal)
-Reaches gives (Err (Over limit)) s = gives (Passes limit)
+Reaches gives (Ok None) s = gives (Finished (state_of s))
+Reaches gives (Ok (Some refusal)) s = gives (Stopped (RefusedBy (state_of s) refusal))
+Reaches gives (Err (Over limit)) s = gives (Stopped (PassedLimit limit))
 Reaches gives (Err Memory) s = Unit {0}

@@ -1,6 +1,7 @@
 //! The conditions of `#if` and `#elif`.
 
-ghost use Rattle.std.specs.Prelude.{List, ◌≡◌, ◌+◌, ◌≤◌, length, IfOk, IfSome};
+ghost use Rattle.std.specs.Prelude.{List, ◌≡◌, ◌+◌, ◌≤◌, length, map, IfOk, IfSome};
+ghost use Rattle.p10_base.specs.Words.{plain_word};
 ghost use Rattle.p10_macros.specs.Answers.{table_of};
 ghost use Rattle.p10_expand.specs.Conditionals.{is_defined, asked, asked_inside, asked_at, answered, digit_at, refusal_of, Judges, JudgesCondition};
 ghost use Rattle.p10_macros.specs.Uses.{Sourced, sourced_words};
@@ -8,7 +9,6 @@ ghost use Rattle.p10_macros.specs.Endings.{Gives};
 ghost use Rattle.p10_expand.specs.private.Judging.{as_asked, judged_by, Decides};
 ghost use Rattle.p10_expand.specs.private.Running.{PutsAnswer};
 
-use crate::expansion::digits::Digits;
 use crate::expansion::fault::ExpandFault;
 use p10_base::{DirectiveCode, Kind, Limit, Refusal, Span, Word};
 use p10_direct::truth;
@@ -28,15 +28,14 @@ pub enum Verdict {
 /// left is evaluated. `left` words of replacements may still be made.
 pub fn judge<'s>(
     alloc: Global,
-    digits: Digits<'s>,
     macros: &Macros<'_, 's>,
     whole: Span,
     condition: &[Word<'s>],
     left: u64,
 ) -> Result<Verdict, ExpandFault>
-    ensures { Decides (JudgesCondition digits.entry (table_of macros.now) whole condition.now left) result }
+    ensures { Decides (JudgesCondition (table_of macros.now) whole (map plain_word condition.now) left) result }
 {
-    let asked = answer(alloc, digits, macros, condition)?;
+    let asked = answer(alloc, macros, condition)?;
     match replace(alloc, macros, &asked, left) {
         Ok(replaced) => Ok(judge_replaced(whole, &replaced)),
         Err(ReplaceFault::Refused(refusal)) => Ok(Verdict::Fails(refusal)),
@@ -47,7 +46,7 @@ pub fn judge<'s>(
 
 /// What comes of a condition after replacement.
 fn judge_replaced(whole: Span, replaced: &Replaced<'_>) -> Verdict
-    ensures { (made : List Sourced) → sourced_words made ≡ replaced.now.words.items → Judges whole (Gives made replaced.now.left) (judged_by result) }
+    ensures { (made : List Sourced) → sourced_words made ≡ map plain_word replaced.now.words.items → Judges whole (Gives made replaced.now.left) (judged_by result) }
 {
     match truth(replaced.words.as_slice()) {
         Some(truth) => Verdict::Holds {
@@ -61,22 +60,15 @@ fn judge_replaced(whole: Span, replaced: &Replaced<'_>) -> Verdict
 /// A condition where `defined X` and `defined(X)` are answered.
 fn answer<'s>(
     alloc: Global,
-    digits: Digits<'s>,
     macros: &Macros<'_, 's>,
     condition: &[Word<'s>],
 ) -> Result<Vec<Word<'s>>, AllocError>
-    ensures { IfOk result (λ out. out.items ≡ answered digits.entry (table_of macros.now) 0 condition.now) }
+    ensures { IfOk result (λ out. map plain_word out.items ≡ answered (table_of macros.now) 0 (map plain_word condition.now)) }
 {
     let mut out = Vec::new(alloc);
     let mut place = 0;
     while place < condition.len() {
-        let behind = answer_word(
-            digits,
-            macros,
-            &mut out,
-            &condition[place],
-            &condition[place + 1..],
-        )?;
+        let behind = answer_word(macros, &mut out, &condition[place], &condition[place + 1..])?;
         place += 1 + behind;
     }
     Ok(out)
@@ -85,13 +77,12 @@ fn answer<'s>(
 /// Puts a word, or the answer to the question that it begins, behind the others; tells how many of the words behind it are of
 /// the question.
 fn answer_word<'s>(
-    digits: Digits<'s>,
     macros: &Macros<'_, 's>,
     out: &mut Vec<Word<'s>>,
     word: &Word<'s>,
     words: &[Word<'s>],
 ) -> Result<usize, AllocError>
-    ensures { IfOk result (PutsAnswer digits.entry (table_of macros.now) out.old.items word.now words.now out.new.items) }
+    ensures { IfOk result (PutsAnswer (table_of macros.now) (map plain_word out.old.items) (plain_word word.now) (map plain_word words.now) (map plain_word out.new.items)) }
 {
     match asked_name(word, words) {
         None => {
@@ -99,7 +90,7 @@ fn answer_word<'s>(
             Ok(0)
         }
         Some((name, behind)) => {
-            out.push(digit(digits, *word, defines(macros, name)))?;
+            out.push(digit(*word, defines(macros, name)))?;
             Ok(behind)
         }
     }
@@ -113,12 +104,12 @@ pub fn defines<'s>(macros: &Macros<'_, 's>, name: &'s [u8]) -> bool
 }
 
 /// The number that stands for a question whose first word this is.
-fn digit<'s>(digits: Digits<'s>, word: Word<'s>, truth: bool) -> Word<'s>
-    ensures { result ≡ digit_at digits.entry word.entry truth }
+fn digit<'s>(word: Word<'s>, truth: bool) -> Word<'s>
+    ensures { plain_word result ≡ digit_at (plain_word word.entry) truth }
 {
     Word {
         kind: Kind::Number,
-        text: if truth { digits.one } else { digits.zero },
+        text: if truth { b"1" } else { b"0" },
         at: word.at,
         first: word.first,
     }
@@ -126,7 +117,7 @@ fn digit<'s>(digits: Digits<'s>, word: Word<'s>, truth: bool) -> Word<'s>
 
 /// The name that a word and those behind it ask for, and how many of these that takes.
 fn asked_name<'s>(word: &Word<'s>, words: &[Word<'s>]) -> Option<(&'s [u8], usize)>
-    ensures value { as_asked result ≡ asked_at word.now words.now }
+    ensures value { as_asked result ≡ asked_at (plain_word word.now) (map plain_word words.now) }
     ensures few { IfSome result (λ found. found.1 ≤ length words.now) }
 {
     if word.is_name(b"defined") {
@@ -138,7 +129,7 @@ fn asked_name<'s>(word: &Word<'s>, words: &[Word<'s>]) -> Option<(&'s [u8], usiz
 
 /// The name that the words behind `defined` ask for, and how many words that takes.
 fn asked_behind<'s>(words: &[Word<'s>]) -> Option<(&'s [u8], usize)>
-    ensures value { as_asked result ≡ asked words.now }
+    ensures value { as_asked result ≡ asked (map plain_word words.now) }
     ensures few { IfSome result (λ found. found.1 ≤ length words.now) }
 {
     match words {
@@ -157,7 +148,7 @@ fn asked_behind<'s>(words: &[Word<'s>]) -> Option<(&'s [u8], usize)>
 
 /// The name `X` of `defined(X)`, by the words behind its `(`; the question takes three words behind `defined`.
 fn inside<'s>(words: &[Word<'s>]) -> Option<(&'s [u8], usize)>
-    ensures value { as_asked result ≡ asked_inside words.now }
+    ensures value { as_asked result ≡ asked_inside (map plain_word words.now) }
     ensures few { IfSome result (λ found. found.1 ≤ 1 + length words.now) }
 {
     match words {

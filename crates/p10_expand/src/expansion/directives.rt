@@ -1,6 +1,7 @@
 //! What the directives do.
 
-ghost use Rattle.std.specs.Prelude.{◌≡◌, ◌<◌, OnOk, IfOk};
+ghost use Rattle.std.specs.Prelude.{◌≡◌, ◌<◌, map, OnOk, IfOk};
+ghost use Rattle.p10_base.specs.Words.{plain_word};
 ghost use Rattle.p10_base.specs.Gathered.{candidate_of, count_of};
 ghost use Rattle.p10_direct.specs.Form.{plain, plain_macro, BeginsWithHash};
 ghost use Rattle.p10_lex.specs.Literals.{inside};
@@ -10,7 +11,6 @@ ghost use Rattle.p10_expand.specs.Obeying as obeying;
 ghost use Rattle.p10_expand.specs.private.Steps.{Steps, EntersBelow, Stays, state_of, file_of, next_of};
 
 use crate::expansion::condition::{Verdict, defines, judge};
-use crate::expansion::digits::Digits;
 use crate::expansion::fault::ExpandFault;
 use crate::expansion::items::among;
 use crate::expansion::state::State;
@@ -30,16 +30,15 @@ const MOST_MACROS: usize = Limit::MOST_MACROS as usize;
 pub fn obey<'w, 's>(
     alloc: Global,
     sources: &'s Sources,
-    digits: Digits<'s>,
     file: &File<'_, 'w, 's>,
     state: &mut State<'w, 's>,
     line: &'w [Word<'s>],
     directive: Directive<'w, 's>,
 ) -> Result<Step, ExpandFault>
     requires held { file.now.number < count_of sources.now }
-    requires begins { BeginsWithHash line.now }
+    requires begins { BeginsWithHash (map plain_word line.now) }
     ensures entered { IfOk result (EntersBelow (count_of sources.now)) }
-    ensures gives { Steps (Does sources.now digits.entry (file_of file.now) line.now (plain directive.entry) (state_of state.old)) result state.new }
+    ensures gives { Steps (Does sources.now (file_of file.now) (map plain_word line.now) (plain directive.entry) (state_of state.old)) result state.new }
 {
     match directive {
         Directive::Null | Directive::Else | Directive::Endif | Directive::OtherPragma => {
@@ -54,7 +53,7 @@ pub fn obey<'w, 's>(
             Ok(Step::On(true))
         }
         Directive::If(condition) | Directive::Elif(condition) => {
-            choose(alloc, digits, state, line, condition)
+            choose(alloc, state, line, condition)
         }
         Directive::Ifdef(name) => Ok(Step::On(defines(&state.macros, name))),
         Directive::Ifndef(name) => Ok(Step::On(!defines(&state.macros, name))),
@@ -72,23 +71,15 @@ pub fn obey<'w, 's>(
 /// Obeys an `#if` or `#elif`.
 fn choose<'w, 's>(
     alloc: Global,
-    digits: Digits<'s>,
     state: &mut State<'w, 's>,
     line: &[Word<'s>],
     condition: &[Word<'s>],
 ) -> Result<Step, ExpandFault>
-    requires { BeginsWithHash line.now }
+    requires { BeginsWithHash (map plain_word line.now) }
     ensures entered { IfOk result Stays }
-    ensures gives { Steps (ConditionGives digits.entry line.now condition.now (state_of state.old)) result state.new }
+    ensures gives { Steps (ConditionGives (map plain_word line.now) (map plain_word condition.now) (state_of state.old)) result state.new }
 {
-    match judge(
-        alloc,
-        digits,
-        &state.macros,
-        whole(line),
-        condition,
-        state.left,
-    )? {
+    match judge(alloc, &state.macros, whole(line), condition, state.left)? {
         Verdict::Holds { truth, left } => {
             state.left = left;
             Ok(Step::On(truth))
@@ -106,9 +97,9 @@ fn include<'w, 's>(
     name: &[u8],
     angle: bool,
 ) -> Step
-    requires { BeginsWithHash line.now }
+    requires { BeginsWithHash (map plain_word line.now) }
     ensures entered { EntersBelow (count_of sources.now) result }
-    ensures gives { next_of result state.now ≡ included sources.now line.now name.now (state_of state.now) (candidate_of sources.now from name.now angle) }
+    ensures gives { next_of result state.now ≡ included sources.now (map plain_word line.now) name.now (state_of state.now) (candidate_of sources.now from name.now angle) }
 {
     match sources.candidate(from, name, angle) {
         None => Step::Refused(Refusal::directive(DirectiveCode::IncludeNotFound, operand(line))),
@@ -155,8 +146,8 @@ fn is_text_of(text: &[u8], name: &[u8]) -> bool
 
 /// The place of the word behind the name of a directive.
 fn operand(line: &[Word<'_>]) -> Span
-    requires { BeginsWithHash line.now }
-    ensures { result ≡ operand_place line.now }
+    requires { BeginsWithHash (map plain_word line.now) }
+    ensures { result ≡ operand_place (map plain_word line.now) }
 {
     match line {
         [_, _, word, ..] => word.at,
@@ -171,9 +162,9 @@ fn define<'w, 's>(
     line: &[Word<'s>],
     made: Macro<'w, 's>,
 ) -> Result<Step, ExpandFault>
-    requires { BeginsWithHash line.now }
+    requires { BeginsWithHash (map plain_word line.now) }
     ensures entered { IfOk result Stays }
-    ensures gives { Steps (DefineGives built_in line.now (plain_macro made.entry) (state_of state.old)) result state.new }
+    ensures gives { Steps (DefineGives built_in (map plain_word line.now) (plain_macro made.entry) (state_of state.old)) result state.new }
 {
     if built_in {
         if among(&state.given, made.name) {
@@ -191,9 +182,9 @@ fn define_macro<'w, 's>(
     line: &[Word<'s>],
     made: Macro<'w, 's>,
 ) -> Result<Step, ExpandFault>
-    requires { BeginsWithHash line.now }
+    requires { BeginsWithHash (map plain_word line.now) }
     ensures entered { IfOk result Stays }
-    ensures gives { Steps (DefinitionGives built_in line.now (plain_macro made.entry) (state_of state.old)) result state.new }
+    ensures gives { Steps (DefinitionGives built_in (map plain_word line.now) (plain_macro made.entry) (state_of state.old)) result state.new }
 {
     match state.macros.define(made, built_in)? {
         Effect::New => {
@@ -213,8 +204,8 @@ fn define_macro<'w, 's>(
 
 /// Leaves the mark of a pragma of this program.
 fn mark<'w, 's>(state: &mut State<'w, 's>, line: &[Word<'s>]) -> Result<(), AllocError>
-    requires { BeginsWithHash line.now }
-    ensures { OnOk result (state_of state.new ≡ with_words (state_of state.old) (mark_word line.now)) }
+    requires { BeginsWithHash (map plain_word line.now) }
+    ensures { OnOk result (state_of state.new ≡ with_words (state_of state.old) (mark_word (map plain_word line.now))) }
 {
     let last = line[line.len() - 1];
     state.words.push(Word {

@@ -2,15 +2,15 @@
 
 ghost use Rattle.std.specs.Prelude.{◌<◌};
 ghost use Rattle.p10_base.specs.Gathered.{count_of};
-ghost use Rattle.p10_expand.specs.Expands.{FileGives, IncludeGives, counted};
-ghost use Rattle.p10_expand.specs.private.Steps.{CountsTo, Reaches, AreTexts, layout_of, state_of};
+ghost use Rattle.p10_expand.specs.Expands.{FileEnds, counted};
+ghost use Rattle.p10_expand.specs.private.Steps.{CountsTo, Reaches, AreTexts, state_of};
 
 use crate::expansion::fault::ExpandFault;
 use crate::expansion::line::expand_line;
 use crate::expansion::stand::{Stand, after, is_followed};
 use crate::expansion::state::State;
 use crate::expansion::step::Step;
-use crate::expansion::texts::{File, Texts};
+use crate::expansion::texts::{File, MetLine, Texts};
 use p10_base::{Limit, Refusal};
 use p10_direct::part_of;
 use std::alloc::Global;
@@ -27,7 +27,7 @@ pub fn expand_file<'w, 's>(
 ) -> Result<Option<Refusal>, ExpandFault>
     requires stands { AreTexts texts.now }
     requires held { number < count_of texts.now.sources.now }
-    ensures { Reaches (FileGives texts.now.sources.now (layout_of texts.now) (IncludeGives texts.now.sources.now (layout_of texts.now) nested) number built_in (state_of state.old)) result state.new }
+    ensures { Reaches (FileEnds texts.now.sources.now nested number built_in (state_of state.old)) result state.new }
 {
     count(state, built_in, texts.words[number as usize].len())?;
     let file = File {
@@ -39,16 +39,12 @@ pub fn expand_file<'w, 's>(
     for (place, line) in file.cut.lines.as_slice().iter().enumerate() {
         let part = part_of(line);
         let obeyed = is_followed(stand, part);
-        match expand_line(
-            alloc,
-            texts.sources,
-            texts.digits,
-            &file,
-            state,
-            obeyed,
+        let met = MetLine {
             place,
             line,
-        )? {
+            obeyed,
+        };
+        match expand_line(alloc, texts.sources, &file, state, met)? {
             Step::On(holds) => stand = after(stand, part, holds),
             Step::Refused(refusal) => return Ok(Some(refusal)),
             Step::Enter { number, built_in } => {

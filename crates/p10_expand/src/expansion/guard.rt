@@ -1,6 +1,7 @@
 //! Include guards.
 
 ghost use Rattle.std.specs.Prelude.{◌≡◌, ◌∷◌, map, option_copied};
+ghost use Rattle.p10_base.specs.Words.{plain_word};
 ghost use Rattle.p10_direct.specs.Lines.{piece_of};
 ghost use Rattle.p10_direct.specs.Balance.{mark_of};
 ghost use Rattle.p10_expand.specs.Guards.{guarded_by_ifndef, guarded_by_if, guarded_name, defines_as_nothing, closes_last, is_lone_endif, ends_with_endif, guards, is_guarded};
@@ -34,7 +35,7 @@ fn begins_guard(first: &Line<'_, '_>, second: &Line<'_, '_>, others: &[Line<'_, 
 
 /// Whether the lines are those of an include guard behind its first line, which asks for this name.
 fn closed_guard(name: Option<&[u8]>, define: &[Word<'_>], lines: &[Line<'_, '_>]) -> bool
-    ensures { result ≡ guards (option_copied name.entry) define.now (map piece_of lines.now) }
+    ensures { result ≡ guards (option_copied name.entry) (map plain_word define.now) (map piece_of lines.now) }
 {
     match name {
         None => false,
@@ -44,7 +45,7 @@ fn closed_guard(name: Option<&[u8]>, define: &[Word<'_>], lines: &[Line<'_, '_>]
 
 /// The name of which a line asks that it isn't defined.
 fn asked_name<'s>(line: &[Word<'s>]) -> Option<&'s [u8]>
-    ensures { option_copied result ≡ guarded_name line.now }
+    ensures { option_copied result ≡ guarded_name (map plain_word line.now) }
 {
     match line {
         [_, word, name] => asked_by_ifndef(word, name),
@@ -57,7 +58,7 @@ fn asked_name<'s>(line: &[Word<'s>]) -> Option<&'s [u8]>
 
 /// The name `X` of `#ifndef X`.
 fn asked_by_ifndef<'s>(word: &Word<'s>, name: &Word<'s>) -> Option<&'s [u8]>
-    ensures { option_copied result ≡ guarded_by_ifndef word.now name.now }
+    ensures { option_copied result ≡ guarded_by_ifndef (plain_word word.now) (plain_word name.now) }
 {
     if word.is_name(b"ifndef") && matches!(name.kind, Kind::Name) {
         Some(name.text)
@@ -75,7 +76,7 @@ fn asked_by_if<'s>(
     name: &Word<'s>,
     closing: &Word<'s>,
 ) -> Option<&'s [u8]>
-    ensures { option_copied result ≡ guarded_by_if word.now bang.now asks.now opening.now name.now closing.now }
+    ensures { option_copied result ≡ guarded_by_if (plain_word word.now) (plain_word bang.now) (plain_word asks.now) (plain_word opening.now) (plain_word name.now) (plain_word closing.now) }
 {
     if word.is_name(b"if")
         && bang.is_punctuator(b"!")
@@ -92,7 +93,7 @@ fn asked_by_if<'s>(
 
 /// Whether the line is `#define` of the name with an empty list.
 fn defines_nothing(name: &[u8], line: &[Word<'_>]) -> bool
-    ensures { result ≡ defines_as_nothing name.now line.now }
+    ensures { result ≡ defines_as_nothing name.now (map plain_word line.now) }
 {
     match line {
         [_, word, defined] => word.is_name(b"define") && defined.is_name(name),

@@ -1,6 +1,7 @@
 //! The items of built-in headers.
 
-ghost use Rattle.std.specs.Prelude.{◌≡◌, ◌<◌, length, IfOk, OnOk};
+ghost use Rattle.std.specs.Prelude.{◌≡◌, ◌<◌, length, map, IfOk, OnOk};
+ghost use Rattle.p10_base.specs.Words.{plain_word};
 ghost use Rattle.p10_expand.specs.Items.{lines_of, item_name, is_among, given_after, new_words};
 ghost use Rattle.p10_expand.specs.private.Steps.{texts_in};
 ghost use Rattle.p10_expand.specs.private.Running.{PutsItem};
@@ -15,8 +16,8 @@ pub fn new_items<'s>(
     given: &mut Vec<&'s [u8]>,
     words: &[Word<'s>],
 ) -> Result<Vec<Word<'s>>, AllocError>
-    ensures words { IfOk result (λ out. out.items ≡ new_words (texts_in given.old.items) (lines_of words.now)) }
-    ensures given { OnOk result (texts_in given.new.items ≡ given_after (texts_in given.old.items) (lines_of words.now)) }
+    ensures words { IfOk result (λ out. map plain_word out.items ≡ new_words (texts_in given.old.items) (lines_of (map plain_word words.now))) }
+    ensures given { OnOk result (texts_in given.new.items ≡ given_after (texts_in given.old.items) (lines_of (map plain_word words.now))) }
 {
     let mut out = Vec::new(alloc);
     let mut place = 0;
@@ -35,7 +36,7 @@ fn put_item<'s>(
     line: &[Word<'s>],
 ) -> Result<(), AllocError>
     requires { 0 < length line.now }
-    ensures { OnOk result (PutsItem out.old.items (texts_in given.old.items) line.now out.new.items (texts_in given.new.items)) }
+    ensures { OnOk result (PutsItem (map plain_word out.old.items) (texts_in given.old.items) (map plain_word line.now) (map plain_word out.new.items) (texts_in given.new.items)) }
 {
     let name = name_of_item(line);
     if !among(given, name) {
@@ -60,7 +61,7 @@ pub fn among(names: &[&[u8]], name: &[u8]) -> bool
 /// The name of the item of a line: its last word but one.
 fn name_of_item<'s>(line: &[Word<'s>]) -> &'s [u8]
     requires { 0 < length line.now }
-    ensures { result.now ≡ item_name line.now }
+    ensures { result.now ≡ item_name (map plain_word line.now) }
 {
     line[line.len().saturating_sub(2)].text
 }

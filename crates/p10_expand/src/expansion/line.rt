@@ -1,6 +1,7 @@
 //! One line of a file.
 
-ghost use Rattle.std.specs.Prelude.{◌≡◌, ◌<◌, OnOk, IfOk};
+ghost use Rattle.std.specs.Prelude.{◌≡◌, ◌<◌, map, OnOk, IfOk};
+ghost use Rattle.p10_base.specs.Words.{plain_word};
 ghost use Rattle.p10_base.specs.Gathered.{count_of};
 ghost use Rattle.p10_base.specs.Codes.{directive_refusal};
 ghost use Rattle.p10_direct.specs.Directives.{place_of};
@@ -12,46 +13,42 @@ ghost use Rattle.p10_expand.specs.Before.{ComeInOrder};
 ghost use Rattle.p10_expand.specs.private.Steps.{Steps, Stays, state_of, file_of, next_of, KnowsBalance, EntersBelow};
 
 use crate::expanded::Obeyed;
-use crate::expansion::digits::Digits;
 use crate::expansion::directives::obey;
 use crate::expansion::fault::ExpandFault;
 use crate::expansion::guard::guarded;
 use crate::expansion::run::expand_run;
 use crate::expansion::state::State;
 use crate::expansion::step::Step;
-use crate::expansion::texts::File;
+use crate::expansion::texts::{File, MetLine};
 use p10_base::{DirectiveCode, ListBuf, Refusal, Sources, Word};
 use p10_direct::{DirectFault, Line, directive, whole};
 use std::alloc::{AllocError, Global};
 
-/// Expands a line or a run of text at this place among the lines of its file, which is obeyed or not.
+/// Expands a line or a run of text, which is obeyed or not.
 pub fn expand_line<'w, 's>(
     alloc: Global,
     sources: &'s Sources,
-    digits: Digits<'s>,
     file: &File<'_, 'w, 's>,
     state: &mut State<'w, 's>,
-    obeyed: bool,
-    place: usize,
-    line: &Line<'w, 's>,
+    met: MetLine<'_, 'w, 's>,
 ) -> Result<Step, ExpandFault>
     requires held { file.now.number < count_of sources.now }
     requires balance { KnowsBalance file.now }
-    requires begins { Begins line.now }
-    ensures gives { ComeInOrder 0 (words_of (piece_of line.now)) → Steps (LineGives sources.now digits.entry (file_of file.now) obeyed place (piece_of line.now) (state_of state.old)) result state.new }
+    requires begins { Begins (piece_of met.line.now) }
+    ensures gives { ComeInOrder 0 (words_of (piece_of met.entry.line.now)) → Steps (LineGives sources.now (file_of file.now) met.entry.obeyed met.entry.place (piece_of met.entry.line.now) (state_of state.old)) result state.new }
     ensures entered { IfOk result (EntersBelow (count_of sources.now)) }
 {
-    match line {
+    match met.line {
         Line::Directive(words) => {
-            if obeyed {
-                list(alloc, file, state, place, words)?;
-                obey_line(alloc, sources, digits, file, state, place, words)
+            if met.obeyed {
+                list(alloc, file, state, met.place, words)?;
+                obey_line(alloc, sources, file, state, met.place, words)
             } else {
-                Ok(pass_line(alloc, file, state, place, words)?)
+                Ok(pass_line(alloc, file, state, met.place, words)?)
             }
         }
         Line::Text(words) => {
-            if obeyed {
+            if met.obeyed {
                 expand_run(alloc, file.built_in, state, words)
             } else {
                 Ok(Step::On(true))
@@ -69,8 +66,8 @@ fn pass_line<'w, 's>(
     line: &'w [Word<'s>],
 ) -> Result<Step, AllocError>
     requires balance { KnowsBalance file.now }
-    requires begins { BeginsWithHash line.now }
-    ensures gives { IfOk result (λ step. next_of step state.new ≡ passed (file_of file.now) place line.now (state_of state.old)) }
+    requires begins { BeginsWithHash (map plain_word line.now) }
+    ensures gives { IfOk result (λ step. next_of step state.new ≡ passed (file_of file.now) place (map plain_word line.now) (state_of state.old)) }
     ensures stays { IfOk result Stays }
 {
     if breaks(file, place) {
@@ -83,8 +80,8 @@ fn pass_line<'w, 's>(
 
 /// The refusal of a line whose conditional isn't balanced.
 fn unbalanced(line: &[Word<'_>]) -> Refusal
-    requires { BeginsWithHash line.now }
-    ensures { result ≡ directive_refusal DirectiveCode.UnbalancedConditional (place_of line.now) }
+    requires { BeginsWithHash (map plain_word line.now) }
+    ensures { result ≡ directive_refusal DirectiveCode.UnbalancedConditional (place_of (map plain_word line.now)) }
 {
     Refusal::directive(DirectiveCode::UnbalancedConditional, whole(line))
 }
@@ -93,7 +90,6 @@ fn unbalanced(line: &[Word<'_>]) -> Refusal
 fn obey_line<'w, 's>(
     alloc: Global,
     sources: &'s Sources,
-    digits: Digits<'s>,
     file: &File<'_, 'w, 's>,
     state: &mut State<'w, 's>,
     place: usize,
@@ -101,8 +97,8 @@ fn obey_line<'w, 's>(
 ) -> Result<Step, ExpandFault>
     requires held { file.now.number < count_of sources.now }
     requires balance { KnowsBalance file.now }
-    requires begins { BeginsWithHash line.now }
-    ensures gives { Steps (ObeyedGives sources.now digits.entry (file_of file.now) place line.now (state_of state.old)) result state.new }
+    requires begins { BeginsWithHash (map plain_word line.now) }
+    ensures gives { Steps (ObeyedGives sources.now (file_of file.now) place (map plain_word line.now) (state_of state.old)) result state.new }
     ensures entered { IfOk result (EntersBelow (count_of sources.now)) }
 {
     match directive(alloc, line) {
@@ -110,7 +106,7 @@ fn obey_line<'w, 's>(
             if breaks(file, place) {
                 Ok(Step::Refused(unbalanced(line)))
             } else {
-                obey(alloc, sources, digits, file, state, line, read)
+                obey(alloc, sources, file, state, line, read)
             }
         }
         Err(DirectFault::Refused(refusal)) => Ok(Step::Refused(refusal)),
@@ -137,8 +133,8 @@ fn list<'w, 's>(
     place: usize,
     line: &[Word<'s>],
 ) -> Result<(), AllocError>
-    requires { BeginsWithHash line.now }
-    ensures { OnOk result (state_of state.new ≡ listed (file_of file.now) place line.now (state_of state.old)) }
+    requires { BeginsWithHash (map plain_word line.now) }
+    ensures { OnOk result (state_of state.new ≡ listed (file_of file.now) place (map plain_word line.now) (state_of state.old)) }
 {
     if file.built_in {
         return Ok(());

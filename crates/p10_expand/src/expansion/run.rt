@@ -1,6 +1,7 @@
 //! Runs of text.
 
-ghost use Rattle.std.specs.Prelude.{◌≡◌, ◌++◌, ◌≤◌, length, take, OnOk, IfOk};
+ghost use Rattle.std.specs.Prelude.{◌≡◌, ◌++◌, ◌≤◌, length, map, take, OnOk, IfOk};
+ghost use Rattle.p10_base.specs.Words.{plain_word};
 ghost use Rattle.p10_expand.specs.Obeying.{words_before, RunGives, TextGives};
 ghost use Rattle.p10_expand.specs.private.Steps.{Steps, Stays, state_of};
 ghost use Rattle.p10_expand.specs.Before.{ComeInOrder};
@@ -21,7 +22,7 @@ pub fn expand_run<'w, 's>(
     state: &mut State<'w, 's>,
     words: &[Word<'s>],
 ) -> Result<Step, ExpandFault>
-    ensures gives { ComeInOrder 0 words.now → Steps (RunGives built_in (state_of state.old) words.now) result state.new }
+    ensures gives { ComeInOrder 0 (map plain_word words.now) → Steps (RunGives built_in (state_of state.old) (map plain_word words.now)) result state.new }
     ensures stays { IfOk result Stays }
 {
     if built_in {
@@ -38,7 +39,7 @@ fn expand_text<'w, 's>(
     state: &mut State<'w, 's>,
     words: &[Word<'s>],
 ) -> Result<Step, ExpandFault>
-    ensures gives { ComeInOrder 0 words.now → Steps (TextGives (state_of state.old) words.now) result state.new }
+    ensures gives { ComeInOrder 0 (map plain_word words.now) → Steps (TextGives (state_of state.old) (map plain_word words.now)) result state.new }
     ensures stays { IfOk result Stays }
 {
     match replace(alloc, &state.macros, words, state.left) {
@@ -64,7 +65,7 @@ fn expand_before<'w, 's>(
     words: &[Word<'s>],
     at: Span,
 ) -> Result<(), AllocError>
-    ensures { OnOk result (GivesBefore (state_of state.old) (words_before at words.now) (state_of state.new)) }
+    ensures { OnOk result (GivesBefore (state_of state.old) (words_before at (map plain_word words.now)) (state_of state.new)) }
 {
     let before = &words[..count_before(words, at)];
     match replace(alloc, &state.macros, before, state.left) {
@@ -93,7 +94,7 @@ fn put_run<'s>(words: &mut Vec<Word<'s>>, run: Vec<Word<'s>>) -> Result<(), Allo
 
 /// How many words stand before the first at this place.
 fn count_before(words: &[Word<'_>], at: Span) -> usize
-    ensures words { take result words.now ≡ words_before at words.now }
+    ensures words { map plain_word (take result words.now) ≡ words_before at (map plain_word words.now) }
     ensures few { result ≤ length words.now }
 {
     let mut count = 0;

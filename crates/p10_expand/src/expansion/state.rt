@@ -23,13 +23,14 @@ pub struct State<'w, 's> {
 }
 
 impl<'w, 's> State<'w, 's> {
-    ghost use Rattle.std.specs.Prelude.{◌≡◌};
+    ghost use Rattle.std.specs.Prelude.{◌≡◌, map};
+    ghost use Rattle.p10_expand.specs.Answers.{plain_obeyed};
     ghost use Rattle.p10_expand.specs.Expands.{fresh};
     ghost use Rattle.p10_expand.specs.private.Steps.{state_of};
 
     /// The state in which a root begins.
     pub fn fresh(alloc: Global, obeyed: ListBuf<Obeyed<'s>>, left: u64) -> State<'w, 's>
-        ensures { state_of result ≡ fresh obeyed.entry left }
+        ensures { state_of result ≡ fresh (map plain_obeyed obeyed.entry) left }
     {
         State {
             macros: Macros::new(alloc),

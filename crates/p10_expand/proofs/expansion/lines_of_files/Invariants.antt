@@ -1,6 +1,5 @@
 use Rattle.p10_expand.specs.private.Steps.{AreCuts}
-use Rattle.p10_expand.specs.Answers.{lists_of}
 use Rattle.p10_expand.proofs.expansion.lines_of_files.Given as goal
 
 abbrev pub invariant-loop-words : goal.invariant-loop-words
-invariant-loop-words l = AreCuts (lists_of l.files) l.words-index l.all.items
+invariant-loop-words l = AreCuts l.files l.words-index l.all.items

@@ -1,7 +1,7 @@
 use Rattle.std.proofs.Common.{◌≤◌, map, drop}
 use Rattle.p10_direct.specs.Lines.{piece_of}
-use Rattle.p10_expand.specs.Expands.{FileGives, IncludeGives}
-use Rattle.p10_expand.specs.private.Steps.{layout_of, state_of, file_of, inner_of}
+use Rattle.p10_expand.specs.Expands.{FileEnds}
+use Rattle.p10_expand.specs.private.Steps.{state_of, file_of, inner_of}
 use Rattle.p10_expand.proofs.InOrder.{PiecesInOrder}
 use Rattle.p10_expand.proofs.Walking.{Walks}
 use Rattle.p10_expand.proofs.expansion.files.+expand_file.Given as goal
@@ -16,5 +16,5 @@ invariant-loop-place l =
     record {
       few : inner_of l.stand ≤ l.place;
       ordered : PiecesInOrder (map piece_of (drop l.place l.line-items));
-      walks : Walks g (layout_of l.texts) l.nested (file_of l.file) l.stand l.place (map piece_of (drop l.place l.line-items)) (state_of l.state) (FileGives g (layout_of l.texts) (IncludeGives g (layout_of l.texts) l.nested) l.number l.built_in (state_of l.fn.state));
+      walks : Walks g l.nested (file_of l.file) l.stand l.place (map piece_of (drop l.place l.line-items)) (state_of l.state) (FileEnds g l.nested l.number l.built_in (state_of l.fn.state));
     }

@@ -1,4 +1,5 @@
-use Rattle.std.proofs.Common.{◌≡◌, ◌≤◌, ◌++◌, length, take, drop}
+use Rattle.std.proofs.Common.{◌≡◌, ◌≤◌, ◌++◌, length, map, take, drop}
+use Rattle.p10_base.specs.Words.{plain_word}
 use Rattle.p10_expand.specs.Obeying.{words_before}
 use Rattle.p10_expand.proofs.expansion.run.count_before.Given as goal
 
@@ -7,5 +8,5 @@ abbrev pub invariant-loop-word : goal.invariant-loop-word
 invariant-loop-word l = record {
   so_far : l.count ≡ l.word-index;
   within : l.count ≤ length l.words;
-  same : take l.count l.words ++ words_before l.at (drop l.count l.words) ≡ words_before l.at l.words;
+  same : map plain_word (take l.count l.words) ++ words_before l.at (map plain_word (drop l.count l.words)) ≡ words_before l.at (map plain_word l.words);
 }
