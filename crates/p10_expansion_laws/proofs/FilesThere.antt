@@ -1,11 +1,10 @@
 -- Where files are told, it is decided what is at a place, and each text has words, a refusal or too many bytes or words.
-use Rattle.std.proofs.Common.{◌≡◌, ℕ, zero, suc, ◌<◌, ◌≤◌, List, [], ◌∷◌, length, map, Bool, true, false, refl, sym, ◌∙◌, ap, subst, inl, inr, ◌⊎◌, arith, Option, Some, None, Ok, Err}
+use Rattle.std.proofs.Common.{◌≡◌, ℕ, zero, suc, ◌<◌, ◌≤◌, List, [], ◌∷◌, length, Bool, true, false, refl, sym, ◌∙◌, ap, subst, inl, inr, ◌⊎◌, arith, Option, Some, None, Ok, Err}
 use Rattle.std.specs.Prelude.{All, IsSome, bytes_eq}
 use Rattle.std.proofs.lemmas.Bool.{both_ways, cases_order}
 use Rattle.std.proofs.lemmas.Option.{none-some}
 use Rattle.std.proofs.lemmas.Slice.Eq.{bytes_eq-Decides}
 use Rattle.std.proofs.lemmas.List.Elements.{All-nil, All-cons}
-use Rattle.p10_base.specs.declared.word.Word.{Word}
 use Rattle.p10_base.specs.declared.report.Refusal.{Refusal}
 use Rattle.p10_base.specs.declared.report.Limit.{Limit}
 use Rattle.p10_base.specs.declared.report.TheConstants.Limit.{FILE_BYTES, FILE_WORDS, MOST_FILE_BYTES, MOST_FILE_WORDS, MOST_FILES}
@@ -24,7 +23,7 @@ use Rattle.p10_expand.specs.declared.place.Place.TheVariants.{File, Header}
 use Rattle.p10_expand.specs.declared.gathering.Known.{Known}
 use Rattle.p10_expand.specs.Headers.{header_of}
 use Rattle.p10_expand.specs.Finding.{HasText, IsThere, IsAbsent, IsFirst}
-use Rattle.p10_expand.specs.Includes.{IsNamedBy, NamedIn, word_of, HasIncludes}
+use Rattle.p10_expand.specs.Includes.{IsNamedBy, NamedIn, HasIncludes}
 use Rattle.p10_expand.specs.Gathering.{IsAt, IsNew, present, HasRoom}
 use Rattle.p10_expansion_laws.proofs.PartsThere.{cut_there}
 
@@ -154,7 +153,7 @@ wanted_of : Outcome → Option Wanted
 wanted_of (Read (Include name angle)) = Some (record { name = name; angle = angle })
 wanted_of _ = None
 
-wanted_spelled : (line : List Word) (outcome : Outcome) (wanted : Wanted) → IsOutcome line outcome → wanted_of outcome ≡ Some wanted → Spells (Include wanted.name wanted.angle) line
+wanted_spelled : (line : List PlainWord) (outcome : Outcome) (wanted : Wanted) → IsOutcome line outcome → wanted_of outcome ≡ Some wanted → Spells (Include wanted.name wanted.angle) line
 unfolding wanted_of
 wanted_spelled line (Read (Include name angle)) wanted is e =
     let named : name ≡ wanted.name = cc in
@@ -162,11 +161,11 @@ wanted_spelled line (Read (Include name angle)) wanted is e =
     subst (λ n. Spells (Include n wanted.angle) line) named (subst (λ a. Spells (Include name a) line) angled is)
 wanted_spelled line _ wanted is e = absurd (none-some _ e)
 
-none_wanted : (line : List Word) (one : OneOutcome line) → wanted_of one.outcome ≡ None → IsNamedBy line None
+none_wanted : (line : List PlainWord) (one : OneOutcome line) → wanted_of one.outcome ≡ None → IsNamedBy line None
 unfolding wanted_of
 none_wanted line one e name angle spells = none-some _ (sym (ap wanted_of (one.only (Read (Include name angle)) spells) ∙ e))
 
-named_by : (line : List Word) (one : OneOutcome line) (pieces : List Piece) (wanted : Option Wanted) → wanted_of one.outcome ≡ wanted → (includes : List Wanted) × NamedIn pieces includes → (includes : List Wanted) × NamedIn (DirectiveLine line ∷ pieces) includes
+named_by : (line : List PlainWord) (one : OneOutcome line) (pieces : List Piece) (wanted : Option Wanted) → wanted_of one.outcome ≡ wanted → (includes : List Wanted) × NamedIn pieces includes → (includes : List Wanted) × NamedIn (DirectiveLine line ∷ pieces) includes
 named_by line one pieces None e (includes, named) = (includes, inl (none_wanted line one e, named))
 named_by line one pieces (Some wanted) e (includes, named) = (wanted ∷ includes, inr (wanted, includes, wanted_spelled line one.outcome wanted one.is_outcome e, refl, named))
 
@@ -178,6 +177,6 @@ named_there (DirectiveLine line ∷ pieces) = named_by line (one_outcome line) p
 -- a text that has words has include lines
 pub includes_there : (number : ℕ) (text : List ℕ) (words : List PlainWord) → Answers number text (Ok words) → (includes : List Wanted) × HasIncludes number text includes
 includes_there number text words lexes =
-    let (pieces, cut) = cut_there (map word_of words) in
+    let (pieces, cut) = cut_there words in
     let (includes, named) = named_there pieces in
     (includes, record { words = words; lexes = lexes; named = record { pieces = pieces; cut = cut; named = named } })

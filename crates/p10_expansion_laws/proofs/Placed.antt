@@ -3,12 +3,11 @@ use Rattle.std.proofs.Common.{◌≡◌, ℕ, suc, ◌==◌, List, [], ◌∷◌
 use Rattle.std.specs.Prelude.{Contains}
 use Rattle.std.specs.List.{AllByRecursion}
 use Rattle.p10_base.specs.declared.span.Span.{Span}
-use Rattle.p10_base.specs.declared.word.Word.{Word}
-use Rattle.p10_base.specs.Words.{Text, is_name_kind}
+use Rattle.p10_base.specs.Words.{PlainWord, Text, is_name_kind}
 use Rattle.p10_direct.specs.Directives.{PlainMacro}
 use Rattle.p10_macros.specs.Table.{Table, macro_named}
-use Rattle.p10_macros.specs.Uses.{Sourced, written, Arguments, Use, Stays, Wrong, Calls, opens, closes, separates, depth_behind, word_before, argument_before, arguments_in, fitting, fitted, called, use_as, use_by, use_of, given, replacement}
-use Rattle.p10_macros.specs.Endings.{Ending, Gives, Refused, TooMany, behind_word}
+use Rattle.p10_macros.specs.Uses.{Sourced, written, Arguments, Use, Stays, Wrong, Calls, opens, closes, separates, depth_after, word_before, argument_before, arguments_in, fitting, fitted, called, use_as, use_by, use_of, given, replacement}
+use Rattle.p10_macros.specs.Endings.{Ending, Gives, Refused, TooMany, after_word}
 use Rattle.p10_macros.specs.Ends.{Ends, EndsAll, Follows, no_words, word_stays, use_refused, use_replaced, replacement_made, replacement_too_long, values_refused, values_too_long}
 use Rattle.p10_expansion_laws.specs.Staying.{AreMet, there, past_word, past_use}
 use Rattle.p10_expansion_laws.specs.Placed.{IsOwn, IsAtUse, WordsStandAtUses}
@@ -36,21 +35,21 @@ module _ (P : Sourced → Type 0) where
   rest_if true x y p q = p
   rest_if false x y p q = q
 
-  after_word : (word : Sourced) (found : Option Arguments) → EachAfter found → EachAfter (word_before word found)
-  after_word word None p = tt
-  after_word word (Some found) p = p
+  after_one : (word : Sourced) (found : Option Arguments) → EachAfter found → EachAfter (word_before word found)
+  after_one word None p = tt
+  after_one word (Some found) p = p
 
-  after_argument : (found : Option Arguments) → EachAfter found → EachAfter (argument_before found)
-  after_argument None p = tt
-  after_argument (Some found) p = p
+  after_first : (found : Option Arguments) → EachAfter found → EachAfter (argument_before found)
+  after_first None p = tt
+  after_first (Some found) p = p
 
   after_arguments : (depth : ℕ) (words : List Sourced) → Each words → EachAfter (arguments_in depth words)
   after_arguments depth [] each = tt
   after_arguments depth (word ∷ words) each =
       after_if (closes word.word && (depth == 0)) (Some (record { first = []; others = []; rest = words })) _ each.1
-      (after_if (separates word.word && (depth == 0)) (argument_before (arguments_in 0 words)) (word_before word (arguments_in (depth_behind depth word.word) words))
-      (after_argument (arguments_in 0 words) (after_arguments 0 words each.1))
-      (after_word word (arguments_in (depth_behind depth word.word) words) (after_arguments (depth_behind depth word.word) words each.1)))
+      (after_if (separates word.word && (depth == 0)) (argument_before (arguments_in 0 words)) (word_before word (arguments_in (depth_after depth word.word) words))
+      (after_first (arguments_in 0 words) (after_arguments 0 words each.1))
+      (after_one word (arguments_in (depth_after depth word.word) words) (after_arguments (depth_after depth word.word) words each.1)))
 
   fitted_rest : (plain : PlainMacro) (rest : List Sourced) (arguments : Option (List (List Sourced))) → Each rest → EachRest (fitted plain rest arguments)
   fitted_rest plain rest None each = tt
@@ -72,7 +71,7 @@ module _ (P : Sourced → Type 0) where
 
   -- what holds of words holds of those after a use that begins before them
   rest_each : (table : Table) (name : Sourced) (words : List Sourced) → Each words → EachRest (use_of table name words)
-  rest_each table name words each = rest_if (is_name_kind name.word.kind) (use_by (macro_named name.word.text.now table) name words) Stays (by_rest (macro_named name.word.text.now table) name words each) tt
+  rest_each table name words each = rest_if (is_name_kind name.word.kind) (use_by (macro_named name.word.text table) name words) Stays (by_rest (macro_named name.word.text table) name words each) tt
 
   each_joined : (front back : List Sourced) → Each front → Each back → Each (front ++ back)
   each_joined [] back p q = q
@@ -89,7 +88,7 @@ comes_on there more = more
 comes_on (past_word is comes) more = past_word is (comes_on comes more)
 comes_on (past_use is ends comes) more = past_use is ends (comes_on comes more)
 
-module _ (table : Table) (words : List Word) where
+module _ (table : Table) (words : List PlainWord) where
   -- a word of the run, or one at the place of an outermost use
   abbrev Placed : Sourced → Type 0
   Placed word = IsOwn words word ⊎ IsAtUse table words word
@@ -127,22 +126,22 @@ module _ (table : Table) (words : List Word) where
         same = at.same;
       })
 
-  word_placed : (word : Sourced) (behind : Ending (List Sourced)) → Placed word → AllPlaced behind → AllPlaced (behind_word word behind)
+  word_placed : (word : Sourced) (behind : Ending (List Sourced)) → Placed word → AllPlaced behind → AllPlaced (after_word word behind)
   word_placed word (Gives made remaining) p all = (p, all)
   word_placed word (Refused number at) p all = tt
   word_placed word TooMany p all = tt
 
 mutual
-  all_placed : {table : Table} {outer : Option Span} {those : List Sourced} {left : ℕ} {ending : Ending (List Sourced)} (words : List Word) → Ends table outer those left ending →
+  all_placed : {table : Table} {outer : Option Span} {those : List Sourced} {left : ℕ} {ending : Ending (List Sourced)} (words : List PlainWord) → Ends table outer those left ending →
       AllByRecursion (Placed table words) those → AreMet table (map written words) those → AllPlaced table words ending
   all_placed words no_words each comes = tt
-  all_placed {table} words (word_stays {word = word} {words = others} {behind = behind} is ends gives) each comes =
+  all_placed {table} words (word_stays {word = word} {words = others} {others = behind} is ends gives) each comes =
       subst (AllPlaced table words) (sym gives) (word_placed table words word behind each.0 (all_placed words ends each.1 (comes_on comes (past_word is there))))
   all_placed {table} words (use_refused is refused) each comes = subst (AllPlaced table words) (sym refused) tt
   all_placed words (use_replaced {word = word} {words = others} is ends follows) each comes = follows_placed words word others is ends follows each comes
 
   follows_placed : {table : Table} {outer within : Option Span} {plain : PlainMacro} {arguments : List (List Sourced)} {rest : List Sourced} {left : ℕ} {values : Ending (List (List Sourced))} {ending : Ending (List Sourced)}
-      (words : List Word) (name : Sourced) (others : List Sourced) → use_of table name others ≡ Calls plain arguments rest → EndsAll table within arguments left values → Follows table outer plain name rest values ending →
+      (words : List PlainWord) (name : Sourced) (others : List Sourced) → use_of table name others ≡ Calls plain arguments rest → EndsAll table within arguments left values → Follows table outer plain name rest values ending →
       AllByRecursion (Placed table words) (name ∷ others) → AreMet table (map written words) (name ∷ others) → AllPlaced table words ending
   follows_placed {table} {plain = plain} {arguments = arguments} {rest = rest} words name others is ends (replacement_made {values = made} costs more) each comes =
       let after : AllByRecursion (Placed table words) rest = subst (EachRest (Placed table words)) is (rest_each (Placed table words) table name others each.1) in
@@ -154,12 +153,12 @@ mutual
 
 -- ## A run of words
 
-each_own : (all words : List Word) → ((word : Word) → Contains words word → Contains all word) → AllByRecursion (IsOwn all) (map written words)
+each_own : (all words : List PlainWord) → ((word : PlainWord) → Contains words word → Contains all word) → AllByRecursion (IsOwn all) (map written words)
 each_own all [] within = tt
 each_own all (word ∷ words) within =
     (record { word = word; among = within word (0, omega arith, refl); same = refl }, each_own all words (λ other among. within other (suc among.0, omega (arith, among.1), among.2)))
 
-own_placed : (table : Table) (all : List Word) (those : List Sourced) → AllByRecursion (IsOwn all) those → AllByRecursion (Placed table all) those
+own_placed : (table : Table) (all : List PlainWord) (those : List Sourced) → AllByRecursion (IsOwn all) those → AllByRecursion (Placed table all) those
 own_placed table all [] own = tt
 own_placed table all (word ∷ those) own = (inl own.0, own_placed table all those own.1)
 

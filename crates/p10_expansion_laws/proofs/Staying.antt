@@ -6,7 +6,7 @@ use Rattle.p10_base.specs.Words.{Text}
 use Rattle.p10_direct.specs.Directives.{PlainMacro}
 use Rattle.p10_macros.specs.Table.{Table, macro_named}
 use Rattle.p10_macros.specs.Uses.{Sourced, Use, Stays, Wrong, Calls, Arguments, opens, arguments_in, called, fitted, fitting, use_of, use_by, use_as, replacement}
-use Rattle.p10_macros.specs.Endings.{Ending, Gives, Refused, TooMany, behind_word}
+use Rattle.p10_macros.specs.Endings.{Ending, Gives, Refused, TooMany, after_word}
 use Rattle.p10_macros.specs.Ends.{Ends, EndsAll, Follows, no_words, word_stays, use_refused, use_replaced, replacement_made, replacement_too_long, values_refused, values_too_long}
 use Rattle.p10_expansion_laws.specs.Staying.{AreMet, there, past_word, past_use, NamesFunction, IsCalled, WasMet, NamesStayUncalled}
 
@@ -42,7 +42,7 @@ as_uses plain parameters name (word ∷ words) p =
 names_use : (table : Table) (word : Sourced) (words : List Sourced) → NamesFunction table word → IsCalled words → use_of table word words ≡ Stays → ⊥
 names_use table word words names calls stays =
     let is : use_of table word words ≡ use_as names.plain (Some names.parameters) word words =
-    ap (λ (b : Bool). cond b (use_by (macro_named word.word.text.now table) word words) Stays) names.name
+    ap (λ (b : Bool). cond b (use_by (macro_named word.word.text table) word words) Stays) names.name
     ∙ ap (λ (o : Option PlainMacro). use_by o word words) names.defined
     ∙ ap (λ (o : Option (List Text)). use_as names.plain o word words) names.function_like in
     subst IsUse (sym is ∙ stays) (as_uses names.plain names.parameters word words calls)
@@ -66,7 +66,7 @@ ending_from table words those (Gives made remaining) comes met = met_from table 
 ending_from table words those (Refused number at) comes met = tt
 ending_from table words those TooMany comes met = tt
 
-word_met : (table : Table) (word : Sourced) (words : List Sourced) (behind : Ending (List Sourced)) → use_of table word words ≡ Stays → AllMet table words behind → AllMet table (word ∷ words) (behind_word word behind)
+word_met : (table : Table) (word : Sourced) (words : List Sourced) (behind : Ending (List Sourced)) → use_of table word words ≡ Stays → AllMet table words behind → AllMet table (word ∷ words) (after_word word behind)
 word_met table word words (Gives made remaining) is met =
     (record { following = words; comes = there; stays = λ names calls. names_use table word words names calls is }, met_from table (word ∷ words) words made (λ last comes. past_word is comes) met)
 word_met table word words (Refused number at) is met = tt
@@ -75,7 +75,7 @@ word_met table word words TooMany is met = tt
 mutual
   all_met : {table : Table} {outer : Option Span} {words : List Sourced} {left : ℕ} {ending : Ending (List Sourced)} → Ends table outer words left ending → AllMet table words ending
   all_met no_words = tt
-  all_met {table} (word_stays {word = word} {words = words} {behind = behind} is ends gives) =
+  all_met {table} (word_stays {word = word} {words = words} {others = behind} is ends gives) =
       subst (λ (e : Ending (List Sourced)). AllMet table (word ∷ words) e) (sym gives) (word_met table word words behind is (all_met ends))
   all_met {table} (use_refused {word = word} {words = words} is refused) = subst (λ (e : Ending (List Sourced)). AllMet table (word ∷ words) e) (sym refused) tt
   all_met {table} (use_replaced {word = word} {words = words} is ends follows) = follows_met word words is ends follows

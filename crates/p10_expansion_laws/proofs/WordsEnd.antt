@@ -4,7 +4,7 @@ use Rattle.p10_base.specs.declared.span.Span.{Span}
 use Rattle.p10_direct.specs.Directives.{PlainMacro}
 use Rattle.p10_macros.specs.Table.{Table}
 use Rattle.p10_macros.specs.Uses.{Sourced, Use, use_of, Stays, Wrong, Calls, replacement}
-use Rattle.p10_macros.specs.Endings.{Ending, Gives, Refused, TooMany, behind_word, behind_argument}
+use Rattle.p10_macros.specs.Endings.{Ending, Gives, Refused, TooMany, after_word, after_argument}
 use Rattle.p10_macros.specs.Ends.{Ends, EndsAll, Follows, place_of_use, no_words, word_stays, use_refused, use_replaced, no_arguments, argument_given, argument_refused, argument_too_long, replacement_made, replacement_too_long, values_refused, values_too_long}
 use Rattle.p10_expand.proofs.Counting.{together, UseFew, use_few, Few, ends_few}
 use Rattle.p10_expansion_laws.specs.Existing.{WordsEnd}
@@ -34,7 +34,7 @@ module _ (table : Table) where
   abbrev EndingOfAll : Option Span → List (List Sourced) → ℕ → Type 0
   EndingOfAll outer arguments left = (ending : Ending (List (List Sourced))) × EndsAll table outer arguments left ending × LeavesAtMost left ending
 
-  leaves_less : (left middle : ℕ) (value : List Sourced) (ending : Ending (List (List Sourced))) → middle ≤ left → LeavesAtMost middle ending → LeavesAtMost left (behind_argument value ending)
+  leaves_less : (left middle : ℕ) (value : List Sourced) (ending : Ending (List (List Sourced))) → middle ≤ left → LeavesAtMost middle ending → LeavesAtMost left (after_argument value ending)
   leaves_less left middle value (Gives values remaining) less p = omega (arith, less, p)
   leaves_less left middle value (Refused number at) less p = tt
   leaves_less left middle value TooMany less p = tt
@@ -44,7 +44,7 @@ module _ (table : Table) where
   first_ends outer argument arguments left (Gives value middle) first others =
       let few : Few (length argument + left) left (Gives value middle) = ends_few first in
       let rest = others middle few.1 in
-      (behind_argument value rest.0, argument_given first rest.1 refl, leaves_less left middle value rest.0 few.1 rest.2)
+      (after_argument value rest.0, argument_given first rest.1 refl, leaves_less left middle value rest.0 few.1 rest.2)
   first_ends outer argument arguments left (Refused number at) first others = (Refused number at, argument_refused first, tt)
   first_ends outer argument arguments left TooMany first others = (TooMany, argument_too_long first, tt)
 
@@ -102,7 +102,7 @@ module _ (table : Table) where
       left ≤ budget → length words ≤ size → EndingOf outer (word ∷ words) left
   word_ends budget size lower each outer word words left Stays is p q =
       let rest = each outer words left p q in
-      (behind_word word rest.0, word_stays is rest.1 refl)
+      (after_word word rest.0, word_stays is rest.1 refl)
   word_ends budget size lower each outer word words left (Wrong number) is p q = (Refused number (place_of_use outer word), use_refused is refl)
   word_ends budget size lower each outer word words left (Calls plain arguments rest) is p q =
       let within : together arguments + length rest ≤ length words = subst (UseFew (length words)) is (use_few table word words) in

@@ -9,7 +9,7 @@ use Rattle.p10_macros.specs.Endings.{Ending}
 use Rattle.p10_macros.specs.Ends.{Ends}
 use Rattle.p10_expand.specs.declared.fault.GatherFault.{GatherFault}
 use Rattle.p10_expand.specs.Gathering.{Setting, IsEnding, HaveWords}
-use Rattle.p10_expand.specs.Plain.{PlainExpansion, ExpandsTo}
+use Rattle.p10_expand.specs.Expands.{Expansion, ExpandsTo}
 
 -- words end in some way, whatever macros there are and however many words may be made
 abbrev pub WordsEnd : Type 0
@@ -17,7 +17,7 @@ WordsEnd = (table : Table) (outer : Option Span) (words : List Sourced) (left : 
 
 -- the program of files that have words expands to something: words, perhaps with a refusal, or a passed limit
 abbrev pub ProgramsExpand : Type 0
-ProgramsExpand = (g : Gathered) → HaveWords g → (answer : Result PlainExpansion Limit) × ExpandsTo g answer
+ProgramsExpand = (g : Gathered) → HaveWords g → (answer : Result Expansion Limit) × ExpandsTo g answer
 
 -- where files are told, gathering ends in some way
 abbrev pub GatheringEnds : Type 0

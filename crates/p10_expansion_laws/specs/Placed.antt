@@ -1,7 +1,7 @@
 -- The places of the words of a replacement: that of the outermost use.
 use Rattle.std.specs.Prelude.{ℕ, ◌≡◌, ◌⊎◌, List, ◌∷◌, Contains, map, None}
 use Rattle.std.specs.List.{AllByRecursion}
-use Rattle.p10_base.specs.declared.word.Word.{Word}
+use Rattle.p10_base.specs.Words.{PlainWord}
 use Rattle.p10_direct.specs.Directives.{PlainMacro}
 use Rattle.p10_macros.specs.Table.{Table}
 use Rattle.p10_macros.specs.Uses.{Sourced, written, use_of, Calls}
@@ -10,14 +10,14 @@ use Rattle.p10_macros.specs.Ends.{Ends}
 use Rattle.p10_expansion_laws.specs.Staying.{AreMet}
 
 -- a word of these words as it was written: it comes from no macro
-pub record IsOwn (words : List Word) (sourced : Sourced) : Type 0 where
-  pub word : Word
+pub record IsOwn (words : List PlainWord) (sourced : Sourced) : Type 0 where
+  pub word : PlainWord
   pub among : Contains words word
   pub same : sourced ≡ written word
 
 -- a word stands at the place of an outermost use: of a name among these words, as it was written, that began a use where it was met
-pub record IsAtUse (table : Table) (words : List Word) (sourced : Sourced) : Type 0 where
-  pub name : Word
+pub record IsAtUse (table : Table) (words : List PlainWord) (sourced : Sourced) : Type 0 where
+  pub name : PlainWord
   pub among : Contains words name
   pub following : List Sourced
   pub comes : AreMet table (map written words) (written name ∷ following)
@@ -30,5 +30,5 @@ pub record IsAtUse (table : Table) (words : List Word) (sourced : Sourced) : Typ
 -- each word of the replacement of a run of words is one of the run, or stands at the place of an outermost use
 abbrev pub WordsStandAtUses : Type 0
 WordsStandAtUses =
-    (table : Table) (words : List Word) (made : List Sourced) (left remaining : ℕ) → Ends table None (map written words) left (Gives made remaining) →
+    (table : Table) (words : List PlainWord) (made : List Sourced) (left remaining : ℕ) → Ends table None (map written words) left (Gives made remaining) →
     AllByRecursion (λ word. IsOwn words word ⊎ IsAtUse table words word) made

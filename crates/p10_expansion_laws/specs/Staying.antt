@@ -26,7 +26,7 @@ pub data AreMet (table : Table) : List Sourced → List Sourced → Type 0 where
 pub record NamesFunction (table : Table) (sourced : Sourced) : Type 0 where
   pub name : is_name_kind sourced.word.kind ≡ true
   pub plain : PlainMacro
-  pub defined : macro_named sourced.word.text.now table ≡ Some plain
+  pub defined : macro_named sourced.word.text table ≡ Some plain
   pub parameters : List Text
   pub function_like : plain.parameters ≡ Some parameters
 
