@@ -39,7 +39,7 @@ pub edges_more : (from : ℕ) (ends : List ℕ) (i d : ℕ) (old mid new : List 
 edges_more from ends i d old mid new inside before nodes edges =
     subst (λ l. AddsEdges from l old new) (sym (take_more ends i d inside)) (one_edge from (get_or ends i d) (take i ends) old mid new before nodes edges)
 
-pub uses_added : (names : List Text) (definition : Definition) (own : ℕ) (places : List ℕ) (old new : List (List ℕ)) → Some own ≡ place_in names definition.name.text.now → places ≡ used_places names definition
+pub uses_added : (names : List Text) (definition : Definition) (own : ℕ) (places : List ℕ) (old new : List (List ℕ)) → Some own ≡ place_in names definition.name.text → places ≡ used_places names definition
     → AddsEdges own places old new → AddsUses names definition old new
 uses_added names definition own places old new at are added = record {
   nodes = added.nodes;

@@ -11,7 +11,7 @@ use Rattle.p10_base.specs.Words.{Text}
 use Rattle.p10_direct.specs.Directives.{Definition}
 use Rattle.p10_direct.specs.declared.form.Definition.{Definition as Borrowed}
 use Rattle.p10_direct.specs.Form.{plain_definition}
-use Rattle.p10_expand.specs.declared.expanded.Obeyed.{Obeyed}
+use Rattle.p10_expand.specs.Obeying.{PlainObeyed}
 use Rattle.p10_pprules.specs.Lines.{name_of, operands_of, begins_conditional, is_barred, pastes}
 use Rattle.p10_pprules.specs.private.Scanning.{is_unit, dereferences_behind}
 use Rattle.p10_pprules.specs.private.Listing.{violation_if, line_violations, returns_to, definition_violations}
@@ -56,16 +56,16 @@ is_row sub holds span e = subst (λ b. Contains (violation_if sub b span) (at_pl
 
 -- ## Lines
 
-abbrev Breaks : List Obeyed → Violation → Type 0
+abbrev Breaks : List PlainObeyed → Violation → Type 0
 Breaks obeyed v = Violates obeyed v.sub v.span
 
-abbrev on_conditionals : Obeyed → List Violation
+abbrev on_conditionals : PlainObeyed → List Violation
 on_conditionals line = violation_if (row 8 1) (begins_conditional (name_of line.words) && not line.guard) line.span
 
-abbrev on_bars : Obeyed → List Violation
+abbrev on_bars : PlainObeyed → List Violation
 on_bars line = violation_if (row 8 5) (is_barred (name_of line.words) (operands_of line.words)) line.span
 
-line_is : (obeyed : List Obeyed) (line : Obeyed) (v : Violation) → Contains obeyed line → Contains (line_violations line) v → Breaks obeyed v
+line_is : (obeyed : List PlainObeyed) (line : PlainObeyed) (v : Violation) → Contains obeyed line → Contains (line_violations line) v → Breaks obeyed v
 line_is obeyed line v held in' =
     let name = name_of line.words in
     elim (Contains-append_cases (on_conditionals line) (on_bars line) v in') [
@@ -78,7 +78,7 @@ line_is obeyed line v held in' =
 
 -- ## Definitions
 
-module _ (obeyed : List Obeyed) (definitions : List Definition) (names : List Text) (numbers : List ℕ)
+module _ (obeyed : List PlainObeyed) (definitions : List Definition) (names : List Text) (numbers : List ℕ)
     (defined : AreDefined obeyed definitions) (named : HasNames definitions names) (are : AreNumbersOf names definitions numbers) where
   abbrev on_pasting : Definition → List Violation
   on_pasting definition = violation_if (row 8 2) (pastes definition) definition.name.at
@@ -123,7 +123,7 @@ module _ (obeyed : List Obeyed) (definitions : List Definition) (names : List Te
         | inr in' ↦ let found = in_pieces (definition_violations names numbers) definitions v in' in definition_is found.0 v found.1 found.2
       ]
 
-  in_line : (line : Obeyed) (v : Violation) → Contains obeyed line → Contains (line_violations line) v → Contains all v
+  in_line : (line : PlainObeyed) (v : Violation) → Contains obeyed line → Contains (line_violations line) v → Contains all v
   in_line line v held in' = Contains-append_left (flat_map line_violations obeyed) (flat_map (definition_violations names numbers) definitions) v (piece_in line_violations obeyed line v held in')
 
   in_definition : (definition : Definition) (v : Violation) → Contains definitions definition → Contains (definition_violations names numbers definition) v → Contains all v
@@ -171,7 +171,7 @@ module _ (obeyed : List Obeyed) (definitions : List Definition) (names : List Te
 
 -- ## All together
 
-pub collected : (obeyed : List Obeyed) (definitions gathered : List Borrowed) (names : List Text) (numbers given : List ℕ) (first lines all : List Violation) → definitions ≡ gathered → given ≡ numbers
+pub collected : (obeyed : List PlainObeyed) (definitions gathered : List Borrowed) (names : List Text) (numbers given : List ℕ) (first lines all : List Violation) → definitions ≡ gathered → given ≡ numbers
     → AreDefined obeyed (map plain_definition gathered) → HasNames (map plain_definition definitions) names → AreNumbersOf names (map plain_definition definitions) numbers
     → first ≡ [] → lines ≡ first ++ flat_map line_violations obeyed → all ≡ lines ++ flat_map (definition_violations names given) (map plain_definition definitions)
     → (v : Violation) → Contains all v ↔ Violates obeyed v.sub v.span

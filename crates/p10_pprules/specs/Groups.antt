@@ -1,7 +1,6 @@
 -- Words in brackets that nest properly.
 use Rattle.std.specs.Prelude.{◌≡◌, List, [], ◌∷◌, ◌++◌, Bool, true, false, ◌||◌, codes}
-use Rattle.p10_base.specs.declared.word.Word.{Word}
-use Rattle.p10_base.specs.Words.{Text, is_punctuator, plain_word}
+use Rattle.p10_base.specs.Words.{PlainWord, Text, is_punctuator}
 use Rattle.p10_pprules.specs.declared.bracket.Bracket.{Bracket}
 use Rattle.p10_pprules.specs.declared.bracket.Bracket.TheVariants.{Round, Square, Curly}
 
@@ -18,30 +17,30 @@ closing_text Square = codes "]"
 closing_text Curly = codes "}"
 
 -- whether a word begins a group in these brackets
-abbrev pub opens : Bracket → Word → Bool
-opens bracket word = is_punctuator (opening_text bracket) (plain_word word)
+abbrev pub opens : Bracket → PlainWord → Bool
+opens bracket word = is_punctuator (opening_text bracket) word
 
 -- whether a word ends a group in these brackets
-abbrev pub closes : Bracket → Word → Bool
-closes bracket word = is_punctuator (closing_text bracket) (plain_word word)
+abbrev pub closes : Bracket → PlainWord → Bool
+closes bracket word = is_punctuator (closing_text bracket) word
 
 -- whether a word is a bracket of any kind
-abbrev pub is_bracket : Word → Bool
+abbrev pub is_bracket : PlainWord → Bool
 is_bracket word = opens Round word || opens Square word || opens Curly word || closes Round word || closes Square word || closes Curly word
 
 -- The brackets among the words are pairs of one kind that nest properly.
-pub data IsBalanced : List Word → Type 0 where
+pub data IsBalanced : List PlainWord → Type 0 where
   empty : IsBalanced []
-  single : (word : Word) (words : List Word) → is_bracket word ≡ false → IsBalanced words → IsBalanced (word ∷ words)
-  pair : (bracket : Bracket) (opening : Word) (inside : List Word) (closing : Word) (after words : List Word)
+  single : (word : PlainWord) (words : List PlainWord) → is_bracket word ≡ false → IsBalanced words → IsBalanced (word ∷ words)
+  pair : (bracket : Bracket) (opening : PlainWord) (inside : List PlainWord) (closing : PlainWord) (after words : List PlainWord)
       → opens bracket opening ≡ true → closes bracket closing ≡ true → IsBalanced inside → IsBalanced after
       → words ≡ inside ++ closing ∷ after → IsBalanced (opening ∷ words)
 
 -- the words are one group in these brackets
-pub record IsGroup (bracket : Bracket) (words : List Word) : Type 0 where
-  pub opening : Word
-  pub inside : List Word
-  pub closing : Word
+pub record IsGroup (bracket : Bracket) (words : List PlainWord) : Type 0 where
+  pub opening : PlainWord
+  pub inside : List PlainWord
+  pub closing : PlainWord
   pub parts : words ≡ opening ∷ (inside ++ closing ∷ [])
   pub opened : opens bracket opening ≡ true
   pub balanced : IsBalanced inside

@@ -1,6 +1,7 @@
 //! Brackets.
 
 ghost use Rattle.std.specs.Prelude.{◌≡◌};
+ghost use Rattle.p10_base.specs.Words.{plain_word};
 ghost use Rattle.p10_pprules.specs.Groups.{opens};
 ghost use Rattle.p10_pprules.specs.private.Scanning.{side_of, is_same};
 
@@ -30,7 +31,7 @@ pub enum Side {
 
 /// What the word is to groups in brackets.
 pub fn side_of_word(word: &Word<'_>) -> Side
-    ensures { result ≡ side_of word.now }
+    ensures { result ≡ side_of (plain_word word.now) }
 {
     if word.is_punctuator(b"(") {
         Side::Opening(Bracket::Round)
@@ -51,7 +52,7 @@ pub fn side_of_word(word: &Word<'_>) -> Side
 
 /// Whether the word begins a group in these brackets.
 pub fn begins(bracket: Bracket, word: &Word<'_>) -> bool
-    ensures { result ≡ opens bracket word.now }
+    ensures { result ≡ opens bracket (plain_word word.now) }
 {
     match bracket {
         Bracket::Round => word.is_punctuator(b"("),

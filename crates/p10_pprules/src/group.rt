@@ -1,20 +1,21 @@
 //! Groups of words in brackets.
 
-ghost use Rattle.std.specs.Prelude.{◌≡◌, [], ◌∷◌, IfOk, reverse, option_copied};
+ghost use Rattle.std.specs.Prelude.{◌≡◌, [], ◌∷◌, map, IfOk, reverse, option_map};
+ghost use Rattle.p10_base.specs.Words.{plain_word};
 ghost use Rattle.p10_pprules.specs.private.Scanning.{behind_open, behind_group, is_one_group, Opens};
 
 use crate::bracket::{Bracket, Side, begins, is_same_kind, side_of_word};
 use p10_base::Word;
 use std::alloc::{AllocError, Global};
 
-/// The words behind the group in these brackets with which the words begin; `None` where they begin
+/// The words after the group in these brackets with which the words begin; `None` where they begin
 /// with none, or its brackets don't nest properly.
 pub fn after_group<'w, 's>(
     alloc: Global,
     bracket: Bracket,
     words: &'w [Word<'s>],
 ) -> Result<Option<&'w [Word<'s>]>, AllocError>
-    ensures { IfOk result (λ rest. option_copied rest ≡ behind_group bracket words.now) }
+    ensures { IfOk result (λ rest. option_map (λ words. map plain_word words.now) rest ≡ behind_group bracket (map plain_word words.now)) }
 {
     match words {
         [opening, others @ ..] if begins(bracket, opening) => after_open(alloc, bracket, others),
@@ -22,13 +23,13 @@ pub fn after_group<'w, 's>(
     }
 }
 
-/// The words behind the end of a group in these brackets that was opened before the words.
+/// The words after the end of a group in these brackets that was opened before the words.
 fn after_open<'w, 's>(
     alloc: Global,
     bracket: Bracket,
     words: &'w [Word<'s>],
 ) -> Result<Option<&'w [Word<'s>]>, AllocError>
-    ensures { IfOk result (λ rest. option_copied rest ≡ behind_open (bracket ∷ []) words.now) }
+    ensures { IfOk result (λ rest. option_map (λ words. map plain_word words.now) rest ≡ behind_open (bracket ∷ []) (map plain_word words.now)) }
 {
     let mut pending = Vec::new(alloc);
     pending.push(bracket)?;
@@ -66,7 +67,7 @@ fn take(pending: &mut Vec<Bracket>, side: Side) -> Result<bool, AllocError>
 
 /// Whether the words are one group in these brackets.
 pub fn is_group(alloc: Global, bracket: Bracket, words: &[Word<'_>]) -> Result<bool, AllocError>
-    ensures { IfOk result (λ is. is ≡ is_one_group bracket words.now) }
+    ensures { IfOk result (λ is. is ≡ is_one_group bracket (map plain_word words.now)) }
 {
     match after_group(alloc, bracket, words)? {
         Some(rest) => Ok(rest.is_empty()),

@@ -1,6 +1,8 @@
 //! Rows on single directives.
 
-ghost use Rattle.std.specs.Prelude.{◌≡◌, ◌++◌, OnOk};
+ghost use Rattle.std.specs.Prelude.{◌≡◌, ◌++◌, map, OnOk};
+ghost use Rattle.p10_base.specs.Words.{plain_word};
+ghost use Rattle.p10_expand.specs.Answers.{plain_obeyed};
 ghost use Rattle.std.specs.List.{flat_map};
 ghost use Rattle.p10_pprules.specs.Lines.{begins_conditional, is_barred, is_allowed_pragma, name_of, operands_of};
 ghost use Rattle.p10_pprules.specs.private.Listing.{line_violations};
@@ -11,9 +13,9 @@ use p10_direct::{Keyword, directive_named};
 use p10_expand::Obeyed;
 use std::alloc::AllocError;
 
-/// Puts the violations of single directives behind the others.
+/// Puts the violations of single directives after the others.
 pub fn push_lines(obeyed: &[Obeyed<'_>], violations: &mut Vec<Violation>) -> Result<(), AllocError>
-    ensures { OnOk result (violations.new.items ≡ violations.old.items ++ flat_map line_violations obeyed.now) }
+    ensures { OnOk result (violations.new.items ≡ violations.old.items ++ flat_map line_violations (map plain_obeyed obeyed.now)) }
 {
     for line in obeyed {
         push_line(line, violations)?;
@@ -21,9 +23,9 @@ pub fn push_lines(obeyed: &[Obeyed<'_>], violations: &mut Vec<Violation>) -> Res
     Ok(())
 }
 
-/// Puts the violations of a directive behind the others.
+/// Puts the violations of a directive after the others.
 fn push_line(line: &Obeyed<'_>, violations: &mut Vec<Violation>) -> Result<(), AllocError>
-    ensures { OnOk result (violations.new.items ≡ violations.old.items ++ line_violations line.now) }
+    ensures { OnOk result (violations.new.items ≡ violations.old.items ++ line_violations (plain_obeyed line.now)) }
 {
     let words = line.words.as_slice();
     let name = directive_name(words);
@@ -43,7 +45,7 @@ fn push_line(line: &Obeyed<'_>, violations: &mut Vec<Violation>) -> Result<(), A
 
 /// The directive that the line names.
 pub fn directive_name(line: &[Word<'_>]) -> Option<Keyword>
-    ensures { result ≡ name_of line.now }
+    ensures { result ≡ name_of (map plain_word line.now) }
 {
     match line {
         [_, name, ..] => directive_named(name),
@@ -51,9 +53,9 @@ pub fn directive_name(line: &[Word<'_>]) -> Option<Keyword>
     }
 }
 
-/// The words behind the name of the directive.
+/// The words after the name of the directive.
 pub fn operands<'w, 's>(line: &'w [Word<'s>]) -> &'w [Word<'s>]
-    ensures { result.now ≡ operands_of line.now }
+    ensures { map plain_word result.now ≡ operands_of (map plain_word line.now) }
 {
     match line {
         [_, _, operands @ ..] => operands,
@@ -70,7 +72,7 @@ fn is_conditional(name: Option<Keyword>) -> bool
 
 /// Whether the directive with these operands isn't allowed.
 fn is_not_allowed(name: Option<Keyword>, operands: &[Word<'_>]) -> bool
-    ensures { result ≡ is_barred name operands.now }
+    ensures { result ≡ is_barred name (map plain_word operands.now) }
 {
     match name {
         Some(Keyword::Undef) => true,
@@ -81,7 +83,7 @@ fn is_not_allowed(name: Option<Keyword>, operands: &[Word<'_>]) -> bool
 
 /// Whether the operands are those of an allowed pragma.
 fn is_allowed(operands: &[Word<'_>]) -> bool
-    ensures { result ≡ is_allowed_pragma operands.now }
+    ensures { result ≡ is_allowed_pragma (map plain_word operands.now) }
 {
     match operands {
         [once] => once.is_name(b"once"),

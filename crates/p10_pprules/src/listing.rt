@@ -6,7 +6,7 @@ ghost use Rattle.p10_pprules.specs.private.Listing.{violation_if};
 use p10_base::{Span, Sub, Violation};
 use std::alloc::AllocError;
 
-/// Puts a violation of the row behind the others, where the row holds.
+/// Puts a violation of the row after the others, where the row holds.
 pub fn push_if(
     sub: Sub,
     holds: bool,

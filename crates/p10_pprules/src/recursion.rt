@@ -1,9 +1,9 @@
 //! Macros whose lists lead back to them: the macros and the names in their lists as a graph.
 
 ghost use Rattle.std.specs.Prelude.{◌≡◌, ◌<◌, ◌^◌, ℕ, length, map, IfOk, OnOk, IfSome, ◌++◌, bytes_eq, List};
+ghost use Rattle.p10_base.specs.Words.{plain_word, spellings_of};
 ghost use Rattle.std.specs.Option.{option_to_list};
 ghost use Rattle.std.specs.List.{All, list_any, filter_map};
-ghost use Rattle.p10_direct.specs.Directives.{texts_of};
 ghost use Rattle.p10_direct.specs.Form.{plain_definition};
 ghost use Rattle.p10_base.specs.Names.{place_in};
 ghost use Rattle.p10_pprules.specs.Recursion.{parameters_of};
@@ -148,7 +148,7 @@ fn used_in(
     words: &[Word<'_>],
 ) -> Result<Vec<u32>, AllocError>
     requires { length names.now < 2 ^ 32 }
-    ensures { IfOk result (λ places. places.items ≡ filter_map (used_by names.now parameters.now) words.now) }
+    ensures { IfOk result (λ places. places.items ≡ filter_map (used_by names.now parameters.now) (map plain_word words.now)) }
 {
     let mut places = Vec::new(alloc);
     for word in words {
@@ -157,7 +157,7 @@ fn used_in(
     Ok(places)
 }
 
-/// Puts the place of the macro that a word of a list uses behind the others.
+/// Puts the place of the macro that a word of a list uses after the others.
 fn push_used(
     names: &NameList<'_>,
     parameters: &NameList<'_>,
@@ -165,7 +165,7 @@ fn push_used(
     places: &mut Vec<u32>,
 ) -> Result<(), AllocError>
     requires { length names.now < 2 ^ 32 }
-    ensures { OnOk result (places.new.items ≡ places.old.items ++ option_to_list (used_by names.now parameters.now word.now)) }
+    ensures { OnOk result (places.new.items ≡ places.old.items ++ option_to_list (used_by names.now parameters.now (plain_word word.now))) }
 {
     if let Some(place) = used_macro(names, parameters, word) {
         places.push(place)?;
@@ -176,7 +176,7 @@ fn push_used(
 /// The macro that a word of a list uses, unless it names a parameter.
 fn used_macro(names: &NameList<'_>, parameters: &NameList<'_>, word: &Word<'_>) -> Option<u32>
     requires { length names.now < 2 ^ 32 }
-    ensures { result ≡ used_by names.now parameters.now word.now }
+    ensures { result ≡ used_by names.now parameters.now (plain_word word.now) }
 {
     if matches!(word.kind, Kind::Name) && !parameters.contains(word.text) {
         place(names, word.text)
@@ -190,7 +190,7 @@ fn parameter_names<'s>(
     alloc: Global,
     definition: &Definition<'_, 's>,
 ) -> Result<NameList<'s>, AllocError>
-    ensures { IfOk result (λ names. (text : List ℕ) → list_any (bytes_eq text) names ≡ list_any (bytes_eq text) (texts_of (parameters_of (plain_definition definition.now)))) }
+    ensures { IfOk result (λ names. (text : List ℕ) → list_any (bytes_eq text) names ≡ list_any (bytes_eq text) (spellings_of (parameters_of (plain_definition definition.now)))) }
 {
     match &definition.parameters {
         None => Ok(NameList::new(alloc)),
@@ -200,7 +200,7 @@ fn parameter_names<'s>(
 
 /// The texts of words, each once.
 fn names_of<'s>(alloc: Global, words: &[Word<'s>]) -> Result<NameList<'s>, AllocError>
-    ensures { IfOk result (λ names. (text : List ℕ) → list_any (bytes_eq text) names ≡ list_any (bytes_eq text) (texts_of words.now)) }
+    ensures { IfOk result (λ names. (text : List ℕ) → list_any (bytes_eq text) names ≡ list_any (bytes_eq text) (spellings_of (map plain_word words.now))) }
 {
     let mut names = NameList::new(alloc);
     for word in words {

@@ -14,7 +14,7 @@ use p10_base::{NameList, Sub, Violation};
 use p10_direct::{Definition, has_pasting, is_variadic};
 use std::alloc::{AllocError, Global};
 
-/// Puts the violations of definitions behind the others. The numbers are those of the components of the
+/// Puts the violations of definitions after the others. The numbers are those of the components of the
 /// macros with these names.
 pub fn push_definitions(
     alloc: Global,
@@ -33,7 +33,7 @@ pub fn push_definitions(
     Ok(())
 }
 
-/// Puts the violations of a definition behind the others.
+/// Puts the violations of a definition after the others.
 fn push_definition(
     alloc: Global,
     names: &NameList<'_>,

@@ -1,6 +1,7 @@
 //! The rules on directives.
 
-ghost use Rattle.std.specs.Prelude.{◌↔◌, IfOk};
+ghost use Rattle.std.specs.Prelude.{◌↔◌, map, IfOk};
+ghost use Rattle.p10_expand.specs.Answers.{plain_obeyed};
 ghost use Rattle.std.specs.List.{Contains};
 ghost use Rattle.std.specs.List.Sorted.{IsStrictlySortedBy};
 ghost use Rattle.p10_base.specs.Order.{violation_cmp};
@@ -15,10 +16,10 @@ use p10_expand::{Expanded, Obeyed};
 use std::alloc::{AllocError, Global};
 
 /// The violations of rule 8 and row 9.2 by the directives that were obeyed, in the order of violations,
-/// each once. It fails only where memory is wanting.
+/// each once. It fails only where memory ran out.
 pub fn pp_rules(alloc: Global, expanded: &Expanded<'_>) -> Result<Vec<Violation>, AllocError>
     ensures sorted { IfOk result (λ found. IsStrictlySortedBy violation_cmp found.items) }
-    ensures exact { IfOk result (λ found. (v : Violation) → Contains found.items v ↔ Violates expanded.now.obeyed v.sub v.span) }
+    ensures exact { IfOk result (λ found. (v : Violation) → Contains found.items v ↔ Violates (map plain_obeyed expanded.now.obeyed) v.sub v.span) }
 {
     let mut violations = violations_of(alloc, expanded.obeyed.as_slice())?;
     violations.sort()?;
@@ -28,7 +29,7 @@ pub fn pp_rules(alloc: Global, expanded: &Expanded<'_>) -> Result<Vec<Violation>
 
 /// The violations by obeyed directives, in any order, and perhaps more than once.
 fn violations_of(alloc: Global, obeyed: &[Obeyed<'_>]) -> Result<Vec<Violation>, AllocError>
-    ensures { IfOk result (λ found. (v : Violation) → Contains found.items v ↔ Violates obeyed.now v.sub v.span) }
+    ensures { IfOk result (λ found. (v : Violation) → Contains found.items v ↔ Violates (map plain_obeyed obeyed.now) v.sub v.span) }
 {
     let mut violations = Vec::new(alloc);
     push_lines(obeyed, &mut violations)?;

@@ -10,11 +10,11 @@ use Rattle.p10_pprules.specs.private.Listing.{used_places}
 
 -- these are the names that are defined
 abbrev pub HasNames : List Definition → List Text → Type 0
-HasNames definitions names = (name : Text) → list_any (bytes_eq name) names ≡ list_any (λ (definition : Definition). bytes_eq name definition.name.text.now) definitions
+HasNames definitions names = (name : Text) → list_any (bytes_eq name) names ≡ list_any (λ (definition : Definition). bytes_eq name definition.name.text) definitions
 
 -- the definition leads from the place of its macro to that of a macro that it uses
 abbrev pub LeadsOn : List Text → Definition → ℕ → ℕ → Type 0
-LeadsOn names definition from to = (place_in names definition.name.text.now ≡ Some from) × Contains (used_places names definition) to
+LeadsOn names definition from to = (place_in names definition.name.text ≡ Some from) × Contains (used_places names definition) to
 
 -- edges from a node to these were added
 pub record AddsEdges (from : ℕ) (ends : List ℕ) (old new : List (List ℕ)) : Type 0 where

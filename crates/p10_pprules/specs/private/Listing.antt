@@ -2,13 +2,12 @@
 use Rattle.std.specs.Prelude.{ℕ, ◌==◌, List, [], ◌∷◌, ◌++◌, Bool, false, not, ◌&&◌, Option, Some, None, if◌then◌else◌, bytes_eq, slice_index}
 use Rattle.std.specs.List.{list_any, filter_map}
 use Rattle.p10_base.specs.declared.span.Span.{Span}
-use Rattle.p10_base.specs.declared.word.Word.{Word}
 use Rattle.p10_base.specs.declared.report.Sub.{Sub}
 use Rattle.p10_base.specs.declared.report.Violation.{Violation}
-use Rattle.p10_base.specs.Words.{Text, is_name_kind}
-use Rattle.p10_direct.specs.Directives.{Definition, texts_of}
+use Rattle.p10_base.specs.Words.{PlainWord, Text, is_name_kind, spellings_of}
+use Rattle.p10_direct.specs.Directives.{Definition}
 use Rattle.p10_base.specs.Names.{place_in}
-use Rattle.p10_expand.specs.declared.expanded.Obeyed.{Obeyed}
+use Rattle.p10_expand.specs.Obeying.{PlainObeyed}
 use Rattle.p10_pprules.specs.Lines.{name_of, operands_of, begins_conditional, is_barred, pastes}
 use Rattle.p10_pprules.specs.Recursion.{parameters_of}
 use Rattle.p10_pprules.specs.private.Scanning.{is_unit, dereferences_behind}
@@ -22,7 +21,7 @@ violation_if sub holds at = if holds then record { sub = sub; span = at } ∷ []
 
 -- the violations by one obeyed directive, at its place: of 8.1, if it begins a conditional that is no include guard, and
 -- of 8.5, if it isn't allowed
-abbrev pub line_violations : Obeyed → List Violation
+abbrev pub line_violations : PlainObeyed → List Violation
 line_violations line =
     violation_if (row 8 1) (begins_conditional (name_of line.words) && not line.guard) line.span
     ++ violation_if (row 8 5) (is_barred (name_of line.words) (operands_of line.words)) line.span
@@ -30,12 +29,12 @@ line_violations line =
 -- ## Recursion
 
 -- the place of the macro that a word of a list uses, where these are the parameters
-abbrev pub used_by : List Text → List Text → Word → Option ℕ
-used_by names parameters word = if is_name_kind word.kind && not (list_any (bytes_eq word.text.now) parameters) then place_in names word.text.now else None
+abbrev pub used_by : List Text → List Text → PlainWord → Option ℕ
+used_by names parameters word = if is_name_kind word.kind && not (list_any (bytes_eq word.text) parameters) then place_in names word.text else None
 
 -- the places of the macros that a definition uses
 abbrev pub used_places : List Text → Definition → List ℕ
-used_places names definition = filter_map (used_by names (texts_of (parameters_of definition))) definition.body
+used_places names definition = filter_map (used_by names (spellings_of (parameters_of definition))) definition.body
 
 -- whether one of the places has the number
 abbrev pub has_number : List ℕ → ℕ → List ℕ → Bool
@@ -48,7 +47,7 @@ returns_from numbers places (Some own) = has_number numbers (slice_index numbers
 
 -- whether a definition uses a macro that has the number of its own macro
 abbrev pub returns_to : List Text → List ℕ → Definition → Bool
-returns_to names numbers definition = returns_from numbers (used_places names definition) (place_in names definition.name.text.now)
+returns_to names numbers definition = returns_from numbers (used_places names definition) (place_in names definition.name.text)
 
 -- ## Definitions
 
