@@ -14,7 +14,7 @@ use Rattle.p10_expand.specs.declared.expanded.Expanded.{Expanded}
 use Rattle.p10_front.specs.declared.fault.FrontFault.{FrontFault}
 use Rattle.p10_front.specs.declared.reading.Reading.{Reading}
 use Rattle.p10_front.specs.Readings.{untyped_reading, untyped, oversized, typed}
-use Rattle.p10_front.specs.private.Parsing.{plain}
+use Rattle.p10_expand.specs.Answers.{expansion_of}
 use Rattle.p10_front.specs.private.Typing.{reading_untyped, IsTyped, IsUntyped}
 
 module _ (e : Expanded) (units all : List whole.Unit) (same : all ≡ units) where
@@ -27,7 +27,7 @@ module _ (e : Expanded) (units all : List whole.Unit) (same : all ≡ units) whe
 
   without_is_typed : (fault : ElabFault) → IsElaborated (elaborated (map external_of units)) (Err fault) → IfOk (reading_untyped e units fault) (IsTyped e units)
   without_is_typed (elaborating.Refused r) (problem, is, refusal) =
-      untyped problem is (ap (λ (x : Refusal). Ok (untyped_reading (plain e) (map external_of units) x)) refusal)
+      untyped problem is (ap (λ (x : Refusal). Ok (untyped_reading (expansion_of e) (map external_of units) x)) refusal)
   without_is_typed (elaborating.Over l) has = tt
   without_is_typed elaborating.Memory has = tt
 

@@ -12,7 +12,7 @@ use Rattle.p10_core.specs.Typed.{PlainProgram}
 use Rattle.p10_elabx.specs.declared.problem.Problem.{Problem}
 use Rattle.p10_elab.specs.Answers.{refusal_of}
 use Rattle.p10_elab.specs.Programs.{Elaborated, elaborated, program as the_program, refusal as the_problem, too_large}
-use Rattle.p10_expand.specs.Plain.{PlainExpansion, ExpandsTo, ExpandsToOnce}
+use Rattle.p10_expand.specs.Expands.{Expansion, ExpandsTo, ExpandsToOnce}
 use Rattle.p10_pexpr.specs.declared.fault.ParseFault.TheVariants.{Refused, Over, Memory}
 use Rattle.p10_parse.specs.Units.{AllFit, FirstFault}
 use Rattle.p10_parse.specs.Laws.{UnitsAreOne, SpelledHaveNoFault, FaultsAreOne}
@@ -36,7 +36,7 @@ program_or_limit e p this that = cc
 program_or_problem : (e : Elaborated) (p : PlainProgram) (q : Problem) → e ≡ the_program p → e ≡ the_problem q → ⊥
 program_or_problem e p q this that = cc
 
-elaborates_once : (e : PlainExpansion) (trees : List (External At)) (this that : Result PlainReading Limit) → Elaborates e trees this → Elaborates e trees that → this ≡ that
+elaborates_once : (e : Expansion) (trees : List (External At)) (this that : Result PlainReading Limit) → Elaborates e trees this → Elaborates e trees that → this ≡ that
 elaborates_once e trees this that (untyped p is a) (untyped q is' b) =
     a ∙ ap (λ (x : Problem). Ok (untyped_reading e trees (refusal_of x))) (same_problem (elaborated trees) p q is is') ∙ sym b
 elaborates_once e trees this that (untyped p is a) (oversized is' b) = absurd (problem_or_limit (elaborated trees) p is is')
@@ -85,7 +85,7 @@ module _ (once : ExpandsToOnce) (one_list : UnitsAreOne) (no_fault : SpelledHave
   some_and_none : (o : Option Refusal) (r : Refusal) → o ≡ Some r → o ≡ None → ⊥
   some_and_none o r some none = none-some r (sym none ∙ some)
 
-  parses_once : (e : PlainExpansion) (this that : Result PlainReading Limit) → Parses e this → Parses e that → this ≡ that
+  parses_once : (e : Expansion) (this that : Result PlainReading Limit) → Parses e this → Parses e that → this ≡ that
   parses_once e this that (unexpanded r some is) (unexpanded q some' is') = is ∙ ap (λ (x : Refusal). Ok (refused_reading e x)) (same_Some r q (sym some ∙ some')) ∙ sym is'
   parses_once e this that (unexpanded r some is) (nested_over l none fault is') = absurd (some_and_none e.refusal r some none)
   parses_once e this that (unexpanded r some is) (unspelled q none fault is') = absurd (some_and_none e.refusal r some none)
@@ -108,17 +108,17 @@ module _ (once : ExpandsToOnce) (one_list : UnitsAreOne) (no_fault : SpelledHave
 
   same_over : (g : Gathered) (l k : Limit) → ExpandsTo g (Err l) → ExpandsTo g (Err k) → l ≡ k
   same_over g l k this that =
-      let same : ◌≡◌ {A = Result PlainExpansion Limit} (Err l) (Err k) = once g (Err l) (Err k) this that in
+      let same : ◌≡◌ {A = Result Expansion Limit} (Err l) (Err k) = once g (Err l) (Err k) this that in
       cc
 
-  same_expansion : (g : Gathered) (d e : PlainExpansion) → ExpandsTo g (Ok d) → ExpandsTo g (Ok e) → d ≡ e
+  same_expansion : (g : Gathered) (d e : Expansion) → ExpandsTo g (Ok d) → ExpandsTo g (Ok e) → d ≡ e
   same_expansion g d e this that =
-      let same : ◌≡◌ {A = Result PlainExpansion Limit} (Ok d) (Ok e) = once g (Ok d) (Ok e) this that in
+      let same : ◌≡◌ {A = Result Expansion Limit} (Ok d) (Ok e) = once g (Ok d) (Ok e) this that in
       cc
 
-  expanded_and_over : (g : Gathered) (e : PlainExpansion) (l : Limit) → ExpandsTo g (Ok e) → ExpandsTo g (Err l) → ⊥
+  expanded_and_over : (g : Gathered) (e : Expansion) (l : Limit) → ExpandsTo g (Ok e) → ExpandsTo g (Err l) → ⊥
   expanded_and_over g e l this that =
-      let same : ◌≡◌ {A = Result PlainExpansion Limit} (Ok e) (Err l) = once g (Ok e) (Err l) this that in
+      let same : ◌≡◌ {A = Result Expansion Limit} (Ok e) (Err l) = once g (Ok e) (Err l) this that in
       cc
 
   pub reads_once : ReadsOnce
@@ -126,4 +126,4 @@ module _ (once : ExpandsToOnce) (one_list : UnitsAreOne) (no_fault : SpelledHave
   reads_once g this that (expanded_over l over is) (expanded e expands parses) = absurd (expanded_and_over g e l expands over)
   reads_once g this that (expanded d expands parses) (expanded_over k over is) = absurd (expanded_and_over g d k expands over)
   reads_once g this that (expanded d expands parses) (expanded e expands' parses') =
-      parses_once e this that (subst (λ (x : PlainExpansion). Parses x this) (same_expansion g d e expands expands') parses) parses'
+      parses_once e this that (subst (λ (x : Expansion). Parses x this) (same_expansion g d e expands expands') parses) parses'

@@ -17,9 +17,8 @@ use Rattle.p10_elab.specs.Answers.{refusal_of}
 use Rattle.p10_expand.specs.declared.expanded.Expanded.{Expanded}
 use Rattle.p10_expand.specs.declared.expansion.fault.ExpandFault.{ExpandFault}
 use Rattle.p10_expand.specs.declared.expansion.fault.ExpandFault.TheVariants as expanding
-use Rattle.p10_expand.specs.Answers.{IsExpansion, IsFault as IsExpandFault, lists_of}
-use Rattle.p10_expand.specs.Plain.{PlainExpansion, ExpandsTo}
-use Rattle.p10_expand.proofs.PlainAnswers.{expanded_to, limit_to}
+use Rattle.p10_expand.specs.Answers.{IsExpansion, IsFault as IsExpandFault, lists_of, expansion_of}
+use Rattle.p10_expand.specs.Expands.{Expansion, ExpandsTo}
 use Rattle.p10_pexpr.specs.declared.fault.ParseFault.{ParseFault}
 use Rattle.p10_pexpr.specs.declared.fault.ParseFault.TheVariants as parsing
 use Rattle.p10_parse.specs.Units.{AllFit, FirstFault, HaveFault}
@@ -28,7 +27,7 @@ use Rattle.p10_front.specs.declared.fault.FrontFault.TheVariants as front
 use Rattle.p10_front.specs.declared.reading.Reading.{Reading}
 use Rattle.p10_front.specs.Readings.{PlainReading, refused_reading, untyped_reading, typed_reading, Elaborates, untyped, oversized, typed, Parses, unexpanded, nested_over, unspelled, spelled, Reads, expanded_over, expanded}
 use Rattle.p10_front.specs.Answers.{reading_of, IsFault}
-use Rattle.p10_front.specs.private.Parsing.{plain, reading_without, fault_of, IsParsed, IsUnparsed}
+use Rattle.p10_front.specs.private.Parsing.{reading_without, fault_of, IsParsed, IsUnparsed}
 use Rattle.p10_front.specs.private.Typing.{IsTyped, IsUntyped}
 
 -- ## What words are read as
@@ -42,7 +41,7 @@ pub parsed_unexpanded : (e : Expanded) (r : Refusal) (reading : Reading) → e.r
 parsed_unexpanded e r reading some is = unexpanded r some (ap (λ (x : Reading). Ok (reading_of x)) is)
 
 module _ (e : Expanded) (all : List (Vec Word Global)) (none : e.refusal ≡ None) (same : all ≡ e.roots) where
-  here : map (λ root. plain_words root.items) all ≡ (plain e).roots
+  here : map (λ root. plain_words root.items) all ≡ (expansion_of e).roots
   here = same_roots all ∙ ap (λ xs. map (map plain_word) (lists_of xs)) same
 
   without_is_parsed : (fault : ParseFault) → HaveFault (map (λ root. plain_words root.items) all) fault → IfOk (reading_without e fault) (IsParsed e)
@@ -62,7 +61,7 @@ module _ (e : Expanded) (all : List (Vec Word Global)) (none : e.refusal ≡ Non
   unparsed_without fault r has is = subst (λ (r : Result Reading FrontFault). IfErr r (IsUnparsed e)) (sym is) (without_is_unparsed fault has)
 
   module _ (items units : List whole.Unit) (fit : AllFit (map (λ root. plain_words root.items) all)) (spell : Spells (map (λ root. plain_words root.items) all) (map external_of items)) (of : units ≡ items) where
-    spelled_by : (answer : Result PlainReading Limit) → Elaborates (plain e) (map external_of units) answer → Parses (plain e) answer
+    spelled_by : (answer : Result PlainReading Limit) → Elaborates (expansion_of e) (map external_of units) answer → Parses (expansion_of e) answer
     spelled_by answer elaborates =
         spelled (map external_of units) none (subst AllFit here fit)
         (subst (λ rs. Spells rs (map external_of units)) here (subst (λ (us : List whole.Unit). Spells (map (λ root. plain_words root.items) all) (map external_of us)) (sym of) spell))
@@ -89,19 +88,19 @@ without_is_whole e fault r is =
 -- ## What files are read as
 
 pub read_parsed : (g : Gathered) (e : Expanded) (r : Result Reading FrontFault) → IsExpansion g e → IfOk r (IsParsed e) → IfOk r (λ reading. Reads g (Ok (reading_of reading)))
-read_parsed g e (Ok reading) is parsed = expanded (plain e) (expanded_to g e is) parsed
+read_parsed g e (Ok reading) is parsed = expanded (expansion_of e) is parsed
 read_parsed g e (Err fault) is parsed = tt
 
 pub read_unparsed : (g : Gathered) (e : Expanded) (r : Result Reading FrontFault) → IsExpansion g e → IfErr r (IsUnparsed e) → IfErr r (IsFault g)
 read_unparsed g e (Ok reading) is unparsed = tt
-read_unparsed g e (Err (front.Over limit)) is unparsed = expanded (plain e) (expanded_to g e is) unparsed
+read_unparsed g e (Err (front.Over limit)) is unparsed = expanded (expansion_of e) is unparsed
 read_unparsed g e (Err front.Memory) is unparsed = tt
 
 pub read_over : (g : Gathered) (fault : ExpandFault) (given : FrontFault) → IsExpandFault g fault → given ≡ fault_of fault → IsFault g given
 read_over g fault given is same = subst (IsFault g) (sym same) (by_fault fault is)
   where
     by_fault : (fault : ExpandFault) → IsExpandFault g fault → IsFault g (fault_of fault)
-    by_fault (expanding.Over limit) is = expanded_over limit (limit_to g limit is) refl
+    by_fault (expanding.Over limit) is = expanded_over limit is refl
     by_fault expanding.Memory is = tt
 
 -- ## What is read has expanded
@@ -112,12 +111,12 @@ same_reading a b same = cc
 pub no_limit : (a : PlainReading) (l : Limit) → ◌≡◌ {A = Result PlainReading Limit} (Ok a) (Err l) → ⊥
 no_limit a l same = cc
 
-elaborated_expansion : (e : PlainExpansion) (trees : List (External At)) (reading : PlainReading) → Elaborates e trees (Ok reading) → reading.expansion ≡ e
+elaborated_expansion : (e : Expansion) (trees : List (External At)) (reading : PlainReading) → Elaborates e trees (Ok reading) → reading.expansion ≡ e
 elaborated_expansion e trees reading (untyped problem is same) = ap (λ (x : PlainReading). x.expansion) (same_reading reading (untyped_reading e trees (refusal_of problem)) same)
 elaborated_expansion e trees reading (oversized is same) = absurd (no_limit reading OBJECT_BYTES same)
 elaborated_expansion e trees reading (typed p is same) = ap (λ (x : PlainReading). x.expansion) (same_reading reading (typed_reading e trees p) same)
 
-parsed_expansion : (e : PlainExpansion) (reading : PlainReading) → Parses e (Ok reading) → reading.expansion ≡ e
+parsed_expansion : (e : Expansion) (reading : PlainReading) → Parses e (Ok reading) → reading.expansion ≡ e
 parsed_expansion e reading (unexpanded r some is) = ap (λ (x : PlainReading). x.expansion) (same_reading reading (refused_reading e r) is)
 parsed_expansion e reading (nested_over l none fault is) = absurd (no_limit reading l is)
 parsed_expansion e reading (unspelled r none fault is) = ap (λ (x : PlainReading). x.expansion) (same_reading reading (refused_reading e r) is)
@@ -125,4 +124,4 @@ parsed_expansion e reading (spelled trees none fit spell elaborates) = elaborate
 
 pub reads_expand : (g : Gathered) (reading : PlainReading) → Reads g (Ok reading) → ExpandsTo g (Ok reading.expansion)
 reads_expand g reading (expanded_over l over is) = absurd (no_limit reading l is)
-reads_expand g reading (expanded e expands parses) = subst (λ (x : PlainExpansion). ExpandsTo g (Ok x)) (sym (parsed_expansion e reading parses)) expands
+reads_expand g reading (expanded e expands parses) = subst (λ (x : Expansion). ExpandsTo g (Ok x)) (sym (parsed_expansion e reading parses)) expands

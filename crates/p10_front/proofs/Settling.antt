@@ -12,7 +12,7 @@ use Rattle.p10_base.specs.Words.{PlainWord}
 use Rattle.p10_syn.specs.Trees.{External}
 use Rattle.p10_core.specs.declared.program.Program.{Program}
 use Rattle.p10_elab.specs.Answers.{refusal_of}
-use Rattle.p10_expand.specs.Plain.{PlainExpansion, ExpandsTo}
+use Rattle.p10_expand.specs.Expands.{Expansion, ExpandsTo}
 use Rattle.p10_expand.proofs.PlainAnswers.{refusal_lies}
 use Rattle.p10_pexpr.specs.declared.fault.ParseFault.TheVariants as parsing
 use Rattle.p10_parse.specs.Units.{FirstFault}
@@ -31,7 +31,7 @@ syntax_prints (words ∷ roots) r (inl (fits, refused)) = subst CanBePrinted (sy
 syntax_prints (words ∷ roots) r (inr (fits, spell, later)) = syntax_prints roots r later
 
 -- a refusal by a directive or a use of a macro is one of D1 to D8
-directive_prints : (g : Gathered) (e : PlainExpansion) (r : Refusal) → ExpandsTo g (Ok e) → e.refusal ≡ Some r → CanBePrinted r
+directive_prints : (g : Gathered) (e : Expansion) (r : Refusal) → ExpandsTo g (Ok e) → e.refusal ≡ Some r → CanBePrinted r
 directive_prints g e r expands refused =
     let (lies, family, least, greatest) = refusal_lies g e r expands refused in
     subst (λ (f : Family). IsCode f r.number) (sym family) (least, greatest)
@@ -77,14 +77,14 @@ record IsSettled (reading : PlainReading) : Type 0 where
   prints : IfSome reading.refusal CanBePrinted
   program : is_some reading.program ≡ true ↔ is_some reading.refusal ≡ false
 
-elaborated_settles : (e : PlainExpansion) (trees : List (External At)) (reading : PlainReading) → Elaborates e trees (Ok reading) → IsSettled reading
+elaborated_settles : (e : Expansion) (trees : List (External At)) (reading : PlainReading) → Elaborates e trees (Ok reading) → IsSettled reading
 elaborated_settles e trees reading (untyped problem is same) =
     subst IsSettled (sym (same_reading reading (untyped_reading e trees (refusal_of problem)) same)) (record { prints = subset_prints problem.code; program = (λ h. sym h, λ h. sym h) })
 elaborated_settles e trees reading (oversized is same) = absurd (no_limit reading OBJECT_BYTES same)
 elaborated_settles e trees reading (typed p is same) =
     subst IsSettled (sym (same_reading reading (typed_reading e trees p) same)) (record { prints = tt; program = (λ _. refl, λ _. refl) })
 
-parsed_settles : (g : Gathered) (e : PlainExpansion) (reading : PlainReading) → ExpandsTo g (Ok e) → Parses e (Ok reading) → IsSettled reading
+parsed_settles : (g : Gathered) (e : Expansion) (reading : PlainReading) → ExpandsTo g (Ok e) → Parses e (Ok reading) → IsSettled reading
 parsed_settles g e reading expands (unexpanded r some is) =
     subst IsSettled (sym (same_reading reading (refused_reading e r) is)) (record { prints = directive_prints g e r expands some; program = (λ h. sym h, λ h. sym h) })
 parsed_settles g e reading expands (nested_over l none fault is) = absurd (no_limit reading l is)

@@ -11,7 +11,6 @@ use Rattle.p10_core.specs.declared.program.Program.{Program}
 use Rattle.p10_core.specs.Typed.{PlainProgram}
 use Rattle.p10_core.specs.Views.{plain_program}
 use Rattle.p10_expand.specs.Answers.{expansion_of}
-use Rattle.p10_expand.specs.Plain.{plain_expansion}
 use Rattle.p10_front.specs.declared.fault.FrontFault.{FrontFault}
 use Rattle.p10_front.specs.declared.fault.FrontFault.TheVariants.{Over, Memory}
 use Rattle.p10_front.specs.declared.reading.Reading.{Reading}
@@ -29,7 +28,7 @@ typed_of (Some p) = Some (plain_program p)
 
 -- what the code gives, as a plain value
 abbrev pub reading_of : Reading → PlainReading
-reading_of r = record { expansion = plain_expansion (expansion_of r.expanded); units = trees_of r.units; program = typed_of r.program; refusal = r.refusal }
+reading_of r = record { expansion = expansion_of r.expanded; units = trees_of r.units; program = typed_of r.program; refusal = r.refusal }
 
 -- why files aren't read: they pass this limit, or memory is wanting
 abbrev pub IsFault : Gathered → FrontFault → Type 0

@@ -2,7 +2,6 @@
 use Rattle.std.specs.Prelude.{Some, None, Result, Ok, Err}
 use Rattle.p10_expand.specs.declared.expanded.Expanded.{Expanded}
 use Rattle.p10_expand.specs.Answers.{expansion_of}
-use Rattle.p10_expand.specs.Plain.{PlainExpansion, plain_expansion}
 use Rattle.p10_expand.specs.declared.expansion.fault.ExpandFault.{ExpandFault}
 use Rattle.p10_expand.specs.declared.expansion.fault.ExpandFault.TheVariants as expanding
 use Rattle.p10_pexpr.specs.declared.fault.ParseFault.{ParseFault}
@@ -13,17 +12,13 @@ use Rattle.p10_front.specs.declared.reading.Reading.{Reading}
 use Rattle.p10_front.specs.Readings.{Parses}
 use Rattle.p10_front.specs.Answers.{reading_of}
 
--- expanded words without where they lie in memory
-abbrev pub plain : Expanded → PlainExpansion
-plain expanded = plain_expansion (expansion_of expanded)
-
 -- what expanded words are read as
 abbrev pub IsParsed : Expanded → Reading → Type 0
-IsParsed expanded reading = Parses (plain expanded) (Ok (reading_of reading))
+IsParsed expanded reading = Parses (expansion_of expanded) (Ok (reading_of reading))
 
 -- why expanded words aren't read
 abbrev pub IsUnparsed : Expanded → FrontFault → Type 0
-IsUnparsed expanded (Over limit) = Parses (plain expanded) (Err limit)
+IsUnparsed expanded (Over limit) = Parses (expansion_of expanded) (Err limit)
 IsUnparsed expanded Memory = Unit {0}
 
 -- what is answered where words have no trees

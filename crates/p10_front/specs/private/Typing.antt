@@ -10,15 +10,15 @@ use Rattle.p10_front.specs.declared.fault.FrontFault.TheVariants.{Over, Memory}
 use Rattle.p10_front.specs.declared.reading.Reading.{Reading}
 use Rattle.p10_front.specs.Readings.{Elaborates}
 use Rattle.p10_front.specs.Answers.{reading_of}
-use Rattle.p10_front.specs.private.Parsing.{plain}
+use Rattle.p10_expand.specs.Answers.{expansion_of}
 
 -- what the trees of expanded words are read as
 abbrev pub IsTyped : Expanded → List whole.Unit → Reading → Type 0
-IsTyped expanded units reading = Elaborates (plain expanded) (map external_of units) (Ok (reading_of reading))
+IsTyped expanded units reading = Elaborates (expansion_of expanded) (map external_of units) (Ok (reading_of reading))
 
 -- why the trees of expanded words aren't read
 abbrev pub IsUntyped : Expanded → List whole.Unit → FrontFault → Type 0
-IsUntyped expanded units (Over limit) = Elaborates (plain expanded) (map external_of units) (Err limit)
+IsUntyped expanded units (Over limit) = Elaborates (expansion_of expanded) (map external_of units) (Err limit)
 IsUntyped expanded units Memory = Unit {0}
 
 -- what is answered where trees come to no program
