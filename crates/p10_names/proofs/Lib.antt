@@ -5,3 +5,4 @@ pub mod Words
 pub mod Trees
 pub mod Elaborated
 pub mod Named
+pub mod Readings

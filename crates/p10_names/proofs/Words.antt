@@ -1,12 +1,12 @@
 -- Words of an expansion that are names are names of C.
-use Rattle.std.proofs.Common.{◌≡◌, ℕ, Bool, true, false, List, [], ◌∷◌, ◌++◌, map, refl, sym, ap, ◌∙◌, subst}
+use Rattle.std.proofs.Common.{◌≡◌, ℕ, Bool, true, false, List, [], ◌∷◌, ◌++◌, refl, sym, ap, ◌∙◌, subst}
 use Rattle.std.specs.Prelude.{◌||◌, ◌&&◌, ◌==◌, All, nat_le, nat_lt, drop, if◌then◌else◌}
 use Rattle.std.specs.List.{list_all}
 use Rattle.std.proofs.lemmas.Bool.{and_parts}
 use Rattle.std.proofs.lemmas.List.Elements.{All-contains, All-nil, All-cons}
 use Rattle.p10_base.specs.declared.word.Kind.TheVariants as kind
 use Rattle.p10_base.specs.Gathered.{Gathered, text_of}
-use Rattle.p10_base.specs.Words.{PlainWord, plain_word}
+use Rattle.p10_base.specs.Words.{PlainWord}
 use Rattle.p10_lex.specs.Bytes.{is_nondigit as starts_name, is_name_byte as goes_on, is_digit, is_blank, is_quote}
 use Rattle.p10_lex.specs.Splices.{splice_length}
 use Rattle.p10_lex.specs.Lexemes.{IsName, begins_number}
@@ -125,9 +125,9 @@ pieces_named file s bytes (p ∷ ps) rest h =
 -- names among the words of a file
 written_named : (g : Gathered) (word : PlainWord) → IsWritten g word → NameIsGood word
 written_named g word w =
-    let lexes : Lexes w.file (text_of g w.file) (map plain_word w.words) = w.has.lexed.2 in
-    let all : All NameIsGood (map plain_word w.words) = subst (λ ws. All NameIsGood ws) (sym lexes.are_words) (pieces_named w.file beginning (text_of g w.file) lexes.pieces [] lexes.cuts) in
-    All-contains NameIsGood (map plain_word w.words) word all w.among
+    let lexes : Lexes w.file (text_of g w.file) w.words = w.has.lexed.2 in
+    let all : All NameIsGood w.words = subst (λ ws. All NameIsGood ws) (sym lexes.are_words) (pieces_named w.file beginning (text_of g w.file) lexes.pieces [] lexes.cuts) in
+    All-contains NameIsGood w.words word all w.among
 
 -- ## Words of an expansion
 
