@@ -1,5 +1,5 @@
 -- All violations in what files were read as.
-use Rattle.std.proofs.Common.{◌≡◌, ◌⊎◌, inl, inr, List, ◌++◌, Option, Some, None, Ok, refl, sym, ap, subst, ◌∙◌}
+use Rattle.std.proofs.Common.{◌≡◌, ◌⊎◌, inl, inr, List, map, ◌++◌, Option, Some, None, Ok, refl, sym, ap, subst, ◌∙◌}
 use Rattle.std.specs.Prelude.{◌↔◌, IsPermutation}
 use Rattle.std.specs.List.{Contains, dedup}
 use Rattle.std.specs.List.Sorted.{IsSorted}
@@ -13,6 +13,7 @@ use Rattle.p10_base.specs.Order.{violation_cmp}
 use Rattle.p10_syn.specs.Trees.{External}
 use Rattle.p10_core.specs.Typed.{PlainProgram}
 use Rattle.p10_cert.specs.Claims.{Claims}
+use Rattle.p10_expand.specs.Answers.{plain_obeyed}
 use Rattle.p10_front.specs.declared.reading.Reading.{Reading}
 use Rattle.p10_front.specs.Answers.{reading_of, trees_of, typed_of}
 use Rattle.p10_front.specs.Readings.{PlainReading, Reads}
@@ -26,7 +27,6 @@ use Rattle.p10_warn.specs.Violations as warnings
 use Rattle.p10_check_command.specs.declared.report.Report.{Report}
 use Rattle.p10_check_command.specs.Reports.{AreViolations, IsReport, BreaksProgramRow, by_flow, by_bound, by_use, by_warning, IsReported, in_directives, in_trees, in_program}
 use Rattle.p10_check_command.specs.private.Telling.{BreaksRowOfSome, BreaksTreeRow}
-use Rattle.p10_check_command.proofs.DirectiveRows.{violates_there}
 
 -- what stands in one of three lists in a row
 in_three : (xs ys zs all : List Violation) (v : Violation) → all ≡ (xs ++ ys) ++ zs → Contains all v → Contains xs v ⊎ (Contains ys v ⊎ Contains zs v)
@@ -82,19 +82,19 @@ of_program : (g : Gathered) (reading : PlainReading) (program : Option PlainProg
 of_program g reading None v is breaks = absurd breaks
 of_program g reading (Some p) v is breaks = in_program p is breaks
 
-pub reading_rows : (g : Gathered) (reading : Reading) (lines trees program all : List Violation) → all ≡ (lines ++ trees) ++ program → ((v : Violation) → Contains lines v ↔ directives.Violates reading.expanded.obeyed v.sub v.span)
+pub reading_rows : (g : Gathered) (reading : Reading) (lines trees program all : List Violation) → all ≡ (lines ++ trees) ++ program → ((v : Violation) → Contains lines v ↔ directives.Violates (map plain_obeyed reading.expanded.obeyed) v.sub v.span)
     → ((v : Violation) → Contains trees v ↔ BreaksTreeRow g (trees_of reading.units) v) → ((v : Violation) → Contains program v ↔ BreaksRowOfSome (typed_of reading.program) v)
     → (v : Violation) → Contains all v ↔ IsReported g (reading_of reading) v
 reading_rows g reading lines trees program all is lines_are trees_are program_is v =
     (λ held. stands (in_three lines trees program all v is held), λ reported. of_three lines trees program all v is (listed reported))
   where
     stands : Contains lines v ⊎ (Contains trees v ⊎ Contains program v) → IsReported g (reading_of reading) v
-    stands (inl held) = in_directives (record { obeyed = reading.expanded.obeyed; are_lines = refl; breaks = (lines_are v).0 held })
+    stands (inl held) = in_directives ((lines_are v).0 held)
     stands (inr (inl held)) = of_trees g (reading_of reading) (trees_of reading.units) v refl ((trees_are v).0 held)
     stands (inr (inr held)) = of_program g (reading_of reading) (typed_of reading.program) v refl ((program_is v).0 held)
 
     listed : IsReported g (reading_of reading) v → Contains lines v ⊎ (Contains trees v ⊎ Contains program v)
-    listed (in_directives breaks) = inl ((lines_are v).1 (violates_there breaks.obeyed reading.expanded.obeyed breaks.are_lines v.sub v.span breaks.breaks))
+    listed (in_directives breaks) = inl ((lines_are v).1 breaks)
     listed (in_trees units there breaks) = inr (inl ((trees_are v).1 (subst (λ (o : Option (List (External At))). BreaksTreeRow g o v) (sym there) breaks)))
     listed (in_program p there breaks) = inr (inr ((program_is v).1 (subst (λ (o : Option PlainProgram). BreaksRowOfSome o v) (sym there) breaks)))
 

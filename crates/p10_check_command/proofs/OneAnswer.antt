@@ -1,25 +1,23 @@
 -- Where files are told, one thing is right to say, but for a read fault and out of memory.
-use Rattle.std.proofs.Common.{◌≡◌, ◌≢◌, List, refl, sym, ap, subst, ◌∙◌, Option, Some, IsSome, Result, Ok, Err}
+use Rattle.std.proofs.Common.{◌≡◌, ◌≢◌, List, refl, sym, ap, subst, ◌∙◌, Some, IsSome, Result, Ok, Err}
 use Rattle.p10_base.specs.declared.report.Limit.{Limit}
 use Rattle.p10_base.specs.Gathered.{Gathered, nothing_gathered}
 use Rattle.p10_world.specs.Files.{Named}
 use Rattle.p10_expand.specs.declared.fault.GatherFault.{GatherFault}
 use Rattle.p10_expand.specs.declared.fault.GatherFault.TheVariants as fault
-use Rattle.p10_expand.specs.Gathering.{Setting, FailsBy}
-use Rattle.p10_expand.proofs.Once.{ends_once}
+use Rattle.p10_expand.specs.Gathering.{Setting}
 use Rattle.p10_front.specs.Laws.{ReadsOnce}
 use Rattle.p10_front.specs.Readings.{PlainReading, Reads}
 use Rattle.p10_command.specs.declared.gathering.Ungathered.{Ungathered}
 use Rattle.p10_command.specs.declared.gathering.Ungathered.TheVariants.{AbsentRoot, Refused, Over}
-use Rattle.p10_command.specs.declared.trouble.Trouble.{Trouble}
 use Rattle.p10_command.specs.declared.trouble.Trouble.TheVariants.{Read, Memory}
 use Rattle.p10_command.specs.Gathering.{AreUngathered}
-use Rattle.p10_command.specs.Saying.{Saying}
+use Rattle.p10_command.specs.Saying.{Saying, limit_saying, trouble_saying}
 use Rattle.p10_command.specs.Seen.{Seen}
-use Rattle.p10_command.proofs.Once.{same_sources, gathered_or_not}
+use Rattle.p10_command.proofs.Once.{fault_of, gathered_or_not, is_told, same_fault, same_sources, untroubled}
 use Rattle.p10_check_command.specs.declared.command.CheckCommand.{CheckCommand}
 use Rattle.p10_check_command.specs.declared.report.Report.{Report}
-use Rattle.p10_check_command.specs.Answers.{SaysRight, ungathered, passed, reported, troubled, limit_saying, report_saying, setting_of, trouble_saying, gathering_saying}
+use Rattle.p10_check_command.specs.Answers.{SaysRight, ungathered, passed, reported, troubled, report_saying, setting_of, gathering_saying}
 use Rattle.p10_check_command.specs.Laws.{OneReport}
 use Rattle.p10_check_command.specs.Reports.{IsReport, IsReported}
 use Rattle.p10_check_command.proofs.Ordered.{one_list}
@@ -39,16 +37,6 @@ one_report once g this that is are =
 
 -- ## Gathering
 
-abbrev fault_of : Gathered → Ungathered → GatherFault
-fault_of g (AbsentRoot place) = fault.RootAbsent place
-fault_of g (Refused refusal) = fault.Refused refusal g
-fault_of g (Over limit) = fault.Over limit
-
-fails_by : (s : Setting) (g : Gathered) (why : Ungathered) → AreUngathered s g why → FailsBy s (fault_of g why)
-fails_by s g (AbsentRoot place) fails = fails
-fails_by s g (Refused refusal) fails = fails
-fails_by s g (Over limit) fails = fails
-
 -- what is said for a fault
 abbrev saying_of : CheckCommand → GatherFault → Saying
 saying_of check (fault.RootAbsent place) = gathering_saying check nothing_gathered (AbsentRoot place)
@@ -62,14 +50,9 @@ said_of check g (AbsentRoot place) = refl
 said_of check g (Refused refusal) = refl
 said_of check g (Over limit) = refl
 
-one_fault : (s : Setting) → IsSome s.held → (g h : Gathered) (this that : Ungathered) → AreUngathered s g this → AreUngathered s h that → fault_of g this ≡ fault_of h that
-one_fault s told g h this that fails fails' =
-    let same : ◌≡◌ {A = Result Gathered GatherFault} (Err (fault_of g this)) (Err (fault_of h that)) = ends_once s told (Err (fault_of g this)) (Err (fault_of h that)) (fails_by s g this fails) (fails_by s h that fails') in
-    cc
-
 one_ungathered : (check : CheckCommand) (s : Setting) → IsSome s.held → (g h : Gathered) (this that : Ungathered) → AreUngathered s g this → AreUngathered s h that → gathering_saying check g this ≡ gathering_saying check h that
 one_ungathered check s told g h this that fails fails' =
-    said_of check g this ∙ ap (λ (f : GatherFault). saying_of check f) (one_fault s told g h this that fails fails') ∙ sym (said_of check h that)
+    said_of check g this ∙ ap (λ (f : GatherFault). saying_of check f) (same_fault s told g h this that fails fails') ∙ sym (said_of check h that)
 
 -- ## Reading
 
@@ -85,18 +68,10 @@ limit_or_report once g h l report files over is =
 
 -- ## All answers
 
-is_told : {A : Type 0} (held : Option A) (x : A) → held ≡ Some x → IsSome held
-is_told held x is = subst (λ h. IsSome h) (sym is) refl
-
--- a trouble is none of the other answers
-no_trouble : (trouble : Trouble) (saying : Saying) → saying ≡ trouble_saying trouble → saying.status ≢ 5 → saying.status ≢ 7 → ⊥
-no_trouble Read saying said five seven = five (ap (λ (s : Saying). s.status) said)
-no_trouble Memory saying said five seven = seven (ap (λ (s : Saying). s.status) said)
-
 pub says_one_thing : ReadsOnce → (check : CheckCommand) (seen : Seen) (files : List Named) (some other : Saying) → seen.held ≡ Some files → SaysRight check seen some → SaysRight check seen other →
     some.status ≢ 5 → some.status ≢ 7 → other.status ≢ 5 → other.status ≢ 7 → some ≡ other
-says_one_thing once check seen files some other held (troubled t may said) says five seven five' seven' = absurd (no_trouble t some said five seven)
-says_one_thing once check seen files some other held says (troubled t may said) five seven five' seven' = absurd (no_trouble t other said five' seven')
+says_one_thing once check seen files some other held (troubled t may said) says five seven five' seven' = absurd (untroubled t some said five seven)
+says_one_thing once check seen files some other held says (troubled t may said) five seven five' seven' = absurd (untroubled t other said five' seven')
 says_one_thing once check seen files some other held (ungathered g why fails said) (ungathered h why' fails' said') five seven five' seven' =
     said ∙ one_ungathered check (setting_of seen check) (is_told seen.held files held) g h why why' fails fails' ∙ sym said'
 says_one_thing once check seen files some other held (ungathered g why fails said) (passed h limit gathers over said') five seven five' seven' =

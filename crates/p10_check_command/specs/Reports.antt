@@ -1,5 +1,5 @@
 -- What is reported of sources: what breaks Holzmann's rules ("The Power of Ten", 2006), and the refusal.
-use Rattle.std.specs.Prelude.{◌≡◌, ◌↔◌, List, [], map, Some, Ok}
+use Rattle.std.specs.Prelude.{◌≡◌, ◌↔◌, List, [], Some, Ok}
 use Rattle.std.specs.List.{Contains}
 use Rattle.std.specs.List.Sorted.{IsStrictlySortedBy}
 use Rattle.p10_base.specs.declared.at.At.{At}
@@ -10,8 +10,6 @@ use Rattle.p10_base.specs.Order.{violation_cmp}
 use Rattle.p10_syn.specs.Trees.{External}
 use Rattle.p10_core.specs.Typed.{PlainProgram}
 use Rattle.p10_cert.specs.Claims.{Claims}
-use Rattle.p10_expand.specs.declared.expanded.Obeyed.{Obeyed as ObeyedLine}
-use Rattle.p10_expand.specs.Plain.{PlainObeyed, plain_obeyed}
 use Rattle.p10_front.specs.Readings.{PlainReading, Reads}
 use Rattle.p10_pprules.specs.Violations as directives
 use Rattle.p10_synrules.specs.Violations as trees
@@ -20,12 +18,6 @@ use Rattle.p10_flowrules.specs.FlowRows as flow
 use Rattle.p10_finder.specs.Answers.{HaveResults, LacksBoundAt, bound_row}
 use Rattle.p10_warn.specs.Violations as warnings
 use Rattle.p10_check_command.specs.declared.report.Report.{Report}
-
--- a row on directives (rule 8, and 9.2) is violated by obeyed directives, wherever the texts of their words lie in memory
-pub record BreaksDirectiveRow (lines : List PlainObeyed) (v : Violation) : Type 0 where
-  pub obeyed : List ObeyedLine
-  pub are_lines : map plain_obeyed obeyed ≡ lines
-  pub breaks : directives.Violates obeyed v.sub v.span
 
 -- a row on programs is violated by a program
 pub data BreaksProgramRow (p : PlainProgram) (v : Violation) : Type 0 where
@@ -41,7 +33,8 @@ pub data BreaksProgramRow (p : PlainProgram) (v : Violation) : Type 0 where
 -- A violation stands in what files were read as. Those of trees and programs stand only where there are some: a refusal of
 -- directives or of the grammar leaves no trees, and any refusal leaves no program. The obeyed directives end with the refused one.
 pub data IsReported (g : Gathered) (reading : PlainReading) (v : Violation) : Type 0 where
-  in_directives : BreaksDirectiveRow reading.expansion.obeyed v → IsReported g reading v
+  -- rule 8, and 9.2
+  in_directives : directives.Violates reading.expansion.obeyed v.sub v.span → IsReported g reading v
   -- 1.1, 1.2, 4.1 to 5.5, 9.1, 9.3 and 9.4
   in_trees : (all : List (External At)) → reading.units ≡ Some all → trees.Violates g all v.sub v.span → IsReported g reading v
   in_program : (p : PlainProgram) → reading.program ≡ Some p → BreaksProgramRow p v → IsReported g reading v

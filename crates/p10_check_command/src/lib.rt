@@ -23,12 +23,12 @@ mod tell;
 mod violations;
 
 pub use command::CheckCommand;
-use p10_command::{GatheredRoots, gather_roots};
+use p10_command::{GatheredRoots, gather_roots, tell_trouble};
 use p10_world::{Files, Sink};
 pub use report::Report;
 use sources::check_sources;
 use std::alloc::Global;
-use tell::{tell_trouble, tell_ungathered};
+use tell::tell_gathering;
 
 /// Obeys the command: tells on `out` what breaks a rule and why the sources are refused, and all else on `err`. Gives the status
 /// with which the program exits.
@@ -66,7 +66,7 @@ pub fn check<F: Files, O: Sink, E: Sink>(
     match gathered {
         Ok(GatheredRoots::All(sources)) => check_sources(alloc, command, &sources, out, err),
         Ok(GatheredRoots::Stopped(why, sources)) => {
-            tell_ungathered(alloc, command, &sources, &why, out, err)
+            tell_gathering(alloc, command, &sources, &why, out, err)
         }
         Err(trouble) => tell_trouble(trouble, err),
     }

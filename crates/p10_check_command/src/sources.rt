@@ -1,7 +1,6 @@
 //! Gathered sources are read, and reported.
 
 ghost use Rattle.std.specs.Prelude.{◌≡◌, ◌≢◌, ◌⊎◌, IfOk, IfErr, IfSome, Ok};
-ghost use Rattle.std.specs.Io.KnownBytes.{Appends};
 ghost use Rattle.p10_world.specs.Faults.{Rose};
 ghost use Rattle.p10_expand.specs.Gathering.{Gathers, HaveWords};
 ghost use Rattle.p10_front.specs.Answers.{reading_of, CanBePrinted, IsFault};
@@ -9,17 +8,17 @@ ghost use Rattle.p10_front.specs.Readings.{Reads};
 ghost use Rattle.p10_report.specs.Json.{IsPrintable};
 ghost use Rattle.p10_report.specs.Stops.{StopsWithin};
 ghost use Rattle.p10_command.specs.Seen.{Seen};
-ghost use Rattle.p10_command.specs.Told.{Told, Stopped};
+ghost use Rattle.p10_command.specs.Told.{IsTold, Told, Stopped};
 ghost use Rattle.p10_check_command.specs.Answers.{setting_of, SaysRight};
 ghost use Rattle.p10_check_command.specs.Reports.{IsReport};
 ghost use Rattle.p10_check_command.specs.private.Telling.{fault_saying};
 
 use crate::command::CheckCommand;
 use crate::report::Report;
-use crate::tell::{tell_limit, tell_report, tell_trouble};
+use crate::tell::tell_report;
 use crate::violations::violations;
 use p10_base::{ListBuf, Sources};
-use p10_command::{Trouble, release};
+use p10_command::{Trouble, release, tell_limit, tell_trouble};
 use p10_front::{FrontFault, Reading, read};
 use p10_world::Sink;
 use std::alloc::Global;
@@ -47,8 +46,7 @@ pub fn check_sources<O: Sink, E: Sink>(
 
 /// Tells why there is no report, and gives the status of the program.
 fn tell_fault<E: Sink>(fault: FrontFault, err: &mut E) -> u8
-    ensures status { result ≢ 6 → result ≡ (fault_saying fault).status }
-    ensures told { result ≢ 6 → Appends (E.taken err.old) (E.taken err.new) (fault_saying fault).err }
+    ensures told { result ≢ 6 → IsTold (fault_saying fault).status (fault_saying fault).err (E.taken err.old) (E.taken err.new) result }
     ensures stopped { result ≡ 6 → StopsWithin (E.taken err.old) (E.taken err.new) (fault_saying fault).err }
     ensures write { result ≡ 6 → Rose (E.faults err.old) (E.faults err.new) }
 {

@@ -1,15 +1,11 @@
 //! What is told, and the status of the program.
 
-ghost use Rattle.std.specs.Prelude.{◌≡◌, ◌≢◌, ◌⊎◌, ◌≤◌, ◌<◌, ◌++◌, [], codes, length, slice_index_or, OnErr, OnOk};
+ghost use Rattle.std.specs.Prelude.{◌≡◌, ◌≢◌, ◌⊎◌, ◌≤◌, ◌++◌, codes, OnErr, OnOk};
 ghost use Rattle.std.specs.Io.KnownBytes.{Appends};
 ghost use Rattle.p10_world.specs.Faults.{Rose};
 ghost use Rattle.p10_world.specs.Sink.{TakesFront};
 ghost use Rattle.p10_report.specs.Json.{IsPrintable};
-ghost use Rattle.p10_report.specs.Lines.{limit_line};
-ghost use Rattle.p10_report.specs.Messages.{absent_line};
-ghost use Rattle.p10_report.specs.Stops.{StopsWithin};
 ghost use Rattle.p10_command.specs.Gathering.{CanBeTold};
-ghost use Rattle.p10_command.specs.Saying.{trouble_line, trouble_status};
 ghost use Rattle.p10_command.specs.Told.{Told, Stopped};
 ghost use Rattle.p10_check_command.specs.Answers.{report_saying, gathering_saying};
 ghost use Rattle.p10_check_command.specs.Texts.{json_line, refusal_lines, report_lines, report_status};
@@ -17,14 +13,14 @@ ghost use Rattle.p10_check_command.specs.private.Telling.{IsOrNoMemory};
 
 use crate::command::CheckCommand;
 use crate::report::Report;
-use p10_base::{Limit, Refusal, Sources};
-use p10_command::{Trouble, Ungathered, put_trouble};
-use p10_report::{json, put_absent, put_limit, put_refusal, put_violations};
+use p10_base::{Refusal, Sources};
+use p10_command::{Trouble, Ungathered, tell_trouble, tell_ungathered};
+use p10_report::{json, put_refusal, put_violations};
 use p10_world::{Sink, SinkFault};
 use std::alloc::Global;
 
 /// Tells why the sources of the command aren't gathered, and gives the status of the program. A refusal is reported.
-pub fn tell_ungathered<O: Sink, E: Sink>(
+pub fn tell_gathering<O: Sink, E: Sink>(
     alloc: Global,
     command: &CheckCommand,
     sources: &Sources,
@@ -39,13 +35,14 @@ pub fn tell_ungathered<O: Sink, E: Sink>(
         (O.taken out.old) (O.taken out.new) (E.taken err.old) (E.taken err.new) }
     ensures write { result ≡ 6 → Rose (O.faults out.old) (O.faults out.new) ⊎ Rose (E.faults err.old) (E.faults err.new) }
 {
+    let roots = command.sources.as_slice();
     match why {
         Ungathered::Refused(refusal) => {
             let report = Report::of_refusal(alloc, *refusal);
             tell_report(alloc, command, sources, &report, out, err)
         }
-        Ungathered::AbsentRoot(place) => tell_absent(command, *place, err),
-        Ungathered::Over(limit) => tell_limit(*limit, err),
+        Ungathered::AbsentRoot(_) => tell_ungathered(roots, sources, why, err),
+        Ungathered::Over(_) => tell_ungathered(roots, sources, why, err),
     }
 }
 
@@ -98,47 +95,6 @@ fn tell_json<O: Sink>(text: &str, report: &Report, out: &mut O) -> u8
 {
     match put_line(out, text) {
         Ok(()) => report.status(),
-        Err(_) => 6,
-    }
-}
-
-/// Tells that there is no root with the name at this place, and gives the status of the program.
-fn tell_absent<E: Sink>(command: &CheckCommand, place: u32, err: &mut E) -> u8
-    requires { place < length command.now.sources }
-    ensures status { result ≢ 6 → result ≡ 9 }
-    ensures told { result ≢ 6 → Appends (E.taken err.old) (E.taken err.new) (absent_line (slice_index_or command.now.sources place [])) }
-    ensures stopped { result ≡ 6 → StopsWithin (E.taken err.old) (E.taken err.new) (absent_line (slice_index_or command.now.sources place [])) }
-    ensures write { result ≡ 6 → Rose (E.faults err.old) (E.faults err.new) }
-{
-    let roots = command.sources.as_slice();
-    match put_absent(err, roots[place as usize].as_str()) {
-        Ok(()) => 9,
-        Err(_) => 6,
-    }
-}
-
-/// Tells that a limit is passed, and gives the status of the program.
-pub fn tell_limit<E: Sink>(limit: Limit, err: &mut E) -> u8
-    ensures status { result ≢ 6 → result ≡ 8 }
-    ensures told { result ≢ 6 → Appends (E.taken err.old) (E.taken err.new) (limit_line limit) }
-    ensures stopped { result ≡ 6 → StopsWithin (E.taken err.old) (E.taken err.new) (limit_line limit) }
-    ensures write { result ≡ 6 → Rose (E.faults err.old) (E.faults err.new) }
-{
-    match put_limit(err, limit) {
-        Ok(()) => 8,
-        Err(_) => 6,
-    }
-}
-
-/// Tells that a read has failed or memory is out, and gives the status of the program.
-pub fn tell_trouble<E: Sink>(trouble: Trouble, err: &mut E) -> u8
-    ensures status { result ≢ 6 → result ≡ trouble_status trouble }
-    ensures told { result ≢ 6 → Appends (E.taken err.old) (E.taken err.new) (trouble_line trouble) }
-    ensures stopped { result ≡ 6 → StopsWithin (E.taken err.old) (E.taken err.new) (trouble_line trouble) }
-    ensures write { result ≡ 6 → Rose (E.faults err.old) (E.faults err.new) }
-{
-    match put_trouble(err, trouble) {
-        Ok(()) => trouble.status(),
         Err(_) => 6,
     }
 }

@@ -4,3 +4,5 @@ pub mod Answered
 pub mod Sources
 pub mod OneOutput
 pub mod Once
+pub mod Causes
+pub mod Statuses

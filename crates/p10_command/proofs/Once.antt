@@ -1,5 +1,5 @@
 -- Where files are told, a command has one kind of sources: gathered or not, read or not, each for one reason.
-use Rattle.std.proofs.Common.{◌≡◌, ℕ, List, [], refl, sym, ◌∙◌, ap, Option, Some, None, IsSome, Result, Ok, Err}
+use Rattle.std.proofs.Common.{◌≡◌, ◌≢◌, ℕ, List, refl, sym, ◌∙◌, ap, subst, Option, Some, None, IsSome, Result, Ok, Err}
 use Rattle.std.proofs.lemmas.Option.{same_Some, none-some}
 use Rattle.p10_base.specs.declared.report.Limit.{Limit}
 use Rattle.p10_base.specs.declared.report.Refusal.{Refusal}
@@ -16,9 +16,12 @@ use Rattle.p10_command.specs.declared.gathering.Ungathered.{Ungathered}
 use Rattle.p10_command.specs.declared.gathering.Ungathered.TheVariants as gathering
 use Rattle.p10_command.specs.declared.reading.Unread.{Unread}
 use Rattle.p10_command.specs.declared.reading.Unread.TheVariants as reading
+use Rattle.p10_command.specs.declared.trouble.Trouble.{Trouble}
+use Rattle.p10_command.specs.declared.trouble.Trouble.TheVariants.{Read, Memory}
 use Rattle.p10_command.specs.Gathering.{AreUngathered}
+use Rattle.p10_command.specs.Programs.{HasProgram}
 use Rattle.p10_command.specs.Reading.{AreUnread}
-use Rattle.p10_command.specs.Saying.{ungathered_line, ungathered_status}
+use Rattle.p10_command.specs.Saying.{Saying, trouble_saying, trouble_status, ungathered_saying, unread_saying}
 
 -- ## Gathering
 
@@ -27,8 +30,18 @@ same_sources s told g h this that =
     let same : ◌≡◌ {A = Result Gathered GatherFault} (Ok g) (Ok h) = ends_once s told (Ok g) (Ok h) this that in
     cc
 
+pub gathers_or_fails : (s : Setting) → IsSome s.held → (g : Gathered) (f : GatherFault) → Gathers s g → FailsBy s f → ⊥
+gathers_or_fails s told g f gathers fails =
+    let same : ◌≡◌ {A = Result Gathered GatherFault} (Ok g) (Err f) = ends_once s told (Ok g) (Err f) gathers fails in
+    cc
+
+pub one_fault : (s : Setting) → IsSome s.held → (f e : GatherFault) → FailsBy s f → FailsBy s e → f ≡ e
+one_fault s told f e fails fails' =
+    let same : ◌≡◌ {A = Result Gathered GatherFault} (Err f) (Err e) = ends_once s told (Err f) (Err e) fails fails' in
+    cc
+
 -- the fault of gathering
-abbrev fault_of : Gathered → Ungathered → GatherFault
+abbrev pub fault_of : Gathered → Ungathered → GatherFault
 fault_of g (gathering.AbsentRoot place) = fault.RootAbsent place
 fault_of g (gathering.Refused refusal) = fault.Refused refusal g
 fault_of g (gathering.Over limit) = fault.Over limit
@@ -39,52 +52,28 @@ fails_by s g (gathering.Refused refusal) fails = fails
 fails_by s g (gathering.Over limit) fails = fails
 
 pub gathered_or_not : (s : Setting) → IsSome s.held → (g h : Gathered) (why : Ungathered) → Gathers s g → AreUngathered s h why → ⊥
-gathered_or_not s told g h why gathers fails =
-    let same : ◌≡◌ {A = Result Gathered GatherFault} (Ok g) (Err (fault_of h why)) = ends_once s told (Ok g) (Err (fault_of h why)) gathers (fails_by s h why fails) in
-    cc
+gathered_or_not s told g h why gathers fails = gathers_or_fails s told g (fault_of h why) gathers (fails_by s h why fails)
+
+pub same_fault : (s : Setting) → IsSome s.held → (g h : Gathered) (this that : Ungathered) → AreUngathered s g this → AreUngathered s h that → fault_of g this ≡ fault_of h that
+same_fault s told g h this that fails fails' = one_fault s told (fault_of g this) (fault_of h that) (fails_by s g this fails) (fails_by s h that fails')
 
 -- what is said for a fault
-abbrev fault_status : GatherFault → ℕ
-fault_status (fault.RootAbsent place) = 9
-fault_status (fault.Refused refusal g) = 3
-fault_status (fault.Over limit) = 8
-fault_status fault.Read = 5
-fault_status fault.Memory = 7
+abbrev saying_by : List Text → GatherFault → Saying
+saying_by roots (fault.RootAbsent place) = ungathered_saying roots nothing_gathered (gathering.AbsentRoot place)
+saying_by roots (fault.Refused refusal g) = ungathered_saying roots g (gathering.Refused refusal)
+saying_by roots (fault.Over limit) = ungathered_saying roots nothing_gathered (gathering.Over limit)
+saying_by roots fault.Read = trouble_saying Read
+saying_by roots fault.Memory = trouble_saying Memory
 
-abbrev fault_line : List Text → GatherFault → List ℕ
-fault_line roots (fault.RootAbsent place) = ungathered_line roots nothing_gathered (gathering.AbsentRoot place)
-fault_line roots (fault.Refused refusal g) = ungathered_line roots g (gathering.Refused refusal)
-fault_line roots (fault.Over limit) = ungathered_line roots nothing_gathered (gathering.Over limit)
-fault_line roots fault.Read = []
-fault_line roots fault.Memory = []
+said_of : (roots : List Text) (g : Gathered) (why : Ungathered) → ungathered_saying roots g why ≡ saying_by roots (fault_of g why)
+said_of roots g (gathering.AbsentRoot place) = refl
+said_of roots g (gathering.Refused refusal) = refl
+said_of roots g (gathering.Over limit) = refl
 
-status_of_fault : (g : Gathered) (why : Ungathered) → ungathered_status why ≡ fault_status (fault_of g why)
-status_of_fault g (gathering.AbsentRoot place) = refl
-status_of_fault g (gathering.Refused refusal) = refl
-status_of_fault g (gathering.Over limit) = refl
-
-line_of_fault : (roots : List Text) (g : Gathered) (why : Ungathered) → ungathered_line roots g why ≡ fault_line roots (fault_of g why)
-line_of_fault roots g (gathering.AbsentRoot place) = refl
-line_of_fault roots g (gathering.Refused refusal) = refl
-line_of_fault roots g (gathering.Over limit) = refl
-
-same_fault : (s : Setting) → IsSome s.held → (g h : Gathered) (this that : Ungathered) → AreUngathered s g this → AreUngathered s h that → fault_of g this ≡ fault_of h that
-same_fault s told g h this that fails fails' =
-    let same : ◌≡◌ {A = Result Gathered GatherFault} (Err (fault_of g this)) (Err (fault_of h that)) = ends_once s told (Err (fault_of g this)) (Err (fault_of h that)) (fails_by s g this fails) (fails_by s h that fails') in
-    cc
-
--- sources aren't gathered for one reason alone, which is told by one status and line
-pub record SaysSame (roots : List Text) (g h : Gathered) (this that : Ungathered) : Type 0 where
-  pub status : ungathered_status this ≡ ungathered_status that
-  pub line : ungathered_line roots g this ≡ ungathered_line roots h that
-
-pub one_ungathered : (s : Setting) → IsSome s.held → (roots : List Text) (g h : Gathered) (this that : Ungathered) → AreUngathered s g this → AreUngathered s h that → SaysSame roots g h this that
+-- one thing is said where sources aren't gathered
+pub one_ungathered : (s : Setting) → IsSome s.held → (roots : List Text) (g h : Gathered) (this that : Ungathered) → AreUngathered s g this → AreUngathered s h that → ungathered_saying roots g this ≡ ungathered_saying roots h that
 one_ungathered s told roots g h this that fails fails' =
-    let same = same_fault s told g h this that fails fails' in
-    record {
-      status = status_of_fault g this ∙ ap fault_status same ∙ sym (status_of_fault h that);
-      line = line_of_fault roots g this ∙ ap (λ (f : GatherFault). fault_line roots f) same ∙ sym (line_of_fault roots h that);
-    }
+    said_of roots g this ∙ ap (λ (f : GatherFault). saying_by roots f) (same_fault s told g h this that fails fails') ∙ sym (said_of roots h that)
 
 -- ## Reading
 
@@ -122,3 +111,44 @@ one_unread once g (reading.Refused r) (reading.Over m) is over =
 one_unread once g (reading.Over l) (reading.Refused q) over is =
     let same : ◌≡◌ {A = Result PlainReading Limit} (Ok is.reading) (Err l) = once g _ _ is.reads over in
     cc
+
+-- sources that are gathered are no program for one reason
+pub same_unread : ReadsOnce → (s : Setting) → IsSome s.held → (g h : Gathered) (this that : Unread) → Gathers s g → AreUnread g this → Gathers s h → AreUnread h that → this ≡ that
+same_unread once s told g h this that gathers is gathers' is' =
+    one_unread once g this that is (subst (λ (x : Gathered). AreUnread x that) (sym (same_sources s told g h gathers gathers')) is')
+
+-- and one thing is said of it
+pub one_unread_saying : ReadsOnce → (s : Setting) → IsSome s.held → (g h : Gathered) (this that : Unread) → Gathers s g → AreUnread g this → Gathers s h → AreUnread h that → unread_saying g this ≡ unread_saying h that
+one_unread_saying once s told g h this that gathers is gathers' is' =
+    ap (λ (why : Unread). unread_saying g why) (same_unread once s told g h this that gathers is gathers' is')
+    ∙ ap (λ (x : Gathered). unread_saying x that) (same_sources s told g h gathers gathers')
+
+-- ## Programs
+
+-- the sources are gathered once, and have one program
+pub record SameProgram (g h : Gathered) (p q : PlainProgram) : Type 0 where
+  pub sources_are : g ≡ h
+  pub program_is : p ≡ q
+
+pub has_once : ReadsOnce → (s : Setting) → IsSome s.held → (g h : Gathered) (p q : PlainProgram) → HasProgram s g p → HasProgram s h q → SameProgram g h p q
+has_once once s told g h p q this that =
+    let sources : g ≡ h = same_sources s told g h this.gathers that.gathers in
+    record { sources_are = sources; program_is = same_program once h this.reading that.reading p q (subst (λ (x : Gathered). AreReadAs x this.reading p) sources this.read) that.read }
+
+-- gathered sources are a program or none
+pub unread_or_program : ReadsOnce → (s : Setting) → IsSome s.held → (g h : Gathered) (why : Unread) (q : PlainProgram) → Gathers s g → AreUnread g why → HasProgram s h q → ⊥
+unread_or_program once s told g h why q gathers is has =
+    read_or_not once h has.reading q why has.read (subst (λ (x : Gathered). AreUnread x why) (same_sources s told g h gathers has.gathers) is)
+
+-- ## What is told
+
+pub is_told : {A : Type 0} (held : Option A) (x : A) → held ≡ Some x → IsSome held
+is_told held x is = subst (λ h. IsSome h) (sym is) refl
+
+-- a trouble is told by no other status
+pub no_trouble : (trouble : Trouble) (status : ℕ) → status ≡ trouble_status trouble → status ≢ 5 → status ≢ 7 → ⊥
+no_trouble Read status is five seven = five is
+no_trouble Memory status is five seven = seven is
+
+pub untroubled : (trouble : Trouble) (saying : Saying) → saying ≡ trouble_saying trouble → saying.status ≢ 5 → saying.status ≢ 7 → ⊥
+untroubled trouble saying said five seven = no_trouble trouble saying.status (ap (λ (s : Saying). s.status) said) five seven

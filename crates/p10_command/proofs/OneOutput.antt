@@ -32,7 +32,16 @@ stopped_line may saying out err_old err_new is none stopped = record {
   taken = record { on_out = no_front out saying.out none; on_err = TakesFront-stop err_old err_new saying.err stopped };
 }
 
--- the same names are told
+-- ## The same as something more may be said
+
+pub may_be_more : (may more : Saying → Type 0) (out_old out_new err_old err_new : Option (List ℕ)) (given : ℕ) → ((saying : Saying) → may saying → more saying) → Told may out_old out_new err_old err_new given → Told more out_old out_new err_old err_new given
+may_be_more may more out_old out_new err_old err_new given each told = record { saying = told.saying; may = each told.saying told.may; status_is = told.status_is; taken = told.taken }
+
+pub may_stop_more : (may more : Saying → Type 0) (out_old out_new err_old err_new : Option (List ℕ)) → ((saying : Saying) → may saying → more saying) → Stopped may out_old out_new err_old err_new → Stopped more out_old out_new err_old err_new
+may_stop_more may more out_old out_new err_old err_new each stopped = record { saying = stopped.saying; may = each stopped.saying stopped.may; taken = stopped.taken }
+
+-- ## The same names are told
+
 pub named_told : (roots roots' : List Text) (g : Gathered) (why : Ungathered) (old new : Option (List ℕ)) (given : ℕ) → roots ≡ roots' → IsTold (ungathered_status why) (ungathered_line roots g why) old new given
     → IsTold (ungathered_status why) (ungathered_line roots' g why) old new given
 named_told roots roots' g why old new given same told = subst (λ (line : List ℕ). IsTold (ungathered_status why) line old new given) (ap (λ (names : List Text). ungathered_line names g why) same) told

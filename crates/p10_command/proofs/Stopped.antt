@@ -32,7 +32,7 @@ stopped_by s fault.Read fails = tt
 stopped_by s fault.Memory fails = tt
 
 -- the names that files are gathered by are those of the command
-with_names : (held : Option (List Named)) (roots directories named_roots named_directories : List Text) (P : Setting → Type 0) → named_roots ≡ roots → named_directories ≡ directories → P (setting held named_roots named_directories) → P (setting held roots directories)
+pub with_names : (held : Option (List Named)) (roots directories named_roots named_directories : List Text) (P : Setting → Type 0) → named_roots ≡ roots → named_directories ≡ directories → P (setting held named_roots named_directories) → P (setting held roots directories)
 with_names held roots directories named_roots named_directories P same_roots same_directories is =
     subst (λ ds. P (setting held roots ds)) same_directories (subst (λ rs. P (setting held rs named_directories)) same_roots is)
 

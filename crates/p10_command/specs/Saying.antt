@@ -1,5 +1,6 @@
 -- What is said: the status of the program, and the texts on its two outputs.
 use Rattle.std.specs.Prelude.{ℕ, List, [], slice_index_or}
+use Rattle.p10_base.specs.declared.report.Limit.{Limit}
 use Rattle.p10_base.specs.Gathered.{Gathered}
 use Rattle.p10_base.specs.Words.{Text}
 use Rattle.p10_report.specs.Lines.{limit_line, refusal_line}
@@ -48,3 +49,25 @@ trouble_status Memory = 7
 abbrev pub trouble_line : Trouble → List ℕ
 trouble_line Read = read_fault_line
 trouble_line Memory = out_of_memory_line
+
+-- ## What is said on the error output alone
+
+-- what is said with a status and a line alone
+abbrev pub line_saying : ℕ → List ℕ → Saying
+line_saying status line = record { status = status; out = []; err = line }
+
+-- what is said where the sources aren't gathered: the names of the roots are these, and a refusal lies in these files
+abbrev pub ungathered_saying : List Text → Gathered → Ungathered → Saying
+ungathered_saying roots g why = line_saying (ungathered_status why) (ungathered_line roots g why)
+
+-- what is said where gathered sources are no program
+abbrev pub unread_saying : Gathered → Unread → Saying
+unread_saying g why = line_saying (unread_status why) (unread_line g why)
+
+-- what is said where a limit is passed
+abbrev pub limit_saying : Limit → Saying
+limit_saying limit = line_saying 8 (limit_line limit)
+
+-- what is said where a read failed, or memory is out
+abbrev pub trouble_saying : Trouble → Saying
+trouble_saying trouble = line_saying (trouble_status trouble) (trouble_line trouble)

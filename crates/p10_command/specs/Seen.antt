@@ -1,6 +1,9 @@
 -- What a command sees of the outside.
 use Rattle.std.specs.Prelude.{ℕ, List, Option}
+use Rattle.p10_world.specs.Faults.{Rose}
 use Rattle.p10_world.specs.Files.{Named}
+use Rattle.p10_command.specs.declared.trouble.Trouble.{Trouble}
+use Rattle.p10_command.specs.declared.trouble.Trouble.TheVariants.{Read, Memory}
 
 -- what is seen of the files: those that are held, where they are told, and the counts of faults before and after
 pub record Seen : Type 0 where
@@ -13,3 +16,9 @@ pub record SeenInput : Type 0 where
   pub left : Option (List ℕ)
   pub faults_before : ℕ
   pub faults_after : ℕ
+
+-- a trouble has its cause, by the counts of faults before and after: a read has failed only where the count rose; memory may be out
+-- at any time
+abbrev pub HasCause : Trouble → ℕ → ℕ → Type 0
+HasCause Read before after = Rose before after
+HasCause Memory before after = Unit {0}

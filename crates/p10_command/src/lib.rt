@@ -9,7 +9,7 @@
 //! | [`Unread`]: D1 to D8, G1, S1 to S30; M3 to M6, M8 | 3, 8 | `a.c:1:5: refused S1: unknown name` | [`put_unread`] |
 //! | [`Trouble`]: a read failed, or no memory | 5, 7 | `p10: read fault` | [`put_trouble`] |
 //!
-//! [`tell_ungathered`], [`tell_unread`] and [`tell_trouble`] give the status as well.
+//! [`tell_ungathered`], [`tell_unread`], [`tell_trouble`] and [`tell_limit`] give the status as well.
 //!
 //! Invariant: where the files are told, each comes exactly where it is right, but for trouble. What a command does with its
 //! program is left to the crates above.
@@ -23,6 +23,6 @@ mod trouble;
 
 pub use gathering::{GatheredRoots, Ungathered, gather_roots, put_ungathered};
 pub use reading::{ReadSources, Unread, put_unread, read_sources, release};
-pub use telling::{tell_trouble, tell_ungathered, tell_unread};
+pub use telling::{tell_limit, tell_trouble, tell_ungathered, tell_unread};
 pub use texts::strings;
 pub use trouble::{Trouble, put_trouble};

@@ -1,7 +1,8 @@
-//! Why a command has no program, told with the status of the program.
+//! Why a command has no answer, told with the status of the program.
 
 ghost use Rattle.std.specs.Prelude.{◌≡◌, ◌≢◌};
 ghost use Rattle.p10_world.specs.Faults.{Rose};
+ghost use Rattle.p10_report.specs.Lines.{limit_line};
 ghost use Rattle.p10_report.specs.Stops.{StopsWithin};
 ghost use Rattle.p10_command.specs.Gathering.{CanBeTold};
 ghost use Rattle.p10_command.specs.Reading.{HasCode};
@@ -11,7 +12,8 @@ ghost use Rattle.p10_command.specs.Told.{IsTold};
 use crate::gathering::{Ungathered, put_ungathered};
 use crate::reading::{Unread, put_unread};
 use crate::trouble::{Trouble, put_trouble};
-use p10_base::{Sources, TextBuf};
+use p10_base::{Limit, Sources, TextBuf};
+use p10_report::put_limit;
 use p10_world::Sink;
 
 /// Tells why sources aren't gathered, as [`put_ungathered`], and gives the status of the program; 6 where the write failed.
@@ -53,6 +55,18 @@ pub fn tell_trouble<E: Sink>(trouble: Trouble, err: &mut E) -> u8
 {
     match put_trouble(err, trouble) {
         Ok(()) => trouble.status(),
+        Err(_) => 6,
+    }
+}
+
+/// Tells that a limit is passed, and gives the status of the program; 6 where the write failed.
+pub fn tell_limit<E: Sink>(limit: Limit, err: &mut E) -> u8
+    ensures told { result ≢ 6 → IsTold 8 (limit_line limit) (E.taken err.old) (E.taken err.new) result }
+    ensures stopped { result ≡ 6 → StopsWithin (E.taken err.old) (E.taken err.new) (limit_line limit) }
+    ensures write { result ≡ 6 → Rose (E.faults err.old) (E.faults err.new) }
+{
+    match put_limit(err, limit) {
+        Ok(()) => 8,
         Err(_) => 6,
     }
 }

@@ -1,5 +1,5 @@
 -- What is told on one of the outputs alone.
-use Rattle.std.proofs.Common.{◌≡◌, ℕ, List, [], refl, sym, subst, ap, Option, Result, Err}
+use Rattle.std.proofs.Common.{◌≡◌, ℕ, List, [], refl, sym, subst, ap, Option}
 use Rattle.std.specs.Io.KnownBytes.{Appends}
 use Rattle.std.proofs.KnownBytes.{Appends-nil}
 use Rattle.p10_base.specs.declared.report.Violation.{Violation}
@@ -7,44 +7,29 @@ use Rattle.p10_base.specs.Gathered.{Gathered}
 use Rattle.p10_report.specs.Stops.{StopsWithin}
 use Rattle.p10_report.specs.Violations.{violation_lines}
 use Rattle.p10_report.proofs.Stopping.{TakesFront-stop}
-use Rattle.p10_world.specs.Faults.{Rose}
 use Rattle.p10_world.specs.Sink.{TakesFront}
 use Rattle.p10_cert.specs.Certificate.{certificate_text}
 use Rattle.p10_cert.specs.Claims.{Claims}
 use Rattle.p10_finder.specs.declared.found.FinderFault.{FinderFault}
 use Rattle.p10_finder.specs.declared.found.FinderFault.TheVariants as finder
 use Rattle.p10_finder.specs.Answers.{Derived, Violating, Certified}
-use Rattle.p10_command.specs.declared.trouble.Trouble.{Trouble}
-use Rattle.p10_command.specs.declared.trouble.Trouble.TheVariants.{Read, Memory}
 use Rattle.p10_command.specs.Saying.{Saying}
-use Rattle.p10_command.specs.Seen.{Seen}
 use Rattle.p10_command.specs.Told.{Told, Stopped}
-use Rattle.p10_command.proofs.OneOutput.{no_front}
-use Rattle.p10_derive_command.specs.Answers.{HasCause, derived_saying}
+use Rattle.p10_command.proofs.OneOutput.{may_be_more, may_stop_more, no_front}
+use Rattle.p10_derive_command.specs.Answers.{derived_saying}
 use Rattle.p10_derive_command.specs.private.Telling.{IsSaid, fault_saying}
 
 -- ## What may be said
 
 -- what is told is right where the one thing that is said is
+is_right : (right : Saying → Type 0) (wanted : Saying) → right wanted → (saying : Saying) → IsSaid wanted saying → right saying
+is_right right wanted is saying said = subst (λ (s : Saying). right s) (sym said) is
+
 pub said_right : (right : Saying → Type 0) (wanted : Saying) (out_old out_new err_old err_new : Option (List ℕ)) (given : ℕ) → right wanted → Told (IsSaid wanted) out_old out_new err_old err_new given → Told right out_old out_new err_old err_new given
-said_right right wanted out_old out_new err_old err_new given is told = record {
-  saying = told.saying;
-  may = subst (λ (s : Saying). right s) (sym told.may) is;
-  status_is = told.status_is;
-  taken = told.taken;
-}
+said_right right wanted out_old out_new err_old err_new given is told = may_be_more (IsSaid wanted) right out_old out_new err_old err_new given (is_right right wanted is) told
 
 pub stopped_right : (right : Saying → Type 0) (wanted : Saying) (out_old out_new err_old err_new : Option (List ℕ)) → right wanted → Stopped (IsSaid wanted) out_old out_new err_old err_new → Stopped right out_old out_new err_old err_new
-stopped_right right wanted out_old out_new err_old err_new is stopped = record {
-  saying = stopped.saying;
-  may = subst (λ (s : Saying). right s) (sym stopped.may) is;
-  taken = stopped.taken;
-}
-
--- a trouble comes as it may
-pub has_cause : {T : Type 0} (result : Result T Trouble) (trouble : Trouble) (seen : Seen) → result ≡ Err trouble → (result ≡ Err Read → Rose seen.faults_before seen.faults_after) → HasCause trouble seen
-has_cause result Read seen is rises = rises is
-has_cause result Memory seen is rises = tt
+stopped_right right wanted out_old out_new err_old err_new is stopped = may_stop_more (IsSaid wanted) right out_old out_new err_old err_new (is_right right wanted is) stopped
 
 -- ## On the error output
 

@@ -1,33 +1,29 @@
 -- What holds of the answers.
-use Rattle.std.specs.Prelude.{◌≡◌, ◌≢◌, List, [], Some}
+use Rattle.std.specs.Prelude.{◌≡◌, List, []}
 use Rattle.p10_base.specs.declared.report.Violation.{Violation}
 use Rattle.p10_base.specs.Gathered.{Gathered}
-use Rattle.p10_world.specs.Files.{Named}
 use Rattle.p10_core.specs.Typed.{PlainProgram}
 use Rattle.p10_report.specs.Violations.{violation_lines}
 use Rattle.p10_cert.specs.Certificate.{certificate_text}
 use Rattle.p10_cert.specs.Claims.{Claims}
 use Rattle.p10_finder.specs.Answers.{Violating, Certified, IsDerived}
+use Rattle.p10_command.specs.Laws.{OneIsRight}
+use Rattle.p10_command.specs.Programs.{HasProgram}
 use Rattle.p10_command.specs.Saying.{Saying}
 use Rattle.p10_command.specs.Seen.{Seen}
 use Rattle.p10_derive_command.specs.declared.command.DeriveCommand.{DeriveCommand}
-use Rattle.p10_derive_command.specs.Answers.{GathersProgram, SaysRight, setting_of}
+use Rattle.p10_derive_command.specs.Answers.{SaysRight, setting_of}
 
--- Where files are told, only one thing may be said to a command, but for a read fault and out of memory. So each answer comes
--- exactly where it is right.
+-- only one thing is right to say to a command
 abbrev pub DeriveSaysOneThing : Type 0
-DeriveSaysOneThing =
-    (derive : DeriveCommand) (seen : Seen) (files : List Named) (some other : Saying) → seen.held ≡ Some files
-    → SaysRight derive seen some → SaysRight derive seen other
-    → some.status ≢ 5 → some.status ≢ 7 → other.status ≢ 5 → other.status ≢ 7
-    → some ≡ other
+DeriveSaysOneThing = (derive : DeriveCommand) → OneIsRight (SaysRight derive)
 
 -- what is said is the text of the certificate that is derived of the sources' program
 pub record TellsCertificate (derive : DeriveCommand) (seen : Seen) (saying : Saying) : Type 0 where
   pub files : Gathered
   pub program : PlainProgram
   pub claims : Claims
-  pub gathers : GathersProgram (setting_of seen derive) files program
+  pub gathers : HasProgram (setting_of seen derive) files program
   pub derived : IsDerived program (Certified claims)
   pub on_out : saying.out ≡ certificate_text claims
   pub on_err : saying.err ≡ []
@@ -41,7 +37,7 @@ pub record TellsViolations (derive : DeriveCommand) (seen : Seen) (saying : Sayi
   pub files : Gathered
   pub program : PlainProgram
   pub violations : List Violation
-  pub gathers : GathersProgram (setting_of seen derive) files program
+  pub gathers : HasProgram (setting_of seen derive) files program
   pub derived : IsDerived program (Violating violations)
   pub on_out : saying.out ≡ []
   pub on_err : saying.err ≡ violation_lines files violations

@@ -4,7 +4,6 @@ ghost use Rattle.std.specs.Prelude.{◌≡◌, ◌≢◌, ◌⊎◌};
 ghost use Rattle.std.specs.Io.KnownBytes.{Appends};
 ghost use Rattle.p10_world.specs.Faults.{Rose};
 ghost use Rattle.p10_world.specs.Sink.{TakesFront};
-ghost use Rattle.p10_report.specs.Lines.{limit_line};
 ghost use Rattle.p10_report.specs.Stops.{StopsWithin};
 ghost use Rattle.p10_report.specs.Violations.{violation_lines};
 ghost use Rattle.p10_cert.specs.Certificate.{certificate_text};
@@ -14,11 +13,11 @@ ghost use Rattle.p10_command.specs.Told.{IsTold, Told, Stopped};
 ghost use Rattle.p10_derive_command.specs.Answers.{derived_saying};
 ghost use Rattle.p10_derive_command.specs.private.Telling.{end_saying, fault_saying, IsSaid};
 
-use p10_base::{Limit, Sources, Violation};
+use p10_base::{Sources, Violation};
 use p10_cert::{Cert, write};
-use p10_command::{Trouble, tell_trouble};
+use p10_command::{Trouble, tell_limit, tell_trouble};
 use p10_finder::{FinderFault, Found};
-use p10_report::{put_limit, put_violations};
+use p10_report::put_violations;
 use p10_world::Sink;
 
 /// Tells what has come of derivation, and gives the status of the program.
@@ -85,17 +84,5 @@ fn tell_fault<E: Sink>(fault: FinderFault, err: &mut E) -> u8
     match fault {
         FinderFault::Over(limit) => tell_limit(limit, err),
         FinderFault::Memory => tell_trouble(Trouble::Memory, err),
-    }
-}
-
-/// Tells that a limit is passed, and gives the status of the program.
-fn tell_limit<E: Sink>(limit: Limit, err: &mut E) -> u8
-    ensures told { result ≢ 6 → IsTold 8 (limit_line limit) (E.taken err.old) (E.taken err.new) result }
-    ensures stopped { result ≡ 6 → StopsWithin (E.taken err.old) (E.taken err.new) (limit_line limit) }
-    ensures write { result ≡ 6 → Rose (E.faults err.old) (E.faults err.new) }
-{
-    match put_limit(err, limit) {
-        Ok(()) => 8,
-        Err(_) => 6,
     }
 }

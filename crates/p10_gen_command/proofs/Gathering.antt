@@ -1,17 +1,14 @@
 -- What the generated file comes to, up to its program.
-use Rattle.std.proofs.Common.{◌≡◌, ℕ, ◌<◌, [], length, refl, sym, subst, arith, inl, Option, Some, None, IsSomeAnd, Result, Ok, Err, IfOk, rules}
+use Rattle.std.proofs.Common.{◌≡◌, ℕ, ◌<◌, [], length, refl, sym, subst, arith, inl, IsSomeAnd, Result, Ok, Err, IfOk, rules}
 use Rattle.p10_base.specs.declared.report.Limit.{Limit}
 use Rattle.p10_base.specs.declared.report.TheConstants.Limit.{FILE_BYTES, MOST_FILE_BYTES}
 use Rattle.p10_base.specs.Gathered.{Gathered}
 use Rattle.p10_core.specs.Views.{plain_program}
-use Rattle.p10_core.specs.WholePrograms.{IsWholeProgram}
 use Rattle.p10_core.specs.declared.program.Program.{Program}
 use Rattle.p10_expand.specs.declared.place.Place.TheVariants.{File}
 use Rattle.p10_expand.specs.declared.fault.GatherFault.TheVariants as fault
 use Rattle.p10_expand.specs.Gathering.{Setting, Root, beginning}
 use Rattle.p10_front.specs.declared.reading.Reading.{Reading}
-use Rattle.p10_front.specs.Answers.{reading_of}
-use Rattle.p10_front.specs.Readings.{PlainReading, AreReadAs}
 use Rattle.p10_command.specs.declared.gathering.GatheredRoots.{GatheredRoots}
 use Rattle.p10_command.specs.declared.gathering.GatheredRoots.TheVariants.{All, Stopped}
 use Rattle.p10_command.specs.declared.gathering.Ungathered.{Ungathered}
@@ -21,6 +18,7 @@ use Rattle.p10_command.specs.declared.reading.ReadSources.TheVariants as read
 use Rattle.p10_command.specs.declared.reading.Unread.{Unread}
 use Rattle.p10_command.specs.Gathering.{AreGathered, AreUngathered}
 use Rattle.p10_command.specs.Reading.{AreRead}
+use Rattle.p10_command.proofs.Sources.{are_program, are_unread, program_of}
 use Rattle.p10_gen.specs.declared.fault.GenFault.{GenFault}
 use Rattle.p10_gen.specs.declared.fault.GenFault.TheVariants as gen
 use Rattle.p10_gen.specs.Faults.{IsFault}
@@ -76,13 +74,11 @@ ungathered_right s found g why answer is are by =
 
 -- ## What is read
 
-by_program : (g : Gathered) (r : PlainReading) (o : Option Program) (answer : Answer) → IsSomeAnd o (λ p. AreReadAs g r (plain_program p) × IsWholeProgram (plain_program p)) → IsSomeAnd o (λ p. IsShown (plain_program p) answer) → IsRightFor g answer
-by_program g r None answer are is s gathers = absurd are
-by_program g r (Some p) answer are is s gathers = shown g (plain_program p) (record { gathers = gathers; reading = r; read = are.0; whole = are.1 }) is
-
 pub program_right : {E : Type 0} (g : Gathered) (found : ReadSources) (reading : Reading) (r : Result Answer E) → found ≡ read.Program reading → AreRead g found → IfOk r (λ answer. IsSomeAnd reading.program (λ p. IsShown (plain_program p) answer)) → IfOk r (IsRightFor g)
 program_right g found reading (Err e) is are comes = tt
-program_right g found reading (Ok answer) is are comes = by_program g (reading_of reading) reading.program answer (subst (λ (f : ReadSources). AreRead g f) is are) comes
+program_right g found reading (Ok answer) is are comes = λ s gathers.
+    let (p, has, shows) = program_of s g reading (λ p. IsShown p answer) gathers (are_program g found reading is are) comes in
+    shown g p has shows
 
 pub unread_right : (g : Gathered) (found : ReadSources) (why : Unread) (answer : Answer) → found ≡ read.Unread why → AreRead g found → answer ≡ unread_answer why → IsRightFor g answer
-unread_right g found why answer is are by s gathers = unread g why gathers (subst (λ (f : ReadSources). AreRead g f) is are).0 by
+unread_right g found why answer is are by s gathers = unread g why gathers (are_unread g found why is are).0 by

@@ -11,7 +11,7 @@ use Rattle.p10_finder.specs.Answers.{Certified, IsDerived}
 use Rattle.p10_judge.specs.declared.judgement.Judgement.{Judgement}
 use Rattle.p10_judge.specs.declared.judgement.Judgement.TheVariants.{TooLong, BadCertificate, Failing, Accepted}
 use Rattle.p10_judge.specs.Judging.{IsWeighed}
-use Rattle.p10_judge.specs.Programs.{HasProgram}
+use Rattle.p10_command.specs.Programs.{HasProgram}
 use Rattle.p10_meaning.specs.Runs.{Outcome, Returned, Turns, Ended}
 use Rattle.p10_command.specs.declared.reading.Unread.{Unread}
 use Rattle.p10_command.specs.declared.reading.Unread.TheVariants as reading
@@ -19,7 +19,7 @@ use Rattle.p10_command.specs.Saying.{Saying}
 use Rattle.p10_gen_command.specs.declared.answer.Answer.{Answer}
 use Rattle.p10_gen_command.specs.declared.answer.Answer.TheVariants.{Over, Fails, Returns, OutOfMemory}
 use Rattle.p10_gen_command.specs.Answers.{IsRight, IsShown, certified, ended_answer, judged_answer, out_of_memory, outcome_within, passing, setting_of, shown, ungathered, ungathered_answer, unread, unread_answer, violating}
-use Rattle.p10_gen_command.specs.Laws.{GenHasFewStatuses, IsTold, SuccessIsTold}
+use Rattle.p10_gen_command.specs.Laws.{GenHasFewStatuses, SuccessIsTold, TellsReturn}
 use Rattle.p10_gen_command.specs.Told.{saying_of, status_of}
 
 -- ## Few statuses
@@ -57,7 +57,7 @@ returned_by total other value (Turns n) is = absurd (cc)
 returned_by total other value (Ended end) is = absurd (cc)
 
 by_judgement : (n : ℕ) (g : _) (p : PlainProgram) (claims : Claims) (judgement : Judgement) (total : Bounds) (value : ℤ) → HasProgram (setting_of n) g p → IsDerived p (Certified claims) → IsWeighed p (certificate_text claims) judgement
-    → Returns total value ≡ judged_answer p claims judgement → (saying : Saying) → saying ≡ saying_of n (Returns total value) → IsTold n saying
+    → Returns total value ≡ judged_answer p claims judgement → (saying : Saying) → saying ≡ saying_of n (Returns total value) → TellsReturn n saying
 by_judgement n g p claims TooLong total value has derived weighed is saying said = absurd (cc)
 by_judgement n g p claims (BadCertificate line) total value has derived weighed is saying said = absurd (cc)
 by_judgement n g p claims (Failing k at) total value has derived weighed is saying said = absurd (cc)
@@ -77,18 +77,18 @@ by_judgement n g p claims (Accepted bounds) total value has derived weighed is s
       on_err = ap (λ (s : Saying). s.err) said;
     }
 
-by_shown : (n : ℕ) (g : _) (p : PlainProgram) (total : Bounds) (value : ℤ) → HasProgram (setting_of n) g p → IsShown p (Returns total value) → (saying : Saying) → saying ≡ saying_of n (Returns total value) → IsTold n saying
+by_shown : (n : ℕ) (g : _) (p : PlainProgram) (total : Bounds) (value : ℤ) → HasProgram (setting_of n) g p → IsShown p (Returns total value) → (saying : Saying) → saying ≡ saying_of n (Returns total value) → TellsReturn n saying
 by_shown n g p total value has (violating v derived is) saying said = absurd (cc)
 by_shown n g p total value has (passing l derived is) saying said = absurd (cc)
 by_shown n g p total value has (certified claims judgement derived weighed is) saying said = by_judgement n g p claims judgement total value has derived weighed is saying said
 
-by_right : (n : ℕ) (total : Bounds) (value : ℤ) → IsRight (setting_of n) (Returns total value) → (saying : Saying) → saying ≡ saying_of n (Returns total value) → IsTold n saying
+by_right : (n : ℕ) (total : Bounds) (value : ℤ) → IsRight (setting_of n) (Returns total value) → (saying : Saying) → saying ≡ saying_of n (Returns total value) → TellsReturn n saying
 by_right n total value (ungathered why fails is) saying said = absurd (not_ungathered why total value is)
 by_right n total value (unread g why gathers reads is) saying said = absurd (not_unread why total value is)
 by_right n total value (shown g p has is) saying said = by_shown n g p total value has is saying said
 by_right n total value (out_of_memory is) saying said = absurd (cc)
 
-by_answer : (n : ℕ) (saying : Saying) (answer : Answer) → IsRight (setting_of n) answer → saying ≡ saying_of n answer → saying.status ≡ 0 → IsTold n saying
+by_answer : (n : ℕ) (saying : Saying) (answer : Answer) → IsRight (setting_of n) answer → saying ≡ saying_of n answer → saying.status ≡ 0 → TellsReturn n saying
 by_answer n saying (Over limit) right said zero = absurd (let e = sym (ap (λ (s : Saying). s.status) said) ∙ zero in omega (arith, e))
 by_answer n saying (Fails stage) right said zero = absurd (let e = sym (ap (λ (s : Saying). s.status) said) ∙ zero in omega (arith, e))
 by_answer n saying OutOfMemory right said zero = absurd (let e = sym (ap (λ (s : Saying). s.status) said) ∙ zero in omega (arith, e))

@@ -23,7 +23,7 @@ use Rattle.p10_command.specs.Reading.{AreUnread}
 use Rattle.p10_judge.specs.declared.judgement.Judgement.{Judgement}
 use Rattle.p10_judge.specs.declared.judgement.Judgement.TheVariants.{Accepted}
 use Rattle.p10_judge.specs.Judging.{IsWeighed}
-use Rattle.p10_judge.specs.Programs.{HasProgram}
+use Rattle.p10_command.specs.Programs.{HasProgram}
 use Rattle.p10_gen.specs.Programs.{generated_text}
 use Rattle.p10_gen_command.specs.declared.answer.Answer.{Answer}
 use Rattle.p10_gen_command.specs.declared.answer.Answer.TheVariants.{Over, Fails, Returns, OutOfMemory}

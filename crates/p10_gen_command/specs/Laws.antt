@@ -10,7 +10,7 @@ use Rattle.p10_meaning.specs.Runs.{Returned}
 use Rattle.p10_command.specs.Saying.{Saying}
 use Rattle.p10_judge.specs.declared.judgement.Judgement.TheVariants.{Accepted}
 use Rattle.p10_judge.specs.Judging.{IsWeighed}
-use Rattle.p10_judge.specs.Programs.{HasProgram}
+use Rattle.p10_command.specs.Programs.{HasProgram}
 use Rattle.p10_gen_command.specs.Answers.{outcome_within, setting_of}
 use Rattle.p10_gen_command.specs.Lines.{shown_text}
 use Rattle.p10_gen_command.specs.Told.{SaysRight}
@@ -25,7 +25,7 @@ GenHasFewStatuses = (n : ℕ) (saying : Saying) → SaysRight n saying → (sayi
 
 -- the generated program has a certificate that is derived of it, whose text is accepted for it, and within which a run of it
 -- returns; the certificate's total and the value are told, and nothing else
-pub record IsTold (n : ℕ) (saying : Saying) : Type 0 where
+pub record TellsReturn (n : ℕ) (saying : Saying) : Type 0 where
   pub files : Gathered
   pub program : PlainProgram
   pub claims : Claims
@@ -40,4 +40,4 @@ pub record IsTold (n : ℕ) (saying : Saying) : Type 0 where
 
 -- with status 0 all of this is so
 abbrev pub SuccessIsTold : Type 0
-SuccessIsTold = (n : ℕ) (saying : Saying) → SaysRight n saying → saying.status ≡ 0 → IsTold n saying
+SuccessIsTold = (n : ℕ) (saying : Saying) → SaysRight n saying → saying.status ≡ 0 → TellsReturn n saying

@@ -2,7 +2,6 @@
 use Rattle.std.proofs.Common.{◌≡◌, ℕ, false, List, arith, refl, sym, ◌∙◌, ap, subst, Option, Some, None, IsSome, is_some}
 use Rattle.std.proofs.lemmas.Bool.{both_ways}
 use Rattle.std.proofs.lemmas.Option.{same_Some}
-use Rattle.p10_base.specs.Gathered.{Gathered}
 use Rattle.p10_world.specs.Files.{Lacks, Named, file_of}
 use Rattle.p10_core.specs.Typed.{PlainProgram}
 use Rattle.p10_cert.specs.Claims.{Claims}
@@ -11,17 +10,12 @@ use Rattle.p10_cert.specs.WrongLines.{IsFirstWrongLine}
 use Rattle.p10_check.specs.declared.verdict.Verdict.{Verdict}
 use Rattle.p10_check.specs.declared.verdict.Verdict.TheVariants as verdicts
 use Rattle.p10_check.specs.Accepting.{OneVerdict}
-use Rattle.p10_expand.specs.Gathering.{Setting}
-use Rattle.p10_front.specs.Laws.{ReadsOnce}
-use Rattle.p10_front.specs.Readings.{AreReadAs}
 use Rattle.p10_turns.specs.Evidence.{stands_by_ranges}
-use Rattle.p10_command.proofs.Once as shared
 use Rattle.p10_judge.specs.declared.judgement.Judgement.{Judgement}
 use Rattle.p10_judge.specs.declared.judgement.Judgement.TheVariants.{TooLong, BadCertificate, Failing, Accepted}
 use Rattle.p10_judge.specs.Judging.{HasVerdict, IsClaimed, IsJudged, IsNoCertificate, IsWeighed}
 use Rattle.p10_judge.specs.Laws.{OneJudgement}
 use Rattle.p10_judge.specs.Loading.{IsHeld}
-use Rattle.p10_judge.specs.Programs.{HasProgram}
 use Rattle.p10_judge.specs.private.Weighing.{judgement_by}
 use Rattle.p10_judge.proofs.Files.{given_is_held}
 
@@ -78,13 +72,3 @@ judged_twice once files name p j k this that =
 pub judged_once : OneJudgement → (held : Option (List Named)) → IsSome held → (name : List ℕ) (p q : PlainProgram) (j k : Judgement) → p ≡ q → IsJudged held name p j → IsJudged held name q k → j ≡ k
 judged_once once None told name p q j k same this that = absurd (both_ways false refl told)
 judged_once once (Some files) told name p q j k same this that = judged_twice once files name q j k (subst (λ (r : PlainProgram). IsJudged (Some files) name r j) same this) that
-
--- the sources are gathered once, and have one program
-pub record SameProgram (g h : Gathered) (p q : PlainProgram) : Type 0 where
-  pub sources_are : g ≡ h
-  pub program_is : p ≡ q
-
-pub has_once : ReadsOnce → (s : Setting) → IsSome s.held → (g h : Gathered) (p q : PlainProgram) → HasProgram s g p → HasProgram s h q → SameProgram g h p q
-has_once once s told g h p q this that =
-    let sources : g ≡ h = shared.same_sources s told g h this.gathers that.gathers in
-    record { sources_are = sources; program_is = shared.same_program once h this.reading that.reading p q (subst (λ (x : Gathered). AreReadAs x this.reading p) sources this.read) that.read }

@@ -1,5 +1,4 @@
 -- The definitions that the contracts of this crate cite: those of public clauses, and in `private` those of private ones alone.
-pub mod Programs
 pub mod Loading
 pub mod Judging
 pub mod Saying

@@ -1,5 +1,5 @@
 -- A run by a certificate that is accepted never ends for want of steps.
-use Rattle.std.proofs.Common.{◌≡◌, ◌≢◌, ℕ, ◌<◌, List, refl, sym, ◌∙◌, ap, subst, arith, Option, Some, None}
+use Rattle.std.proofs.Common.{◌≡◌, ◌≢◌, ℕ, ◌<◌, List, refl, sym, ◌∙◌, subst, arith, Option, Some, None}
 use Rattle.std.specs.List.{All}
 use Rattle.std.proofs.lemmas.List.Elements.{All-nil}
 use Rattle.std.proofs.lemmas.Option.{none-some}
@@ -20,14 +20,9 @@ use Rattle.p10_run.specs.WholeRuns.{run_with, world_of}
 use Rattle.p10_soundness.specs.Laws.{CertificatesAcceptedByRangesBoundRuns}
 use Rattle.p10_words.specs.declared.command.Budget as asked
 use Rattle.p10_words.specs.declared.command.Budget.TheVariants.{Certificate}
-use Rattle.p10_command.specs.declared.gathering.Ungathered.{Ungathered}
-use Rattle.p10_command.specs.declared.gathering.Ungathered.TheVariants as gathering
-use Rattle.p10_command.specs.declared.reading.Unread.{Unread}
-use Rattle.p10_command.specs.declared.reading.Unread.TheVariants as reading
-use Rattle.p10_command.specs.declared.trouble.Trouble.{Trouble}
-use Rattle.p10_command.specs.declared.trouble.Trouble.TheVariants.{Read, Memory}
-use Rattle.p10_command.specs.Saying.{Saying, trouble_status, ungathered_status, unread_status}
+use Rattle.p10_command.specs.Saying.{Saying}
 use Rattle.p10_command.specs.Seen.{Seen, SeenInput}
+use Rattle.p10_command.proofs.Statuses.{said_with, trouble_between, ungathered_between, unread_between}
 use Rattle.p10_run_command.specs.declared.command.RunCommand.{RunCommand}
 use Rattle.p10_run_command.specs.Answers.{IsInput, SaysRight, absent, ended, refused, troubled, troubled_run, ungathered, unread}
 use Rattle.p10_run_command.specs.Command.{Permits}
@@ -63,37 +58,20 @@ told_bytes (Some left) told bytes is input = input ∙ (let same : left ≡ told
 
 -- ## What is said
 
-not_ungathered : (why : Ungathered) → ungathered_status why ≢ 12
-not_ungathered (gathering.AbsentRoot place) is = omega (arith, is)
-not_ungathered (gathering.Refused refusal) is = omega (arith, is)
-not_ungathered (gathering.Over limit) is = omega (arith, is)
-
-not_unread : (why : Unread) → unread_status why ≢ 12
-not_unread (reading.Refused refusal) is = omega (arith, is)
-not_unread (reading.Over limit) is = omega (arith, is)
-
 not_judged : (j : Judgement) → judgement_status j ≢ 12
 not_judged TooLong is = omega (arith, is)
 not_judged (BadCertificate line) is = omega (arith, is)
 not_judged (Failing k at) is = omega (arith, is)
 not_judged (Accepted bounds) is = omega (arith, is)
 
-not_troubled : (trouble : Trouble) → trouble_status trouble ≢ 12
-not_troubled Read is = omega (arith, is)
-not_troubled Memory is = omega (arith, is)
-
--- the status of something that is said is that of what it is said for
-said_with : (saying other : Saying) → saying ≡ other → saying.status ≡ 12 → other.status ≡ 12
-said_with saying other said is = ap (λ (s : Saying). s.status) (sym said) ∙ is
-
 pub leaves_steps : CertificatesAcceptedByRangesBoundRuns → (run : RunCommand) (name : Text) (seen : Seen) (input : SeenInput) (bytes : List ℕ) (saying : Saying) → run.budget ≡ Certificate name → input.left ≡ Some bytes → All (λ byte. byte < 256) bytes →
     SaysRight run seen input saying → saying.status ≢ 12
-leaves_steps law run name seen input bytes saying is left are_bytes (ungathered g why fails said) twelve = not_ungathered why (said_with saying _ said twelve)
-leaves_steps law run name seen input bytes saying is left are_bytes (absent g n gathers asked lacks said) twelve = omega (arith, said_with saying _ said twelve)
-leaves_steps law run name seen input bytes saying is left are_bytes (unread g why gathers held is_unread said) twelve = not_unread why (said_with saying _ said twelve)
-leaves_steps law run name seen input bytes saying is left are_bytes (refused g p n judgement has asked judged refusal said) twelve = not_judged judgement (said_with saying _ said twelve)
+leaves_steps law run name seen input bytes saying is left are_bytes (ungathered g why fails said) twelve = let e = said_with saying _ 12 said twelve in omega (arith, e, (ungathered_between why).most)
+leaves_steps law run name seen input bytes saying is left are_bytes (absent g n gathers asked lacks said) twelve = omega (arith, said_with saying _ 12 said twelve)
+leaves_steps law run name seen input bytes saying is left are_bytes (unread g why gathers held is_unread said) twelve = let e = said_with saying _ 12 said twelve in omega (arith, e, (unread_between why).most)
+leaves_steps law run name seen input bytes saying is left are_bytes (refused g p n judgement has asked judged refusal said) twelve = not_judged judgement (said_with saying _ 12 said twelve)
 leaves_steps law run name seen input bytes saying is left are_bytes (ended g p b given has allowed is_input said) twelve =
     let are : All (λ byte. byte < 256) given = subst (λ (l : List ℕ). All (λ byte. byte < 256) l) (sym (told_bytes input.left bytes given left is_input)) are_bytes in
-    allowed_leaves law seen.held run.budget name given p b run.turns run.deny is has.whole allowed are (spent (run_with p b given).outcome (said_with saying _ said twelve))
-leaves_steps law run name seen input bytes saying is left are_bytes (troubled trouble may said) twelve = not_troubled trouble (said_with saying _ said twelve)
-leaves_steps law run name seen input bytes saying is left are_bytes (troubled_run g p b given written trouble has allowed is_input front may said) twelve = not_troubled trouble (said_with saying _ said twelve)
+    allowed_leaves law seen.held run.budget name given p b run.turns run.deny is has.whole allowed are (spent (run_with p b given).outcome (said_with saying _ 12 said twelve))
+leaves_steps law run name seen input bytes saying is left are_bytes (troubled trouble may said) twelve = let e = said_with saying _ 12 said twelve in omega (arith, e, (trouble_between trouble).most)
+leaves_steps law run name seen input bytes saying is left are_bytes (troubled_run g p b given written trouble has allowed is_input front may said) twelve = let e = said_with saying _ 12 said twelve in omega (arith, e, (trouble_between trouble).most)

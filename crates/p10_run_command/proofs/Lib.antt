@@ -2,6 +2,5 @@
 pub mod Granted
 pub mod Telling
 pub mod Running
-pub mod Sources
 pub mod OneAnswer
 pub mod Certified

@@ -1,57 +1,43 @@
 -- Where files and input are told, one thing is right to say, but for a read fault and out of memory.
-use Rattle.std.proofs.Common.{◌≡◌, ◌≢◌, ℕ, List, [], refl, sym, ◌∙◌, ap, subst, Option, Some, None, IsSome}
+use Rattle.std.proofs.Common.{◌≡◌, ◌≢◌, ℕ, List, refl, sym, ◌∙◌, ap, subst, Option, Some, None, IsSome}
 use Rattle.p10_base.specs.declared.report.Bounds.{Bounds}
 use Rattle.p10_base.specs.Gathered.{Gathered}
 use Rattle.p10_base.specs.Words.{Text}
 use Rattle.p10_world.specs.Files.{Lacks, Named}
 use Rattle.p10_core.specs.Typed.{PlainProgram}
-use Rattle.p10_expand.specs.Gathering.{Gathers, Setting}
+use Rattle.p10_expand.specs.Gathering.{Setting}
 use Rattle.p10_front.specs.Laws.{ReadsOnce}
 use Rattle.p10_run.specs.declared.budget.Budget.{Budget}
 use Rattle.p10_run.specs.Budgets.{budget_within}
 use Rattle.p10_run.specs.WholeRuns.{run_with}
 use Rattle.p10_words.specs.declared.command.Budget as asked
 use Rattle.p10_words.specs.declared.command.Budget.TheVariants as words
-use Rattle.p10_command.specs.declared.reading.Unread.{Unread}
 use Rattle.p10_command.specs.declared.trouble.Trouble.{Trouble}
-use Rattle.p10_command.specs.declared.trouble.Trouble.TheVariants.{Read, Memory}
-use Rattle.p10_command.specs.Reading.{AreUnread}
+use Rattle.p10_command.specs.Programs.{HasProgram}
 use Rattle.p10_command.specs.Saying.{Saying}
 use Rattle.p10_command.specs.Seen.{Seen, SeenInput}
-use Rattle.p10_command.proofs.Once.{same_sources, gathered_or_not, one_ungathered, read_or_not, one_unread}
+use Rattle.p10_command.proofs.Once.{gathered_or_not, has_once, is_told, no_trouble, one_ungathered, one_unread_saying, unread_or_program, untroubled}
 use Rattle.p10_judge.specs.declared.judgement.Judgement.{Judgement}
 use Rattle.p10_judge.specs.declared.judgement.Judgement.TheVariants.{Accepted}
 use Rattle.p10_judge.specs.Judging.{IsJudged}
 use Rattle.p10_judge.specs.Laws.{OneJudgement}
 use Rattle.p10_judge.specs.Loading.{IsHeld}
-use Rattle.p10_judge.specs.Programs.{HasProgram}
-use Rattle.p10_judge.proofs.Once.{has_once, held_or_lacking, judged_is_held, judged_once}
+use Rattle.p10_judge.proofs.Once.{held_or_lacking, judged_is_held, judged_once}
 use Rattle.p10_run_command.specs.declared.command.RunCommand.{RunCommand}
-use Rattle.p10_run_command.specs.Answers.{IsInput, IsRefusal, SaysRight, absent, ended, refused, troubled, troubled_run, ungathered, unread, absent_saying, refused_saying, setting_of, unread_saying, troubled_saying}
+use Rattle.p10_run_command.specs.Answers.{IsInput, IsRefusal, SaysRight, absent, ended, refused, troubled, troubled_run, ungathered, unread, absent_saying, refused_saying, setting_of, troubled_saying}
 use Rattle.p10_run_command.specs.Command.{Permits, IsPermitted}
 use Rattle.p10_run_command.specs.Endings.{ended_saying}
 
 -- ## Parts
-
--- what is said with a status and a line alone
-abbrev line_saying : ℕ → List ℕ → Saying
-line_saying status line = record { status = status; out = []; err = line }
-
-same_saying : (status status' : ℕ) (line line' : List ℕ) → status ≡ status' → line ≡ line' → line_saying status line ≡ line_saying status' line'
-same_saying status status' line line' same_status same_line = ap (λ (s : ℕ). line_saying s line) same_status ∙ ap (λ (l : List ℕ). line_saying status' l) same_line
 
 -- the input is told
 same_input : (left : Option (List ℕ)) (told bytes bytes' : List ℕ) → left ≡ Some told → IsInput left bytes → IsInput left bytes' → bytes ≡ bytes'
 same_input None told bytes bytes' is this that = absurd (cc)
 same_input (Some left) told bytes bytes' is this that = this ∙ sym that
 
-is_told : {A : Type 0} (held : Option A) (x : A) → held ≡ Some x → IsSome held
-is_told held x is = subst (λ h. IsSome h) (sym is) refl
-
--- a trouble is none of the other answers
-no_trouble : (trouble : Trouble) (written : List ℕ) (saying : Saying) → saying ≡ troubled_saying trouble written → saying.status ≢ 5 → saying.status ≢ 7 → ⊥
-no_trouble Read written saying said five seven = five (ap (λ (s : Saying). s.status) said)
-no_trouble Memory written saying said five seven = seven (ap (λ (s : Saying). s.status) said)
+-- a trouble while the program runs is none of the other answers
+untroubled_run : (trouble : Trouble) (written : List ℕ) (saying : Saying) → saying ≡ troubled_saying trouble written → saying.status ≢ 5 → saying.status ≢ 7 → ⊥
+untroubled_run trouble written saying said five seven = no_trouble trouble saying.status (ap (λ (s : Saying). s.status) said) five seven
 
 -- ## Certificates
 
@@ -106,18 +92,7 @@ module _ (once : ReadsOnce) (one : OneJudgement) (run : RunCommand) (seen : Seen
       let accepted = accepted_by seen.held run.budget name run.turns run.deny q b is allowed in
       refused_or_accepted j accepted.bounds (judged_once one seen.held told name p q j (Accepted accepted.bounds) (has_once once s told g h p q has has').program_is judged accepted.judged) refusal
 
-  -- gathered sources are a program or none
-  unread_or_program : (g h : Gathered) (why : Unread) (q : PlainProgram) → Gathers s g → AreUnread g why → HasProgram s h q → ⊥
-  unread_or_program g h why q gathers is has =
-      read_or_not once h has.reading q why has.read (subst (λ (x : Gathered). AreUnread x why) (same_sources s told g h gathers has.gathers) is)
-
   -- ## Answers of one kind
-
-  one_unread_saying : (g h : Gathered) (this that : Unread) → Gathers s g → AreUnread g this → Gathers s h → AreUnread h that → unread_saying g this ≡ unread_saying h that
-  one_unread_saying g h this that gathers is gathers' is' =
-      let same : g ≡ h = same_sources s told g h gathers gathers' in
-      ap (λ (why : Unread). unread_saying g why) (one_unread once g this that is (subst (λ (x : Gathered). AreUnread x that) (sym same) is'))
-      ∙ ap (λ (x : Gathered). unread_saying x that) same
 
   one_refusal : (g h : Gathered) (p q : PlainProgram) (name name' : Text) (j k : Judgement) → HasProgram s g p → run.budget ≡ words.Certificate name → IsJudged seen.held name p j → HasProgram s h q → run.budget ≡ words.Certificate name' → IsJudged seen.held name' q k →
       refused_saying g j ≡ refused_saying h k
@@ -140,13 +115,12 @@ module _ (once : ReadsOnce) (one : OneJudgement) (run : RunCommand) (seen : Seen
 
   module _ (input : SeenInput) (bytes : List ℕ) (left : input.left ≡ Some bytes) where
     pub says_one_thing : (some other : Saying) → SaysRight run seen input some → SaysRight run seen input other → some.status ≢ 5 → some.status ≢ 7 → other.status ≢ 5 → other.status ≢ 7 → some ≡ other
-    says_one_thing some other (troubled t may said) says five seven five' seven' = absurd (no_trouble t [] some said five seven)
-    says_one_thing some other (troubled_run g p b l written t has may is front may_come said) says five seven five' seven' = absurd (no_trouble t written some said five seven)
-    says_one_thing some other says (troubled t may said) five seven five' seven' = absurd (no_trouble t [] other said five' seven')
-    says_one_thing some other says (troubled_run g p b l written t has may is front may_come said) five seven five' seven' = absurd (no_trouble t written other said five' seven')
+    says_one_thing some other (troubled t may said) says five seven five' seven' = absurd (untroubled t some said five seven)
+    says_one_thing some other (troubled_run g p b l written t has may is front may_come said) says five seven five' seven' = absurd (untroubled_run t written some said five seven)
+    says_one_thing some other says (troubled t may said) five seven five' seven' = absurd (untroubled t other said five' seven')
+    says_one_thing some other says (troubled_run g p b l written t has may is front may_come said) five seven five' seven' = absurd (untroubled_run t written other said five' seven')
     says_one_thing some other (ungathered g why fails said) (ungathered h why' fails' said') five seven five' seven' =
-        let same = one_ungathered s told run.sources g h why why' fails fails' in
-        said ∙ same_saying _ _ _ _ same.status same.line ∙ sym said'
+        said ∙ one_ungathered s told run.sources g h why why' fails fails' ∙ sym said'
     says_one_thing some other (ungathered g why fails said) (absent h name gathers is lacks said') five seven five' seven' = absurd (gathered_or_not s told h g why gathers fails)
     says_one_thing some other (ungathered g why fails said) (unread h why' gathers held is said') five seven five' seven' = absurd (gathered_or_not s told h g why gathers fails)
     says_one_thing some other (ungathered g why fails said) (refused h q name j has is judged refusal said') five seven five' seven' = absurd (gathered_or_not s told h g why has.gathers fails)
@@ -163,11 +137,11 @@ module _ (once : ReadsOnce) (one : OneJudgement) (run : RunCommand) (seen : Seen
     says_one_thing some other (unread g why gathers held is_unread said) (absent h name gathers' is lacks said') five seven five' seven' = absurd (held_or_lacking seen.held told name (held name is) lacks)
     says_one_thing some other (refused g p name j has is judged refusal said) (absent h name' gathers is' lacks said') five seven five' seven' = absurd (absent_or_judged name' name p j is' lacks is judged)
     says_one_thing some other (ended g p b l has allowed is said) (absent h name gathers is' lacks said') five seven five' seven' = absurd (absent_or_allowed name p b is' lacks allowed)
-    says_one_thing some other (unread g why gathers held is said) (unread h why' gathers' held' is' said') five seven five' seven' = said ∙ one_unread_saying g h why why' gathers is gathers' is' ∙ sym said'
-    says_one_thing some other (unread g why gathers held is said) (refused h q name j has is' judged refusal said') five seven five' seven' = absurd (unread_or_program g h why q gathers is has)
-    says_one_thing some other (unread g why gathers held is said) (ended h q b l has allowed is' said') five seven five' seven' = absurd (unread_or_program g h why q gathers is has)
-    says_one_thing some other (refused g p name j has is' judged refusal said) (unread h why gathers held is said') five seven five' seven' = absurd (unread_or_program h g why p gathers is has)
-    says_one_thing some other (ended g p b l has allowed is' said) (unread h why gathers held is said') five seven five' seven' = absurd (unread_or_program h g why p gathers is has)
+    says_one_thing some other (unread g why gathers held is said) (unread h why' gathers' held' is' said') five seven five' seven' = said ∙ one_unread_saying once s told g h why why' gathers is gathers' is' ∙ sym said'
+    says_one_thing some other (unread g why gathers held is said) (refused h q name j has is' judged refusal said') five seven five' seven' = absurd (unread_or_program once s told g h why q gathers is has)
+    says_one_thing some other (unread g why gathers held is said) (ended h q b l has allowed is' said') five seven five' seven' = absurd (unread_or_program once s told g h why q gathers is has)
+    says_one_thing some other (refused g p name j has is' judged refusal said) (unread h why gathers held is said') five seven five' seven' = absurd (unread_or_program once s told h g why p gathers is has)
+    says_one_thing some other (ended g p b l has allowed is' said) (unread h why gathers held is said') five seven five' seven' = absurd (unread_or_program once s told h g why p gathers is has)
     says_one_thing some other (refused g p name j has is judged refusal said) (refused h q name' k has' is' judged' refusal' said') five seven five' seven' =
         said ∙ one_refusal g h p q name name' j k has is judged has' is' judged' ∙ sym said'
     says_one_thing some other (refused g p name j has is judged refusal said) (ended h q b l has' allowed is' said') five seven five' seven' = absurd (refused_or_allowed name g h p q j b has is judged refusal has' allowed)

@@ -9,23 +9,22 @@ use Rattle.p10_world.specs.Sink.{TakesFront}
 use Rattle.p10_core.specs.declared.program.Program.{Program}
 use Rattle.p10_core.specs.Typed.{PlainProgram}
 use Rattle.p10_core.specs.Views.{plain_program}
-use Rattle.p10_core.specs.WholePrograms.{IsWholeProgram}
 use Rattle.p10_expand.specs.Gathering.{Gathers}
 use Rattle.p10_front.specs.declared.reading.Reading.{Reading}
-use Rattle.p10_front.specs.Answers.{reading_of}
-use Rattle.p10_front.specs.Readings.{PlainReading, AreReadAs}
 use Rattle.p10_interp.specs.declared.ended.RunFault.{RunFault}
 use Rattle.p10_interp.specs.declared.ended.RunFault.TheVariants as run
 use Rattle.p10_interp.specs.Resting.{rest_of}
-use Rattle.p10_judge.specs.Programs.{HasProgram}
 use Rattle.p10_meaning.specs.Runs.{Outcome, Ran as HasRun}
 use Rattle.p10_run.specs.declared.budget.Budget.{Budget}
 use Rattle.p10_run.specs.declared.finished.FinishedRun.{FinishedRun}
 use Rattle.p10_run.specs.WholeRuns.{ForEachInput, IsRun, outcome_of, run_with}
 use Rattle.p10_command.specs.declared.trouble.Trouble.TheVariants as trouble
+use Rattle.p10_command.specs.Programs.{HasProgram}
 use Rattle.p10_command.specs.Reading.{AreProgram}
+use Rattle.p10_command.specs.Saying.{trouble_saying}
 use Rattle.p10_command.specs.Seen.{Seen, SeenInput}
-use Rattle.p10_command.specs.Told.{Told, Stopped}
+use Rattle.p10_command.specs.Told.{IsTold, Told, Stopped}
+use Rattle.p10_command.proofs.Sources.{program_of}
 use Rattle.p10_run_command.specs.declared.command.RunCommand.{RunCommand}
 use Rattle.p10_run_command.specs.declared.granting.RunRequest.{RunRequest}
 use Rattle.p10_run_command.specs.declared.program.RunEnd.{RunEnd}
@@ -34,7 +33,7 @@ use Rattle.p10_run_command.specs.Answers.{SaysRight, ended, refused, troubled, t
 use Rattle.p10_run_command.specs.Command.{IsPermitted}
 use Rattle.p10_run_command.specs.Endings.{ended_line, ended_saying, ended_status}
 use Rattle.p10_run_command.specs.private.Granting.{Grants, IsRequest}
-use Rattle.p10_run_command.specs.private.Telling.{Comes, IsTold, IsOutcome, end_line, end_status, ran_line, ran_status}
+use Rattle.p10_run_command.specs.private.Telling.{Comes, IsOutcome, end_line, end_status, ran_line, ran_status}
 use Rattle.p10_run_command.proofs.Granted.{allowed, asked_and_refused}
 
 -- ## What comes of a run
@@ -62,14 +61,6 @@ pub comes_to : (o : Option Program) (program : Program) (request : RunRequest) (
 comes_to o program request b left left_after taken taken_after end is grants told each front each_front =
     subst (λ (o : Option Program). IsSomeAnd o (λ p. Comes (plain_program p) request left taken taken_after (Ran end))) (sym is)
     (b, grants, runs (plain_program program) b left left_after taken taken_after end told each front each_front)
-
--- a reading's program is whole
-by_whole : (g : Gathered) (r : PlainReading) (o : Option Program) → IsSomeAnd o (λ p. AreReadAs g r (plain_program p) × IsWholeProgram (plain_program p)) → IsSomeAnd o (λ p. IsWholeProgram (plain_program p))
-by_whole g r None are = are
-by_whole g r (Some p) are = are.1
-
-pub whole_program : (g : Gathered) (reading : Reading) → AreProgram g reading → IsSomeAnd reading.program (λ p. IsWholeProgram (plain_program p))
-whole_program g reading are = by_whole g (reading_of reading) reading.program are
 
 -- a write failed, of the output or of the line
 pub either_rose : {A B C : Type 0} → (A → B) → A ⊎ C → B ⊎ C
@@ -178,7 +169,7 @@ end_told command seen input request g p (Refused judgement) out_old out_new err_
       taken = record { on_out = quiet out_old out_new same; on_err = told.taken };
     }
 end_told command seen input request g p OutOfMemory out_old out_new err_old err_new given is has same read told six = record {
-  saying = troubled_saying trouble.Memory [];
+  saying = trouble_saying trouble.Memory;
   may = troubled trouble.Memory tt refl;
   status_is = told.status_is;
   taken = record { on_out = quiet out_old out_new same; on_err = told.taken };
@@ -198,21 +189,12 @@ end_stopped command seen input request g p (Refused judgement) out_old out_new e
       taken = record { on_out = whole_front out_old out_new [] (quiet out_old out_new same); on_err = stopped };
     }
 end_stopped command seen input request g p OutOfMemory out_old out_new err_old err_new is has same read stopped = record {
-  saying = troubled_saying trouble.Memory [];
+  saying = trouble_saying trouble.Memory;
   may = troubled trouble.Memory tt refl;
   taken = record { on_out = whole_front out_old out_new [] (quiet out_old out_new same); on_err = stopped };
 }
 
 -- ## What is said of a reading's program
-
-by_program : (command : RunCommand) (seen : Seen) (input : SeenInput) (request : RunRequest) (g : Gathered) (r : PlainReading) (o : Option Program) (end : RunEnd) (out_old out_new err_old err_new : Option (List ℕ)) (given : ℕ) →
-    IsRequest seen.held command request → Gathers (setting_of seen command) g → IsSomeAnd o (λ p. AreReadAs g r (plain_program p) × IsWholeProgram (plain_program p)) → IsSomeAnd o (λ p. Comes (plain_program p) request input.left out_old out_new end) →
-    (end ≡ Ran (Err run.Read) → Rose input.faults_before input.faults_after) →
-    IsTold (end_status end) (end_line g end) err_old err_new given → given ≢ 6 →
-    Told (SaysRight command seen input) out_old out_new err_old err_new given
-by_program command seen input request g r None end out_old out_new err_old err_new given is gathers are comes read told six = absurd are
-by_program command seen input request g r (Some p) end out_old out_new err_old err_new given is gathers are comes read told six =
-    end_told command seen input request g (plain_program p) end out_old out_new err_old err_new given is (record { gathers = gathers; reading = r; read = are.0; whole = are.1 }) comes read told six
 
 pub program_told : (command : RunCommand) (seen : Seen) (input : SeenInput) (request : RunRequest) (g : Gathered) (reading : Reading) (end : RunEnd) (out_old out_new err_old err_new : Option (List ℕ)) (given : ℕ) →
     IsRequest seen.held command request → Gathers (setting_of seen command) g → AreProgram g reading → IsSomeAnd reading.program (λ p. Comes (plain_program p) request input.left out_old out_new end) →
@@ -220,16 +202,8 @@ pub program_told : (command : RunCommand) (seen : Seen) (input : SeenInput) (req
     IsTold (end_status end) (end_line g end) err_old err_new given → given ≢ 6 →
     Told (SaysRight command seen input) out_old out_new err_old err_new given
 program_told command seen input request g reading end out_old out_new err_old err_new given is gathers are comes read told six =
-    by_program command seen input request g (reading_of reading) reading.program end out_old out_new err_old err_new given is gathers are comes read told six
-
-by_stopped : (command : RunCommand) (seen : Seen) (input : SeenInput) (request : RunRequest) (g : Gathered) (r : PlainReading) (o : Option Program) (end : RunEnd) (out_old out_new err_old err_new : Option (List ℕ)) →
-    IsRequest seen.held command request → Gathers (setting_of seen command) g → IsSomeAnd o (λ p. AreReadAs g r (plain_program p) × IsWholeProgram (plain_program p)) → IsSomeAnd o (λ p. Comes (plain_program p) request input.left out_old out_new end) →
-    (end ≡ Ran (Err run.Read) → Rose input.faults_before input.faults_after) →
-    TakesFront err_old err_new (end_line g end) →
-    Stopped (SaysRight command seen input) out_old out_new err_old err_new
-by_stopped command seen input request g r None end out_old out_new err_old err_new is gathers are comes read stopped = absurd are
-by_stopped command seen input request g r (Some p) end out_old out_new err_old err_new is gathers are comes read stopped =
-    end_stopped command seen input request g (plain_program p) end out_old out_new err_old err_new is (record { gathers = gathers; reading = r; read = are.0; whole = are.1 }) comes read stopped
+    let (p, has, came) = program_of (setting_of seen command) g reading (λ p. Comes p request input.left out_old out_new end) gathers are comes in
+    end_told command seen input request g p end out_old out_new err_old err_new given is has came read told six
 
 pub program_stopped : (command : RunCommand) (seen : Seen) (input : SeenInput) (request : RunRequest) (g : Gathered) (reading : Reading) (end : RunEnd) (out_old out_new err_old err_new : Option (List ℕ)) →
     IsRequest seen.held command request → Gathers (setting_of seen command) g → AreProgram g reading → IsSomeAnd reading.program (λ p. Comes (plain_program p) request input.left out_old out_new end) →
@@ -237,4 +211,5 @@ pub program_stopped : (command : RunCommand) (seen : Seen) (input : SeenInput) (
     TakesFront err_old err_new (end_line g end) →
     Stopped (SaysRight command seen input) out_old out_new err_old err_new
 program_stopped command seen input request g reading end out_old out_new err_old err_new is gathers are comes read stopped =
-    by_stopped command seen input request g (reading_of reading) reading.program end out_old out_new err_old err_new is gathers are comes read stopped
+    let (p, has, came) = program_of (setting_of seen command) g reading (λ p. Comes p request input.left out_old out_new end) gathers are comes in
+    end_stopped command seen input request g p end out_old out_new err_old err_new is has came read stopped

@@ -1,8 +1,7 @@
 -- What is right to say to the command `run`.
-use Rattle.std.specs.Prelude.{ℕ, ◌≡◌, List, [], Option, IfSome}
+use Rattle.std.specs.Prelude.{ℕ, ◌≡◌, List, Option, IfSome}
 use Rattle.p10_base.specs.Gathered.{Gathered}
 use Rattle.p10_base.specs.Words.{Text}
-use Rattle.p10_world.specs.Faults.{Rose}
 use Rattle.p10_world.specs.Files.{Lacks}
 use Rattle.p10_core.specs.Typed.{PlainProgram}
 use Rattle.p10_expand.specs.Gathering.{Setting, Gathers}
@@ -15,16 +14,15 @@ use Rattle.p10_words.specs.declared.command.Budget.TheVariants.{Certificate}
 use Rattle.p10_command.specs.declared.gathering.Ungathered.{Ungathered}
 use Rattle.p10_command.specs.declared.reading.Unread.{Unread}
 use Rattle.p10_command.specs.declared.trouble.Trouble.{Trouble}
-use Rattle.p10_command.specs.declared.trouble.Trouble.TheVariants.{Read, Memory}
 use Rattle.p10_command.specs.Gathering.{AreUngathered}
 use Rattle.p10_command.specs.Reading.{AreUnread}
-use Rattle.p10_command.specs.Saying.{Saying, ungathered_status, ungathered_line, unread_status, unread_line, trouble_status, trouble_line}
-use Rattle.p10_command.specs.Seen.{Seen, SeenInput}
+use Rattle.p10_command.specs.Programs.{HasProgram}
+use Rattle.p10_command.specs.Saying.{Saying, line_saying, trouble_line, trouble_saying, trouble_status, ungathered_saying, unread_saying}
+use Rattle.p10_command.specs.Seen.{HasCause, Seen, SeenInput}
 use Rattle.p10_judge.specs.declared.judgement.Judgement.{Judgement}
 use Rattle.p10_judge.specs.declared.judgement.Judgement.TheVariants.{Accepted}
 use Rattle.p10_judge.specs.Judging.{IsJudged}
 use Rattle.p10_judge.specs.Loading.{IsHeld}
-use Rattle.p10_judge.specs.Programs.{HasProgram}
 use Rattle.p10_judge.specs.Saying.{judgement_line, judgement_status}
 use Rattle.p10_run_command.specs.declared.command.RunCommand.{RunCommand}
 use Rattle.p10_run_command.specs.Command.{IsPermitted}
@@ -43,35 +41,22 @@ abbrev pub IsRefusal : Judgement → Type 0
 IsRefusal (Accepted bounds) = ⊥
 IsRefusal judgement = Unit {0}
 
--- a read has failed only where the count of faults rose; memory may be out at any time
-abbrev pub MayCome : Trouble → ℕ → ℕ → Type 0
-MayCome Read before after = Rose before after
-MayCome Memory before after = Unit {0}
-
--- what is said where the sources aren't gathered
-abbrev pub ungathered_saying : RunCommand → Gathered → Ungathered → Saying
-ungathered_saying run g why = record { status = ungathered_status why; out = []; err = ungathered_line run.sources g why }
-
 -- what is said where the certificate is absent
 abbrev pub absent_saying : Text → Saying
-absent_saying name = record { status = 9; out = []; err = absent_line name }
-
--- what is said where the gathered sources are no program
-abbrev pub unread_saying : Gathered → Unread → Saying
-unread_saying g why = record { status = unread_status why; out = []; err = unread_line g why }
+absent_saying name = line_saying 9 (absent_line name)
 
 -- what is said where the certificate isn't accepted
 abbrev pub refused_saying : Gathered → Judgement → Saying
-refused_saying g judgement = record { status = judgement_status judgement; out = []; err = judgement_line g judgement }
+refused_saying g judgement = line_saying (judgement_status judgement) (judgement_line g judgement)
 
--- what is said where a read has failed or memory is out, after so much of the output
+-- what is said where a read has failed or memory is out while the program runs, after so much of its output
 abbrev pub troubled_saying : Trouble → List ℕ → Saying
 troubled_saying trouble out = record { status = trouble_status trouble; out = out; err = trouble_line trouble }
 
 -- what is right to say to the command, by what is seen of files and input
 pub data SaysRight (run : RunCommand) (seen : Seen) (input : SeenInput) (saying : Saying) : Type 0 where
   -- the sources aren't gathered
-  ungathered : (g : Gathered) (why : Ungathered) → AreUngathered (setting_of seen run) g why → saying ≡ ungathered_saying run g why → SaysRight run seen input saying
+  ungathered : (g : Gathered) (why : Ungathered) → AreUngathered (setting_of seen run) g why → saying ≡ ungathered_saying run.sources g why → SaysRight run seen input saying
   -- the sources are gathered, but there is no file with the certificate's name
   absent : (g : Gathered) (name : Text) → Gathers (setting_of seen run) g → run.budget ≡ Certificate name → Lacks seen.held name → saying ≡ absent_saying name → SaysRight run seen input saying
   -- the sources are gathered and the certificate, if there is to be one, is there; but the sources are no program
@@ -83,8 +68,8 @@ pub data SaysRight (run : RunCommand) (seen : Seen) (input : SeenInput) (saying 
   ended : (g : Gathered) (p : PlainProgram) (b : Budget) (bytes : List ℕ) → HasProgram (setting_of seen run) g p → IsPermitted seen.held run p b → IsInput input.left bytes →
       saying ≡ ended_saying g (run_with p b bytes) → SaysRight run seen input saying
   -- before the program runs, a read of the files has failed or memory is out
-  troubled : (trouble : Trouble) → MayCome trouble seen.faults_before seen.faults_after → saying ≡ troubled_saying trouble [] → SaysRight run seen input saying
+  troubled : (trouble : Trouble) → HasCause trouble seen.faults_before seen.faults_after → saying ≡ trouble_saying trouble → SaysRight run seen input saying
   -- while it runs, a read of the input has failed or memory is out; what was written until then is a prefix of its output
   troubled_run : (g : Gathered) (p : PlainProgram) (b : Budget) (bytes written : List ℕ) (trouble : Trouble) → HasProgram (setting_of seen run) g p → IsPermitted seen.held run p b → IsInput input.left bytes →
-      Extends written (run_with p b bytes).output → MayCome trouble input.faults_before input.faults_after →
+      Extends written (run_with p b bytes).output → HasCause trouble input.faults_before input.faults_after →
       saying ≡ troubled_saying trouble written → SaysRight run seen input saying

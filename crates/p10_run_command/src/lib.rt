@@ -24,13 +24,13 @@ mod tell;
 
 pub use command::RunCommand;
 use granting::{Allowance, RunRequest};
-use p10_command::{GatheredRoots, gather_roots};
+use p10_command::{GatheredRoots, gather_roots, tell_trouble, tell_ungathered};
 use p10_judge::load_certificate;
 use p10_words::Budget;
 use p10_world::{Files, Sink, Source};
 use program::run_sources;
 use std::alloc::Global;
-use tell::{tell_absent, tell_trouble, tell_ungathered};
+use tell::tell_absent;
 
 /// Obeys the command: runs the sources' program on `input` and `out`, and tells on `err` how it has ended, or why there is none.
 /// Gives the status with which the program exits.
@@ -64,12 +64,8 @@ pub fn run<F: Files, I: Source, O: Sink, E: Sink>(
 
     ensures held { F.held files.new ≡ F.held files.old }
 {
-    let gathered = gather_roots(
-        alloc,
-        files,
-        command.sources.as_slice(),
-        command.directories.as_slice(),
-    );
+    let roots = command.sources.as_slice();
+    let gathered = gather_roots(alloc, files, roots, command.directories.as_slice());
     match gathered {
         Ok(GatheredRoots::All(sources)) => match &command.budget {
             Budget::Steps(steps) => {
@@ -85,7 +81,7 @@ pub fn run<F: Files, I: Source, O: Sink, E: Sink>(
                 Err(trouble) => tell_trouble(trouble, err),
             },
         },
-        Ok(GatheredRoots::Stopped(why, sources)) => tell_ungathered(command, &sources, &why, err),
+        Ok(GatheredRoots::Stopped(why, sources)) => tell_ungathered(roots, &sources, &why, err),
         Err(trouble) => tell_trouble(trouble, err),
     }
 }

@@ -13,9 +13,9 @@ ghost use Rattle.p10_run_command.specs.private.Granting.{IsRequest};
 ghost use Rattle.p10_run_command.specs.private.Telling.{Comes};
 
 use crate::granting::{Permission, RunRequest, grant};
-use crate::tell::{tell_end, tell_trouble, tell_unread};
+use crate::tell::tell_end;
 use p10_base::Sources;
-use p10_command::{ReadSources, Trouble, read_sources, release};
+use p10_command::{ReadSources, Trouble, read_sources, release, tell_trouble, tell_unread};
 use p10_front::Reading;
 use p10_judge::Judgement;
 use p10_run::{FinishedRun, RunFault};

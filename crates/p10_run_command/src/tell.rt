@@ -8,16 +8,13 @@ ghost use Rattle.p10_judge.specs.Saying.{judgement_line, judgement_status};
 ghost use Rattle.p10_report.specs.Messages.{absent_line};
 ghost use Rattle.p10_report.specs.Stops.{StopsWithin};
 ghost use Rattle.p10_run.specs.WholeRuns.{outcome_of};
-ghost use Rattle.p10_command.specs.Gathering.{CanBeTold};
-ghost use Rattle.p10_command.specs.Reading.{HasCode};
-ghost use Rattle.p10_command.specs.Saying.{trouble_line, trouble_status, ungathered_line, ungathered_status, unread_line, unread_status};
+ghost use Rattle.p10_command.specs.Told.{IsTold};
 ghost use Rattle.p10_run_command.specs.Endings.{ended_line, ended_status, number_of_stop};
-ghost use Rattle.p10_run_command.specs.private.Telling.{end_line, end_status, IsTold, ran_line, ran_status};
+ghost use Rattle.p10_run_command.specs.private.Telling.{end_line, end_status, ran_line, ran_status};
 
-use crate::command::RunCommand;
 use crate::program::RunEnd;
 use p10_base::{Sources, TextBuf};
-use p10_command::{Trouble, Ungathered, Unread, put_trouble, put_ungathered, put_unread};
+use p10_command::{Trouble, tell_trouble};
 use p10_int::Stop;
 use p10_judge::{Judgement, put_judgement};
 use p10_report::{
@@ -25,49 +22,6 @@ use p10_report::{
 };
 use p10_run::{FinishedRun, RunFault, RunOutcome};
 use p10_world::{Sink, SinkFault};
-
-/// Tells why the sources of the command aren't gathered, and gives the status of the program.
-pub fn tell_ungathered<E: Sink>(
-    command: &RunCommand,
-    sources: &Sources,
-    why: &Ungathered,
-    err: &mut E,
-) -> u8
-    requires { CanBeTold command.now.sources why.now }
-    ensures told { result ≢ 6 → IsTold (ungathered_status why.now) (ungathered_line command.now.sources sources.now why.now) (E.taken err.old) (E.taken err.new) result }
-    ensures stopped { result ≡ 6 → StopsWithin (E.taken err.old) (E.taken err.new) (ungathered_line command.now.sources sources.now why.now) }
-    ensures write { result ≡ 6 → Rose (E.faults err.old) (E.faults err.new) }
-{
-    match put_ungathered(err, command.sources.as_slice(), sources, why) {
-        Ok(()) => why.status(),
-        Err(_) => 6,
-    }
-}
-
-/// Tells why the gathered sources are no program, and gives the status of the program.
-pub fn tell_unread<E: Sink>(sources: &Sources, why: &Unread, err: &mut E) -> u8
-    requires { HasCode why.now }
-    ensures told { result ≢ 6 → IsTold (unread_status why.now) (unread_line sources.now why.now) (E.taken err.old) (E.taken err.new) result }
-    ensures stopped { result ≡ 6 → StopsWithin (E.taken err.old) (E.taken err.new) (unread_line sources.now why.now) }
-    ensures write { result ≡ 6 → Rose (E.faults err.old) (E.faults err.new) }
-{
-    match put_unread(err, sources, why) {
-        Ok(()) => why.status(),
-        Err(_) => 6,
-    }
-}
-
-/// Tells that a read has failed or memory is out, and gives the status of the program.
-pub fn tell_trouble<E: Sink>(trouble: Trouble, err: &mut E) -> u8
-    ensures told { result ≢ 6 → IsTold (trouble_status trouble) (trouble_line trouble) (E.taken err.old) (E.taken err.new) result }
-    ensures stopped { result ≡ 6 → StopsWithin (E.taken err.old) (E.taken err.new) (trouble_line trouble) }
-    ensures write { result ≡ 6 → Rose (E.faults err.old) (E.faults err.new) }
-{
-    match put_trouble(err, trouble) {
-        Ok(()) => trouble.status(),
-        Err(_) => 6,
-    }
-}
 
 /// Tells that there is no certificate of this name, and gives the status of the program.
 pub fn tell_absent<E: Sink>(name: &TextBuf, err: &mut E) -> u8

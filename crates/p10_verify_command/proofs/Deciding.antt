@@ -12,6 +12,8 @@ use Rattle.p10_command.specs.declared.gathering.Ungathered as why
 use Rattle.p10_command.specs.declared.trouble.Trouble as problem
 use Rattle.p10_command.specs.declared.trouble.Trouble.TheVariants.{Read, Memory}
 use Rattle.p10_command.specs.Gathering.{AreGathered}
+use Rattle.p10_command.proofs.Causes.{has_cause}
+use Rattle.p10_command.proofs.Sources.{all_gathered, not_gathered}
 use Rattle.p10_judge.specs.Loading.{IsLoaded}
 use Rattle.p10_judge.proofs.Files.{given_is_held, judged}
 use Rattle.p10_verify_command.specs.declared.answer.Answer.{Answer}
@@ -22,19 +24,13 @@ use Rattle.p10_verify_command.specs.private.Deciding.{Answered, AreWeighed, Deci
 
 -- ## The answers
 
--- the names that files are gathered by are those of the command
-with_names : (held : Option (List Named)) (names : Names) (roots directories : List Text) (found : GatheredRoots) → roots ≡ names.sources → directories ≡ names.directories → AreGathered (setting held roots directories) found → AreGathered (setting_of held names) found
-with_names held names roots directories found same_roots same_directories is =
-    subst (λ ds. AreGathered (setting held names.sources ds) found) same_directories (subst (λ rs. AreGathered (setting held rs directories) found) same_roots is)
-
 pub gathers_named : (held : Option (List Named)) (names : Names) (roots directories : List Text) (found : GatheredRoots) (g : Gathered) → roots ≡ names.sources → directories ≡ names.directories → found ≡ roots_of.All g → AreGathered (setting held roots directories) found → Gathers (setting_of held names) g
-gathers_named held names roots directories found g same_roots same_directories same is =
-    (subst (λ (f : GatheredRoots). AreGathered (setting_of held names) f) same (with_names held names roots directories found same_roots same_directories is)).0
+gathers_named held names roots directories found g same_roots same_directories same is = (all_gathered held roots names.sources directories names.directories found g same_roots same_directories same is).0
 
 pub decides_ungathered : (held : Option (List Named)) (names : Names) (roots directories : List Text) (found : GatheredRoots) (u : why.Ungathered) (g : Gathered) → roots ≡ names.sources → directories ≡ names.directories → found ≡ roots_of.Stopped u g →
     AreGathered (setting held roots directories) found → Decides held names g (Ungathered u)
 decides_ungathered held names roots directories found u g same_roots same_directories same is =
-    let stopped = subst (λ (f : GatheredRoots). AreGathered (setting_of held names) f) same (with_names held names roots directories found same_roots same_directories is) in
+    let stopped = not_gathered held roots names.sources directories names.directories found u g same_roots same_directories same is in
     record { is_right = stopped.0; can_be_told = stopped.1 }
 
 weighed_by : (held : Option (List Named)) (names : Names) (g : Gathered) (bytes : List ℕ) (answer : Answer) → Gathers (setting_of held names) g → IsLoaded held names.certificate bytes → AreWeighed g bytes answer → Decides held names g answer
@@ -68,5 +64,4 @@ seen_later held before after names g (Trouble Memory) decides = record { is_righ
 -- a read failed only where the count of faults rose
 pub troubled : {T : Type 0} (held : Option (List Named)) (before after : ℕ) (names : Names) (g : Gathered) (trouble : problem.Trouble) (r : Result T problem.Trouble) → r ≡ Err trouble → (r ≡ Err Read → Rose before after) →
     Answered (record { held = held; faults_before = before; faults_after = after }) names g (Trouble trouble)
-troubled held before after names g Read r is failed = record { is_right = failed is; can_be_told = tt }
-troubled held before after names g Memory r is failed = record { is_right = tt; can_be_told = tt }
+troubled held before after names g trouble r is failed = record { is_right = has_cause r trouble before after is failed; can_be_told = tt }

@@ -1,25 +1,22 @@
 -- Only one answer is right where files are told: each answer passes the stages before its own, and is
 -- refuted by what a later answer passes.
-use Rattle.std.proofs.Common.{◌≡◌, ◌≢◌, ℕ, ◌<◌, ◌≤◌, List, [], refl, sym, ◌∙◌, ap, subst, arith, inl, inr, Some}
+use Rattle.std.proofs.Common.{◌≡◌, ◌≢◌, ℕ, ◌<◌, ◌≤◌, List, refl, sym, ◌∙◌, ap, arith, inl, inr, Some}
 use Rattle.std.proofs.lemmas.Bool.{cases_order}
 use Rattle.p10_base.specs.Gathered.{Gathered}
 use Rattle.p10_world.specs.Files.{Named}
 use Rattle.p10_core.specs.Typed.{PlainProgram}
 use Rattle.p10_expand.specs.Gathering.{Gathers}
-use Rattle.p10_front.specs.Readings.{AreReadAs}
 use Rattle.p10_front.specs.Laws.{ReadsOnce}
-use Rattle.p10_command.specs.declared.reading.Unread as why
 use Rattle.p10_command.specs.declared.trouble.Trouble.TheVariants.{Read, Memory}
-use Rattle.p10_command.specs.Reading.{AreUnread}
-use Rattle.p10_command.specs.Saying.{Saying, ungathered_line, ungathered_status}
+use Rattle.p10_command.specs.Programs.{HasProgram}
+use Rattle.p10_command.specs.Saying.{Saying}
 use Rattle.p10_command.specs.Seen.{Seen}
 use Rattle.p10_command.proofs.Once as shared
 use Rattle.p10_judge.specs.declared.judgement.Judgement.{Judgement}
 use Rattle.p10_judge.specs.Judging.{IsJudged}
 use Rattle.p10_judge.specs.Laws.{OneJudgement}
 use Rattle.p10_judge.specs.Loading.{IsHeld}
-use Rattle.p10_judge.specs.Programs.{HasProgram}
-use Rattle.p10_judge.proofs.Once.{has_once, held_or_lacking, judged_is_held, judged_once}
+use Rattle.p10_judge.proofs.Once.{held_or_lacking, judged_is_held, judged_once}
 use Rattle.p10_verify_command.specs.declared.answer.Answer.{Answer}
 use Rattle.p10_verify_command.specs.declared.answer.Answer.TheVariants.{Ungathered, AbsentCertificate, Unread, Judged, Trouble}
 use Rattle.p10_verify_command.specs.Names.{Names}
@@ -64,17 +61,13 @@ passes files before after names g (Trouble trouble) number right earlier plain =
 
 -- ## What refutes each answer
 
--- gathering ends in one way
-same_sources : (files : List Named) (names : Names) (g h : Gathered) → Gathers (setting_of (Some files) names) g → Gathers (setting_of (Some files) names) h → g ≡ h
-same_sources files names g h this that = shared.same_sources (setting_of (Some files) names) refl g h this that
-
 stops : ReadsOnce → (files : List Named) (before after : ℕ) (names : Names) (g : Gathered) (answer : Answer) → IsRight (told files before after) names g answer → number_of answer ≤ 4 → Passed names files (number_of answer) → number_of answer < 4 → ⊥
 stops once files before after names g (Ungathered u) right plain passed earlier =
     let other = passed.gathered (omega arith) in shared.gathered_or_not (setting_of (Some files) names) refl other.0 g u other.1 right
 stops once files before after names g AbsentCertificate (gathers, lacks) plain passed earlier = held_or_lacking (Some files) refl names.certificate (passed.certificate (omega arith)) lacks
 stops once files before after names g (Unread u) (gathers, held, unread) plain passed earlier =
     let (h, p, program) = passed.program (omega arith) in
-    shared.read_or_not once g program.reading p u (subst (λ (x : Gathered). AreReadAs x program.reading p) (same_sources files names h g program.gathers gathers) program.read) unread
+    shared.unread_or_program once (setting_of (Some files) names) refl g h u p gathers unread program
 stops once files before after names g (Judged j) right plain passed earlier = absurd (omega (arith, earlier))
 stops once files before after names g (Trouble trouble) right plain passed earlier = absurd (omega (arith, plain))
 
@@ -84,19 +77,17 @@ stops once files before after names g (Trouble trouble) right plain passed earli
 same_judgement : ReadsOnce → OneJudgement → (files : List Named) (names : Names) (g h : Gathered) (p q : PlainProgram) (j k : Judgement) → HasProgram (setting_of (Some files) names) g p → HasProgram (setting_of (Some files) names) h q →
     IsJudged (Some files) names.certificate p j → IsJudged (Some files) names.certificate q k → saying_of names g (Judged j) ≡ saying_of names h (Judged k)
 same_judgement once one files names g h p q j k this that judged judged' =
-    let same = has_once once (setting_of (Some files) names) refl g h p q this that in
+    let same = shared.has_once once (setting_of (Some files) names) refl g h p q this that in
     ap (λ (x : Gathered). saying_of names x (Judged j)) same.sources_are
     ∙ ap (λ (i : Judgement). saying_of names h (Judged i)) (judged_once one (Some files) refl names.certificate p q j k same.program_is judged judged')
 
 -- two answers at one place say the same
 same_place : ReadsOnce → OneJudgement → (files : List Named) (before after : ℕ) (names : Names) (g h : Gathered) (a b : Answer) → IsRight (told files before after) names g a → IsRight (told files before after) names h b → number_of a ≡ number_of b → number_of a ≤ 4 → saying_of names g a ≡ saying_of names h b
 same_place once one files before after names g h (Ungathered u) (Ungathered v) right right' same plain =
-    let says = shared.one_ungathered (setting_of (Some files) names) refl names.sources g h u v right right' in
-    ap (λ status. record { status = status; out = []; err = ungathered_line names.sources g u }) says.status ∙ ap (λ line. record { status = ungathered_status v; out = []; err = line }) says.line
+    shared.one_ungathered (setting_of (Some files) names) refl names.sources g h u v right right'
 same_place once one files before after names g h AbsentCertificate AbsentCertificate right right' same plain = refl
 same_place once one files before after names g h (Unread u) (Unread v) (gathers, held, unread) (gathers', held', unread') same plain =
-    let sources : g ≡ h = same_sources files names g h gathers gathers' in
-    ap (λ (x : Gathered). saying_of names x (Unread u)) sources ∙ ap (λ (x : why.Unread). saying_of names h (Unread x)) (shared.one_unread once h u v (subst (λ (x : Gathered). AreUnread x u) sources unread) unread')
+    shared.one_unread_saying once (setting_of (Some files) names) refl g h u v gathers unread gathers' unread'
 same_place once one files before after names g h (Judged j) (Judged k) (p, program, judged) (q, program', judged') same plain = same_judgement once one files names g h p q j k program program' judged judged'
 same_place once one files before after names g h (Ungathered u) _ right right' same plain = absurd (omega (arith, same))
 same_place once one files before after names g h AbsentCertificate _ right right' same plain = absurd (omega (arith, same))

@@ -10,6 +10,7 @@ use Rattle.p10_front.specs.Readings.{PlainReading, AreReadAs}
 use Rattle.p10_command.specs.declared.reading.ReadSources.{ReadSources}
 use Rattle.p10_command.specs.declared.reading.ReadSources.TheVariants as found
 use Rattle.p10_command.specs.Reading.{AreRead}
+use Rattle.p10_command.proofs.Sources as sources
 use Rattle.p10_judge.specs.declared.judgement.Judgement.{Judgement}
 use Rattle.p10_judge.specs.Judging.{IsWeighed}
 use Rattle.p10_verify_command.specs.declared.answer.Answer.TheVariants.{Judged}
@@ -29,9 +30,5 @@ pub program_weighed : (g : Gathered) (source : ReadSources) (reading : Reading) 
     IsSomeAnd reading.program (λ p. IsWeighed (plain_program p) bytes j) → AreWeighed g bytes (Judged j)
 program_weighed g source reading bytes j same is weighed = by_program g (reading_of reading) bytes j reading.program (subst (λ (f : ReadSources). AreRead g f) same is) weighed
 
-by_whole : (g : Gathered) (r : PlainReading) (o : Option Program) → IsSomeAnd o (λ p. AreReadAs g r (plain_program p) × IsWholeProgram (plain_program p)) → IsSomeAnd o (λ p. IsWholeProgram (plain_program p))
-by_whole g r None are = are
-by_whole g r (Some p) are = are.1
-
 pub whole_program : (g : Gathered) (source : ReadSources) (reading : Reading) → source ≡ found.Program reading → AreRead g source → IsSomeAnd reading.program (λ p. IsWholeProgram (plain_program p))
-whole_program g source reading same is = by_whole g (reading_of reading) reading.program (subst (λ (f : ReadSources). AreRead g f) same is)
+whole_program g source reading same is = sources.whole_program g reading (sources.are_program g source reading same is)

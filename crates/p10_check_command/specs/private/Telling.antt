@@ -6,11 +6,10 @@ use Rattle.p10_base.specs.Gathered.{Gathered}
 use Rattle.p10_syn.specs.Trees.{External}
 use Rattle.p10_core.specs.Typed.{PlainProgram}
 use Rattle.p10_command.specs.declared.trouble.Trouble.TheVariants.{Memory}
-use Rattle.p10_command.specs.Saying.{Saying}
+use Rattle.p10_command.specs.Saying.{Saying, limit_saying, trouble_saying}
 use Rattle.p10_front.specs.declared.fault.FrontFault.{FrontFault}
 use Rattle.p10_front.specs.declared.fault.FrontFault.TheVariants as front
 use Rattle.p10_synrules.specs.Violations as trees
-use Rattle.p10_check_command.specs.Answers.{limit_saying, trouble_saying}
 use Rattle.p10_check_command.specs.Reports.{BreaksProgramRow}
 
 -- a row on trees is violated, if there are trees

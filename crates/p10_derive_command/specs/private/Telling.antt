@@ -8,8 +8,8 @@ use Rattle.p10_finder.specs.declared.found.FinderFault.TheVariants as finder
 use Rattle.p10_finder.specs.Answers.{IsDerived}
 use Rattle.p10_finder.specs.Finding.{derived_of, IsFault}
 use Rattle.p10_command.specs.declared.trouble.Trouble.TheVariants.{Memory}
-use Rattle.p10_command.specs.Saying.{Saying}
-use Rattle.p10_derive_command.specs.Answers.{derived_saying, limit_saying, trouble_saying}
+use Rattle.p10_command.specs.Saying.{Saying, limit_saying, trouble_saying}
+use Rattle.p10_derive_command.specs.Answers.{derived_saying}
 
 -- this alone is said
 abbrev pub IsSaid : Saying → Saying → Type 0

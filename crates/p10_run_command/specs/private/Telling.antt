@@ -1,6 +1,5 @@
 -- What comes of running a program, and what is told of it.
 use Rattle.std.specs.Prelude.{◌≡◌, ℕ, List, [], Option, Result, Ok, Err}
-use Rattle.std.specs.Io.KnownBytes.{Appends}
 use Rattle.p10_base.specs.Gathered.{Gathered}
 use Rattle.p10_world.specs.Sink.{TakesFront}
 use Rattle.p10_core.specs.Typed.{PlainProgram}
@@ -18,11 +17,6 @@ use Rattle.p10_run_command.specs.declared.program.RunEnd.TheVariants.{Ran, Refus
 use Rattle.p10_run_command.specs.Answers.{IsInput}
 use Rattle.p10_run_command.specs.Endings.{ended_line, ended_status}
 use Rattle.p10_run_command.specs.private.Granting.{Grants, IsRefusedFor}
-
--- a line was told on the error output, all of it, and this is its status
-pub record IsTold (status : ℕ) (line : List ℕ) (err_old err_new : Option (List ℕ)) (given : ℕ) : Type 0 where
-  pub status_is : given ≡ status
-  pub taken : Appends err_old err_new line
 
 -- the status of what has come of a run
 abbrev pub ran_status : Result FinishedRun RunFault → ℕ

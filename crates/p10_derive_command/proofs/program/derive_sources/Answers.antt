@@ -1,9 +1,10 @@
 use Rattle.std.proofs.Common.{refl}
 use Rattle.p10_command.specs.declared.trouble.Trouble.TheVariants.{Memory}
-use Rattle.p10_derive_command.specs.Answers.{SaysRight, unread, troubled, unread_saying, trouble_saying}
+use Rattle.p10_command.specs.Saying.{trouble_saying, unread_saying}
+use Rattle.p10_derive_command.specs.Answers.{SaysRight, unread, troubled}
 use Rattle.p10_derive_command.specs.private.Telling.{end_saying}
-use Rattle.p10_derive_command.proofs.Deriving.{reading_is_right, whole_program}
-use Rattle.p10_command.proofs.Sources.{are_program, are_unread}
+use Rattle.p10_derive_command.proofs.Deriving.{reading_is_right}
+use Rattle.p10_command.proofs.Sources.{are_program, are_unread, whole_program}
 use Rattle.p10_command.proofs.OneOutput.{told_line, stopped_line}
 use Rattle.p10_derive_command.proofs.Telling.{said_right, stopped_right}
 use Rattle.p10_derive_command.proofs.program.derive_sources.Goals as goal

@@ -1,10 +1,11 @@
-use Rattle.std.proofs.Common.{[], refl}
+use Rattle.std.proofs.Common.{refl}
 use Rattle.p10_command.specs.declared.trouble.Trouble.TheVariants.{Memory}
-use Rattle.p10_run_command.specs.Answers.{unread, troubled, unread_saying, troubled_saying}
+use Rattle.p10_command.proofs.OneOutput.{told_line, stopped_line}
+use Rattle.p10_command.proofs.Sources.{are_program, are_unread, whole_program}
+use Rattle.p10_command.specs.Saying.{trouble_saying, unread_saying}
+use Rattle.p10_run_command.specs.Answers.{unread, troubled}
 use Rattle.p10_run_command.proofs.Granted.{asked_is_held}
-use Rattle.p10_run_command.proofs.Running.{program_told, program_stopped, whole_program, either_rose}
-use Rattle.p10_run_command.proofs.Sources.{are_program, are_unread}
-use Rattle.p10_run_command.proofs.Telling.{told_line, stopped_line}
+use Rattle.p10_run_command.proofs.Running.{program_told, program_stopped, either_rose}
 use Rattle.p10_run_command.proofs.program.run_sources.Goals as goal
 
 pub run_reading-end-requires-clause-program : goal.run_reading-end-requires-clause-program
@@ -41,7 +42,7 @@ returns-in-Ok-Unread-clause-stopped g c = λ six command seen is gathers.
     refl (c.tell_unread.ensures.stopped six)
 
 pub returns-in-Err-clause-told : goal.returns-in-Err-clause-told
-returns-in-Err-clause-told g c = λ six command seen is gathers. told_line _ (troubled_saying Memory []) _ _ _ _ (troubled Memory tt refl) refl (c.tell_trouble.ensures.told six)
+returns-in-Err-clause-told g c = λ six command seen is gathers. told_line _ (trouble_saying Memory) _ _ _ _ (troubled Memory tt refl) refl (c.tell_trouble.ensures.told six)
 
 pub returns-in-Err-clause-stopped : goal.returns-in-Err-clause-stopped
-returns-in-Err-clause-stopped g c = λ six command seen is gathers. stopped_line _ (troubled_saying Memory []) _ _ _ (troubled Memory tt refl) refl (c.tell_trouble.ensures.stopped six)
+returns-in-Err-clause-stopped g c = λ six command seen is gathers. stopped_line _ (trouble_saying Memory) _ _ _ (troubled Memory tt refl) refl (c.tell_trouble.ensures.stopped six)

@@ -1,7 +1,7 @@
 -- The program of the sources of a command.
-use Rattle.p10_base.specs.Gathered.{Gathered}
 use Rattle.p10_core.specs.Typed.{PlainProgram}
 use Rattle.p10_core.specs.WholePrograms.{IsWholeProgram}
+use Rattle.p10_base.specs.Gathered.{Gathered}
 use Rattle.p10_expand.specs.Gathering.{Setting, Gathers}
 use Rattle.p10_front.specs.Readings.{PlainReading, AreReadAs}
 
