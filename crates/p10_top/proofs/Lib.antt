@@ -3,4 +3,5 @@ pub mod CommandWords
 pub mod Telling
 pub mod Deriving
 pub mod OneThing
+pub mod Agreeing
 pub mod Certified

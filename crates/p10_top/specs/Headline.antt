@@ -18,6 +18,7 @@ use Rattle.p10_expand.specs.Setting.{setting}
 use Rattle.p10_front.specs.Readings.{PlainReading, AreReadAs}
 use Rattle.p10_verify_command.specs.Names.{Names}
 use Rattle.p10_verify_command.specs.Answers.{setting_of}
+use Rattle.p10_agreement.specs.Laws.{AreVerified}
 use Rattle.p10_top.specs.Commands.{IsDeriveLine, IsVerifyLine}
 
 -- The sources are read as a program, the certificate's bytes are the text of its claims, and from every input each call of `main`, or
@@ -40,7 +41,7 @@ abbrev pub Verified : List Text → List Named → Type 0
 Verified words files = (names : Names) → IsVerifyLine words names → BoundsRuns names files
 
 -- The sources are read as a program, and the output took the text of the claims that are derived of it; these are accepted for the program
--- with their total, by the evidence of ranges, so that every run of it stays within them.
+-- with their total, by the evidence of ranges, so that every run of it stays within them; and `verify` accepts a file of that text.
 pub record TellsBounds (directories roots : List Text) (files : List Named) (out_old out_new : Option (List ℕ)) : Type 0 where
   pub sources : Gathered
   pub gathers : Gathers (setting (Some files) roots directories) sources
@@ -53,6 +54,7 @@ pub record TellsBounds (directories roots : List Text) (files : List Named) (out
   pub taken : Appends out_old out_new (certificate_text claims)
   pub accepted : IsVerdict (stands_by_ranges program) program claims (Accepted claims.total)
   pub within : Within program claims.total
+  pub verified : AreVerified (record { directories = directories; sources = roots }) files claims
 
 -- if the words are `derive` with sources and directories of included files, then the output took a certificate that bounds every run
 abbrev pub DerivesBounds : List Text → List Named → Option (List ℕ) → Option (List ℕ) → Type 0

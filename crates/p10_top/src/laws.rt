@@ -1,7 +1,8 @@
 //! What holds of the answers: each function does nothing, and its contract is the law.
 
-ghost use Rattle.p10_top.specs.Laws.{SaysOneThing};
+ghost use Rattle.p10_top.specs.Laws.{SaysOneThing, VerifyAcceptsWhatDeriveWrites};
 
+use p10_agreement::laws::derived_certificates_are_verified;
 use p10_check_command::laws::one_answer_is_right as one_report_is_told;
 use p10_derive_command::laws::one_answer_is_right as one_certificate_is_told;
 use p10_gen_command::laws::one_answer_is_right as one_program_is_shown;
@@ -18,4 +19,12 @@ pub fn one_thing_is_said()
     one_answer_is_right();
     one_program_is_shown();
     one_run_is_said();
+}
+
+/// What `derive` has written with status 0, `verify` accepts as a certificate of the same sources, as long as at each name at which these are
+/// looked for the files are as they were, but for a read fault and out of memory.
+pub fn verify_accepts_what_derive_writes()
+    ensures { VerifyAcceptsWhatDeriveWrites }
+{
+    derived_certificates_are_verified();
 }

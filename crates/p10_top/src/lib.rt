@@ -18,6 +18,7 @@ ghost use Rattle.p10_top.specs.private.Unread.{saying_without_command};
 
 use commands::{check_command, derive_command, run_command, verify_command};
 use p10_acceptance::laws::derived_certificates_are_accepted;
+use p10_agreement::laws::derived_certificates_are_verified;
 use p10_check_command::check;
 use p10_derive_command::derive;
 use p10_gen_command::generate;
@@ -93,6 +94,7 @@ pub fn p10_main<F: Files, I: Source, O: Sink, E: Sink>(
     // The laws that the headline, and the clauses on derivation and on steps, rest on.
     accepted_certificates_bound_every_run();
     derived_certificates_are_accepted();
+    derived_certificates_are_verified();
     certificates_leave_steps();
     match read_words(alloc, words) {
         Ok(command) => obey(alloc, command, files, input, out, err),

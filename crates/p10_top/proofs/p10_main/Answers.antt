@@ -18,7 +18,7 @@ returns-in-Ok-clause-headline g c = verified c.accepted_certificates_bound_every
 
 pub returns-in-Ok-clause-derived : goal.returns-in-Ok-clause-derived
 returns-in-Ok-clause-derived g c =
-    derived c.derived_certificates_are_accepted.ensures.bounds c.derived_certificates_are_accepted.ensures.accepted _ _ _ _ _ _ _ _ _ _ (λ six. told_command _ c.in-Ok.command _ _ _ _ _ _ _ c.in-Ok.ensures.found (c.obey.ensures.told six))
+    derived c.derived_certificates_are_accepted.ensures.bounds c.derived_certificates_are_accepted.ensures.accepted c.derived_certificates_are_verified.ensures.certificates _ _ _ _ _ _ _ _ _ _ (λ six. told_command _ c.in-Ok.command _ _ _ _ _ _ _ c.in-Ok.ensures.found (c.obey.ensures.told six))
 
 pub returns-in-Ok-clause-told : goal.returns-in-Ok-clause-told
 returns-in-Ok-clause-told g c = λ six. told_command _ c.in-Ok.command _ _ _ _ _ _ _ c.in-Ok.ensures.found (c.obey.ensures.told six)

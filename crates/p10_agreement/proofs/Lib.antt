@@ -1,0 +1,4 @@
+-- Lemmas, by subject.
+pub mod Looking
+pub mod Asked
+pub mod Agreeing
