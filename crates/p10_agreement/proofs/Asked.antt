@@ -14,7 +14,7 @@ use Rattle.p10_expand.specs.declared.place.Include.{Include}
 use Rattle.p10_expand.specs.declared.place.Place.{Place}
 use Rattle.p10_expand.specs.declared.gathering.Known.{Known}
 use Rattle.p10_expand.specs.Candidates.{candidates_of}
-use Rattle.p10_expand.specs.Finding.{name_at}
+use Rattle.p10_expand.specs.Finding.{name_at, is_header_place}
 use Rattle.p10_expand.specs.Includes.{HasIncludes}
 use Rattle.p10_expand.specs.Gathering.{Setting, Request, Root, Line, Moment, places_of, lines_of, noted, found, Answered, Reached}
 use Rattle.p10_expand.proofs.Linking.{IsHeld, noted_file, noted_count}
@@ -40,15 +40,15 @@ begins_on f g h before after = record {
   texts = λ n below. after.texts n (omega (arith, below, before.few)) ∙ before.texts n below;
 }
 
-begins_more : (g : Gathered) (name text : Text) → Begins g (with_file g name text)
-begins_more g name text = record {
-  few = omega (arith, length-append g.files ((record { name = name; text = text; links = [] }) ∷ []));
-  names = λ n below. ap (λ (f : SourceFile). f.name) (get_or_append_left g.files ((record { name = name; text = text; links = [] }) ∷ []) no_file n below);
-  texts = λ n below. ap (λ (f : SourceFile). f.text) (get_or_append_left g.files ((record { name = name; text = text; links = [] }) ∷ []) no_file n below);
+begins_more : (g : Gathered) (name text : Text) (built_in : Bool) → Begins g (with_file g name text built_in)
+begins_more g name text built_in = record {
+  few = omega (arith, length-append g.files ((record { name = name; text = text; built_in = built_in; links = [] }) ∷ []));
+  names = λ n below. ap (λ (f : SourceFile). f.name) (get_or_append_left g.files ((record { name = name; text = text; built_in = built_in; links = [] }) ∷ []) no_file n below);
+  texts = λ n below. ap (λ (f : SourceFile). f.text) (get_or_append_left g.files ((record { name = name; text = text; built_in = built_in; links = [] }) ∷ []) no_file n below);
 }
 
-last_text : (g : Gathered) (name text : Text) → text_of (with_file g name text) (count_of g) ≡ text
-last_text g name text = ap (λ (f : SourceFile). f.text) (get_or-append_seam g.files (record { name = name; text = text; links = [] }) [] no_file)
+last_text : (g : Gathered) (name text : Text) (built_in : Bool) → text_of (with_file g name text built_in) (count_of g) ≡ text
+last_text g name text built_in = ap (λ (f : SourceFile). f.text) (get_or-append_seam g.files (record { name = name; text = text; built_in = built_in; links = [] }) [] no_file)
 
 begins_noted : (g : Gathered) (request : Request) (number : ℕ) → IsHeld g request → Begins g (noted request number g)
 begins_noted g request number held = record {
@@ -106,14 +106,14 @@ split s m request rest asked wanted =
     (All-head (IsWanted s m.sources) request rest all, All-tail (IsWanted s m.sources) request rest all)
 
 put_goes : (s : Setting) (g : Gathered) (request : Request) (rest : List Request) (k : Known) (text : Text) → HasIncludes (count_of g) text k.includes → IsWanted s g request → All (IsWanted s g) rest
-    → All (IsWanted s (noted request (count_of g) (with_file g (name_at k.place) text))) (rest ++ lines_of (count_of g) k) × Begins g (noted request (count_of g) (with_file g (name_at k.place) text))
+    → All (IsWanted s (noted request (count_of g) (with_file g (name_at k.place) text (is_header_place k.place)))) (rest ++ lines_of (count_of g) k) × Begins g (noted request (count_of g) (with_file g (name_at k.place) text (is_header_place k.place)))
 put_goes s g request rest k text lexed wanted others =
-    let more : Gathered = with_file g (name_at k.place) text in
+    let more : Gathered = with_file g (name_at k.place) text (is_header_place k.place) in
     let last : Gathered = noted request (count_of g) more in
-    let held : IsHeld more request = held_of s more request (kept s g more (begins_more g (name_at k.place) text) request wanted) in
-    let begins : Begins g last = begins_on g more last (begins_more g (name_at k.place) text) (begins_noted more request (count_of g) held) in
-    let text_is : text_of last (count_of g) ≡ text = (noted_file more request (count_of g) held (count_of g)).1 ∙ last_text g (name_at k.place) text in
-    let within : count_of g < count_of last = omega (arith, noted_count more request (count_of g), length-append g.files ((record { name = name_at k.place; text = text; links = [] }) ∷ [])) in (
+    let held : IsHeld more request = held_of s more request (kept s g more (begins_more g (name_at k.place) text (is_header_place k.place)) request wanted) in
+    let begins : Begins g last = begins_on g more last (begins_more g (name_at k.place) text (is_header_place k.place)) (begins_noted more request (count_of g) held) in
+    let text_is : text_of last (count_of g) ≡ text = (noted_file more request (count_of g) held (count_of g)).1 ∙ last_text g (name_at k.place) text (is_header_place k.place) in
+    let within : count_of g < count_of last = omega (arith, noted_count more request (count_of g), length-append g.files ((record { name = name_at k.place; text = text; built_in = is_header_place k.place; links = [] }) ∷ [])) in (
       All-append (IsWanted s last) rest (lines_of (count_of g) k) (All-weaker (IsWanted s g) (IsWanted s last) (kept s g last begins) rest others)
           (lines_wanted s last (count_of g) k (nat_le k.depth 64) within (subst (λ (t : Text). HasIncludes (count_of g) t k.includes) (sym text_is) lexed)),
       begins,

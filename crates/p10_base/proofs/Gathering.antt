@@ -98,13 +98,13 @@ candidate_of-with_link_other g from name angle to held n a apart =
     (is_link_of-other name n angle a to apart _ refl)
 
 -- a file that was put after the others has no links, and theirs stay
-pub candidate_of-with_file : (g : Gathered) (name text : List ℕ) (from : ℕ) (n : List ℕ) (a : Bool) →
-    candidate_of (with_file g name text) from n a ≡ candidate_of g from n a
-candidate_of-with_file g name text from n a =
-    let new : SourceFile = record { name = name; text = text; links = [] } in
+pub candidate_of-with_file : (g : Gathered) (name text : List ℕ) (built_in : Bool) (from : ℕ) (n : List ℕ) (a : Bool) →
+    candidate_of (with_file g name text built_in) from n a ≡ candidate_of g from n a
+candidate_of-with_file g name text built_in from n a =
+    let new : SourceFile = record { name = name; text = text; built_in = built_in; links = [] } in
     elim (cases_order from (count_of g)) [
       | inl at ↦ rw at (ap (λ (file : SourceFile). target_of n a file.links) (get_or-append_seam g.files new [] no_file ∙
-          ap (λ (links : List Link). record { name = name; text = text; links = links }) refl) ∙
+          ap (λ (links : List Link). record { name = name; text = text; built_in = built_in; links = links }) refl) ∙
           sym (ap (λ (file : SourceFile). target_of n a file.links) (get_or_past g.files (count_of g) no_file (omega arith))))
       | inr apart ↦ elim apart [
         | inl before ↦ ap (λ (file : SourceFile). target_of n a file.links) (get_or_append_left g.files (new ∷ []) no_file from before)

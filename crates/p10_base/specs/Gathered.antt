@@ -1,5 +1,5 @@
 -- What contracts see of the gathered source files.
-use Rattle.std.specs.Prelude.{ℕ, ◌<◌, ◌≤◌, ◌&&◌, Bool, List, [], ◌∷◌, ◌++◌, All, Option, option_map, length, slice_index_or, slice_set}
+use Rattle.std.specs.Prelude.{ℕ, ◌<◌, ◌≤◌, ◌&&◌, Bool, false, List, [], ◌∷◌, ◌++◌, All, Option, option_map, length, slice_index_or, slice_set}
 use Rattle.std.specs.List.{find}
 use Rattle.std.specs.Str.{bytes_eq}
 use Rattle.std.specs.Bool.{beq}
@@ -19,7 +19,7 @@ nothing_gathered = record { files = []; roots = [] }
 
 -- a file without name, text and links, which stands where a number names no file
 abbrev pub no_file : SourceFile
-no_file = record { name = []; text = []; links = [] }
+no_file = record { name = []; text = []; built_in = false; links = [] }
 
 -- how many files there are; their numbers lie below
 abbrev pub count_of : Gathered → ℕ
@@ -40,6 +40,10 @@ name_of g number = (file_of g number).name
 -- the bytes of a file
 abbrev pub text_of : Gathered → ℕ → Text
 text_of g number = (file_of g number).text
+
+-- whether a file was gathered as a built-in header
+abbrev pub is_built_in : Gathered → ℕ → Bool
+is_built_in g number = (file_of g number).built_in
 
 -- a place lies in the files: its file is one of them, and it begins within that file's text
 pub record LiesIn (g : Gathered) (at : Span) : Type 0 where
@@ -62,9 +66,9 @@ target_of name angle links = option_map (λ link. link.to) (find (is_link_of nam
 abbrev pub candidate_of : Gathered → ℕ → Text → Bool → Option ℕ
 candidate_of g from name angle = target_of name angle (file_of g from).links
 
--- the files with one more at the end, which has no links yet
-abbrev pub with_file : Gathered → Text → Text → Gathered
-with_file g name text = record g { files = g.files ++ (record { name = name; text = text; links = [] }) ∷ [] }
+-- the files with one more at the end, a built-in header or not, which has no links yet
+abbrev pub with_file : Gathered → Text → Text → Bool → Gathered
+with_file g name text built_in = record g { files = g.files ++ (record { name = name; text = text; built_in = built_in; links = [] }) ∷ [] }
 
 -- the files with one more root at the end
 abbrev pub with_root : Gathered → ℕ → Gathered

@@ -22,6 +22,8 @@ struct Link {
 struct SourceFile {
     name: TextBuf,
     text: ListBuf<u8>,
+    /// Whether it was gathered as a built-in header.
+    built_in: bool,
     links: ListBuf<Link>,
 }
 
@@ -47,9 +49,9 @@ impl Model for Sources {
 }
 
 impl Sources {
-    ghost use Rattle.std.specs.Prelude.{◌≡◌, ◌+◌, ◌<◌, ◌^◌, None, Some, length, OnOk, OnErr, IfOk, IfSome};
+    ghost use Rattle.std.specs.Prelude.{◌≡◌, ◌+◌, ◌<◌, ◌^◌, false, true, None, Some, length, OnOk, OnErr, IfOk, IfSome};
     ghost use Rattle.std.specs.String.{string_bytes};
-    ghost use Rattle.p10_base.specs.Gathered.{LiesIn, candidate_of, count_of, name_of, nothing_gathered, root_count, root_of, text_of, with_file, with_link, with_root};
+    ghost use Rattle.p10_base.specs.Gathered.{LiesIn, candidate_of, count_of, name_of, nothing_gathered, root_count, root_of, is_built_in, text_of, with_file, with_link, with_root};
     ghost use Rattle.p10_base.specs.Places.{column_of, line_of};
 
     /// No files and no roots.
@@ -93,6 +95,14 @@ impl Sources {
         self.files[file as usize].text.as_slice()
     }
 
+    /// Whether the file with this number was gathered as a built-in header.
+    pub fn is_built_in(&self, file: u32) -> bool
+        requires { file < count_of self.now }
+        ensures { result ≡ is_built_in self.now file }
+    {
+        self.files[file as usize].built_in
+    }
+
     /// The number of the file that is root `i`, counted from 0.
     pub fn root(&self, i: u32) -> u32
         requires { i < root_count self.now }
@@ -128,13 +138,35 @@ impl Sources {
     pub fn push(&mut self, name: String, text: Vec<u8>) -> Result<u32, AllocError>
         requires { count_of self.old + 1 < 2 ^ 32 }
         ensures number { IfOk result (λ number. number ≡ count_of self.old) }
-        ensures ok { OnOk result (self.new ≡ with_file self.old (string_bytes name) text.items) }
+        ensures ok { OnOk result (self.new ≡ with_file self.old (string_bytes name) text.items false) }
+        ensures err { OnErr result (self.new ≡ self.old) }
+    {
+        self.put(name, text, false)
+    }
+
+    /// Puts a built-in header after the files, without links, and gives its number. Out of memory,
+    /// nothing is put.
+    pub fn push_built_in(&mut self, name: String, text: Vec<u8>) -> Result<u32, AllocError>
+        requires { count_of self.old + 1 < 2 ^ 32 }
+        ensures number { IfOk result (λ number. number ≡ count_of self.old) }
+        ensures ok { OnOk result (self.new ≡ with_file self.old (string_bytes name) text.items true) }
+        ensures err { OnErr result (self.new ≡ self.old) }
+    {
+        self.put(name, text, true)
+    }
+
+    /// Puts a file, or a built-in header, after the others.
+    fn put(&mut self, name: String, text: Vec<u8>, built_in: bool) -> Result<u32, AllocError>
+        requires { count_of self.old + 1 < 2 ^ 32 }
+        ensures number { IfOk result (λ number. number ≡ count_of self.old) }
+        ensures ok { OnOk result (self.new ≡ with_file self.old (string_bytes name) text.items built_in) }
         ensures err { OnErr result (self.new ≡ self.old) }
     {
         let number = self.files.len() as u32;
         self.files.push(SourceFile {
             name: TextBuf::of(name),
             text: ListBuf::of(text),
+            built_in,
             links: ListBuf::of(Vec::new(self.alloc)),
         })?;
         Ok(number)

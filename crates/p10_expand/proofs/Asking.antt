@@ -84,12 +84,12 @@ pub record Linked (s : Setting) (known : List Known) (g : Gathered) (from : ℕ)
 abbrev pub LinksStand : Setting → List Known → Gathered → Type 0
 LinksStand s known g = (from : ℕ) (include : Include) (number : ℕ) → target g from include ≡ Some number → Linked s known g from include number
 
-pub name_grown : (g : Gathered) (name text : List ℕ) (number : ℕ) → number < count_of g → name_of (with_file g name text) number ≡ name_of g number
-name_grown g name text number held = ap (λ (f : _). f.name) (get_or_append_left g.files ((record { name = name; text = text; links = [] }) ∷ []) no_file number held)
+pub name_grown : (g : Gathered) (name text : List ℕ) (built_in : Bool) (number : ℕ) → number < count_of g → name_of (with_file g name text built_in) number ≡ name_of g number
+name_grown g name text built_in number held = ap (λ (f : _). f.name) (get_or_append_left g.files ((record { name = name; text = text; built_in = built_in; links = [] }) ∷ []) no_file number held)
 
-link_grown : (s : Setting) (known : List Known) (g : Gathered) (k : Known) (name text : List ℕ) (from : ℕ) (include : Include) (number : ℕ) → length known ≡ count_of g → Linked s known g from include number →
-    Linked s (known ++ k ∷ []) (with_file g name text) from include number
-link_grown s known g k name text from include number many linked =
+link_grown : (s : Setting) (known : List Known) (g : Gathered) (k : Known) (name text : List ℕ) (built_in : Bool) (from : ℕ) (include : Include) (number : ℕ) → length known ≡ count_of g → Linked s known g from include number →
+    Linked s (known ++ k ∷ []) (with_file g name text built_in) from include number
+link_grown s known g k name text built_in from include number many linked =
     let from_same = known_grown known k from linked.line.held in
     let same = known_grown known k number linked.held in
     let line = asked_grown known k (Line from ((known_at known from).depth + 1) include) linked.line in
@@ -97,13 +97,13 @@ link_grown s known g k name text from include number many linked =
       line = record { held = line.held; deep = refl; followed = line.followed; line = line.line };
       held = omega (arith, linked.held, length-append known (k ∷ []));
       near = subst (λ (x : Known). (known_at (known ++ k ∷ []) number).depth ≤ x.depth + 1) (sym from_same) (subst (λ (x : Known). x.depth ≤ (known_at known from).depth + 1) (sym same) linked.near);
-      first = subst (λ n. IsFirst s.held (candidates_of s.dirs n include) (known_at (known ++ k ∷ []) number).place) (sym (name_grown g name text from (omega (arith, many, linked.line.held))))
+      first = subst (λ n. IsFirst s.held (candidates_of s.dirs n include) (known_at (known ++ k ∷ []) number).place) (sym (name_grown g name text built_in from (omega (arith, many, linked.line.held))))
           (subst (λ (x : Known). IsFirst s.held (candidates_of s.dirs (name_of g from) include) x.place) (sym same) linked.first);
     }
 
-pub links_more : (s : Setting) (known : List Known) (g : Gathered) (k : Known) (name text : List ℕ) → length known ≡ count_of g → LinksStand s known g → LinksStand s (known ++ k ∷ []) (with_file g name text)
-links_more s known g k name text many links from include number some =
-    link_grown s known g k name text from include number many (links from include number (sym (candidate_of-with_file g name text from include.name include.angle) ∙ some))
+pub links_more : (s : Setting) (known : List Known) (g : Gathered) (k : Known) (name text : List ℕ) (built_in : Bool) → length known ≡ count_of g → LinksStand s known g → LinksStand s (known ++ k ∷ []) (with_file g name text built_in)
+links_more s known g k name text built_in many links from include number some =
+    link_grown s known g k name text built_in from include number many (links from include number (sym (candidate_of-with_file g name text built_in from include.name include.angle) ∙ some))
 
 -- an include line that the request asked for is linked to the file that was found
 line_linked : (s : Setting) (known : List Known) (g : Gathered) (place : Place) (from depth : ℕ) (include : Include) (number : ℕ) → IsLineOf known from depth include → All (IsNoDeeper depth) known →
@@ -140,16 +140,16 @@ line_among number k include true on (i, within, is) =
     (i, omega (arith, within, length-map k.includes (Line number (k.depth + 1))), get_or-map (Line number (k.depth + 1)) k.includes i include (Line number (k.depth + 1) include) within ∙ ap (Line number (k.depth + 1)) is)
 line_among number k include false off line = absurd cc
 
-pub lines_more : (s : Setting) (known : List Known) (g : Gathered) (ahead : List Request) (number : ℕ) (k : Known) (name text : List ℕ) → length known ≡ count_of g → length known ≡ number → LinesStand s known g ahead →
-    LinesStand s (known ++ k ∷ []) (with_file g name text) (ahead ++ lines_of number k)
-lines_more s known g ahead number k name text many last lines from include held few line =
+pub lines_more : (s : Setting) (known : List Known) (g : Gathered) (ahead : List Request) (number : ℕ) (k : Known) (name text : List ℕ) (built_in : Bool) → length known ≡ count_of g → length known ≡ number → LinesStand s known g ahead →
+    LinesStand s (known ++ k ∷ []) (with_file g name text built_in) (ahead ++ lines_of number k)
+lines_more s known g ahead number k name text built_in many last lines from include held few line =
     elim (old_or_last known k from held) [
       | inl old ↦
           let same = known_grown known k from old in
           elim (lines from include old (subst (λ (x : Known). x.depth ≤ 64) same few) (subst (λ (x : Known). Contains x.includes include) same line)) [
             | inl asked ↦ inl (Contains-append_left ahead (lines_of number k) _ (subst (λ (x : Known). Contains ahead (Line from (x.depth + 1) include)) (sym same) asked))
-            | inr none ↦ inr (λ unlinked. subst (λ n. All (IsAbsent s.held) (candidates_of s.dirs n include)) (sym (name_grown g name text from (omega (arith, many, old))))
-                (none (sym (candidate_of-with_file g name text from include.name include.angle) ∙ unlinked)))
+            | inr none ↦ inr (λ unlinked. subst (λ n. All (IsAbsent s.held) (candidates_of s.dirs n include)) (sym (name_grown g name text built_in from (omega (arith, many, old))))
+                (none (sym (candidate_of-with_file g name text built_in from include.name include.angle) ∙ unlinked)))
           ]
       | inr new ↦
           let same : known_at (known ++ k ∷ []) from ≡ k = ap (λ n. known_at (known ++ k ∷ []) n) new ∙ known_last known k in

@@ -9,7 +9,7 @@ use Rattle.p10_expand.specs.declared.place.Include.{Include}
 use Rattle.p10_expand.specs.declared.place.Place.{Place}
 use Rattle.p10_expand.specs.declared.gathering.Known.{Known}
 use Rattle.p10_expand.specs.Candidates.{candidates_of}
-use Rattle.p10_expand.specs.Finding.{name_at, HasText, IsAbsent, IsFirst}
+use Rattle.p10_expand.specs.Finding.{name_at, is_header_place, HasText, IsAbsent, IsFirst}
 use Rattle.p10_expand.specs.Includes.{HasIncludes}
 use Rattle.p10_expand.specs.Gathering.{Setting, Request, Root, Line, Moment, depth_of, places_of, lines_of, no_known, known_at, IsAt, IsNew, noted, found, Answered, Reached, Gathers}
 use Rattle.p10_expand.specs.Gathered.{RootsAreNamed, AreGathered, IsLink, IsLed, EndsChain, FilesAreKnown}
@@ -80,7 +80,7 @@ roots_noted s known g rest (Line from depth include) place number below first at
 gathered_noted : (s : Setting) (known : List Known) (g : Gathered) (request : Request) (number : ℕ) → IsHeld g request → AreGathered s.held known g → AreGathered s.held known (noted request number g)
 gathered_noted s known g request number held gathered n below =
     let same = noted_file g request number held n in
-    gathered_same s.held n (known_at known n) (file_of g n) (file_of (noted request number g) n) same.0 same.1 (gathered n (omega (arith, below, noted_count g request number)))
+    gathered_same s.held n (known_at known n) (file_of g n) (file_of (noted request number g) n) same.0 same.1 same.2 (gathered n (omega (arith, below, noted_count g request number)))
 
 -- the next request stands for a file that is there
 meets : (s : Setting) (known : List Known) (g : Gathered) (rest : List Request) (request : Request) (place : Place) (number : ℕ) → IsFirst s.held (places_of s.dirs g request) place → IsAt known place number →
@@ -104,28 +104,28 @@ are_lines number k true = All-map IsLine (Line number (k.depth + 1)) k.includes 
 are_lines number k false = All-nil IsLine
 
 gathered_put : (s : Setting) (known : List Known) (g : Gathered) (k : Known) (text : List ℕ) → length known ≡ count_of g → HasText s.held k.place text → HasIncludes (count_of g) text k.includes →
-    AreGathered s.held known g → AreGathered s.held (known ++ k ∷ []) (with_file g (name_at k.place) text)
+    AreGathered s.held known g → AreGathered s.held (known ++ k ∷ []) (with_file g (name_at k.place) text (is_header_place k.place))
 gathered_put s known g k text many text_is lexed gathered =
-    gathered_more s.held known g.files k (record { name = name_at k.place; text = text; links = [] }) many gathered (record { named = refl; text = text_is; lexed = lexed })
+    gathered_more s.held known g.files k (record { name = name_at k.place; text = text; built_in = is_header_place k.place; links = [] }) many gathered (record { named = refl; text = text_is; marked = refl; lexed = lexed })
 
 -- a file that the next request finds is put behind the others
 puts : (s : Setting) (known : List Known) (g : Gathered) (rest : List Request) (request : Request) (k : Known) (text : List ℕ) → k.depth ≡ depth_of request → HasText s.held k.place text → HasIncludes (count_of g) text k.includes →
-    Holds s known g (request ∷ rest) → Holds s (known ++ k ∷ []) (with_file g (name_at k.place) text) (request ∷ (rest ++ lines_of (count_of g) k))
+    Holds s known g (request ∷ rest) → Holds s (known ++ k ∷ []) (with_file g (name_at k.place) text (is_header_place k.place)) (request ∷ (rest ++ lines_of (count_of g) k))
 puts s known g rest request k text deep text_is lexed holds = record {
-  many = length-append known (k ∷ []) ∙ (ap (λ n. n + 1) holds.many ∙ sym (length-append g.files ((record { name = name_at k.place; text = text; links = [] }) ∷ [])));
+  many = length-append known (k ∷ []) ∙ (ap (λ n. n + 1) holds.many ∙ sym (length-append g.files ((record { name = name_at k.place; text = text; built_in = is_header_place k.place; links = [] }) ∷ [])));
   gathered = gathered_put s known g k text holds.many text_is lexed holds.gathered;
   asked = asked_more known (request ∷ rest) (count_of g) k holds.many holds.asked;
   depth = depth_of request;
   levels = levels_more known rest request (count_of g) k deep (levels_rest known (request ∷ rest) rest request holds.depth refl holds.levels);
   roots = roots_more s.roots known g.roots (request ∷ rest) (lines_of (count_of g) k) k (are_lines (count_of g) k (nat_le k.depth 64)) holds.roots;
-  links = links_more s known g k (name_at k.place) text holds.many holds.links;
-  lines = lines_more s known g (request ∷ rest) (count_of g) k (name_at k.place) text holds.many holds.many holds.lines;
+  links = links_more s known g k (name_at k.place) text (is_header_place k.place) holds.many holds.links;
+  lines = lines_more s known g (request ∷ rest) (count_of g) k (name_at k.place) text (is_header_place k.place) holds.many holds.many holds.lines;
 }
 
 -- the places of a request are the same when a file was put behind the others
-places_grown : (dirs : List (List ℕ)) (known : List Known) (g : Gathered) (request : Request) (name text : List ℕ) → length known ≡ count_of g → IsAsked known request → places_of dirs (with_file g name text) request ≡ places_of dirs g request
-places_grown dirs known g (Root name) other text many asked = refl
-places_grown dirs known g (Line from depth include) other text many asked = ap (λ n. candidates_of dirs n include) (name_grown g other text from (omega (arith, many, asked.held)))
+places_grown : (dirs : List (List ℕ)) (known : List Known) (g : Gathered) (request : Request) (name text : List ℕ) (built_in : Bool) → length known ≡ count_of g → IsAsked known request → places_of dirs (with_file g name text built_in) request ≡ places_of dirs g request
+places_grown dirs known g (Root name) other text built_in many asked = refl
+places_grown dirs known g (Line from depth include) other text built_in many asked = ap (λ n. candidates_of dirs n include) (name_grown g other text built_in from (omega (arith, many, asked.held)))
 
 last_at : (known : List Known) (k : Known) (number : ℕ) → length known ≡ number → IsAt (known ++ k ∷ []) k.place number
 last_at known k number many = record {
@@ -136,11 +136,11 @@ last_at known k number many = record {
 -- the next request stands for a file that is gathered now
 adds : (s : Setting) (known : List Known) (g : Gathered) (rest : List Request) (request : Request) (k : Known) (text : List ℕ) → k.depth ≡ depth_of request → IsFirst s.held (places_of s.dirs g request) k.place →
     HasText s.held k.place text → HasIncludes (count_of g) text k.includes → Holds s known g (request ∷ rest) →
-    Holds s (known ++ k ∷ []) (noted request (count_of g) (with_file g (name_at k.place) text)) (rest ++ lines_of (count_of g) k)
+    Holds s (known ++ k ∷ []) (noted request (count_of g) (with_file g (name_at k.place) text (is_header_place k.place))) (rest ++ lines_of (count_of g) k)
 adds s known g rest request k text deep first text_is lexed holds =
     let asked : IsAsked known request = All-head (IsAsked known) request rest holds.asked in
-    meets s (known ++ k ∷ []) (with_file g (name_at k.place) text) (rest ++ lines_of (count_of g) k) request k.place (count_of g)
-    (subst (λ ps. IsFirst s.held ps k.place) (sym (places_grown s.dirs known g request (name_at k.place) text holds.many asked)) first) (last_at known k (count_of g) holds.many)
+    meets s (known ++ k ∷ []) (with_file g (name_at k.place) text (is_header_place k.place)) (rest ++ lines_of (count_of g) k) request k.place (count_of g)
+    (subst (λ ps. IsFirst s.held ps k.place) (sym (places_grown s.dirs known g request (name_at k.place) text (is_header_place k.place) holds.many asked)) first) (last_at known k (count_of g) holds.many)
     (puts s known g rest request k text deep text_is lexed holds)
 
 at_ahead : (s : Setting) (m : Moment) (ahead : List Request) → m.ahead ≡ ahead → HoldsAt s m → Holds s m.known m.sources ahead
@@ -171,29 +171,29 @@ chains_noted known g request number held chains n below =
 -- the target of a line for which a new file is found is that file, where files are told
 new_target : (s : Setting) (known : List Known) (g : Gathered) (from depth : ℕ) (include : Include) (place : Place) (text : List ℕ) → IsSome s.held → length known ≡ count_of g → LinksStand s known g →
     IsLineOf known from depth include → IsFirst s.held (candidates_of s.dirs (name_of g from) include) place → IsNew known place →
-    target (noted (Line from depth include) (count_of g) (with_file g (name_at place) text)) from include ≡ Some (count_of g)
+    target (noted (Line from depth include) (count_of g) (with_file g (name_at place) text (is_header_place place))) from include ≡ Some (count_of g)
 new_target s known g from depth include place text told many links asked first new =
-    let h = with_file g (name_at place) text in
-    let within : from < count_of h = omega (arith, many, asked.held, length-append g.files ((record { name = name_at place; text = text; links = [] }) ∷ [])) in
+    let h = with_file g (name_at place) text (is_header_place place) in
+    let within : from < count_of h = omega (arith, many, asked.held, length-append g.files ((record { name = name_at place; text = text; built_in = is_header_place place; links = [] }) ∷ [])) in
     let (to, some, how) = noted_own h from depth include (count_of g) within in
     elim how [
       | inr last ↦ subst (λ n. target (noted (Line from depth include) (count_of g) h) from include ≡ Some n) last some
       | inl old ↦
-          let link = links from include to (sym (candidate_of-with_file g (name_at place) text from include.name include.angle) ∙ old) in
+          let link = links from include to (sym (candidate_of-with_file g (name_at place) text (is_header_place place) from include.name include.angle) ∙ old) in
           let same = first_once s.held _ _ place (known_at known to).place told refl first link.first in
           absurd (new to (record { held = link.held; place_of = sym same }))
     ]
 
 new_chain : (s : Setting) (known : List Known) (g : Gathered) (request : Request) (place : Place) (text : List ℕ) → IsSome s.held → length known ≡ count_of g → LinksStand s known g → IsAsked known request →
     IsFirst s.held (places_of s.dirs g request) place → IsNew known place → HaveChains known g →
-    (depth_of request ≤ 65) × EndsChain (noted request (count_of g) (with_file g (name_at place) text)) (depth_of request) (count_of g)
+    (depth_of request ≤ 65) × EndsChain (noted request (count_of g) (with_file g (name_at place) text (is_header_place place))) (depth_of request) (count_of g)
 new_chain s known g (Root name) place text told many links asked first new chains = (omega arith, Contains-push g.roots (count_of g))
 new_chain s known g (Line from depth include) place text told many links asked first new chains =
-    let h = with_file g (name_at place) text in
+    let h = with_file g (name_at place) text (is_header_place place) in
     let after = noted (Line from depth include) (count_of g) h in
-    let within : from < count_of h = omega (arith, many, asked.held, length-append g.files ((record { name = name_at place; text = text; links = [] }) ∷ [])) in
+    let within : from < count_of h = omega (arith, many, asked.held, length-append g.files ((record { name = name_at place; text = text; built_in = is_header_place place; links = [] }) ∷ [])) in
     let keeps : (f : ℕ) (i : Include) (to : ℕ) → target g f i ≡ Some to → target after f i ≡ Some to =
-    λ f i to some. noted_keeps h (Line from depth include) (count_of g) within f i to (candidate_of-with_file g (name_at place) text f i.name i.angle ∙ some) in
+    λ f i to some. noted_keeps h (Line from depth include) (count_of g) within f i to (candidate_of-with_file g (name_at place) text (is_header_place place) f i.name i.angle ∙ some) in
     let to_from : EndsChain after (known_at known from).depth from =
     chain_keeps g after (noted_roots h (Line from depth include) (count_of g)) keeps (known_at known from).depth from (chains from asked.held).1 in
     let deep : suc (known_at known from).depth ≡ depth = omega (arith, asked.deep) in (
@@ -203,19 +203,19 @@ new_chain s known g (Line from depth include) place text told many links asked f
 
 chains_added : (s : Setting) (known : List Known) (g : Gathered) (request : Request) (place : Place) (text : List ℕ) (includes : List Include) → IsSome s.held → length known ≡ count_of g → LinksStand s known g → IsAsked known request →
     IsFirst s.held (places_of s.dirs g request) place → IsNew known place → HaveChains known g →
-    HaveChains (known ++ found request place includes ∷ []) (noted request (count_of g) (with_file g (name_at place) text))
+    HaveChains (known ++ found request place includes ∷ []) (noted request (count_of g) (with_file g (name_at place) text (is_header_place place)))
 chains_added s known g request place text includes told many links asked first new chains n below =
     let k = found request place includes in
-    let h = with_file g (name_at place) text in
+    let h = with_file g (name_at place) text (is_header_place place) in
     let after = noted request (count_of g) h in
     elim (old_or_last known k n below) [
       | inl old ↦
-          let held : IsHeld h request = held_grown g request (name_at place) text (asked_held known g request many asked) in
+          let held : IsHeld h request = held_grown g request (name_at place) text (is_header_place place) (asked_held known g request many asked) in
           let chain = chains n old in
           subst (λ (x : Known). (x.depth ≤ 65) × EndsChain after x.depth n) (sym (known_grown known k n old)) (
             chain.0,
             chain_keeps g after (noted_roots h request (count_of g))
-                (λ f i to some. noted_keeps h request (count_of g) held f i to (candidate_of-with_file g (name_at place) text f i.name i.angle ∙ some)) (known_at known n).depth n chain.1,
+                (λ f i to some. noted_keeps h request (count_of g) held f i to (candidate_of-with_file g (name_at place) text (is_header_place place) f i.name i.angle ∙ some)) (known_at known n).depth n chain.1,
           )
       | inr last ↦
           let same : known_at (known ++ k ∷ []) n ≡ k = ap (λ i. known_at (known ++ k ∷ []) i) last ∙ known_last known k in
@@ -223,9 +223,9 @@ chains_added s known g request place text includes told many links asked first n
           (subst (λ i. (k.depth ≤ 65) × EndsChain after k.depth i) (sym (last ∙ many)) (new_chain s known g request place text told many links asked first new chains))
     ]
   where
-    held_grown : (g : Gathered) (request : Request) (name text : List ℕ) → IsHeld g request → IsHeld (with_file g name text) request
-    held_grown g (Root name) other text held = tt
-    held_grown g (Line from depth include) other text held = omega (arith, held, length-append g.files ((record { name = other; text = text; links = [] }) ∷ []))
+    held_grown : (g : Gathered) (request : Request) (name text : List ℕ) (built_in : Bool) → IsHeld g request → IsHeld (with_file g name text built_in) request
+    held_grown g (Root name) other text built_in held = tt
+    held_grown g (Line from depth include) other text built_in held = omega (arith, held, length-append g.files ((record { name = other; text = text; built_in = built_in; links = [] }) ∷ []))
 
 abbrev HaveChainsAt : Moment → Type 0
 HaveChainsAt m = HaveChains m.known m.sources

@@ -15,6 +15,7 @@ pub mod Levels
 pub mod Roots
 pub mod Asking
 pub mod Known
+pub mod HeaderTexts
 pub mod RootCount
 pub mod Answering
 pub mod ItemLines

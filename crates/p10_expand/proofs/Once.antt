@@ -12,7 +12,7 @@ use Rattle.p10_expand.specs.declared.place.Place.{Place}
 use Rattle.p10_expand.specs.declared.place.Place.TheVariants.{File}
 use Rattle.p10_expand.specs.declared.fault.GatherFault.{GatherFault}
 use Rattle.p10_expand.specs.declared.fault.GatherFault.TheVariants.{RootAbsent, Read, Refused, Over, Memory}
-use Rattle.p10_expand.specs.Finding.{name_at, HasText, IsAbsent}
+use Rattle.p10_expand.specs.Finding.{name_at, is_header_place, HasText, IsAbsent}
 use Rattle.p10_expand.specs.Includes.{HasIncludes}
 use Rattle.p10_expand.specs.Gathering.{Setting, Request, Root, Line, Moment, HasRoom, present, Finds, Passes, Answered, Reached, LacksRoot, IsNext, RefusesNext, IsOneTooMany, EndsAt, IsEnding, EndsOnce}
 use Rattle.p10_expand.proofs.OncePlaces.{text_once}
@@ -105,7 +105,7 @@ refuses_once s m refusal other g h told is are =
     let place = next_place s m is.place are.place is.text are.text told is.next are.next in
     let text = next_text s m is.place are.place is.text are.text told is.next are.next in (
       refusal_once (count_of m.sources) are.text refusal other (next_answers s m is.place are.place is.text are.text (Err (lexing.Refused refusal)) told is.next are.next is.refused) are.refused,
-      is.sources ∙ ((λ i. with_file m.sources (name_at (place i)) (text i)) ∙ sym are.sources),
+      is.sources ∙ ((λ i. with_file m.sources (name_at (place i)) (text i) (is_header_place (place i))) ∙ sym are.sources),
     )
 
 refuses_or_over : (s : Setting) (m : Moment) (refusal : Refusal) (g : Gathered) (limit : Limit) → IsSome s.held → RefusesNext s m refusal g → EndsAt s m (Over limit) → ⊥

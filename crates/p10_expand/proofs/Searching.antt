@@ -11,7 +11,7 @@ use Rattle.p10_expand.specs.declared.place.Place.{Place}
 use Rattle.p10_expand.specs.declared.gathering.Gathering.{Gathering}
 use Rattle.p10_expand.specs.declared.fault.Trouble.{Trouble}
 use Rattle.p10_expand.specs.declared.fault.Trouble.TheVariants.{Read, Refused, Over, Memory}
-use Rattle.p10_expand.specs.Finding.{name_at, IsThere, IsAbsent, IsFirst}
+use Rattle.p10_expand.specs.Finding.{name_at, is_header_place, IsThere, IsAbsent, IsFirst}
 use Rattle.p10_expand.specs.Gathering.{IsAt, IsNew, HasRoom, present}
 use Rattle.p10_expand.specs.private.Standing.{Keeps, AddsFile, IsFresh, IsLocated, Fails, FailsFirst, IsFound}
 use Rattle.p10_expand.proofs.Standing.{text_there}
@@ -29,7 +29,7 @@ adds_back : (old mid new : Gathering) (place : Place) (depth : ℕ) (text : List
 adds_back old mid new place depth text number keeps adds = record {
   includes = adds.includes;
   next = adds.next ∙ ap count_of keeps.sources;
-  sources = adds.sources ∙ ap (λ g. with_file g (name_at place) text) keeps.sources;
+  sources = adds.sources ∙ ap (λ g. with_file g (name_at place) text (is_header_place place)) keeps.sources;
   lexed = adds.lexed;
   known = adds.known ∙ ap (λ ks. ks ++ (record { place = place; depth = depth; includes = adds.includes }) ∷ []) keeps.known;
 }
@@ -45,7 +45,7 @@ located_back told old mid new place depth number keeps located = record {
 
 fails_back : (told : Option (List Named)) (old mid new : Gathering) (place : Place) (trouble : Trouble) → Keeps old mid → Fails told mid new place trouble → Fails told old new place trouble
 fails_back told old mid new place (Refused refusal) keeps (text, fresh, fails) =
-    (text, fresh_back told old mid place text keeps fresh, (subst (λ n. Answers n text (Err (lexing.Refused refusal))) (ap count_of keeps.sources) fails.0, fails.1 ∙ ap (λ g. with_file g (name_at place) text) keeps.sources))
+    (text, fresh_back told old mid place text keeps fresh, (subst (λ n. Answers n text (Err (lexing.Refused refusal))) (ap count_of keeps.sources) fails.0, fails.1 ∙ ap (λ g. with_file g (name_at place) text (is_header_place place)) keeps.sources))
 fails_back told old mid new place (Over limit) keeps (inl (text, fresh, fails)) =
     inl (text, fresh_back told old mid place text keeps fresh, subst (λ n. Answers n text (Err (lexing.Over limit))) (ap count_of keeps.sources) fails)
 fails_back told old mid new place (Over limit) keeps (inr (limit_is, full)) =

@@ -22,7 +22,7 @@ use Rattle.p10_expand.specs.declared.gathering.Gathering.{Gathering}
 use Rattle.p10_expand.specs.declared.fault.Trouble.{Trouble}
 use Rattle.p10_expand.specs.declared.fault.Trouble.TheVariants.{Read, Refused, Over, Memory}
 use Rattle.p10_expand.specs.Headers.{header_of}
-use Rattle.p10_expand.specs.Finding.{name_at, HasText, IsThere}
+use Rattle.p10_expand.specs.Finding.{name_at, is_header_place, HasText, IsThere}
 use Rattle.p10_expand.specs.Gathered.{IsGathered, AreGathered}
 use Rattle.p10_expand.specs.Includes.{AreIncludes, HasIncludes}
 use Rattle.p10_expand.specs.Gathering.{no_known, known_at, IsAt, IsNew, HasRoom, present}
@@ -112,8 +112,8 @@ pub adds_stands : (told : Option (List Named)) (old new : Gathering) (place : Pl
     Stands told old → HasFront told place text → AddsFile old new place depth text number → new.absent ≡ old.absent → Stands told new
 adds_stands told old new place depth text number stands front adds absent =
     let k : Known = record { place = place; depth = depth; includes = adds.includes } in
-    let last : IsGathered told (length old.sources.files) k (record { name = name_at place; text = text; links = [] }) =
-    record { named = refl; text = whole_told told place text front (few_bytes number text adds.includes adds.lexed); lexed = subst (λ n. HasIncludes n text adds.includes) adds.next adds.lexed } in
+    let last : IsGathered told (length old.sources.files) k (record { name = name_at place; text = text; built_in = is_header_place place; links = [] }) =
+    record { named = refl; text = whole_told told place text front (few_bytes number text adds.includes adds.lexed); marked = refl; lexed = subst (λ n. HasIncludes n text adds.includes) adds.next adds.lexed } in
     record {
       known = ap length adds.known ∙ (length-append old.known.items _ ∙ (ap (λ n. n + 1) stands.known ∙ (sym (length-append old.sources.files _) ∙ sym (ap count_of adds.sources))));
       gathered = subst (λ known. AreGathered told known new.sources) (sym adds.known)
@@ -153,23 +153,26 @@ at_located told s place depth number stands at =
       how = inl (at, record { sources = refl; known = refl });
     }
 
-pub gathered_same : (told : Option (List Named)) (number : ℕ) (k : Known) (f g : SourceFile) → g.name ≡ f.name → g.text ≡ f.text → IsGathered told number k f → IsGathered told number k g
-gathered_same told number k f g name text old = record {
+pub gathered_same : (told : Option (List Named)) (number : ℕ) (k : Known) (f g : SourceFile) → g.name ≡ f.name → g.text ≡ f.text → g.built_in ≡ f.built_in → IsGathered told number k f → IsGathered told number k g
+gathered_same told number k f g name text mark old = record {
   named = name ∙ old.named;
   text = subst (λ t. HasText told k.place t) (sym text) old.text;
+  marked = mark ∙ old.marked;
   lexed = subst (λ t. HasIncludes number t k.includes) (sym text) old.lexed;
 }
 
 pub link_file : (files : List SourceFile) (from n : ℕ) (l : Link) → from < length files →
     ((get_or (set files from (add_link (get_or files from no_file) l)) n no_file).name ≡ (get_or files n no_file).name)
     × ((get_or (set files from (add_link (get_or files from no_file) l)) n no_file).text ≡ (get_or files n no_file).text)
+    × ((get_or (set files from (add_link (get_or files from no_file) l)) n no_file).built_in ≡ (get_or files n no_file).built_in)
 link_file files from n l below =
     elim (cases_order n from) [
       | inl same ↦ subst (λ m. ((get_or (set files from (add_link (get_or files from no_file) l)) m no_file).name ≡ (get_or files m no_file).name)
-          × ((get_or (set files from (add_link (get_or files from no_file) l)) m no_file).text ≡ (get_or files m no_file).text)) (sym same)
-          (let e = get_or-set_same files from (add_link (get_or files from no_file) l) no_file below in (ap (λ (x : SourceFile). x.name) e, ap (λ (x : SourceFile). x.text) e))
+          × ((get_or (set files from (add_link (get_or files from no_file) l)) m no_file).text ≡ (get_or files m no_file).text)
+          × ((get_or (set files from (add_link (get_or files from no_file) l)) m no_file).built_in ≡ (get_or files m no_file).built_in)) (sym same)
+          (let e = get_or-set_same files from (add_link (get_or files from no_file) l) no_file below in (ap (λ (x : SourceFile). x.name) e, ap (λ (x : SourceFile). x.text) e, ap (λ (x : SourceFile). x.built_in) e))
       | inr apart ↦ let ne : n ≢ from = elim apart [ inl lt ↦ omega (arith, lt) | inr lt ↦ omega (arith, lt) ] in
-          let e = get_or-set_other files from n (add_link (get_or files from no_file) l) no_file ne in (ap (λ (x : SourceFile). x.name) e, ap (λ (x : SourceFile). x.text) e)
+          let e = get_or-set_other files from n (add_link (get_or files from no_file) l) no_file ne in (ap (λ (x : SourceFile). x.name) e, ap (λ (x : SourceFile). x.text) e, ap (λ (x : SourceFile). x.built_in) e)
     ]
 
 stands_link : (told : Option (List Named)) (old new : Gathering) (from : ℕ) (name : List ℕ) (angle : Bool) (to : ℕ) → from < count_of old.sources →
@@ -178,7 +181,7 @@ stands_link told old new from name angle to below stands sources known absent =
     let l : Link = record { name = name; angle = angle; to = to } in
     let linked : AreGathered told old.known.items (with_link old.sources from name angle to) =
     λ n h. (let parts = link_file old.sources.files from n l below in
-    gathered_same told n (get_or old.known.items n no_known) (get_or old.sources.files n no_file) _ parts.0 parts.1 (stands.gathered n (omega (arith, length-set old.sources.files from (add_link (get_or old.sources.files from no_file) l), h)))) in
+    gathered_same told n (get_or old.known.items n no_known) (get_or old.sources.files n no_file) _ parts.0 parts.1 parts.2 (stands.gathered n (omega (arith, length-set old.sources.files from (add_link (get_or old.sources.files from no_file) l), h)))) in
     record {
       known = ap length known ∙ (stands.known ∙ (sym (length-set old.sources.files from (add_link (get_or old.sources.files from no_file) l)) ∙ sym (ap count_of sources)));
       gathered = subst (λ k. AreGathered told k new.sources) (sym known) (subst (λ g. AreGathered told old.known.items g) (sym sources) linked);
@@ -207,19 +210,19 @@ not_here known place number apart at = apart at.place_of
 pub all_new : (known : List Known) (place : Place) (count : ℕ) → length known ≤ count → ((k : ℕ) → k < count → IsAt known place k → ⊥) → IsNew known place
 all_new known place count few none number at = none number (omega (arith, few, at.held)) at
 
-text_last : (g h : Gathered) (name text : List ℕ) (number : ℕ) → number ≡ count_of g → h ≡ with_file g name text → text_of h number ≡ text
-text_last g h name text number next is =
-    ap (λ x. text_of x number) is ∙ (ap (λ n. text_of (with_file g name text) n) next
-    ∙ ap (λ (f : SourceFile). f.text) (get_or-append_seam g.files (record { name = name; text = text; links = [] }) [] no_file))
+text_last : (g h : Gathered) (name text : List ℕ) (built_in : Bool) (number : ℕ) → number ≡ count_of g → h ≡ with_file g name text built_in → text_of h number ≡ text
+text_last g h name text built_in number next is =
+    ap (λ x. text_of x number) is ∙ (ap (λ n. text_of (with_file g name text built_in) n) next
+    ∙ ap (λ (f : SourceFile). f.text) (get_or-append_seam g.files (record { name = name; text = text; built_in = built_in; links = [] }) [] no_file))
 
 pub file_added : (old new : Gathering) (g : Gathered) (place : Place) (depth number : ℕ) (name text body : List ℕ) (words read : List Word) (includes : List Include) →
-    number ≡ count_of old.sources → g ≡ with_file old.sources name text → new.sources ≡ g → name ≡ name_at place → body ≡ text_of g number → Answers number body (Ok (map plain_word words)) → read ≡ words → AreIncludes (map plain_word read) includes →
+    number ≡ count_of old.sources → g ≡ with_file old.sources name text (is_header_place place) → new.sources ≡ g → name ≡ name_at place → body ≡ text_of g number → Answers number body (Ok (map plain_word words)) → read ≡ words → AreIncludes (map plain_word read) includes →
     new.known.items ≡ old.known.items ++ (record { place = place; depth = depth; includes = includes }) ∷ [] → AddsFile old new place depth text number
 file_added old new g place depth number name text body words read includes next with_it sources named body_is lexes same are known = record {
   includes = includes;
   next = next;
-  sources = sources ∙ (with_it ∙ ap (λ n. with_file old.sources n text) named);
-  lexed = record { words = map plain_word words; lexes = subst (λ t. Answers number t (Ok (map plain_word words))) (body_is ∙ text_last old.sources g name text number next with_it) lexes; named = subst (λ ws. AreIncludes (map plain_word ws) includes) same are };
+  sources = sources ∙ (with_it ∙ ap (λ n. with_file old.sources n text (is_header_place place)) named);
+  lexed = record { words = map plain_word words; lexes = subst (λ t. Answers number t (Ok (map plain_word words))) (body_is ∙ text_last old.sources g name text (is_header_place place) number next with_it) lexes; named = subst (λ ws. AreIncludes (map plain_word ws) includes) same are };
   known = known;
 }
 

@@ -17,11 +17,12 @@ use Rattle.p10_expand.specs.declared.fault.GatherFault.TheVariants as gathering
 use Rattle.p10_expand.specs.declared.fault.Trouble.{Trouble}
 use Rattle.p10_expand.specs.declared.fault.Trouble.TheVariants.{Read, Refused, Over, Memory}
 use Rattle.p10_expand.specs.Candidates.{candidates_of}
-use Rattle.p10_expand.specs.Finding.{name_at, IsAbsent, IsFirst}
+use Rattle.p10_expand.specs.Finding.{name_at, is_header_place, IsAbsent, IsFirst}
 use Rattle.p10_expand.specs.Includes.{HasIncludes, no_include}
 use Rattle.p10_expand.specs.Gathering.{Setting, Request, Root, Line, Moment, depth_of, places_of, lines_of, no_known, known_at, IsNew, linked, noted, Finds, Answered, Reached, Gathers, FailsBy, IsFault, HaveWords}
 use Rattle.p10_expand.specs.private.Standing.{Stands, Keeps, Grows, Links, IsLocated, FindsFirst, Fails, FailsFirst, moment, lines_from, new_lines, Steps, StopsAt, Stops, Comes, ComesTo, Follows, StopsFollowing, fault_with}
 use Rattle.p10_expand.specs.Setting.{setting}
+use Rattle.p10_expand.proofs.Standing.{links_stands}
 
 -- ## Moments
 
@@ -77,7 +78,7 @@ located_steps held dirs old mid new request depth place number many deep first l
             lexed = subst (λ n. HasIncludes n text adds.includes) adds.next adds.lexed;
             becomes = moments _ _ _ _ _ _
                 (known ∙ (adds.known ∙ ap (λ d. old.known.items ++ k d ∷ []) deep))
-                (sources ∙ (ap (λ g. noted request number g) adds.sources ∙ ap (λ n. noted request n (with_file old.sources (name_at place) text)) adds.next))
+                (sources ∙ (ap (λ g. noted request number g) adds.sources ∙ ap (λ n. noted request n (with_file old.sources (name_at place) text (is_header_place place))) adds.next))
                 (ap (λ ls. rest ++ ls) (one_new old new (k depth) (known ∙ adds.known) ∙ (ap (λ n. lines_of n (k depth)) many ∙ ap (λ d. lines_of (count_of old.sources) (k d)) deep)));
           }))
     ]
@@ -322,6 +323,13 @@ unlinked_steps held dirs old mid last file line_depth include places depth found
 
 grown_length : (old new : Gathering) → Grows old new → length old.known.items ≤ length new.known.items
 grown_length old new grows = omega (arith, ap length grows.known, length-append old.known.items grows.behind)
+
+-- where an include line is linked to the file that was found, what holds between two steps holds again
+pub linked_stands : (held : Option (List Named)) (old mid new : Gathering) (file : ℕ) (places : List Place) (depth : ℕ) (found : Option ℕ) (number : ℕ) (include : Include) → Stands held old → file < count_of old.sources →
+    FindsFirst held old mid places depth found → found ≡ Some number → Stands held mid → Links mid new file include number → Stands held new
+linked_stands held old mid new file places depth found number include stands below finds some found_stands links =
+    let grows : Grows old mid = located_grows held old mid mid places depth found number finds some refl in
+    links_stands held mid new file include number (omega (arith, below, stands.known, found_stands.known, grown_length old mid grows)) found_stands links
 
 pub grows_on : (first old new : Gathering) → Grows first old → Grows old new → Grows first new
 grows_on first old new one two = record {

@@ -1,5 +1,5 @@
 -- What is found at a place.
-use Rattle.std.specs.Prelude.{ℕ, ◌≡◌, List, [], ◌∷◌, ◌++◌, All, Option, Some, None, IfSome, IsSome}
+use Rattle.std.specs.Prelude.{ℕ, ◌≡◌, Bool, false, true, List, [], ◌∷◌, ◌++◌, All, Option, Some, None, IfSome, IsSome}
 use Rattle.p10_world.specs.Files.{Named, Lacks}
 use Rattle.p10_world.specs.Files as world
 use Rattle.p10_expand.specs.declared.place.Place.{Place}
@@ -10,6 +10,11 @@ use Rattle.p10_expand.specs.Headers.{header_of}
 abbrev pub name_at : Place → List ℕ
 name_at (File name) = name
 name_at (Header name) = 60 ∷ (name ++ 62 ∷ [])
+
+-- whether a built-in header stands at a place, not a file of one's own
+abbrev pub is_header_place : Place → Bool
+is_header_place (File name) = false
+is_header_place (Header name) = true
 
 -- where files are told, the file at a place has this text
 abbrev pub HasText : Option (List Named) → Place → List ℕ → Type 0

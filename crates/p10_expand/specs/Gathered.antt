@@ -1,13 +1,14 @@
 -- What the gathered files of a program are: laws of the way in which they are gathered.
-use Rattle.std.specs.Prelude.{◌+◌, ℕ, ◌≡◌, zero, suc, ◌<◌, ◌≤◌, List, [], All, Contains, length, slice_index_or, Option, Some, None, IsSome}
+use Rattle.std.specs.Prelude.{◌+◌, ℕ, ◌≡◌, zero, suc, ◌<◌, ◌≤◌, true, List, [], All, Contains, length, slice_index_or, Option, Some, None, IsSome}
 use Rattle.p10_base.specs.declared.sources.SourceFile.{SourceFile}
-use Rattle.p10_base.specs.Gathered.{Gathered, count_of, root_count, file_of, name_of, root_of, candidate_of}
+use Rattle.p10_base.specs.Gathered.{Gathered, count_of, root_count, file_of, name_of, text_of, is_built_in, root_of, candidate_of}
 use Rattle.p10_world.specs.Files.{Named}
 use Rattle.p10_expand.specs.declared.place.Include.{Include}
 use Rattle.p10_expand.specs.declared.place.Place.TheVariants.{File}
 use Rattle.p10_expand.specs.declared.gathering.Known.{Known}
 use Rattle.p10_expand.specs.Candidates.{candidates_of}
-use Rattle.p10_expand.specs.Finding.{name_at, HasText, IsAbsent, IsFirst}
+use Rattle.p10_expand.specs.Finding.{name_at, is_header_place, HasText, IsAbsent, IsFirst}
+use Rattle.p10_expand.specs.Headers.{header_of}
 use Rattle.p10_expand.specs.Includes.{HasIncludes}
 use Rattle.p10_expand.specs.Gathering.{Setting, known_at, IsAt, Gathers}
 use Rattle.p10_base.specs.declared.report.TheConstants.Limit.{MOST_NESTED_INCLUDES}
@@ -25,10 +26,12 @@ RootsAreNamed = (s : Setting) (g : Gathered) → Gathers s g → AreRoots s g
 
 -- ## The files
 
--- a gathered file: it stands at its place, with the name and the text of that place, and its include lines are known
+-- a gathered file: it stands at its place, with the name and the text of that place; it is marked where a built-in header stands there,
+-- and nowhere else; and its include lines are known
 pub record IsGathered (held : Option (List Named)) (number : ℕ) (known : Known) (file : SourceFile) : Type 0 where
   pub named : file.name ≡ name_at known.place
   pub text : HasText held known.place file.text
+  pub marked : file.built_in ≡ is_header_place known.place
   pub lexed : HasIncludes number file.text known.includes
 
 -- each file is gathered, with what is known of it
@@ -74,3 +77,9 @@ pub record AreKnown (s : Setting) (g : Gathered) (known : List Known) : Type 0 w
 -- where files are told, that much is known of the files of a program
 abbrev pub FilesAreKnown : Type 0
 FilesAreKnown = (s : Setting) → IsSome s.held → (g : Gathered) → Gathers s g → (known : List Known) × AreKnown s g known
+
+-- where files are told, a built-in header for which an include stands has the text of the one that the include names
+abbrev pub HeadersHaveTheirTexts : Type 0
+HeadersHaveTheirTexts =
+    (s : Setting) → IsSome s.held → (g : Gathered) → Gathers s g → (from : ℕ) (include : Include) (number : ℕ) →
+    candidate_of g from include.name include.angle ≡ Some number → is_built_in g number ≡ true → header_of include.name ≡ Some (text_of g number)

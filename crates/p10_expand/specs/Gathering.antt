@@ -1,6 +1,6 @@
 -- How the files of a program are gathered. Requests are answered in the order in which they were made: first the roots, and
 -- then, for each gathered file in order, its include lines, also those of skipped groups.
-use Rattle.std.specs.Prelude.{ℕ, ◌≡◌, zero, suc, ◌+◌, ◌<◌, ◌≤◌, ◌⊎◌, Bool, true, false, List, [], ◌∷◌, ◌++◌, All, length, map, nat_le, slice_index_or, Option, is_some, IsSome, if◌then◌else◌, Result, Ok, Err}
+use Rattle.std.specs.Prelude.{ℕ, ◌≡◌, zero, suc, ◌+◌, ◌<◌, ◌≤◌, ◌⊎◌, not, List, [], ◌∷◌, ◌++◌, All, length, map, nat_le, slice_index_or, Option, is_some, IsSome, if◌then◌else◌, Result, Ok, Err}
 use Rattle.std.specs.List.{filter}
 use Rattle.p10_base.specs.declared.report.Refusal.{Refusal}
 use Rattle.p10_base.specs.declared.report.Limit.{Limit}
@@ -16,7 +16,7 @@ use Rattle.p10_expand.specs.declared.gathering.Known.{Known}
 use Rattle.p10_expand.specs.declared.fault.GatherFault.{GatherFault}
 use Rattle.p10_expand.specs.declared.fault.GatherFault.TheVariants.{RootAbsent, Read, Refused, Over, Memory}
 use Rattle.p10_expand.specs.Candidates.{candidates_of}
-use Rattle.p10_expand.specs.Finding.{name_at, HasText, IsAbsent, IsFirst}
+use Rattle.p10_expand.specs.Finding.{name_at, is_header_place, HasText, IsAbsent, IsFirst}
 use Rattle.p10_expand.specs.Includes.{HasIncludes}
 use Rattle.p10_base.specs.declared.report.TheConstants.Limit.{FILES, MOST_FILES, MOST_NESTED_INCLUDES}
 
@@ -78,14 +78,9 @@ pub record IsAt (known : List Known) (place : Place) (number : ℕ) : Type 0 whe
 abbrev pub IsNew : List Known → Place → Type 0
 IsNew known place = (number : ℕ) → IsAt known place number → ⊥
 
--- whether a place is that of a file, not of a built-in header
-abbrev pub is_file : Place → Bool
-is_file (File name) = true
-is_file (Header name) = false
-
 -- how many of the files are no built-in headers
 abbrev pub present : List Known → ℕ
-present known = length (filter (λ file. is_file file.place) known)
+present known = length (filter (λ file. not (is_header_place file.place)) known)
 
 -- limit M7 allows 256 files; built-in headers aren't counted
 abbrev pub HasRoom : List Known → Place → Type 0
@@ -132,11 +127,11 @@ pub record Meets (s : Setting) (before after : Moment) : Type 0 where
 abbrev pub found : Request → Place → List Include → Known
 found request place includes = record { place = place; depth = depth_of request; includes = includes }
 
--- a file is put behind the others, and its include lines behind the other requests
+-- a file is put behind the others, marked where it is a built-in header, and its include lines behind the other requests
 abbrev pub added : Request → List Request → Known → List ℕ → Moment → Moment
 added request rest known text before = record {
   known = before.known ++ known ∷ [];
-  sources = noted request (count_of before.sources) (with_file before.sources (name_at known.place) text);
+  sources = noted request (count_of before.sources) (with_file before.sources (name_at known.place) text (is_header_place known.place));
   ahead = rest ++ lines_of (count_of before.sources) known;
 }
 
@@ -187,7 +182,7 @@ pub record RefusesNext (s : Setting) (m : Moment) (refusal : Refusal) (g : Gathe
   pub text : List ℕ
   pub next : IsNext s m place text
   pub refused : Answers (count_of m.sources) text (Err (lexing.Refused refusal))
-  pub sources : g ≡ with_file m.sources (name_at place) text
+  pub sources : g ≡ with_file m.sources (name_at place) text (is_header_place place)
 
 -- the next file passes M1 or M2
 pub record PassesLimit (s : Setting) (m : Moment) (limit : Limit) : Type 0 where

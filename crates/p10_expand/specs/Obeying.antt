@@ -4,12 +4,11 @@ use Rattle.p10_base.specs.declared.span.Span.{Span}
 use Rattle.p10_base.specs.declared.word.Kind.TheVariants.{Mark}
 use Rattle.p10_base.specs.declared.report.Refusal.{Refusal}
 use Rattle.p10_base.specs.declared.report.Limit.{Limit}
-use Rattle.p10_base.specs.Gathered.{Gathered, name_of, text_of, candidate_of}
+use Rattle.p10_base.specs.Gathered.{Gathered, name_of, text_of, is_built_in, candidate_of}
 use Rattle.p10_base.specs.Words.{PlainWord, Text}
 use Rattle.p10_direct.specs.Lines.{Piece, DirectiveLine, TextRun}
 use Rattle.p10_direct.specs.Balance.{first_unbalanced}
 use Rattle.p10_direct.specs.Directives.{PlainMacro, PlainDirective, Null, Include, Define, Undef, If, Elif, Ifdef, Ifndef, Else, Endif, Once, InitDone, TaskLoop, OtherPragma, Outcome, Read, BadForm, BadDefinition, IsOutcome, place_of}
-use Rattle.p10_lex.specs.Literals.{inside}
 use Rattle.p10_base.specs.Names.{with_name}
 use Rattle.p10_macros.specs.declared.table.Effect.{Effect}
 use Rattle.p10_macros.specs.declared.table.Effect.TheVariants.{New, Same, Other}
@@ -130,11 +129,11 @@ abbrev pub is_some_text : Text → Option Text → Bool
 is_some_text name None = false
 is_some_text name (Some text) = bytes_eq text name
 
--- the file that is found for a name is the built-in header of that name: it has the header's text, and that name between angle
--- brackets for its own. No other file for which an include of that name stands is named so: the candidates of the name end with it,
--- but for the built-in header
+-- the file that is found for a name is the built-in header of that name: it was gathered as a built-in header, and has the text of that
+-- one. Among gathered files a built-in header that is found for a name has it always; of others, a marked file with another text is
+-- read like a file of one's own
 abbrev pub is_header : Gathered → ℕ → Text → Bool
-is_header g number name = is_some_text name (inside 60 62 (name_of g number)) && is_some_text (text_of g number) (header_of name)
+is_header g number name = is_built_in g number && is_some_text (text_of g number) (header_of name)
 
 -- an include stands for the lines of its candidate, if that isn't included once only, and was before (C99 6.10.2)
 abbrev pub included : Gathered → List PlainWord → Text → State → Option ℕ → Next

@@ -1,8 +1,8 @@
 //! The files gathered so far.
 
-ghost use Rattle.std.specs.Prelude.{◌≡◌, ◌↔◌, IfOk, IfErr, IfSome, IsTrue, string_bytes};
-ghost use Rattle.p10_expand.specs.Finding.{name_at};
-ghost use Rattle.p10_expand.specs.Gathering.{is_file as is_file_place};
+ghost use Rattle.std.specs.Prelude.{◌≡◌, ◌↔◌, ◌+◌, ◌<◌, ◌^◌, not, IfOk, IfErr, IfSome, IsTrue, OnOk, string_bytes};
+ghost use Rattle.p10_base.specs.Gathered.{count_of, with_file};
+ghost use Rattle.p10_expand.specs.Finding.{name_at, is_header_place};
 
 use crate::absent::Absent;
 use crate::fault::Trouble;
@@ -33,9 +33,9 @@ pub struct Gathering {
 }
 
 impl Gathering {
-    ghost use Rattle.std.specs.Prelude.{[], ◌<◌, length, bytes_eq, slice_index_or, IfNone, OnOk};
+    ghost use Rattle.std.specs.Prelude.{[], length, bytes_eq, slice_index_or, IfNone};
     ghost use Rattle.std.specs.List.{list_any};
-    ghost use Rattle.p10_base.specs.Gathered.{count_of, nothing_gathered};
+    ghost use Rattle.p10_base.specs.Gathered.{nothing_gathered};
     ghost use Rattle.p10_expand.specs.Gathering.{IsAt, IsNew, known_at, present};
     ghost use Rattle.p10_expand.specs.Includes.{no_include};
     ghost use Rattle.p10_expand.specs.private.Standing.{AddsFile, FailsToAdd, Links};
@@ -124,7 +124,8 @@ impl Gathering {
         self.absent.has(name)
     }
 
-    /// Gathers one more file, which has this name: lexes its text and reads its include lines.
+    /// Gathers one more file, which has this name, as a built-in header or not: lexes its text and reads
+    /// its include lines.
     pub fn add(
         &mut self,
         place: Place,
@@ -140,7 +141,7 @@ impl Gathering {
         if self.sources.count() >= u32::MAX - 1 {
             return Err(Trouble::Memory);
         }
-        let number = self.sources.push(name, text)?;
+        let number = put(&mut self.sources, &place, name, text)?;
         let words = match lex(self.alloc, number, self.sources.text(number)) {
             Ok(words) => words,
             Err(LexFault::Refused(refusal)) => return Err(Trouble::Refused(refusal)),
@@ -157,6 +158,18 @@ impl Gathering {
     }
 }
 
+/// Puts a file after the others; one at the place of a built-in header is marked as one.
+fn put(sources: &mut Sources, place: &Place, name: String, text: Vec<u8>) -> Result<u32, AllocError>
+    requires { count_of sources.old + 1 < 2 ^ 32 }
+    ensures number { IfOk result (λ number. number ≡ count_of sources.old) }
+    ensures ok { OnOk result (sources.new ≡ with_file sources.old (string_bytes name) text.items (is_header_place place.now)) }
+{
+    match place {
+        Place::File(_) => sources.push(name, text),
+        Place::Header(_) => sources.push_built_in(name, text),
+    }
+}
+
 /// Whether two places are the same.
 fn same_place(left: &Place, right: &Place) -> bool
     ensures { IsTrue result ↔ left.now ≡ right.now }
@@ -170,7 +183,7 @@ fn same_place(left: &Place, right: &Place) -> bool
 
 /// Whether a place is that of no built-in header.
 fn is_file(place: &Place) -> bool
-    ensures { result ≡ is_file_place place.now }
+    ensures { result ≡ not (is_header_place place.now) }
 {
     matches!(place, Place::File(_))
 }

@@ -1,7 +1,7 @@
 //! Laws of the definitions, each the contract of a function that does nothing.
 
 ghost use Rattle.p10_expand.specs.Gathering.{EndsOnce};
-ghost use Rattle.p10_expand.specs.Gathered.{RootsAreNamed, FilesAreKnown};
+ghost use Rattle.p10_expand.specs.Gathered.{RootsAreNamed, FilesAreKnown, HeadersHaveTheirTexts};
 
 /// Where files are told, gathering ends in one way only.
 pub fn ends_once()
@@ -18,4 +18,10 @@ pub fn roots_are_named()
 /// them.
 pub fn files_are_known()
     ensures { FilesAreKnown }
+{}
+
+/// Where files are told, a built-in header for which an include stands has the text of the one that the include
+/// names.
+pub fn headers_have_their_texts()
+    ensures { HeadersHaveTheirTexts }
 {}

@@ -24,5 +24,5 @@ mod walk;
 pub use expanded::{Expanded, Obeyed};
 pub use expansion::{ExpandFault, expand, expands_to_once, words_before_give};
 pub use fault::GatherFault;
-pub use laws::{ends_once, files_are_known, roots_are_named};
+pub use laws::{ends_once, files_are_known, headers_have_their_texts, roots_are_named};
 pub use walk::gather;

@@ -12,7 +12,7 @@ use Rattle.p10_expand.specs.declared.place.Include.{Include}
 use Rattle.p10_expand.specs.declared.place.Place.{Place}
 use Rattle.p10_expand.specs.declared.place.Place.TheVariants.{File}
 use Rattle.p10_expand.specs.declared.gathering.Known.{Known}
-use Rattle.p10_expand.specs.Finding.{name_at, HasText, IsThere, IsAbsent}
+use Rattle.p10_expand.specs.Finding.{name_at, is_header_place, HasText, IsThere, IsAbsent}
 use Rattle.p10_expand.specs.Gathering.{Setting, Request, Root, Line, Moment, places_of, lines_of, beginning, IsNew, HasRoom, noted, found, added, Finds, Answered, Reached, EndsAt, IsEnding}
 use Rattle.p10_expansion_laws.specs.Existing.{GatheringEnds}
 use Rattle.p10_expansion_laws.proofs.FilesThere.{first_or_none, text_at, met_or_new, room_or_full, IsLexed, lexed_there, includes_there}
@@ -34,7 +34,7 @@ module _ (s : Setting) (told : IsSome s.held) (m : Moment) (request : Request) (
       (inr (inr (record { request = request; rest = rest; place = place; text = text; includes = includes; finds = finds; new = new; room = room; text_is = has; lexed = lexed; becomes = refl })))
       (one_slot_less m.known (found request place includes) place refl new room (λ name is. subst (IsThere s.held) is finds.first.there))
   lexed_step text has new room (inr (inl (refusal, refused))) =
-      fails (Refused refusal (with_file m.sources (name_at place) text)) (record {
+      fails (Refused refusal (with_file m.sources (name_at place) text (is_header_place place))) (record {
         place = place;
         text = text;
         next = record { request = request; rest = rest; finds = finds; new = new; room = room; text_is = has };
@@ -172,7 +172,7 @@ module _ (s : Setting) (told : IsSome s.held) where
   root_next slots size lower each m answered done names name lines reached stage p q (adds known text answers less) =
       let more = lines_of (count_of m.sources) known in
       let after : Moment = added (Root name) (map Root names ++ lines) known text m in
-      let next = root_stage s m after done names name lines more (count_of m.sources) (with_file m.sources (name_at known.place) text) stage refl
+      let next = root_stage s m after done names name lines more (count_of m.sources) (with_file m.sources (name_at known.place) text (is_header_place known.place)) stage refl
       (lines_if (nat_le known.depth MOST_NESTED_INCLUDES) (count_of m.sources) (known.depth + 1) known.includes) refl refl in
       fewer slots lower (slots_of m.known) (slots_of (m.known ++ known ∷ [])) after (suc answered) (done ++ name ∷ []) names (lines ++ more) less p refl (m, reached, answers) next
   root_next slots size lower each m answered done names name lines reached stage p q (fails fault ends) = fails_by m answered fault reached ends
@@ -197,7 +197,7 @@ module _ (s : Setting) (told : IsSome s.held) where
   line_next slots size lower each m answered done from depth include lines reached stage p q (adds known text answers less) =
       let more = lines_of (count_of m.sources) known in
       let after : Moment = added (Line from depth include) lines known text m in
-      let g : Gathered = with_file m.sources (name_at known.place) text in
+      let g : Gathered = with_file m.sources (name_at known.place) text (is_header_place known.place) in
       let next = line_stage s m after done from depth include lines more stage (lines_if (nat_le known.depth MOST_NESTED_INCLUDES) (count_of m.sources) (known.depth + 1) known.includes)
       (linked_by (is_some (candidate_of g from include.name include.angle)) g from include (count_of m.sources)) refl in
       fewer slots lower (slots_of m.known) (slots_of (m.known ++ known ∷ [])) after (suc answered) done [] (lines ++ more) less p refl (m, reached, answers) next

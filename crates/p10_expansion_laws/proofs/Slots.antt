@@ -1,6 +1,6 @@
 -- How many files may still be gathered: 256 that are no built-in headers, and the headers, each of which is gathered once.
 use Rattle.std.proofs.Common.{◌≡◌, ℕ, suc, ◌+◌, ◌-◌, ◌<◌, ◌≤◌, List, [], ◌∷◌, ◌++◌, length, Bool, true, false, ◌||◌, cond, codes, refl, sym, ◌∙◌, ap, subst, inl, inr, ◌⊎◌, arith, length-append, Option, Some}
-use Rattle.std.specs.Prelude.{IsSome, bytes_eq}
+use Rattle.std.specs.Prelude.{IsSome, bytes_eq, not}
 use Rattle.std.specs.List.{filter, list_any}
 use Rattle.std.proofs.lemmas.Bool.{both_ways}
 use Rattle.std.proofs.lemmas.Slice.Eq.{bytes_eq-Decides}
@@ -11,7 +11,8 @@ use Rattle.p10_expand.specs.declared.place.Place.{Place}
 use Rattle.p10_expand.specs.declared.place.Place.TheVariants.{File, Header}
 use Rattle.p10_expand.specs.declared.gathering.Known.{Known}
 use Rattle.p10_expand.specs.Headers.{header_of}
-use Rattle.p10_expand.specs.Gathering.{IsAt, IsNew, is_file, present, HasRoom}
+use Rattle.p10_expand.specs.Finding.{is_header_place}
+use Rattle.p10_expand.specs.Gathering.{IsAt, IsNew, present, HasRoom}
 
 -- ## Headers that were gathered
 
@@ -139,23 +140,23 @@ not_known known name new = not_known_by known name (is_known known name) refl ne
 same_bytes : (name : Text) → bytes_eq name name ≡ true
 same_bytes name = (bytes_eq-Decides name name).1 refl
 
-present_more : (known : List Known) (k : Known) → present (known ++ k ∷ []) ≡ present known + length (filter (λ (file : Known). is_file file.place) (k ∷ []))
-present_more known k = ap length (filter-append (λ (file : Known). is_file file.place) known (k ∷ [])) ∙ length-append (filter (λ (file : Known). is_file file.place) known) (filter (λ (file : Known). is_file file.place) (k ∷ []))
+present_more : (known : List Known) (k : Known) → present (known ++ k ∷ []) ≡ present known + length (filter (λ (file : Known). not (is_header_place file.place)) (k ∷ []))
+present_more known k = ap length (filter-append (λ (file : Known). not (is_header_place file.place)) known (k ∷ [])) ∙ length-append (filter (λ (file : Known). not (is_header_place file.place)) known) (filter (λ (file : Known). not (is_header_place file.place)) (k ∷ []))
 
-kept_one : (k : Known) (b : Bool) → is_file k.place ≡ b → length (filter (λ (file : Known). is_file file.place) (k ∷ [])) ≡ cond b 1 0
+kept_one : (k : Known) (b : Bool) → not (is_header_place k.place) ≡ b → length (filter (λ (file : Known). not (is_header_place file.place)) (k ∷ [])) ≡ cond b 1 0
 kept_one k true e = ap (λ b. length (cond b (k ∷ []) [])) e
 kept_one k false e = ap (λ b. length (cond b (k ∷ []) [])) e
 
 file_less : (known : List Known) (k : Known) (name : Text) → k.place ≡ File name → present known < MOST_FILES → slots_of (known ++ k ∷ []) < slots_of known
 file_less known k name is room =
     let more = missing_more known k header_names in
-    let one = present_more known k ∙ ap (λ n. present known + n) (kept_one k true (ap is_file is)) in
+    let one = present_more known k ∙ ap (λ n. present known + n) (kept_one k true (ap (λ p. not (is_header_place p)) is)) in
     omega (arith, more, one, room)
 
 header_less : (known : List Known) (k : Known) (name : Text) → k.place ≡ Header name → IsNew known (Header name) → IsSome (header_of name) → slots_of (known ++ k ∷ []) < slots_of known
 header_less known k name is new there =
     let less = missing_less known k name header_names (not_known known name new) (subst (λ p. is_header_at name p ≡ true) (sym is) (same_bytes name)) (header_named name there) in
-    let none = present_more known k ∙ ap (λ n. present known + n) (kept_one k false (ap is_file is)) in
+    let none = present_more known k ∙ ap (λ n. present known + n) (kept_one k false (ap (λ p. not (is_header_place p)) is)) in
     omega (arith, less, none)
 
 -- a new file for which there is room takes one

@@ -4,7 +4,7 @@ use Rattle.std.specs.Prelude.{◌↔◌, count_by}
 use Rattle.std.specs.List.{Contains, flat_map, filter}
 use Rattle.std.proofs.lemmas.Bool.{and_parts}
 use Rattle.std.proofs.lemmas.List.Elements.{Contains-append_left, Contains-append_right, Contains-append_cases}
-use Rattle.p10_base.specs.Gathered.{Gathered, name_of}
+use Rattle.p10_base.specs.Gathered.{Gathered, is_built_in}
 use Rattle.p10_base.specs.declared.at.At.{At}
 use Rattle.p10_base.specs.declared.span.Span.{Span}
 use Rattle.p10_base.specs.declared.report.Sub.{Sub}
@@ -15,7 +15,7 @@ use Rattle.p10_synrules.specs.Parts.{Part, ExpressionPart, DeclaratorPart, State
 use Rattle.p10_synrules.specs.Assertions.{calls_c_assert, states_call, states_no_test, is_constant, is_sound_assertion}
 use Rattle.p10_synrules.specs.Pointers.{dereferences_twice, has_star, points_to_function}
 use Rattle.p10_synrules.specs.Functions.{definitions_in, function_names, has_many_lines, has_many_statements, chief_name}
-use Rattle.p10_synrules.specs.Violations.{row, expression_place, jumps_far, declarator_span, HasPart, Breaks, jump, label, far_jump, many_lines, many_statements, few_assertions, assertion_with_call, assertion_without_test, constant_assertion, no_recovery, two_dereferences, pointer_typedef, function_pointer, is_header_name, Violates}
+use Rattle.p10_synrules.specs.Violations.{row, expression_place, jumps_far, declarator_span, HasPart, Breaks, jump, label, far_jump, many_lines, many_statements, few_assertions, assertion_with_call, assertion_without_test, constant_assertion, no_recovery, two_dereferences, pointer_typedef, function_pointer, Violates}
 use Rattle.p10_synrules.specs.private.Listing.{violation_if, violation_at, expression_violations, declarator_violations, statement_violations, name_violations, part_violations, function_violations, assertion_violations, all_violations, is_own}
 use Rattle.p10_synrules.proofs.Elements.{none_in, here, lone, in_pieces, piece_in, passing, passes}
 
@@ -215,6 +215,6 @@ module _ (g : Gathered) (units : List (External At)) where
   pub exact : (all own : List Violation) → all ≡ all_violations g units → own ≡ filter (is_own g) all → (v : Violation) → Contains own v ↔ Violates g units v.sub v.span
   exact all own listed kept v = (
     (λ held. let h = passing (is_own g) all v (subst (λ l. Contains l v) kept held) in
-        record { broken = listed_is v (subst (λ l. Contains l v) listed h.0); own_file = not_is (is_header_name (name_of g v.span.file)) h.1 }),
-    (λ violates. subst (λ l. Contains l v) (sym kept) (passes (is_own g) all v (subst (λ l. Contains l v) (sym listed) (is_listed v.sub v.span violates.broken)) (is_not (is_header_name (name_of g v.span.file)) violates.own_file))),
+        record { broken = listed_is v (subst (λ l. Contains l v) listed h.0); own_file = not_is (is_built_in g v.span.file) h.1 }),
+    (λ violates. subst (λ l. Contains l v) (sym kept) (passes (is_own g) all v (subst (λ l. Contains l v) (sym listed) (is_listed v.sub v.span violates.broken)) (is_not (is_built_in g v.span.file) violates.own_file))),
   )

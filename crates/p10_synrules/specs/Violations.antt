@@ -2,7 +2,7 @@
 use Rattle.std.specs.Prelude.{ℕ, ◌≡◌, ◌*◌, nat_lt, nat_eq, min, ◌+◌, List, Bool, true, false, ◌||◌, Option, Some, None, length, count_by, codes, bytes_eq, slice_get, if◌then◌else◌}
 use Rattle.std.specs.List.{Contains}
 use Rattle.p10_base.specs.Words.{Text, span_of}
-use Rattle.p10_base.specs.Gathered.{Gathered, name_of, text_of}
+use Rattle.p10_base.specs.Gathered.{Gathered, text_of, is_built_in}
 use Rattle.p10_base.specs.declared.at.At.{At}
 use Rattle.p10_base.specs.declared.span.Span.{Span}
 use Rattle.p10_base.specs.declared.report.Sub.{Sub}
@@ -77,19 +77,7 @@ pub data Breaks (g : Gathered) (units : List (External At)) : Sub → Span → T
   -- 9.4: a declarator that is a pointer to a function
   function_pointer : (typedef : Bool) (d : Declarator At) → HasPart units (DeclaratorPart typedef d) → points_to_function d ≡ true → Breaks g units (row 9 4) (declarator_span g d)
 
--- whether a file has the name of a built-in header, with its angle brackets
-abbrev pub is_header_name : Text → Bool
-is_header_name name =
-    if bytes_eq name (codes "<stdint.h>") then true
-    else if bytes_eq name (codes "<stdbool.h>") then true
-    else if bytes_eq name (codes "<stddef.h>") then true
-    else if bytes_eq name (codes "<stdlib.h>") then true
-    else if bytes_eq name (codes "<stdio.h>") then true
-    else if bytes_eq name (codes "<limits.h>") then true
-    else if bytes_eq name (codes "<assert.h>") then true
-    else bytes_eq name (codes "<p10.h>")
-
 -- a row of the rules is violated at a place: it is broken there, and the place is in no built-in header
 pub record Violates (g : Gathered) (units : List (External At)) (sub : Sub) (at : Span) : Type 0 where
   pub broken : Breaks g units sub at
-  pub own_file : is_header_name (name_of g at.file) ≡ false
+  pub own_file : is_built_in g at.file ≡ false

@@ -16,7 +16,7 @@ use Rattle.p10_expand.specs.declared.fault.Trouble.{Trouble}
 use Rattle.p10_expand.specs.declared.fault.Trouble.TheVariants.{Read, Refused, Over, Memory}
 use Rattle.p10_expand.specs.Headers.{header_of}
 use Rattle.p10_expand.specs.Includes.{HasIncludes}
-use Rattle.p10_expand.specs.Finding.{name_at, HasText, IsThere, IsAbsent, IsFirst}
+use Rattle.p10_expand.specs.Finding.{name_at, is_header_place, HasText, IsThere, IsAbsent, IsFirst}
 use Rattle.p10_expand.specs.Gathered.{AreGathered}
 use Rattle.p10_expand.specs.Gathering.{Setting, Request, Moment, lines_of, IsAt, IsNew, HasRoom, present, linked, Reached, Answered, RefusesNext, PassesLimit, IsOneTooMany, IsFault}
 use Rattle.p10_base.specs.declared.report.TheConstants.Limit.{FILES, MOST_FILES, MOST_FILE_BYTES}
@@ -48,13 +48,13 @@ pub record Grows (old new : Gathering) : Type 0 where
 pub record AddsFile (old new : Gathering) (place : Place) (depth : ℕ) (text : List ℕ) (number : ℕ) : Type 0 where
   pub includes : List Include
   pub next : number ≡ count_of old.sources
-  pub sources : new.sources ≡ with_file old.sources (name_at place) text
+  pub sources : new.sources ≡ with_file old.sources (name_at place) text (is_header_place place)
   pub lexed : HasIncludes number text includes
   pub known : new.known.items ≡ old.known.items ++ (record { place = place; depth = depth; includes = includes }) ∷ []
 
 -- why a file with this text isn't added; a refused one was put behind the others
 abbrev pub FailsToAdd : Gathering → Gathering → Place → List ℕ → Trouble → Type 0
-FailsToAdd old new place text (Refused refusal) = Answers (count_of old.sources) text (Err (lexing.Refused refusal)) × (new.sources ≡ with_file old.sources (name_at place) text)
+FailsToAdd old new place text (Refused refusal) = Answers (count_of old.sources) text (Err (lexing.Refused refusal)) × (new.sources ≡ with_file old.sources (name_at place) text (is_header_place place))
 FailsToAdd old new place text (Over limit) = Answers (count_of old.sources) text (Err (lexing.Over limit))
 FailsToAdd old new place text Read = ⊥
 FailsToAdd old new place text Memory = Unit {0}

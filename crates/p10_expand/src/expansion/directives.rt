@@ -4,7 +4,6 @@ ghost use Rattle.std.specs.Prelude.{◌≡◌, ◌<◌, map, OnOk, IfOk};
 ghost use Rattle.p10_base.specs.Words.{plain_word};
 ghost use Rattle.p10_base.specs.Gathered.{candidate_of, count_of};
 ghost use Rattle.p10_direct.specs.Form.{plain, plain_macro, BeginsWithHash};
-ghost use Rattle.p10_lex.specs.Literals.{inside};
 ghost use Rattle.p10_expand.specs.Headers.{header_of};
 ghost use Rattle.p10_expand.specs.Obeying.{Does, ConditionGives, DefineGives, DefinitionGives, included, is_some_text, operand_place, mark_word, with_words};
 ghost use Rattle.p10_expand.specs.Obeying as obeying;
@@ -19,7 +18,6 @@ use crate::expansion::texts::File;
 use crate::headers::built_in;
 use p10_base::{DirectiveCode, Kind, Limit, Refusal, Sources, Span, Word};
 use p10_direct::{Directive, Macro, whole};
-use p10_lex::between;
 use p10_macros::Effect;
 use std::alloc::{AllocError, Global};
 
@@ -121,17 +119,7 @@ fn is_header(sources: &Sources, number: u32, name: &[u8]) -> bool
     requires { number < count_of sources.now }
     ensures { result ≡ obeying.is_header sources.now number name.now }
 {
-    is_bracketed(sources.name(number).as_bytes(), name) && is_text_of(sources.text(number), name)
-}
-
-/// Whether a file's name is this name between angle brackets.
-fn is_bracketed(text: &[u8], name: &[u8]) -> bool
-    ensures { result ≡ is_some_text name.now (inside 60 62 text.now) }
-{
-    match between(text, b'<', b'>') {
-        Some(inner) => inner == name,
-        None => false,
-    }
+    sources.is_built_in(number) && is_text_of(sources.text(number), name)
 }
 
 /// Whether this is the text of the built-in header with this name.

@@ -1,7 +1,7 @@
 -- The violations of parts and functions, one after the other.
 use Rattle.std.specs.Prelude.{◌*◌, nat_lt, List, [], ◌∷◌, ◌++◌, Bool, not, ◌&&◌, Option, Some, None, if◌then◌else◌, length, count_by}
 use Rattle.std.specs.List.{flat_map}
-use Rattle.p10_base.specs.Gathered.{Gathered, name_of}
+use Rattle.p10_base.specs.Gathered.{Gathered, is_built_in}
 use Rattle.p10_base.specs.declared.at.At.{At}
 use Rattle.p10_base.specs.declared.span.Span.{Span}
 use Rattle.p10_base.specs.declared.report.Sub.{Sub}
@@ -12,7 +12,7 @@ use Rattle.p10_synrules.specs.Parts.{Part, ExpressionPart, DeclaratorPart, State
 use Rattle.p10_synrules.specs.Assertions.{calls_c_assert, states_call, states_no_test, is_constant, is_sound_assertion}
 use Rattle.p10_synrules.specs.Pointers.{dereferences_twice, has_star, points_to_function}
 use Rattle.p10_synrules.specs.Functions.{definitions_in, function_names, has_many_lines, has_many_statements, chief_name}
-use Rattle.p10_synrules.specs.Violations.{row, expression_place, jumps_far, declarator_span, is_header_name}
+use Rattle.p10_synrules.specs.Violations.{row, expression_place, jumps_far, declarator_span}
 
 -- a violation of a row, where it holds
 abbrev pub violation_if : Sub → Bool → Span → List Violation
@@ -79,4 +79,4 @@ all_violations g units =
 
 -- whether a violation is in no built-in header
 abbrev pub is_own : Gathered → Violation → Bool
-is_own g v = not (is_header_name (name_of g v.span.file))
+is_own g v = not (is_built_in g v.span.file)
