@@ -1,17 +1,13 @@
 -- A built-in header that is found for a name has the text of that one.
-use Rattle.std.proofs.Common.{◌≡◌, ℕ, Bool, true, false, cond, List, [], ◌∷◌, ◌++◌, Option, Some, sym, ◌∙◌, ap, subst, refl}
-use Rattle.std.specs.Prelude.{IsSome, not}
+use Rattle.std.proofs.Common.{◌≡◌, Bool, true, false, cond, List, [], ◌∷◌, ◌++◌, Option, Some, sym, ◌∙◌, ap, subst, refl}
 use Rattle.std.proofs.lemmas.Bool.{both_ways}
-use Rattle.std.specs.Str.{is_utf8}
-use Rattle.p10_base.specs.declared.sources.SourceFile.{SourceFile}
-use Rattle.p10_base.specs.Gathered.{Gathered, file_of, name_of}
+use Rattle.p10_base.specs.Gathered.{file_of, name_of}
 use Rattle.p10_base.specs.Words.{Text}
 use Rattle.p10_world.specs.Files.{Named}
 use Rattle.p10_expand.specs.declared.place.Include.{Include}
 use Rattle.p10_expand.specs.declared.place.Place.{Place}
 use Rattle.p10_expand.specs.declared.place.Place.TheVariants.{File, Header}
-use Rattle.p10_expand.specs.declared.gathering.Known.{Known}
-use Rattle.p10_expand.specs.Candidates.{in_directories, is_no_name, is_absolute, relative_places, directory_of, candidates_of}
+use Rattle.p10_expand.specs.Candidates.{in_directories, is_no_name, is_absolute, relative_places, candidates_of}
 use Rattle.p10_expand.specs.Finding.{is_header_place, HasText}
 use Rattle.p10_expand.specs.Headers.{header_of}
 use Rattle.p10_expand.specs.Gathering.{known_at}

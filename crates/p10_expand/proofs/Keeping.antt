@@ -6,7 +6,7 @@ use Rattle.p10_base.specs.declared.span.Span.{Span}
 use Rattle.p10_base.specs.Words.{PlainWord, Text, is_name, is_name_kind}
 use Rattle.p10_direct.specs.Directives.{PlainMacro}
 use Rattle.p10_macros.specs.Table.{Entry, Table, macro_named, without_macro}
-use Rattle.p10_macros.specs.Uses.{Sourced, written, sourced_words, Arguments, opens, closes, separates, depth_after, word_before, argument_before, arguments_in, fitting, Use, Stays, Wrong, Calls, fitted, called, unless_recursive, use_as, use_by, use_of, given, value_of, value_or, texts_of, replacement}
+use Rattle.p10_macros.specs.Uses.{Sourced, written, Arguments, opens, closes, separates, depth_after, word_before, argument_before, arguments_in, fitting, Use, Stays, Wrong, Calls, fitted, called, unless_recursive, use_as, use_by, use_of, given, value_of, value_or, texts_of, replacement}
 use Rattle.p10_macros.specs.Endings.{Ending, Gives, Refused, TooMany, after_word, after_argument}
 use Rattle.p10_macros.specs.Ends.{Ends, EndsAll, Follows, place_of_use, no_words, word_stays, use_refused, use_replaced, no_arguments, argument_given, argument_refused, argument_too_long, replacement_made, replacement_too_long, values_refused, values_too_long}
 
@@ -59,7 +59,7 @@ pub record Kept : Type 1 where
   pub moved : (word : PlainWord) (at : Span) → IsPart word → IsPart (record word { at = at })
 
 -- whether a word begins a use
-abbrev Begins : Use → Type 0
+abbrev pub Begins : Use → Type 0
 Begins Stays = ⊥
 Begins _ = Unit {0}
 
@@ -78,7 +78,7 @@ module _ (kept : Kept) where
   abbrev pub MacroHolds : PlainMacro → Type 0
   MacroHolds plain = kept.IsName plain.name × AllByRecursion kept.IsPart plain.body
 
-  part_of : (word : PlainWord) → Holds word → kept.IsPart word
+  pub part_of : (word : PlainWord) → Holds word → kept.IsPart word
   part_of word (inl p) = kept.part word p
   part_of word (inr p) = p.0
 
@@ -194,11 +194,16 @@ module _ (kept : Kept) where
   name_used None name words p begins = absurd begins
   name_used (Some plain) name words p begins = p
 
-  use_place : (table : Table) (name : Sourced) (words : List Sourced) → TableHolds table → HoldsSourced name → Begins (use_of table name words) → kept.IsPlace name.word.at
-  use_place table name words t p begins =
+  pub name_of_use : (table : Table) (name : Sourced) (words : List Sourced) → TableHolds table → Begins (use_of table name words) → (is_name_kind name.word.kind ≡ true) × kept.IsName name.word.text
+  name_of_use table name words t begins =
       let found = macro_named name.word.text table in
       let parts = begins_if (is_name_kind name.word.kind) (use_by found name words) begins in
-      place_of name.word p parts.0 (name_used found name words (name_holds name.word.text table t) parts.1)
+      (parts.0, name_used found name words (name_holds name.word.text table t) parts.1)
+
+  use_place : (table : Table) (name : Sourced) (words : List Sourced) → TableHolds table → HoldsSourced name → Begins (use_of table name words) → kept.IsPlace name.word.at
+  use_place table name words t p begins =
+      let named = name_of_use table name words t begins in
+      place_of name.word p named.0 named.1
 
   abbrev SourcedPart : Sourced → Type 0
   SourcedPart sourced = kept.IsPart sourced.word
@@ -286,9 +291,6 @@ module _ (kept : Kept) where
   -- what a run of words gives
   pub run_holds : (table : Table) (words : List PlainWord) (left : ℕ) (ending : Ending (List Sourced)) → Ends table None (map written words) left ending → TableHolds table → AllByRecursion kept.Stands words → EndingHolds ending
   run_holds table words left ending ends t p = ends_hold ends t tt (each_mapped kept.Stands HoldsSourced written (λ word stands. inl stands) words p)
-
-  pub made_holds : (made : List Sourced) → AllByRecursion HoldsSourced made → AllByRecursion Holds (sourced_words made)
-  made_holds made p = each_mapped HoldsSourced Holds (λ sourced. sourced.word) (λ sourced held. held) made p
 
   pub without_holds : (table : Table) (name : Text) → TableHolds table → TableHolds (without_macro table name)
   without_holds table name p = each_kept (λ (entry : Entry). MacroHolds entry.made) (λ (entry : Entry). not (bytes_eq name entry.made.name)) table p

@@ -28,7 +28,9 @@ pub mod Rooting
 pub mod Rows
 pub mod FirstLine
 pub mod OneExpansion
+pub mod AtUses
 pub mod Keeping
+pub mod LineOrigins
 pub mod Origins
 pub mod Counting
 pub mod Few

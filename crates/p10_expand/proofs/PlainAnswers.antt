@@ -11,7 +11,8 @@ use Rattle.p10_expand.specs.Obeying.{PlainObeyed}
 use Rattle.p10_expand.specs.Expands.{Expansion, ExpandsTo}
 use Rattle.p10_expand.specs.Coming.{IsWritten, Comes, IsListed}
 use Rattle.p10_expand.proofs.Keeping.{each_weaker}
-use Rattle.p10_expand.proofs.Origins.{expansion_comes, comes_lies}
+use Rattle.p10_expand.proofs.LineOrigins.{comes_lies}
+use Rattle.p10_expand.proofs.Origins.{expansion_comes}
 use Rattle.p10_expand.proofs.Numbers.{IsOfDirectives, roots_numbered, roots_many}
 
 module _ (g : Gathered) where

@@ -1,15 +1,25 @@
 -- Where the words of an expansion come from.
-use Rattle.std.specs.Prelude.{ℕ, ◌≡◌, ◌<◌, List, true, Ok, IfSome}
+use Rattle.std.specs.Prelude.{ℕ, ◌≡◌, ◌<◌, List, ◌∷◌, Bool, true, false, Ok, IfSome}
 use Rattle.std.specs.List.{AllByRecursion, Contains}
+use Rattle.p10_base.specs.declared.span.Span.{Span}
 use Rattle.p10_base.specs.declared.word.Kind.TheVariants.{Mark}
 use Rattle.p10_base.specs.Gathered.{Gathered, LiesIn, count_of, text_of}
 use Rattle.p10_base.specs.Words.{PlainWord, Text, is_name_kind}
 use Rattle.p10_lex.specs.Slices.{IsSlice}
 use Rattle.p10_lex.specs.Lexes.{Answers}
 use Rattle.p10_direct.specs.Lines.{Piece, DirectiveLine, TextRun, AreCut}
+use Rattle.p10_direct.specs.Balance.{mark_of}
 use Rattle.p10_direct.specs.Directives.{PlainMacro, Define, Spells}
-use Rattle.p10_expand.specs.Obeying.{PlainObeyed}
+use Rattle.p10_macros.specs.Table.{Table}
+use Rattle.p10_macros.specs.Uses.{Sourced, sourced_words}
+use Rattle.p10_macros.specs.Endings.{Gives, Refused}
+use Rattle.p10_expand.specs.Groups.{PassedLine, is_obeyed_after}
+use Rattle.p10_expand.specs.Conditionals.{RunEnds}
+use Rattle.p10_expand.specs.Items.{lines_of, new_words}
+use Rattle.p10_expand.specs.Obeying.{PlainObeyed, State, File, words_before}
 use Rattle.p10_expand.specs.Expands.{Expansion}
+use Rattle.p10_expand.specs.Meeting.{IsOutermostUse}
+use Rattle.p10_expand.specs.Reaching.{ReachesLines}
 
 -- ## Words of files
 
@@ -60,12 +70,44 @@ pub record IsMark (g : Gathered) (word : PlainWord) : Type 0 where
   pub written : IsWritten g last
   pub mark : word ≡ record last { kind = Mark }
 
+-- the words of a run of text that are replaced where these macros are defined: all of them, or those before a refused use
+pub data AreReplaced (macros : Table) (left : ℕ) (words : List PlainWord) : List PlainWord → Type 0 where
+  all_words : AreReplaced macros left words words
+  words_before_refused : {number : ℕ} {at : Span} → RunEnds macros words left (Refused number at) → AreReplaced macros left words (words_before at words)
+
+-- the words of a run of text that are expanded: of a built-in header those of the items that weren't given before
+abbrev pub expanded_words : Bool → State → List PlainWord → List PlainWord
+expanded_words true s words = new_words s.given (lines_of words)
+expanded_words false s words = words
+
+-- expansion comes to a run of text that is obeyed, where these macros are defined, and replaces these words of it by those (C99 6.10.3)
+pub record IsExpanded (g : Gathered) (macros : Table) (run : List PlainWord) (made : List Sourced) : Type 0 where
+  pub nested : ℕ
+  pub file : File
+  pub before : List PassedLine
+  pub words : List PlainWord
+  pub pieces : List Piece
+  pub state : State
+  pub reached : ReachesLines g nested file before (TextRun words ∷ pieces) state
+  pub obeyed : is_obeyed_after before (mark_of (TextRun words)) ≡ true
+  pub defined : macros ≡ state.macros
+  pub replaced : AreReplaced macros state.left (expanded_words file.built_in state words) run
+  pub remaining : ℕ
+  pub gives : RunEnds macros run state.left (Gives made remaining)
+
 -- a macro gave it (C99 6.10.3): it is a word of a file, as of a definition, of an argument or of a built-in header, but for its
--- place, which is that of the outermost use: of a macro's name in a text
+-- place. It is made where a run of text is expanded, and its place is that of the outermost use: of a name in that run which began a use when
+-- it was met, of one of the macros that were then defined
 pub record IsGiven (g : Gathered) (word : PlainWord) : Type 0 where
   pub part : PlainWord
   pub written : IsWritten g part
+  pub macros : Table
+  pub run : List PlainWord
+  pub made : List Sourced
+  pub expanded : IsExpanded g macros run made
+  pub among : Contains (sourced_words made) word
   pub name : PlainWord
+  pub begins : IsOutermostUse macros run name
   pub is_name : is_name_kind name.kind ≡ true
   pub of_macro : IsMacroName g name.text
   pub in_text : IsInText g name

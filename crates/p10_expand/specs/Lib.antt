@@ -13,6 +13,8 @@ pub mod Items
 pub mod Obeying
 pub mod Expands
 pub mod Answers
+pub mod Meeting
+pub mod Reaching
 pub mod Coming
 pub mod Before
 pub mod private

@@ -124,10 +124,10 @@ abbrev pub operand_place : List PlainWord → Span
 operand_place (hash ∷ name ∷ operand ∷ words) = operand.at
 operand_place line = place_of line
 
--- whether there is a text, and it is this name
+-- whether there is a text, and it is this one
 abbrev pub is_some_text : Text → Option Text → Bool
-is_some_text name None = false
-is_some_text name (Some text) = bytes_eq text name
+is_some_text text None = false
+is_some_text text (Some other) = bytes_eq other text
 
 -- the file that is found for a name is the built-in header of that name: it was gathered as a built-in header, and has the text of that
 -- one. Among gathered files a built-in header that is found for a name has it always; of others, a marked file with another text is

@@ -46,8 +46,9 @@ pub fn expand<'s>(alloc: Global, sources: &'s Sources) -> Result<Expanded<'s>, E
     ensures expanded { IfOk result (IsExpansion sources.now) }
     ensures fault { IfErr result (IsFault sources.now) }
     // What follows: each word of a root is a word of a file at its place, but for the kind of a mark; or, where a macro
-    // gave it, a word of a file but for its place, which is that of a macro's name in a text. What was obeyed are
-    // directives of the files, a refusal's place lies in a file, and words can be counted by a `u32`.
+    // gave it, a word of a file but for its place, which is that of the outermost use: of a name in a run of text that
+    // began a use when it was met, of one of the macros that were then defined. What was obeyed are directives of the
+    // files, a refusal's place lies in a file, and words can be counted by a `u32`.
     ensures comes { IfOk result (λ expanded. ExpansionComes sources.now (expansion_of expanded)) }
     ensures few { IfOk result (λ expanded. sum_by length (lists_of expanded.roots) < 2 ^ 32) }
 {

@@ -1,4 +1,4 @@
--- Lemmas by subject: what there is; which names stay; where words stand.
+-- Lemmas by subject: what there is; which names stay.
 pub mod WordsEnd
 pub mod PartsThere
 pub mod LinesThere
@@ -7,4 +7,3 @@ pub mod FilesThere
 pub mod Slots
 pub mod GatheringEnds
 pub mod Staying
-pub mod Placed

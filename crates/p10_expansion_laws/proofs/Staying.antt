@@ -8,7 +8,8 @@ use Rattle.p10_macros.specs.Table.{Table, macro_named}
 use Rattle.p10_macros.specs.Uses.{Sourced, Use, Stays, Wrong, Calls, Arguments, opens, arguments_in, called, fitted, fitting, use_of, use_by, use_as, replacement}
 use Rattle.p10_macros.specs.Endings.{Ending, Gives, Refused, TooMany, after_word}
 use Rattle.p10_macros.specs.Ends.{Ends, EndsAll, Follows, no_words, word_stays, use_refused, use_replaced, replacement_made, replacement_too_long, values_refused, values_too_long}
-use Rattle.p10_expansion_laws.specs.Staying.{AreMet, there, past_word, past_use, NamesFunction, IsCalled, WasMet, NamesStayUncalled}
+use Rattle.p10_expand.specs.Meeting.{AreMet, there, past_word, past_use}
+use Rattle.p10_expansion_laws.specs.Staying.{NamesFunction, IsCalled, WasMet, NamesStayUncalled}
 
 -- ## A called name is a use
 

@@ -1,26 +1,14 @@
 -- What is left of the names of function-like macros: a name stays where no `(` follows it when it is met (C99 6.10.3p10).
-use Rattle.std.specs.Prelude.{ℕ, ◌≡◌, List, [], ◌∷◌, ◌++◌, true, Option, Some}
+use Rattle.std.specs.Prelude.{ℕ, ◌≡◌, List, [], ◌∷◌, true, Option, Some}
 use Rattle.std.specs.List.{AllByRecursion}
 use Rattle.p10_base.specs.declared.span.Span.{Span}
 use Rattle.p10_base.specs.Words.{Text, is_name_kind}
 use Rattle.p10_direct.specs.Directives.{PlainMacro}
 use Rattle.p10_macros.specs.Table.{Table, macro_named}
-use Rattle.p10_macros.specs.Uses.{Sourced, opens, use_of, Stays, Calls, replacement}
+use Rattle.p10_macros.specs.Uses.{Sourced, opens}
 use Rattle.p10_macros.specs.Endings.{Gives}
-use Rattle.p10_macros.specs.Ends.{Ends, EndsAll}
-
--- ## Words that are met
-
--- replacement, from left to right, comes from these words to those: a word that begins no use is passed, and a use is replaced, and then its
--- replacement is looked through with the words after it (C99 6.10.3.4p1)
-pub data AreMet (table : Table) : List Sourced → List Sourced → Type 0 where
-  there : {words : List Sourced} → AreMet table words words
-  past_word : {word : Sourced} {words those : List Sourced} → use_of table word words ≡ Stays → AreMet table words those → AreMet table (word ∷ words) those
-  past_use : {word : Sourced} {words rest those : List Sourced} {plain : PlainMacro} {arguments values : List (List Sourced)} {outer : Option Span} {left remaining : ℕ} →
-      use_of table word words ≡ Calls plain arguments rest → EndsAll table outer arguments left (Gives values remaining) → AreMet table (replacement plain word values ++ rest) those →
-      AreMet table (word ∷ words) those
-
--- ## Names that stay
+use Rattle.p10_macros.specs.Ends.{Ends}
+use Rattle.p10_expand.specs.Meeting.{AreMet}
 
 -- a word is the name of a function-like macro
 pub record NamesFunction (table : Table) (sourced : Sourced) : Type 0 where

@@ -9,8 +9,7 @@ use Rattle.p10_macros.specs.Table.{Table, macro_named}
 use Rattle.p10_macros.specs.Uses.{Sourced, written, Arguments, Use, Stays, Wrong, Calls, opens, closes, separates, depth_after, word_before, argument_before, arguments_in, fitting, fitted, called, use_as, use_by, use_of, given, replacement}
 use Rattle.p10_macros.specs.Endings.{Ending, Gives, Refused, TooMany, after_word}
 use Rattle.p10_macros.specs.Ends.{Ends, EndsAll, Follows, no_words, word_stays, use_refused, use_replaced, replacement_made, replacement_too_long, values_refused, values_too_long}
-use Rattle.p10_expansion_laws.specs.Staying.{AreMet, there, past_word, past_use}
-use Rattle.p10_expansion_laws.specs.Placed.{IsOwn, IsAtUse, WordsStandAtUses}
+use Rattle.p10_expand.specs.Meeting.{AreMet, there, past_word, past_use, IsOutermostUse}
 
 -- ## Words after a use
 
@@ -88,6 +87,14 @@ comes_on there more = more
 comes_on (past_word is comes) more = past_word is (comes_on comes more)
 comes_on (past_use is ends comes) more = past_use is ends (comes_on comes more)
 
+-- a word of these words as it was written: it comes from no macro
+abbrev pub IsOwn : List PlainWord → Sourced → Type 0
+IsOwn words sourced = (word : PlainWord) × Contains words word × (sourced ≡ written word)
+
+-- a word stands at the place of an outermost use
+abbrev pub IsAtUse : Table → List PlainWord → Sourced → Type 0
+IsAtUse table words sourced = (name : PlainWord) × IsOutermostUse table words name × (sourced.word.at ≡ name.at)
+
 module _ (table : Table) (words : List PlainWord) where
   -- a word of the run, or one at the place of an outermost use
   abbrev Placed : Sourced → Type 0
@@ -101,30 +108,18 @@ module _ (table : Table) (words : List PlainWord) where
   -- what a use of a placed name gives stands at the place of an outermost use
   given_placed : (name : Sourced) (following : List Sourced) (plain : PlainMacro) (arguments : List (List Sourced)) (rest : List Sourced) → Placed name → AreMet table (map written words) (name ∷ following) →
       use_of table name following ≡ Calls plain arguments rest → (part : Sourced) → Placed (given plain name part)
-  given_placed name following plain arguments rest (inl own) comes calls part =
-      inr (record {
-        name = own.word;
-        among = own.among;
+  given_placed name following plain arguments rest (inl (word, among, same)) comes calls part =
+      let begins : IsOutermostUse table words word = record {
+        among = among;
         following = following;
-        comes = subst (λ n. AreMet table (map written words) (n ∷ following)) own.same comes;
+        met = subst (λ n. AreMet table (map written words) (n ∷ following)) same comes;
         plain = plain;
         arguments = arguments;
         rest = rest;
-        calls = subst (λ n. use_of table n following ≡ Calls plain arguments rest) own.same calls;
-        same = ap (λ (n : Sourced). n.word.at) own.same;
-      })
-  given_placed name following plain arguments rest (inr at) comes calls part =
-      inr (record {
-        name = at.name;
-        among = at.among;
-        following = at.following;
-        comes = at.comes;
-        plain = at.plain;
-        arguments = at.arguments;
-        rest = at.rest;
-        calls = at.calls;
-        same = at.same;
-      })
+        calls = subst (λ n. use_of table n following ≡ Calls plain arguments rest) same calls;
+      } in
+      inr (word, begins, ap (λ (n : Sourced). n.word.at) same)
+  given_placed name following plain arguments rest (inr at) comes calls part = inr at
 
   word_placed : (word : Sourced) (behind : Ending (List Sourced)) → Placed word → AllPlaced behind → AllPlaced (after_word word behind)
   word_placed word (Gives made remaining) p all = (p, all)
@@ -156,13 +151,14 @@ mutual
 each_own : (all words : List PlainWord) → ((word : PlainWord) → Contains words word → Contains all word) → AllByRecursion (IsOwn all) (map written words)
 each_own all [] within = tt
 each_own all (word ∷ words) within =
-    (record { word = word; among = within word (0, omega arith, refl); same = refl }, each_own all words (λ other among. within other (suc among.0, omega (arith, among.1), among.2)))
+    ((word, within word (0, omega arith, refl), refl), each_own all words (λ other among. within other (suc among.0, omega (arith, among.1), among.2)))
 
 own_placed : (table : Table) (all : List PlainWord) (those : List Sourced) → AllByRecursion (IsOwn all) those → AllByRecursion (Placed table all) those
 own_placed table all [] own = tt
 own_placed table all (word ∷ those) own = (inl own.0, own_placed table all those own.1)
 
 -- each word of a replacement is one of the run, or stands at the place of an outermost use
-pub words_stand_at_uses : WordsStandAtUses
+pub words_stand_at_uses : (table : Table) (words : List PlainWord) (made : List Sourced) (left remaining : ℕ) → Ends table None (map written words) left (Gives made remaining) →
+    AllByRecursion (λ word. IsOwn words word ⊎ IsAtUse table words word) made
 words_stand_at_uses table words made left remaining ends =
     all_placed words ends (own_placed table words (map written words) (each_own words words (λ word among. among))) there
