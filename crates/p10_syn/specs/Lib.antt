@@ -14,3 +14,4 @@ pub mod Bare
 pub mod Spells
 pub mod Built
 pub mod BuiltStatements
+pub mod private

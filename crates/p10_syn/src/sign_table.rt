@@ -2,6 +2,7 @@
 
 ghost use Rattle.std.specs.Prelude.{◌≡◌};
 ghost use Rattle.p10_syn.specs.Signs.{spelling as written, keywords, punctuators, sign_among as first_among, same_sign, number_of};
+ghost use Rattle.p10_syn.specs.private.Lengths.{DoForLength};
 
 use crate::sign::Sign;
 
@@ -45,6 +46,57 @@ const KEYWORDS: [Sign; 37] = [
     Sign::Complex,
     Sign::Imaginary,
 ];
+
+// The keywords that are written with so many bytes.
+const OF_TWO: [Sign; 2] = [Sign::Do, Sign::If];
+
+const OF_THREE: [Sign; 2] = [Sign::For, Sign::Int];
+
+const OF_FOUR: [Sign; 8] = [
+    Sign::Auto,
+    Sign::Case,
+    Sign::Char,
+    Sign::Else,
+    Sign::Enum,
+    Sign::Goto,
+    Sign::Long,
+    Sign::Void,
+];
+
+const OF_FIVE: [Sign; 7] = [
+    Sign::Break,
+    Sign::Const,
+    Sign::Float,
+    Sign::Short,
+    Sign::Union,
+    Sign::While,
+    Sign::Bool,
+];
+
+const OF_SIX: [Sign; 9] = [
+    Sign::Double,
+    Sign::Extern,
+    Sign::Inline,
+    Sign::Return,
+    Sign::Signed,
+    Sign::Sizeof,
+    Sign::Static,
+    Sign::Struct,
+    Sign::Switch,
+];
+
+const OF_SEVEN: [Sign; 2] = [Sign::Default, Sign::Typedef];
+
+const OF_EIGHT: [Sign; 6] = [
+    Sign::Continue,
+    Sign::Register,
+    Sign::Restrict,
+    Sign::Unsigned,
+    Sign::Volatile,
+    Sign::Complex,
+];
+
+const OF_TEN: [Sign; 1] = [Sign::Imaginary];
 
 /// The punctuators (C99 6.4.6).
 const PUNCTUATORS: [Sign; 48] = [
@@ -99,19 +151,55 @@ const PUNCTUATORS: [Sign; 48] = [
 ];
 
 /// The keyword that is written so.
-#[tactic(auto, unfolding(crate::specs::Signs::keywords))]
 pub fn keyword(text: &[u8]) -> Option<Sign>
     ensures { result ≡ first_among keywords text.now }
 {
-    sign_among(&KEYWORDS, text)
+    sign_among(keywords_of_length(text.len()), text)
 }
 
-/// The punctuator that is written so.
-#[tactic(auto, unfolding(crate::specs::Signs::punctuators))]
+/// The keywords that are written with so many bytes.
+#[tactic(auto, unfolding(crate::specs::Signs::keywords, crate::specs::Signs::spelling))]
+fn keywords_of_length(bytes: usize) -> &'static [Sign]
+    ensures { DoForLength bytes result.now }
+{
+    match bytes {
+        2 => &OF_TWO,
+        3 => &OF_THREE,
+        4 => &OF_FOUR,
+        5 => &OF_FIVE,
+        6 => &OF_SIX,
+        7 => &OF_SEVEN,
+        8 => &OF_EIGHT,
+        10 => &OF_TEN,
+        0 | 1 | 9 => &[],
+        _ => longer_keywords(bytes),
+    }
+}
+
+/// No keyword is written with more than ten bytes.
+fn longer_keywords(bytes: usize) -> &'static [Sign]
+    ensures { DoForLength bytes result.now }
+{
+    if bytes > 10 { &[] } else { &KEYWORDS }
+}
+
+/// The punctuator that is written so; those of one byte that stand most often in programs are told at once.
+#[tactic(auto, unfolding(crate::specs::Signs::punctuators, crate::specs::Signs::spelling))]
 pub fn punctuator(text: &[u8]) -> Option<Sign>
     ensures { result ≡ first_among punctuators text.now }
 {
-    sign_among(&PUNCTUATORS, text)
+    match text {
+        [b';'] => Some(Sign::Semicolon),
+        [b','] => Some(Sign::Comma),
+        [b'='] => Some(Sign::Assign),
+        [b'*'] => Some(Sign::Star),
+        [b'-'] => Some(Sign::Minus),
+        [b'+'] => Some(Sign::Plus),
+        [b'<'] => Some(Sign::Less),
+        [b'>'] => Some(Sign::Greater),
+        [b':'] => Some(Sign::Colon),
+        _ => sign_among(&PUNCTUATORS, text),
+    }
 }
 
 /// The first of these signs that is written so.
