@@ -10,7 +10,8 @@ use Rattle.p10_lex.specs.declared.pieces.Line.{Line}
 use Rattle.p10_lex.specs.declared.faults.Fault.{Fault}
 use Rattle.p10_lex.specs.declared.fault.LexFault.{LexFault}
 use Rattle.p10_lex.specs.declared.fault.LexFault.TheVariants.{Refused, Over, Memory}
-use Rattle.p10_lex.specs.Pieces.{IsPiece, State, advance, beginning, is_include, word_before}
+use Rattle.p10_lex.specs.Bytes.{is_blank}
+use Rattle.p10_lex.specs.Pieces.{IsPiece, State, advance, beginning, is_include, line_after, tight_after, word_before}
 use Rattle.p10_lex.specs.Refusals.{refusal_at}
 use Rattle.p10_lex.specs.Lexes.{Answers}
 use Rattle.p10_lex.specs.private.Adding.{IsTooMany}
@@ -58,6 +59,11 @@ word_joins file place line OpenLiteral text words = refl
 word_joins file place line Stray text words = refl
 word_joins file place line (Lexeme kind) text words = refl
 
+-- a space leaves the words of its line as they are
+after_space : (s : State) → advance s Blank (32 ∷ []) ≡ (record { place = s.place + 1; line = s.line; tight = false })
+unfolding line_after tight_after
+after_space s = refl
+
 -- What the bytes give is `so`, and then what the rest gives.
 abbrev pub Continues : ℕ → List ℕ → List PlainWord → State → List ℕ → Type 0
 Continues file bytes so s rest = (words : List PlainWord) (end : Option Refusal) → Gives file s rest words end → Gives file beginning bytes (so ++ words) end
@@ -76,6 +82,14 @@ next_turn file bytes so now s next piece whole rest inv front none grown moved w
     ap (λ (x : List PlainWord). so ++ x) (word_joins file s.place s.line piece (front_of whole rest) words)
     ∙ (sym (append_assoc so _ words) ∙ ap (λ (x : List PlainWord). x ++ words) (sym grown)) in
     subst (λ (x : List PlainWord). Gives file beginning bytes x end) e all
+
+-- a turn that passes a space
+pub space_turn : (file : ℕ) (bytes : List ℕ) (so : List PlainWord) (s next : State) (rest : List ℕ)
+    → Continues file bytes so s (32 ∷ rest) → next ≡ (record { place = s.place + 1; line = s.line; tight = false }) → Continues file bytes so next rest
+unfolding fault_at word_before is_blank
+space_turn file bytes so s next rest inv moved words end gives =
+    let here = subst (λ (t : State). Gives file t rest words end) (moved ∙ sym (after_space s)) gives in
+    inv words end (goes_on_at file s Blank (32 ∷ []) rest (32 ∷ rest) words end refl (32, refl, refl) refl here)
 
 -- a turn that finds a refusal
 pub refused_turn : (file : ℕ) (bytes : List ℕ) (so : List PlainWord) (s : State) (piece : Piece) (whole rest : List ℕ) (fault : Fault) (outcome : LexFault)

@@ -143,13 +143,10 @@ impl Line {
         ensures { result ≡ line_with self word.now }
     {
         match self {
-            Line::Start => {
-                if word == b"#".as_slice() {
-                    Line::Hash
-                } else {
-                    Line::Other
-                }
-            }
+            Line::Start => match word {
+                [b'#'] => Line::Hash,
+                _ => Line::Other,
+            },
             Line::Hash => {
                 if word == b"include".as_slice() {
                     Line::Include
@@ -168,13 +165,10 @@ impl Line {
         ensures { result ≡ line_after self piece text.now }
     {
         match piece {
-            Piece::Blank => {
-                if text == b"\n".as_slice() {
-                    Line::Start
-                } else {
-                    self
-                }
-            }
+            Piece::Blank => match text {
+                [b'\n'] => Line::Start,
+                _ => self,
+            },
             Piece::Lexeme(_) => self.with(text),
             Piece::Splices => self,
             Piece::Comment => self,

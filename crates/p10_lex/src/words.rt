@@ -1,6 +1,6 @@
 //! All words of a file.
 
-ghost use Rattle.std.specs.Prelude.{◌≡◌, ◌+◌, ◌≤◌, ◌<◌, ◌^◌, ◌++◌, [], length, map, vec_len, Ok, Err, MatchResult, OnOk, IfOk, IfErr};
+ghost use Rattle.std.specs.Prelude.{◌≡◌, ◌+◌, ◌≤◌, ◌<◌, ◌^◌, ◌++◌, [], ◌∷◌, length, map, vec_len, Ok, Err, MatchResult, OnOk, IfOk, IfErr, IfSome};
 ghost use Rattle.p10_base.specs.Words.{plain_word};
 ghost use Rattle.p10_base.specs.Codes.{word_number};
 ghost use Rattle.p10_lex.specs.Pieces.{word_before};
@@ -43,6 +43,13 @@ fn words_in<'s>(alloc: Global, file: u32, text: &'s [u8]) -> Result<Vec<Word<'s>
     let mut line = Line::Start;
     let mut tight = false;
     while !rest.is_empty() {
+        // Many bytes of indented lines are spaces, which need no further look.
+        if let Some(more) = after_space(rest) {
+            tight = false;
+            place += 1;
+            rest = more;
+            continue;
+        }
         let (piece, after) = cut_at(line.is_include(), rest);
         let here = &rest[..rest.len() - after.len()];
         if let Some(fault) = fault_at(tight, piece, here, rest, after) {
@@ -55,6 +62,16 @@ fn words_in<'s>(alloc: Global, file: u32, text: &'s [u8]) -> Result<Vec<Word<'s>
         rest = after;
     }
     Ok(words)
+}
+
+/// What stands after a space; none where the text doesn't begin with one.
+fn after_space(text: &[u8]) -> Option<&[u8]>
+    ensures { IfSome result (λ rest. text.now ≡ 32 ∷ rest.now) }
+{
+    match text {
+        [b' ', rest @ ..] => Some(rest),
+        _ => None,
+    }
 }
 
 /// A piece that is a word joins the words, unless they are too many (M2).
