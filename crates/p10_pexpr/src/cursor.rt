@@ -106,6 +106,7 @@ impl<'w, 's> Cursor<'w, 's> {
     pub fn take(&mut self) -> Option<Token<'s>>
         ensures some { IfSome result (λ token. self.old ≡ symbol_at token ∷ self.new) }
         ensures none { IfNone result (self.old ≡ []) }
+        ensures after { IfNone result (self.new ≡ self.old) }
     {
         if self.place < self.tokens.len() {
             let token = self.tokens[self.place];

@@ -1,6 +1,6 @@
 //! Expressions that take all the words.
 
-ghost use Rattle.std.specs.Prelude.{◌≡◌, ◌+◌, ◌*◌, ◌≤◌, length, map, IfOk, IfErr, IfSome};
+ghost use Rattle.std.specs.Prelude.{◌≡◌, ◌+◌, ◌*◌, ◌≤◌, ◌^◌, length, map, IfOk, IfErr, IfNone, IfSome};
 ghost use Rattle.std.specs.Result.{IsErrOf};
 ghost use Rattle.p10_base.specs.Words.{plain_words};
 ghost use Rattle.p10_syn.specs.Symbols.{symbols_of};
@@ -115,7 +115,8 @@ fn read_all<'s>(
 
 /// How deep readers must go for this many words; `None` where memory holds no tree of so many.
 pub fn budget_of(words: usize) -> Option<usize>
-    ensures { IfSome result (λ budget. budget ≡ 8 * words + 1) }
+    ensures some { IfSome result (λ budget. budget ≡ 8 * words + 1) }
+    ensures none { IfNone result (2 ^ 64 ≤ 8 * words + 1) }
 {
     words.checked_mul(8)?.checked_add(1)
 }
