@@ -8,7 +8,7 @@ use Rattle.p10_meaning.specs.declared.pointers.Cell.{Cell}
 use Rattle.p10_meaning.specs.declared.pointers.Ptr.{Ptr}
 use Rattle.p10_meaning.specs.Objects.{Object}
 use Rattle.p10_meaning.specs.States.{State, Progress, gives, ends, step_at, and_then, or_undefined}
-use Rattle.p10_meaning.specs.Values.{Setting, Held, Element, Target, is_structure, read_target, used, give, evaluate, perform, locate, find_place}
+use Rattle.p10_meaning.specs.Values.{Setting, Held, Element, is_structure, read_target, used, give, evaluate, perform, locate, find_place}
 use Rattle.p10_interp.specs.private.AtOnce.{Finds, Pays, IsTaken, IsHolding, read_at_place}
 
 -- a form of a value, whatever the code calls it

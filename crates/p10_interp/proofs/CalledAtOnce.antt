@@ -1,5 +1,5 @@
 -- Calls that are made at once come to what the meaning says.
-use Rattle.std.proofs.Common.{◌≡◌, ℕ, zero, suc, ◌<◌, ◌≤◌, Bool, true, false, if◌then◌else◌, List, [], ◌∷◌, ◌++◌, map, take, drop, length, get_or, ◌-◌, refl, sym, ◌∙◌, ap, subst, append-nil, append_assoc, arith, ℤ, Some, slice_get}
+use Rattle.std.proofs.Common.{◌≡◌, ℕ, zero, suc, ◌<◌, ◌≤◌, true, if◌then◌else◌, List, [], ◌∷◌, ◌++◌, map, take, drop, length, get_or, ◌-◌, refl, sym, ◌∙◌, ap, subst, append-nil, append_assoc, arith, ℤ, Some, slice_get}
 use Rattle.p10_base.specs.declared.at.At.{At}
 use Rattle.p10_base.specs.declared.span.Span.{Span}
 use Rattle.p10_core.specs.Types.{PlainType}
@@ -11,9 +11,9 @@ use Rattle.p10_meaning.specs.declared.pointers.Scalar.{Scalar}
 use Rattle.p10_meaning.specs.declared.pointers.Scalar.TheVariants.{Int}
 use Rattle.p10_meaning.specs.Pointers.{holding}
 use Rattle.p10_meaning.specs.Objects.{Object, declared}
-use Rattle.p10_meaning.specs.States.{State, Progress, gives, step_at, and_then, or_undefined}
+use Rattle.p10_meaning.specs.States.{State, gives, step_at, and_then, or_undefined}
 use Rattle.p10_meaning.specs.Values.{Setting, Held, holds, stands, absent, open_object, used, evaluate, evaluate_all}
-use Rattle.p10_meaning.specs.Statements.{Frame, Done, flows, returned, go_on, execute_from}
+use Rattle.p10_meaning.specs.Statements.{flows, returned, go_on, execute_from}
 use Rattle.p10_meaning.specs.Calling.{Depth, deeper, raised, Entered, entered, with_variable, setting_of, leave_call, enter_call, call_at}
 use Rattle.p10_interp.specs.declared.held.Held.{Held as Standing}
 use Rattle.p10_interp.specs.private.Tasks.{Open}
@@ -21,7 +21,7 @@ use Rattle.p10_interp.specs.private.Standing.{held_of}
 use Rattle.p10_interp.specs.private.OpenCalls.{innermost_held}
 use Rattle.p10_interp.specs.private.Resuming.{setting_in, depth_of}
 use Rattle.p10_interp.specs.private.AtOnce.{Finds}
-use Rattle.p10_interp.specs.private.CallingAtOnce.{frame_of, starts_with, IsFilled, Fills, AreAbsent, returns_in, Returns, IsCalled, IsValueOfCall}
+use Rattle.p10_interp.specs.private.CallingAtOnce.{frame_of, starts_with, Fills, AreAbsent, Returns, IsCalled, IsValueOfCall}
 
 -- ## The frame
 

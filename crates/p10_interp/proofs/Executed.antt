@@ -1,13 +1,12 @@
 -- Statements that are executed at once come to what the meaning says.
-use Rattle.std.proofs.Common.{◌≡◌, ℕ, suc, ◌<◌, ◌≤◌, Bool, true, List, sym, ◌∙◌, subst, ap, refl, ℤ, Some, None, Result, Ok, slice_get, arith, ◌∷◌}
+use Rattle.std.proofs.Common.{◌≡◌, ℕ, suc, ◌<◌, ◌≤◌, true, List, sym, ◌∙◌, subst, ap, refl, ℤ, Some, Ok, slice_get, arith, ◌∷◌}
 use Rattle.p10_base.specs.declared.at.At.{At}
 use Rattle.p10_base.specs.declared.span.Span.{Span}
-use Rattle.p10_int.specs.declared.operators.Stop.{Stop}
 use Rattle.p10_int.specs.declared.operators.BinOp.{BinOp}
 use Rattle.p10_int.specs.Operators.{operate}
 use Rattle.p10_core.specs.declared.statements.UpdateKind.{UpdateKind}
 use Rattle.p10_core.specs.Types.{PlainType}
-use Rattle.p10_core.specs.Typed.{PlainValue, value, call, PlainValues, place, PlainPlace, place_at, place_type, variable, set, update, PlainProgram}
+use Rattle.p10_core.specs.Typed.{PlainValue, value, call, PlainValues, place, PlainPlace, place_at, variable, set, update, PlainProgram}
 use Rattle.p10_meaning.specs.declared.pointers.Ptr.{Ptr}
 use Rattle.p10_meaning.specs.declared.pointers.Scalar.{Scalar}
 use Rattle.p10_meaning.specs.declared.pointers.Scalar.TheVariants.{Int}

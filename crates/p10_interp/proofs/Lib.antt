@@ -45,3 +45,6 @@ pub mod Executed
 pub mod CalledAtOnce
 pub mod TurnedAtOnce
 pub mod Hastened
+pub mod TakenTurns
+pub mod Starts
+pub mod Naturals

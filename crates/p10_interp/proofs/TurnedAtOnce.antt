@@ -6,20 +6,18 @@ use Rattle.p10_core.specs.declared.statements.Stmt.{Stmt}
 use Rattle.p10_core.specs.Types.{PlainType}
 use Rattle.p10_core.specs.Views.{plain_statement, plain_statements, plain_statement_form}
 use Rattle.p10_core.specs.Typed.{PlainValue, value, call, PlainValues, statement, PlainStatement, PlainStatementForm, more_statements, PlainStatements, PlainProgram}
-use Rattle.p10_meaning.specs.declared.pointers.Scalar.{Scalar}
 use Rattle.p10_meaning.specs.declared.pointers.Scalar.TheVariants.{Int}
 use Rattle.p10_meaning.specs.Scalars.{is_true}
-use Rattle.p10_meaning.specs.States.{State, Progress, gives, and_then}
+use Rattle.p10_meaning.specs.States.{State, gives, and_then}
 use Rattle.p10_meaning.specs.Values.{Setting, evaluate}
-use Rattle.p10_meaning.specs.Statements.{normal, Done, go_on, execute_from}
+use Rattle.p10_meaning.specs.Statements.{normal, go_on, execute_from}
 use Rattle.p10_interp.specs.declared.work.Halt.{Halt}
 use Rattle.p10_interp.specs.declared.work.Flow.{Flow as Way}
 use Rattle.p10_interp.specs.declared.stacks.Stacks.{Stacks}
 use Rattle.p10_interp.specs.declared.outside.Outside.{Outside}
 use Rattle.p10_interp.specs.private.Nothing.{is_nil}
 use Rattle.p10_interp.proofs.Turned.{tail_is}
-use Rattle.p10_interp.specs.private.Tasks.{Loop, Task, evaluate_value, execute_statement, execute_statements, test_loop, enter_turn, end_turn, Operand, evaluated, Open, Rig}
-use Rattle.p10_interp.specs.private.Operations.{with_frame}
+use Rattle.p10_interp.specs.private.Tasks.{Loop, Task, evaluate_value, execute_statement, execute_statements, test_loop, enter_turn, end_turn, Operand, evaluated, Open}
 use Rattle.p10_interp.specs.private.Views.{flow_of, tasks_in}
 use Rattle.p10_interp.specs.private.OpenCalls.{calls_in}
 use Rattle.p10_interp.specs.private.Machines.{Around, state_of, rig_of, Moves}
@@ -27,13 +25,9 @@ use Rattle.p10_interp.specs.private.Resuming.{setting_in, after_done, resume, un
 use Rattle.p10_interp.specs.private.Acts.{goes_on, tested_by, next_act}
 use Rattle.p10_interp.specs.private.Weights.{weights}
 use Rattle.p10_interp.specs.private.Executing.{IsExecuted, Executes}
-use Rattle.p10_interp.specs.private.Turning.{with_work, IsTurned, Turns, IsDone, Does}
+use Rattle.p10_interp.specs.private.Turning.{rig_at, with_work, IsTurned, Turns, IsDone, Does}
 use Rattle.p10_interp.proofs.Right.{next_right}
 use Rattle.p10_interp.proofs.Advanced.{moved, stopped, IsLess, lighter}
-
--- the machine where execution goes on with these tasks
-abbrev pub rig_at : List Task → List Operand → List Open → Rig
-rig_at tasks operands calls = record { flow = normal; tasks = tasks; operands = operands; calls = calls }
 
 -- a value that was evaluated
 pub value_done : (p : PlainProgram) (n : ℕ) (v : PlainValue) (k : List Task) (operands now : List Operand) (cs : List Open) (f : Open) (calls : List Open) (w u : State) (x : ℤ) → cs ≡ f ∷ calls → now ≡ evaluated (Some (Int x)) ∷ operands → evaluate (setting_in p n f) f.frame.held v w ≡ gives (Int x) u →
@@ -131,10 +125,10 @@ call_does p at t name g arguments old new a b (Ok done) h = λ io f calls e. h a
 call_does p at t name g arguments old new a b (Err halt) h = tt
 
 -- a loop's test, of the loop that a statement is
-pub test_does : (p : PlainProgram) (task ending : Task) (tested : Option PlainValue) (body : PlainStatement) (l : Loop) (old new : Stacks) (a b : Outside) (r : Result Bool Halt) → l.tested ≡ tested → l.body ≡ body → ending ≡ end_turn l → task ≡ test_loop l →
-    IfOk r (λ done. (io : Around) (f : Open) (calls : List Open) (l : Loop) → l.tested ≡ tested → l.body ≡ body → ending ≡ end_turn l → calls_in old.calls ≡ f ∷ calls → Does p (test_loop l) old (state_of a io) done new (state_of b io)) → DoesInCall p task old a r new b
-test_does p task ending tested body l old new a b (Ok done) is same ends e h = λ io f calls opens. subst (λ t. Does p t old (state_of a io) done new (state_of b io)) (sym e) (h io f calls l is same ends opens)
-test_does p task ending tested body l old new a b (Err halt) is same ends e h = tt
+pub test_does : (p : PlainProgram) (task testing ending : Task) (tested : Option PlainValue) (third : PlainStatements) (body : PlainStatement) (l : Loop) (old new : Stacks) (a b : Outside) (r : Result Bool Halt) → l.tested ≡ tested → l.third ≡ third → l.body ≡ body → testing ≡ test_loop l → ending ≡ end_turn l → task ≡ test_loop l →
+    IfOk r (λ done. (io : Around) (f : Open) (calls : List Open) (l : Loop) → l.tested ≡ tested → l.third ≡ third → l.body ≡ body → testing ≡ test_loop l → ending ≡ end_turn l → calls_in old.calls ≡ f ∷ calls → Does p (test_loop l) old (state_of a io) done new (state_of b io)) → DoesInCall p task old a r new b
+test_does p task testing ending tested third body l old new a b (Ok done) is after same tests ends e h = λ io f calls opens. subst (λ t. Does p t old (state_of a io) done new (state_of b io)) (sym e) (h io f calls l is after same tests ends opens)
+test_does p task testing ending tested third body l old new a b (Err halt) is after same tests ends e h = tt
 
 -- a call is open
 open_there : (p : PlainProgram) (t : Task) (old new : Stacks) (w v : State) (done : Bool) (cs : List Open) → is_nil cs ≡ false → ((f : Open) (calls : List Open) → cs ≡ f ∷ calls → Does p t old w done new v) → Does p t old w done new v

@@ -21,6 +21,7 @@ use crate::outside::Outside;
 use crate::scalars::is_true;
 use crate::stacks::Stacks;
 use crate::statements_at_once::{execute_at_once, number_in_call};
+use crate::turns_at_once::take_turn;
 use crate::work::{Halt, Operand, StatementStep, ValueStep, Work};
 use p10_core::{Program, Stmt, StmtForm, Value, ValueForm};
 use p10_meaning::Scalar;
@@ -204,7 +205,7 @@ fn execute_one_at_once<'p>(
     Ok(execute_at_once(p, statement, &mut stacks.calls, &mut stacks.frame, outside))
 }
 
-/// The test of a loop, and where it is true, its body next.
+/// The test of a loop, and where it is true, a turn of it.
 fn test_at_once<'p>(
     p: &'p Program<'p>,
     statement: &'p Stmt,
@@ -216,26 +217,32 @@ fn test_at_once<'p>(
     ensures err { IfErr result (λ e. e ≡ Halt.Memory) }
 {
     match &statement.form {
-        StmtForm::Loop(_, _, tested, _, body) => {
-            test_by_number(p, statement, (tested, body), stacks, outside)
+        StmtForm::Loop(_, _, tested, third, body) => {
+            test_by_number(
+                p,
+                statement,
+                (tested, third.as_slice(), body),
+                stacks,
+                outside,
+            )
         }
         _ => Ok(false),
     }
 }
 
-/// The test of a loop that comes to a number.
+/// The test of a loop that comes to a number; where it is true, a turn is taken.
 fn test_by_number<'p>(
     p: &'p Program<'p>,
     statement: &'p Stmt,
-    parts: (&'p Option<Value>, &'p Stmt),
+    parts: (&'p Option<Value>, &'p [Stmt], &'p Stmt),
     stacks: &mut Stacks<'p>,
     outside: &mut Outside,
 ) -> Result<bool, Halt>
     requires structures { AreWholeStructures (plain_types p.now.types) }
-    ensures ok { IfOk result (λ done. (io : Around) (f : Open) (calls : List Open) (l : Loop) → l.tested ≡ option_map plain_value parts.entry.0.now → l.body ≡ plain_statement parts.entry.1.now → in_loop (λ keyword l. end_turn l) (plain_statement statement.now) ≡ end_turn l → calls_in stacks.old.calls ≡ f ∷ calls → Does (plain_program p.now) (test_loop l) stacks.old (state_of outside.old io) done stacks.new (state_of outside.new io)) }
+    ensures ok { IfOk result (λ done. (io : Around) (f : Open) (calls : List Open) (l : Loop) → l.tested ≡ option_map plain_value parts.entry.0.now → l.third ≡ plain_statements parts.entry.1.now → l.body ≡ plain_statement parts.entry.2.now → in_loop (λ keyword l. test_loop l) (plain_statement statement.now) ≡ test_loop l → in_loop (λ keyword l. end_turn l) (plain_statement statement.now) ≡ end_turn l → calls_in stacks.old.calls ≡ f ∷ calls → Does (plain_program p.now) (test_loop l) stacks.old (state_of outside.old io) done stacks.new (state_of outside.new io)) }
     ensures err { IfErr result (λ e. e ≡ Halt.Memory) }
 {
-    let (tested, body) = parts;
+    let (tested, third, body) = parts;
     let Some(value) = tested else {
         return Ok(false);
     };
@@ -251,11 +258,6 @@ fn test_by_number<'p>(
     if !is_true(Scalar::Int(number)) {
         return Ok(true);
     }
-    stacks
-        .tasks
-        .push(Work::Statement(StatementStep::EndTurn, statement))?;
-    stacks
-        .tasks
-        .push(Work::Statement(StatementStep::Execute, body))?;
+    take_turn(p, statement, (body, third), stacks, outside)?;
     Ok(true)
 }

@@ -4,7 +4,7 @@ ghost use Rattle.std.specs.Prelude.{◌≡◌, ◌∷◌, ◌<◌, List, IfOk, I
 ghost use Rattle.p10_base.specs.declared.at.At.{At};
 ghost use Rattle.p10_core.specs.Views.{plain_program, plain_types, plain_statement, plain_statements};
 ghost use Rattle.p10_core.specs.WholePrograms.{AreWholeStructures};
-ghost use Rattle.p10_core.specs.Typed.{PlainProgram, no_statements, statement, block};
+ghost use Rattle.p10_core.specs.Typed.{PlainProgram, statement, block};
 ghost use Rattle.p10_meaning.specs.States.{State};
 ghost use Rattle.p10_meaning.specs.Statements.{normal};
 ghost use Rattle.p10_interp.specs.private.Tasks.{Open, execute_statement, end_turn};
@@ -17,7 +17,7 @@ use crate::doing_at_once::do_at_once;
 use crate::leaving::end_block;
 use crate::outside::Outside;
 use crate::stacks::Stacks;
-use crate::statements::begin_block;
+use crate::statements::{begin_block, is_nothing};
 use crate::turns::end_turn;
 use crate::work::{Halt, StatementStep, Work};
 use p10_core::{Program, Stmt, StmtForm};
@@ -120,7 +120,7 @@ fn settle_top<'p>(
     ensures ok { OnOk result ((io : Around) → Goes (plain_program p.now) (rig_of normal stacks.old) (state_of outside.old io) (rig_of normal stacks.new) (state_of outside.new io)) }
     ensures err { IfErr result (λ e. e ≡ Halt.Memory) }
 {
-    if stacks.tasks.is_empty() {
+    if !stacks.tasks.may_settle() {
         return Ok(false);
     }
     let Some(work) = stacks.tasks.pop() else {
@@ -157,16 +157,6 @@ fn settle_work<'p>(
         Work::Statement(step, statement) => settle_step(step, statement, stacks),
         Work::ExecuteStatements(statements) => Ok(is_nothing(statements)),
         _ => Ok(false),
-    }
-}
-
-/// Whether there are no statements.
-fn is_nothing(statements: &[Stmt]) -> bool
-    ensures { IsTrue result → plain_statements statements.now ≡ no_statements }
-{
-    match statements {
-        [] => true,
-        [_, ..] => false,
     }
 }
 

@@ -74,6 +74,7 @@ mod trading;
 mod turn;
 mod turning;
 mod turns;
+mod turns_at_once;
 mod values;
 mod values_at_once;
 mod widths;

@@ -1,13 +1,16 @@
 //! Places in objects that are found at once. No step is left where nothing is found.
 
-ghost use Rattle.std.specs.Prelude.{◌≡◌, Ok, IfSome};
-ghost use Rattle.p10_core.specs.Types.{plain_type, bare};
-ghost use Rattle.p10_core.specs.Typed.{PlainProgram, variable, global};
-ghost use Rattle.p10_core.specs.Views.{plain_program, plain_types};
+ghost use Rattle.std.specs.Prelude.{◌≡◌, Ok, IfSome, Some, slice_get, map};
+ghost use Rattle.p10_base.specs.declared.at.At.{At};
+ghost use Rattle.p10_core.specs.Types.{PlainType, plain_type, bare};
+ghost use Rattle.p10_core.specs.Typed.{PlainProgram, variable, global, value, decay};
+ghost use Rattle.p10_core.specs.Views.{plain_program, plain_types, plain_value, plain_place, plain_object};
 ghost use Rattle.p10_core.specs.WholePrograms.{AreWholeStructures};
 ghost use Rattle.p10_meaning.specs.Objects.{shift, inner, reach, on_ok};
-ghost use Rattle.p10_meaning.specs.Values.{width, element_type, element_count, scalars_before};
-ghost use Rattle.p10_interp.specs.private.AtOnce.{Locates, IsFound};
+ghost use Rattle.p10_meaning.specs.Values.{width, element_type, element_count, scalars_before, stands};
+ghost use Rattle.p10_meaning.specs.declared.pointers.Ptr.TheVariants.{To};
+ghost use Rattle.p10_interp.specs.private.Standing.{held_of};
+ghost use Rattle.p10_interp.specs.private.AtOnce.{Locates, IsFound, LocatesObject, StartsArray, IsNoSensor, array_window};
 
 use crate::held::Held;
 use crate::members::scalars_before;
@@ -15,8 +18,8 @@ use crate::places::single;
 use crate::pointing::{count_of, element_of};
 use crate::surroundings::Surroundings;
 use crate::widths::width_of;
-use p10_core::CType;
-use p10_meaning::Ptr;
+use p10_core::{CType, Global, Place, PlaceForm, Value, ValueForm};
+use p10_meaning::{Ptr, Window};
 use p10_store::{Shape, Store};
 
 /// The place that a name of a variable stands for, where it is an object.
@@ -142,5 +145,85 @@ pub fn member_in(
             *left = 0;
             Ptr::Null
         }
+    }
+}
+
+/// The pointer to the first element of an array that is an object as a whole; whether this one is live isn't tested yet.
+pub fn start_of_array(around: &Surroundings<'_>, array: &Value) -> Option<Ptr>
+    requires structures { AreWholeStructures (plain_types around.now.p.now.types) }
+    ensures { IfSome result (λ start. StartsArray around.now (plain_value array.now) start) }
+{
+    match &array.form {
+        ValueForm::Decay(place) => start_in_place(around, place),
+        _ => None,
+    }
+}
+
+/// The pointer to the first element of the array that is a place.
+fn start_in_place(around: &Surroundings<'_>, place: &Place) -> Option<Ptr>
+    requires structures { AreWholeStructures (plain_types around.now.p.now.types) }
+    ensures { IfSome result (λ start. (at : At) (t : PlainType) → StartsArray around.now (value at t (decay (plain_place place.now))) start) }
+{
+    let t = &place.ty;
+    let Some(object) = whole_object(around, place) else {
+        return None;
+    };
+    match width_of(&around.p.types, element_of(t)) {
+        Some(scalars) => Some(start_of(object, scalars, count_of(t))),
+        None => None,
+    }
+}
+
+/// The pointer to the first of so many elements of so many scalars of an object.
+fn start_of(object: u128, scalars: u64, count: u64) -> Ptr
+    ensures { result ≡ To object (array_window scalars count) 0 }
+{
+    Ptr::To {
+        object,
+        window: Window {
+            start: 0,
+            stride: scalars,
+            count,
+            inside: true,
+            whole: false,
+        },
+        position: 0,
+    }
+}
+
+/// The number of the object that a place is as a whole.
+fn whole_object(around: &Surroundings<'_>, place: &Place) -> Option<u128>
+    ensures { IfSome result (λ object. LocatesObject around.now (plain_place place.now) object) }
+{
+    match &place.form {
+        PlaceForm::Var(number) => held_object(around.held, *number),
+        PlaceForm::Global(number) => static_object(around.p.globals.as_slice(), *number),
+        _ => None,
+    }
+}
+
+/// The number of the object that a variable is.
+fn held_object(held: &[Held], number: u32) -> Option<u128>
+    ensures { IfSome result (λ object. slice_get (map held_of held.now) number ≡ Some (stands object)) }
+{
+    match held.get(number as usize) {
+        Some(Held::Stands(object)) => Some(*object),
+        _ => None,
+    }
+}
+
+/// The number of an object of static lifetime that is no sensor.
+fn static_object(globals: &[Global<'_>], number: u32) -> Option<u128>
+    ensures { IfSome result (λ object. (object ≡ number) × IsNoSensor (slice_get (map plain_object globals.now) number)) }
+{
+    match globals.get(number as usize) {
+        Some(global) => {
+            if global.sensor {
+                None
+            } else {
+                Some(number as u128)
+            }
+        }
+        None => None,
     }
 }

@@ -1,9 +1,9 @@
 //! The acts for statements.
 
-ghost use Rattle.std.specs.Prelude.{◌≡◌, ◌∷◌, List, slice_get};
+ghost use Rattle.std.specs.Prelude.{◌≡◌, ◌∷◌, List, slice_get, IsTrue};
 ghost use Rattle.p10_core.specs.Views.{plain_program, plain_types, plain_statement, plain_statements, plain_statement_form, plain_place, plain_value};
 ghost use Rattle.p10_core.specs.Types.{plain_type};
-ghost use Rattle.p10_core.specs.Typed.{PlainProgram};
+ghost use Rattle.p10_core.specs.Typed.{PlainProgram, no_statements};
 ghost use Rattle.p10_core.specs.WholePrograms.{AreWholeStructures};
 ghost use Rattle.p10_meaning.specs.States.{State, Progress, step};
 ghost use Rattle.p10_meaning.specs.Statements.{normal};
@@ -232,4 +232,14 @@ fn begin_loop<'p>(
     stacks.tasks.push(Work::EndBlock)?;
     stacks.tasks.push(after)?;
     stacks.tasks.push(Work::ExecuteStatements(first))
+}
+
+/// Whether there are no statements.
+pub fn is_nothing(statements: &[Stmt]) -> bool
+    ensures { IsTrue result → plain_statements statements.now ≡ no_statements }
+{
+    match statements {
+        [] => true,
+        [_, ..] => false,
+    }
 }

@@ -4,7 +4,7 @@ ghost use Rattle.std.specs.Prelude.{◌≡◌, ◌∷◌, [], OnOk, IfErr, Match
 ghost use Rattle.p10_interp.specs.private.Views.{task_of, operand_of, target_of};
 ghost use Rattle.p10_interp.specs.private.Operations.{first_result, first_value, first_target, below};
 
-use crate::work::{Halt, Operand, Target, Work};
+use crate::work::{Halt, Operand, StatementStep, Target, Work};
 use p10_meaning::Scalar;
 use std::alloc::{AllocError, Global};
 use std::marker::Model;
@@ -48,6 +48,18 @@ impl<'p> Tasks<'p> {
     /// Whether no work is left.
     pub fn is_empty(&self) -> bool {
         self.items.is_empty()
+    }
+
+    /// Whether the piece on top may be one that takes no step.
+    pub fn may_settle(&self) -> bool {
+        match self.items.last() {
+            Some(Work::EndBlock) => true,
+            Some(Work::ExecuteStatements(statements)) => statements.is_empty(),
+            Some(Work::Statement(step, _)) => {
+                matches!(step, StatementStep::EndTurn | StatementStep::Execute)
+            }
+            _ => false,
+        }
     }
 
     /// Takes the piece on top.

@@ -4,20 +4,22 @@
 
 ghost use Rattle.std.specs.Prelude.{Some, option_map};
 ghost use Rattle.p10_core.specs.Types.{PlainType, plain_type};
-ghost use Rattle.p10_core.specs.Typed.{unary, binary, logic, convert, cast, read, decay, index, member, dereference};
+ghost use Rattle.p10_core.specs.Typed.{PlainValue, unary, binary, logic, convert, cast, read, decay, index, member, dereference};
 ghost use Rattle.p10_core.specs.Views.{plain_types, plain_value, plain_place};
 ghost use Rattle.p10_core.specs.WholePrograms.{AreWholeStructures};
 ghost use Rattle.p10_meaning.specs.declared.pointers.Scalar.{Scalar};
 ghost use Rattle.p10_meaning.specs.declared.pointers.Scalar.TheVariants.{Int, Pointer};
 ghost use Rattle.p10_meaning.specs.Values.{evaluate, locate, Element};
-ghost use Rattle.p10_interp.specs.private.AtOnce.{Settles, Performs, Locates, IsHolding, read_at_place};
+ghost use Rattle.p10_interp.specs.private.AtOnce.{Settles, Performs, Locates, IsHolding, StartsArray, read_at_place};
 
 use crate::cells_at_once::{cell_in, number_in, pointer_in};
 use crate::held::Held;
 use crate::numbers_at_once::{
     apply_to_number, apply_to_numbers, convert_number, is_decided, is_structure, pays, truth_of,
 };
-use crate::places_at_once::{first_at, global_at, member_in, moved_by, reached, variable_at};
+use crate::places_at_once::{
+    first_at, global_at, member_in, moved_by, reached, start_of_array, variable_at,
+};
 use crate::surroundings::Surroundings;
 use p10_core::{CType, LogicOp, Place, PlaceForm, Value, ValueForm};
 use p10_int::{BinOp, UnOp};
@@ -244,9 +246,49 @@ pub fn place_at_once(around: &Surroundings<'_>, place: &Place, left: &mut u64, d
     }
 }
 
-/// An element (C99 6.5.2.1).
+/// An element (C99 6.5.2.1): of an array that is an object as a whole, only that element is tested.
 #[cycle(at_once)]
 fn index_at_once(
+    around: &Surroundings<'_>,
+    array: &Value,
+    number: &Value,
+    left: &mut u64,
+    depth: u32,
+) -> Ptr
+    requires structures { AreWholeStructures (plain_types around.now.p.now.types) }
+    ensures { (t : PlainType) → Locates around.now t (index (plain_value array.now) (plain_value number.now)) left.old result left.new }
+{
+    match start_of_array(around, array) {
+        Some(start) => index_from(around, start, number, left, depth),
+        None => index_by_pointer(around, array, number, left, depth),
+    }
+}
+
+/// An element of the array whose first element this pointer points to.
+#[cycle(at_once)]
+fn index_from(
+    around: &Surroundings<'_>,
+    start: Ptr,
+    number: &Value,
+    left: &mut u64,
+    depth: u32,
+) -> Ptr
+    requires structures { AreWholeStructures (plain_types around.now.p.now.types) }
+    ensures { (array : PlainValue) (t : PlainType) → StartsArray around.now array start → Locates around.now t (index array (plain_value number.now)) left.old result left.new }
+{
+    if !pays(left) {
+        return Ptr::Null;
+    }
+    if !pays(left) {
+        return Ptr::Null;
+    }
+    let by = number_at_once(around, number, left, depth);
+    moved_by(around.store, start, by, left)
+}
+
+/// An element, by any pointer.
+#[cycle(at_once)]
+fn index_by_pointer(
     around: &Surroundings<'_>,
     array: &Value,
     number: &Value,

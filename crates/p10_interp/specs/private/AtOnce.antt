@@ -1,18 +1,20 @@
 -- What is found at once: trees that take steps and change nothing else.
-use Rattle.std.specs.Prelude.{◌≡◌, ℕ, suc, ◌<◌, Bool, true, false, List, map, ℤ, Option, Some, None, Result, Ok, Err}
+use Rattle.std.specs.Prelude.{◌≡◌, ℕ, suc, ◌<◌, Bool, true, false, List, map, ℤ, Option, Some, None, Result, Ok}
 use Rattle.p10_base.specs.declared.at.At.{At}
 use Rattle.p10_int.specs.declared.operators.Stop.{Stop}
 use Rattle.p10_core.specs.Types.{PlainType}
-use Rattle.p10_core.specs.Typed.{PlainForm, PlainPlace, PlainPlaceForm, place_at}
+use Rattle.p10_core.specs.Typed.{PlainForm, PlainValue, PlainPlace, PlainPlaceForm, place_at, place_type, PlainObject}
 use Rattle.p10_core.specs.Views.{plain_program}
 use Rattle.p10_meaning.specs.declared.pointers.Scalar.{Scalar}
-use Rattle.p10_meaning.specs.declared.pointers.Scalar.TheVariants.{Int}
+use Rattle.p10_meaning.specs.declared.pointers.Scalar.TheVariants.{Int, Pointer}
 use Rattle.p10_meaning.specs.declared.pointers.Cell.{Cell}
 use Rattle.p10_meaning.specs.declared.pointers.Ptr.{Ptr}
-use Rattle.p10_meaning.specs.Objects.{Object}
+use Rattle.p10_meaning.specs.declared.pointers.Window.{Window}
+use Rattle.p10_meaning.specs.Objects.{Object, reach}
+use Rattle.p10_meaning.specs.Pointers.{first_of}
 use Rattle.p10_meaning.specs.Scalars.{converted_to}
-use Rattle.p10_meaning.specs.States.{State, Progress, gives, and_then}
-use Rattle.p10_meaning.specs.Values.{Setting, Held, Element, is_void, perform, locate, find_place, read_target}
+use Rattle.p10_meaning.specs.States.{State, Progress, gives, step, and_then}
+use Rattle.p10_meaning.specs.Values.{Setting, Held, Element, width, is_void, evaluate, perform, locate, find_place, read_target}
 use Rattle.p10_interp.specs.declared.surroundings.Surroundings.{Surroundings}
 use Rattle.p10_interp.specs.private.Standing.{held_of}
 
@@ -58,3 +60,20 @@ IsConverted t a before z after = 0 < after → (after ≡ before) × ((converted
 -- a scalar was taken from a cell that was found, without a step, or no step is left
 abbrev pub IsTaken : Option Cell → ℕ → Scalar → ℕ → Type 0
 IsTaken cell before x after = 0 < after → (after ≡ before) × IsHolding cell x
+
+-- a place is an object as a whole, whether it is live or not
+abbrev pub LocatesObject : Surroundings → PlainPlace → ℕ → Type 0
+LocatesObject around q n = (s : Setting) → s.program ≡ plain_program around.p.now → (w : State) → locate s (map held_of around.held.now) q w ≡ gives (Element (first_of n (width s.program (place_type q)) 1)) w
+
+-- a value takes a step and is the pointer to the first element of an array, where the object of this one is live
+abbrev pub StartsArray : Surroundings → PlainValue → Ptr → Type 0
+StartsArray around v start = (s : Setting) → s.program ≡ plain_program around.p.now → (w : State) (object : Object) → reach w.objects start ≡ Ok object → evaluate s (map held_of around.held.now) v w ≡ step w (λ w. gives (Pointer start) w)
+
+-- an object of static lifetime is there, and is no sensor
+abbrev pub IsNoSensor : Option PlainObject → Type 0
+IsNoSensor None = ⊥
+IsNoSensor (Some object) = object.sensor ≡ false
+
+-- the array of so many elements of so many scalars that an object is as a whole
+abbrev pub array_window : ℕ → ℕ → Window
+array_window stride count = record { start = 0; stride = stride; count = count; inside = true; whole = false }

@@ -10,7 +10,8 @@ use Rattle.p10_meaning.specs.Calling.{raised}
 use Rattle.p10_interp.specs.private.Views.{tasks_in}
 use Rattle.p10_interp.specs.private.OpenCalls.{calls_in, calls_deep}
 use Rattle.p10_interp.specs.private.Machines.{state_of}
-use Rattle.p10_interp.proofs.TurnedAtOnce.{rig_at, value_is_done}
+use Rattle.p10_interp.specs.private.Turning.{rig_at}
+use Rattle.p10_interp.proofs.TurnedAtOnce.{value_is_done}
 use Rattle.p10_interp.proofs.doing_at_once.evaluate_call.Goals as goal
 
 pub returns-clause-ok : goal.returns-clause-ok

@@ -4,12 +4,13 @@ use Rattle.std.specs.Int.{w128}
 use Rattle.std.proofs.lemmas.Int.{to_z-of_z}
 use Rattle.p10_core.specs.Views.{plain_program, plain_value}
 use Rattle.p10_meaning.specs.declared.pointers.Scalar.TheVariants.{Int}
-use Rattle.p10_meaning.specs.States.{State, gives}
+use Rattle.p10_meaning.specs.States.{gives}
 use Rattle.p10_interp.specs.private.Views.{tasks_in}
 use Rattle.p10_interp.specs.private.OpenCalls.{calls_in}
 use Rattle.p10_interp.specs.private.Machines.{state_of}
 use Rattle.p10_interp.specs.private.Resuming.{setting_in}
-use Rattle.p10_interp.proofs.TurnedAtOnce.{rig_at, value_is_done}
+use Rattle.p10_interp.specs.private.Turning.{rig_at}
+use Rattle.p10_interp.proofs.TurnedAtOnce.{value_is_done}
 use Rattle.p10_interp.proofs.doing_at_once.evaluate_number.Goals as goal
 
 pub returns-clause-ok : goal.returns-clause-ok

@@ -5,8 +5,7 @@ use Rattle.p10_meaning.specs.Statements.{normal}
 use Rattle.p10_interp.specs.private.Views.{task_of}
 use Rattle.p10_interp.specs.private.OpenCalls.{calls_in}
 use Rattle.p10_interp.specs.private.Machines.{Around, state_of, rig_of}
-use Rattle.p10_interp.specs.private.Turning.{Does}
-use Rattle.p10_interp.proofs.TurnedAtOnce.{rig_at}
+use Rattle.p10_interp.specs.private.Turning.{rig_at, Does}
 use Rattle.p10_interp.proofs.Hastened.{stays, popped_rig, top_done, top_back}
 use Rattle.p10_interp.proofs.hastening.do_top.Goals as goal
 

@@ -1,5 +1,4 @@
 -- What the machine comes to stays, and no more is left to be done.
-use Rattle.std.proofs.Common.{ℕ}
 use Rattle.p10_core.specs.Views.{plain_program}
 use Rattle.p10_meaning.specs.Statements.{normal}
 use Rattle.p10_interp.specs.private.Machines.{Around, state_of, rig_of}

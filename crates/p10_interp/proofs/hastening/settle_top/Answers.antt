@@ -5,12 +5,12 @@ use Rattle.p10_meaning.specs.Statements.{normal}
 use Rattle.p10_interp.specs.private.Views.{task_of}
 use Rattle.p10_interp.specs.private.OpenCalls.{calls_in}
 use Rattle.p10_interp.specs.private.Machines.{state_of, rig_of}
-use Rattle.p10_interp.proofs.TurnedAtOnce.{rig_at}
+use Rattle.p10_interp.specs.private.Turning.{rig_at}
 use Rattle.p10_interp.proofs.Hastened.{stays, popped_rig, top_acted, top_left}
 use Rattle.p10_interp.proofs.hastening.settle_top.Goals as goal
 
-pub returns-then-is_empty-clause-ok : goal.returns-then-is_empty-clause-ok
-returns-then-is_empty-clause-ok c = λ io. stays (plain_program c.args.p.now) (rig_of normal c.args.stacks.now) (state_of c.args.outside.now io)
+pub returns-then-not-may_settle-clause-ok : goal.returns-then-not-may_settle-clause-ok
+returns-then-not-may_settle-clause-ok c = λ io. stays (plain_program c.args.p.now) (rig_of normal c.args.stacks.now) (state_of c.args.outside.now io)
 
 pub returns-then-done-clause-ok : goal.returns-then-done-clause-ok
 returns-then-done-clause-ok c = λ io.

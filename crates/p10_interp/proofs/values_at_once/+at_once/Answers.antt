@@ -1,5 +1,5 @@
 -- Each form is what the code calls it.
-use Rattle.std.proofs.Common.{◌≡◌, ◌∙◌, sym, ap, refl, map, option_map}
+use Rattle.std.proofs.Common.{◌∙◌, sym, ap, subst, refl, map, option_map}
 use Rattle.std.specs.Int.{w128}
 use Rattle.std.proofs.lemmas.Int.{to_z-of_z}
 use Rattle.p10_core.specs.declared.typed.Place.{Place}
@@ -8,8 +8,11 @@ use Rattle.p10_core.specs.Types.{plain_type}
 use Rattle.p10_core.specs.Typed.{read, decay, convert, cast, logic, index, dereference}
 use Rattle.p10_core.specs.Views.{plain_form, plain_value, plain_place, plain_place_form}
 use Rattle.p10_meaning.specs.declared.pointers.Scalar.TheVariants.{Int}
+use Rattle.p10_meaning.specs.Objects.{shift}
 use Rattle.p10_interp.specs.private.Standing.{held_of}
+use Rattle.p10_interp.specs.private.AtOnce.{IsFound}
 use Rattle.p10_interp.proofs.AtOnce.{by_form, by_place, read_by, paid}
+use Rattle.p10_interp.proofs.Starts.{index_found}
 use Rattle.p10_interp.proofs.values_at_once.+at_once.Goals as goal
 
 pub number_at_once-returns-in-Read : goal.number_at_once-returns-in-Read
@@ -55,3 +58,12 @@ pub read_pointer-returns : goal.read_pointer-returns
 read_pointer-returns t c = λ at s e.
     read_by s (map held_of c.args.around.now.held.now) at (plain_type c.args.t.now) (plain_place c.args.place.now) _ _ c.pays.new.left c.cell_at_once-cell.new.left _ _ _ (option_map (λ x. x.now) c.cell_at_once-cell.result) refl (sym c.is_structure.ensures ∙ c.if-is_structure.false) (paid _ _ _ c.pays.ensures c.if-not-pays.false)
     (λ y h. c.cell_at_once-cell.ensures (plain_type c.args.t.now) y h s e) c.pointer_in.ensures
+
+pub index_at_once-returns-in-Some : goal.index_at_once-returns-in-Some
+index_at_once-returns-in-Some t c = λ type. c.index_from.ensures (plain_value c.args.array.now) type c.in-Some.ensures
+
+pub index_from-returns : goal.index_from-returns
+index_from-returns t c = λ array type starts at s e.
+    index_found s (map held_of c.args.around.now.held.now) at type array (plain_value c.args.number.now) c.args.around.now.store.now.objects c.args.left.now c.pays.new.left c.pays-2.new.left c.number_at_once-by.new.left c.moved_by.new.left c.args.start c.moved_by.result c.number_at_once-by.result
+    (paid _ _ _ c.pays.ensures c.if-not-pays.false) (paid _ _ _ c.pays-2.ensures c.if-not-pays-2.false) (λ w object live. starts s e w object live) (c.number_at_once-by.ensures s e)
+    (subst (λ z. IsFound (shift c.args.around.now.store.now.objects c.args.start z) c.number_at_once-by.new.left c.moved_by.result c.moved_by.new.left) (to_z-of_z w128 c.number_at_once-by.result (record { sfits = c.number_at_once-by.type_inv })) c.moved_by.ensures)

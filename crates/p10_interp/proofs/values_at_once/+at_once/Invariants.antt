@@ -26,6 +26,12 @@ decreases-element_at_once l = 4 * l.depth + 1
 abbrev pub decreases-index_at_once : goal.decreases-index_at_once
 decreases-index_at_once l = 4 * l.depth + 3
 
+abbrev pub decreases-index_by_pointer : goal.decreases-index_by_pointer
+decreases-index_by_pointer l = 4 * l.depth + 2
+
+abbrev pub decreases-index_from : goal.decreases-index_from
+decreases-index_from l = 4 * l.depth + 2
+
 abbrev pub decreases-logic_at_once : goal.decreases-logic_at_once
 decreases-logic_at_once l = 4 * l.depth + 3
 
