@@ -1,5 +1,5 @@
 -- A place at which a file is looked for is a root's or a candidate of an include line of a gathered file: each request is for such a line, of
--- a file whose name and text stay.
+-- a file whose name, text and words stay.
 use Rattle.std.proofs.Common.{◌≡◌, ℕ, zero, suc, ◌+◌, ◌-◌, ◌<◌, ◌≤◌, Bool, true, false, cond, List, [], ◌∷◌, ◌++◌, length, map, refl, sym, ap, ◌∙◌, subst, inl, inr, arith, length-append, Option}
 use Rattle.std.specs.Prelude.{All, Contains, IsSome, nat_le}
 use Rattle.std.proofs.lemmas.Bool.{cases_order}
@@ -7,7 +7,8 @@ use Rattle.std.proofs.lemmas.List.{get_or_append_left}
 use Rattle.std.proofs.lemmas.List.Elements.{All-nil, All-head, All-tail, All-append, All-map, All-weaker, All-contains_itself, Contains-push, Contains-append_left, Contains-append_right}
 use Rattle.std.proofs.Math.Seq.{get_or-append_seam}
 use Rattle.p10_base.specs.declared.sources.SourceFile.{SourceFile}
-use Rattle.p10_base.specs.Gathered.{Gathered, nothing_gathered, no_file, count_of, name_of, text_of, with_file}
+use Rattle.p10_base.specs.declared.word.WordPlace.{WordPlace}
+use Rattle.p10_base.specs.Gathered.{Gathered, nothing_gathered, no_file, count_of, name_of, text_of, places_of, with_file}
 use Rattle.p10_base.specs.Words.{Text}
 use Rattle.p10_world.specs.Files.{Named}
 use Rattle.p10_expand.specs.declared.place.Include.{Include}
@@ -16,7 +17,7 @@ use Rattle.p10_expand.specs.declared.gathering.Known.{Known}
 use Rattle.p10_expand.specs.Candidates.{candidates_of}
 use Rattle.p10_expand.specs.Finding.{name_at, is_header_place}
 use Rattle.p10_expand.specs.Includes.{HasIncludes}
-use Rattle.p10_expand.specs.Gathering.{Setting, Request, Root, Line, Moment, places_of, lines_of, noted, found, Answered, Reached}
+use Rattle.p10_expand.specs.Gathering.{Setting, Request, Root, Line, Moment, sought_places, lines_of, noted, found, Answered, Reached}
 use Rattle.p10_expand.proofs.Linking.{IsHeld, noted_file, noted_count}
 use Rattle.p10_expand.proofs.OnceAnswered.{reached_once, earlier}
 use Rattle.p10_agreement.specs.Looking.{IsSoughtAt, IsCandidate, of_root, of_line}
@@ -24,37 +25,44 @@ use Rattle.p10_agreement.specs.Laws.{OnlyCandidatesAreLookedFor}
 
 -- ## Files that stay
 
--- the files of one gathering are the first ones of another, by their names and texts
+-- the files of one gathering are the first ones of another, by their names, texts and words
 record Begins (g h : Gathered) : Type 0 where
   few : count_of g ≤ count_of h
   names : (n : ℕ) → n < count_of g → name_of h n ≡ name_of g n
   texts : (n : ℕ) → n < count_of g → text_of h n ≡ text_of g n
+  words : (n : ℕ) → n < count_of g → places_of h n ≡ places_of g n
 
 begins_itself : (g : Gathered) → Begins g g
-begins_itself g = record { few = omega arith; names = λ n below. refl; texts = λ n below. refl }
+begins_itself g = record { few = omega arith; names = λ n below. refl; texts = λ n below. refl; words = λ n below. refl }
 
 begins_on : (f g h : Gathered) → Begins f g → Begins g h → Begins f h
 begins_on f g h before after = record {
   few = omega (arith, before.few, after.few);
   names = λ n below. after.names n (omega (arith, below, before.few)) ∙ before.names n below;
   texts = λ n below. after.texts n (omega (arith, below, before.few)) ∙ before.texts n below;
+  words = λ n below. after.words n (omega (arith, below, before.few)) ∙ before.words n below;
 }
 
-begins_more : (g : Gathered) (name text : Text) (built_in : Bool) → Begins g (with_file g name text built_in)
-begins_more g name text built_in = record {
-  few = omega (arith, length-append g.files ((record { name = name; text = text; built_in = built_in; links = [] }) ∷ []));
-  names = λ n below. ap (λ (f : SourceFile). f.name) (get_or_append_left g.files ((record { name = name; text = text; built_in = built_in; links = [] }) ∷ []) no_file n below);
-  texts = λ n below. ap (λ (f : SourceFile). f.text) (get_or_append_left g.files ((record { name = name; text = text; built_in = built_in; links = [] }) ∷ []) no_file n below);
+begins_more : (g : Gathered) (name text : Text) (built_in : Bool) (words : List WordPlace) → Begins g (with_file g name text built_in words)
+begins_more g name text built_in words = record {
+  few = omega (arith, length-append g.files ((record { name = name; text = text; built_in = built_in; words = words; links = [] }) ∷ []));
+  names = λ n below. ap (λ (f : SourceFile). f.name) (get_or_append_left g.files ((record { name = name; text = text; built_in = built_in; words = words; links = [] }) ∷ []) no_file n below);
+  texts = λ n below. ap (λ (f : SourceFile). f.text) (get_or_append_left g.files ((record { name = name; text = text; built_in = built_in; words = words; links = [] }) ∷ []) no_file n below);
+  words = λ n below. ap (λ (f : SourceFile). f.words) (get_or_append_left g.files ((record { name = name; text = text; built_in = built_in; words = words; links = [] }) ∷ []) no_file n below);
 }
 
-last_text : (g : Gathered) (name text : Text) (built_in : Bool) → text_of (with_file g name text built_in) (count_of g) ≡ text
-last_text g name text built_in = ap (λ (f : SourceFile). f.text) (get_or-append_seam g.files (record { name = name; text = text; built_in = built_in; links = [] }) [] no_file)
+last_file : (g : Gathered) (name text : Text) (built_in : Bool) (words : List WordPlace) →
+    (text_of (with_file g name text built_in words) (count_of g) ≡ text) × (places_of (with_file g name text built_in words) (count_of g) ≡ words)
+last_file g name text built_in words =
+    let last = get_or-append_seam g.files (record { name = name; text = text; built_in = built_in; words = words; links = [] }) [] no_file in
+    (ap (λ (f : SourceFile). f.text) last, ap (λ (f : SourceFile). f.words) last)
 
 begins_noted : (g : Gathered) (request : Request) (number : ℕ) → IsHeld g request → Begins g (noted request number g)
 begins_noted g request number held = record {
   few = omega (arith, noted_count g request number);
-  names = λ n below. (noted_file g request number held n).0;
-  texts = λ n below. (noted_file g request number held n).1;
+  names = λ n below. (noted_file g request number held n).name;
+  texts = λ n below. (noted_file g request number held n).text;
+  words = λ n below. (noted_file g request number held n).words;
 }
 
 -- ## What is asked for
@@ -63,7 +71,7 @@ begins_noted g request number held = record {
 record IsLine (g : Gathered) (from : ℕ) (include : Include) : Type 0 where
   held : from < count_of g
   includes : List Include
-  lexed : HasIncludes from (text_of g from) includes
+  lexed : HasIncludes from (text_of g from) (places_of g from) includes
   line : Contains includes include
 
 abbrev IsWanted : Setting → Gathered → Request → Type 0
@@ -74,12 +82,18 @@ held_of : (s : Setting) (g : Gathered) (request : Request) → IsWanted s g requ
 held_of s g (Root name) wanted = tt
 held_of s g (Line from depth include) wanted = wanted.held
 
+kept_includes : (g h : Gathered) → Begins g h → (from : ℕ) (includes : List Include) → from < count_of g → HasIncludes from (text_of g from) (places_of g from) includes →
+    HasIncludes from (text_of h from) (places_of h from) includes
+kept_includes g h begins from includes held lexed =
+    subst (λ (t : Text). HasIncludes from t (places_of h from) includes) (sym (begins.texts from held))
+    (subst (λ (ws : List WordPlace). HasIncludes from (text_of g from) ws includes) (sym (begins.words from held)) lexed)
+
 kept : (s : Setting) (g h : Gathered) → Begins g h → (request : Request) → IsWanted s g request → IsWanted s h request
 kept s g h begins (Root name) wanted = wanted
 kept s g h begins (Line from depth include) wanted = record {
   held = omega (arith, wanted.held, begins.few);
   includes = wanted.includes;
-  lexed = subst (λ (t : Text). HasIncludes from t wanted.includes) (sym (begins.texts from wanted.held)) wanted.lexed;
+  lexed = kept_includes g h begins from wanted.includes wanted.held wanted.lexed;
   line = wanted.line;
 }
 
@@ -87,7 +101,7 @@ wanted_begin : (s : Setting) → All (IsWanted s nothing_gathered) (map Root s.r
 wanted_begin s = All-map (IsWanted s nothing_gathered) Root s.roots (All-contains_itself s.roots)
 
 -- the include lines of a file that is put now
-lines_wanted : (s : Setting) (g : Gathered) (number : ℕ) (k : Known) (b : Bool) → number < count_of g → HasIncludes number (text_of g number) k.includes → All (IsWanted s g) (cond b (map (Line number (k.depth + 1)) k.includes) [])
+lines_wanted : (s : Setting) (g : Gathered) (number : ℕ) (k : Known) (b : Bool) → number < count_of g → HasIncludes number (text_of g number) (places_of g number) k.includes → All (IsWanted s g) (cond b (map (Line number (k.depth + 1)) k.includes) [])
 lines_wanted s g number k true held lexed =
     All-map (IsWanted s g) (Line number (k.depth + 1)) k.includes
     (All-weaker (Contains k.includes) (λ include. IsLine g number include) (λ include line. record { held = held; includes = k.includes; lexed = lexed; line = line }) k.includes (All-contains_itself k.includes))
@@ -105,17 +119,21 @@ split s m request rest asked wanted =
     let all = subst (λ (rs : List Request). All (IsWanted s m.sources) rs) asked wanted in
     (All-head (IsWanted s m.sources) request rest all, All-tail (IsWanted s m.sources) request rest all)
 
-put_goes : (s : Setting) (g : Gathered) (request : Request) (rest : List Request) (k : Known) (text : Text) → HasIncludes (count_of g) text k.includes → IsWanted s g request → All (IsWanted s g) rest
-    → All (IsWanted s (noted request (count_of g) (with_file g (name_at k.place) text (is_header_place k.place)))) (rest ++ lines_of (count_of g) k) × Begins g (noted request (count_of g) (with_file g (name_at k.place) text (is_header_place k.place)))
-put_goes s g request rest k text lexed wanted others =
-    let more : Gathered = with_file g (name_at k.place) text (is_header_place k.place) in
+put_goes : (s : Setting) (g : Gathered) (request : Request) (rest : List Request) (k : Known) (text : Text) (words : List WordPlace) → HasIncludes (count_of g) text words k.includes → IsWanted s g request → All (IsWanted s g) rest
+    → All (IsWanted s (noted request (count_of g) (with_file g (name_at k.place) text (is_header_place k.place) words))) (rest ++ lines_of (count_of g) k) × Begins g (noted request (count_of g) (with_file g (name_at k.place) text (is_header_place k.place) words))
+put_goes s g request rest k text words lexed wanted others =
+    let more : Gathered = with_file g (name_at k.place) text (is_header_place k.place) words in
     let last : Gathered = noted request (count_of g) more in
-    let held : IsHeld more request = held_of s more request (kept s g more (begins_more g (name_at k.place) text (is_header_place k.place)) request wanted) in
-    let begins : Begins g last = begins_on g more last (begins_more g (name_at k.place) text (is_header_place k.place)) (begins_noted more request (count_of g) held) in
-    let text_is : text_of last (count_of g) ≡ text = (noted_file more request (count_of g) held (count_of g)).1 ∙ last_text g (name_at k.place) text (is_header_place k.place) in
-    let within : count_of g < count_of last = omega (arith, noted_count more request (count_of g), length-append g.files ((record { name = name_at k.place; text = text; built_in = is_header_place k.place; links = [] }) ∷ [])) in (
+    let held : IsHeld more request = held_of s more request (kept s g more (begins_more g (name_at k.place) text (is_header_place k.place) words) request wanted) in
+    let begins : Begins g last = begins_on g more last (begins_more g (name_at k.place) text (is_header_place k.place) words) (begins_noted more request (count_of g) held) in
+    let there = noted_file more request (count_of g) held (count_of g) in
+    let here = last_file g (name_at k.place) text (is_header_place k.place) words in
+    let text_is : text_of last (count_of g) ≡ text = there.text ∙ here.0 in
+    let words_are : places_of last (count_of g) ≡ words = there.words ∙ here.1 in
+    let within : count_of g < count_of last = omega (arith, noted_count more request (count_of g), length-append g.files ((record { name = name_at k.place; text = text; built_in = is_header_place k.place; words = words; links = [] }) ∷ [])) in (
       All-append (IsWanted s last) rest (lines_of (count_of g) k) (All-weaker (IsWanted s g) (IsWanted s last) (kept s g last begins) rest others)
-          (lines_wanted s last (count_of g) k (nat_le k.depth 64) within (subst (λ (t : Text). HasIncludes (count_of g) t k.includes) (sym text_is) lexed)),
+          (lines_wanted s last (count_of g) k (nat_le k.depth 64) within (subst (λ (t : Text). HasIncludes (count_of g) t (places_of last (count_of g)) k.includes) (sym text_is)
+          (subst (λ (ws : List WordPlace). HasIncludes (count_of g) text ws k.includes) (sym words_are) lexed))),
       begins,
     )
 
@@ -132,7 +150,7 @@ goes s before after wanted (inr (inl meets)) =
     })
 goes s before after wanted (inr (inr adds)) =
     let parts = split s before adds.request adds.rest adds.finds.asked wanted in
-    let puts = put_goes s before.sources adds.request adds.rest (found adds.request adds.place adds.includes) adds.text adds.lexed parts.0 parts.1 in
+    let puts = put_goes s before.sources adds.request adds.rest (found adds.request adds.place adds.includes) adds.text adds.words adds.lexed parts.0 parts.1 in
     subst (λ (m : Moment). Goes s before m) (sym adds.becomes) (record { wanted = puts.0; begins = puts.1 })
 
 -- ## All answers
@@ -187,11 +205,11 @@ sought_among held [] place sought = absurd sought
 sought_among held (next ∷ places) place (inl same) = subst (λ (p : Place). Contains (next ∷ places) p) same (Contains-append_left (next ∷ []) places next (Contains-push [] next))
 sought_among held (next ∷ places) place (inr (absent, sought)) = Contains-append_right (next ∷ []) places place (sought_among held places place sought)
 
-is_candidate : (s : Setting) (g h : Gathered) (request : Request) (place : Place) → Begins g h → IsWanted s g request → IsSoughtAt s.held (places_of s.dirs g request) place → IsCandidate s h place
+is_candidate : (s : Setting) (g h : Gathered) (request : Request) (place : Place) → Begins g h → IsWanted s g request → IsSoughtAt s.held (sought_places s.dirs g request) place → IsCandidate s h place
 is_candidate s g h (Root name) place begins wanted (inl same) = of_root name wanted (sym same)
 is_candidate s g h (Root name) place begins wanted (inr (absent, sought)) = absurd sought
 is_candidate s g h (Line from depth include) place begins wanted sought =
-    of_line from wanted.includes include (omega (arith, wanted.held, begins.few)) (subst (λ (t : Text). HasIncludes from t wanted.includes) (sym (begins.texts from wanted.held)) wanted.lexed) wanted.line
+    of_line from wanted.includes include (omega (arith, wanted.held, begins.few)) (kept_includes g h begins from wanted.includes wanted.held wanted.lexed) wanted.line
     (subst (λ (n : Text). Contains (candidates_of s.dirs n include) place) (sym (begins.names from wanted.held)) (sought_among s.held (candidates_of s.dirs (name_of g from) include) place sought))
 
 pub only_candidates : OnlyCandidatesAreLookedFor

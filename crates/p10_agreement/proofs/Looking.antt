@@ -7,7 +7,7 @@ use Rattle.p10_world.specs.Files.{Named, file_of}
 use Rattle.p10_expand.specs.declared.place.Place.{Place}
 use Rattle.p10_expand.specs.declared.place.Place.TheVariants.{File, Header}
 use Rattle.p10_expand.specs.Finding.{HasText, IsThere, IsAbsent, IsFirst}
-use Rattle.p10_expand.specs.Gathering.{Request, Line, Moment, places_of, Finds, Answered, Reached}
+use Rattle.p10_expand.specs.Gathering.{Request, Line, Moment, sought_places, Finds, Answered, Reached}
 use Rattle.p10_expand.specs.Setting.{setting}
 use Rattle.p10_agreement.specs.Looking.{IsSoughtAt, IsLookedFor, AreAsBefore}
 use Rattle.p10_agreement.specs.Laws.{GatheringGoesByWhatItLooksFor, OneOtherFileMayDiffer}
@@ -60,12 +60,12 @@ first_alike files later places place same first =
 -- what is looked for at a moment is alike
 abbrev NextIsAlike : List Text → List Text → List Named → List Named → Moment → Type 0
 NextIsAlike sources directories files later m =
-    (request : Request) (rest : List Request) → m.ahead ≡ request ∷ rest → AreAlike files later (places_of directories m.sources request)
+    (request : Request) (rest : List Request) → m.ahead ≡ request ∷ rest → AreAlike files later (sought_places directories m.sources request)
 
 finds_alike : (sources directories : List Text) (files later : List Named) (m : Moment) (request : Request) (rest : List Request) (place : Place) → NextIsAlike sources directories files later m → Finds (setting (Some files) sources directories) m request rest place
     → Finds (setting (Some later) sources directories) m request rest place × IsAlike files later place
 finds_alike sources directories files later m request rest place same finds =
-    let first = first_alike files later (places_of directories m.sources request) place (same request rest finds.asked) finds.first in
+    let first = first_alike files later (sought_places directories m.sources request) place (same request rest finds.asked) finds.first in
     (record { asked = finds.asked; first = first.0 }, first.1)
 
 answered_alike : (sources directories : List Text) (files later : List Named) (before after : Moment) → NextIsAlike sources directories files later before
@@ -76,7 +76,7 @@ answered_alike sources directories files later before after same (inl passes) = 
   include = passes.include;
   rest = passes.rest;
   asked = passes.asked;
-  none = none_alike files later (places_of directories before.sources (Line passes.from passes.depth passes.include)) (same (Line passes.from passes.depth passes.include) passes.rest passes.asked) passes.none;
+  none = none_alike files later (sought_places directories before.sources (Line passes.from passes.depth passes.include)) (same (Line passes.from passes.depth passes.include) passes.rest passes.asked) passes.none;
   becomes = passes.becomes;
 })
 answered_alike sources directories files later before after same (inr (inl meets)) =
@@ -89,6 +89,7 @@ answered_alike sources directories files later before after same (inr (inr adds)
       rest = adds.rest;
       place = adds.place;
       text = adds.text;
+      words = adds.words;
       includes = adds.includes;
       finds = finds.0;
       new = adds.new;

@@ -10,6 +10,7 @@ use Rattle.std.proofs.lemmas.List.{get_or-set_same, get_or-set_other, get_or_pas
 use Rattle.std.proofs.Math.Seq.{get_or-append_seam}
 use Rattle.p10_base.specs.declared.sources.Link.{Link}
 use Rattle.p10_base.specs.declared.sources.SourceFile.{SourceFile}
+use Rattle.p10_base.specs.declared.word.WordPlace.{WordPlace}
 use Rattle.p10_base.specs.Gathered.{Gathered, IsWhole, candidate_of, count_of, file_of, is_link_of, no_file, target_of, with_file, with_link}
 
 -- the file of a link, if there is one
@@ -98,13 +99,13 @@ candidate_of-with_link_other g from name angle to held n a apart =
     (is_link_of-other name n angle a to apart _ refl)
 
 -- a file that was put after the others has no links, and theirs stay
-pub candidate_of-with_file : (g : Gathered) (name text : List ℕ) (built_in : Bool) (from : ℕ) (n : List ℕ) (a : Bool) →
-    candidate_of (with_file g name text built_in) from n a ≡ candidate_of g from n a
-candidate_of-with_file g name text built_in from n a =
-    let new : SourceFile = record { name = name; text = text; built_in = built_in; links = [] } in
+pub candidate_of-with_file : (g : Gathered) (name text : List ℕ) (built_in : Bool) (words : List WordPlace) (from : ℕ) (n : List ℕ) (a : Bool) →
+    candidate_of (with_file g name text built_in words) from n a ≡ candidate_of g from n a
+candidate_of-with_file g name text built_in words from n a =
+    let new : SourceFile = record { name = name; text = text; built_in = built_in; words = words; links = [] } in
     elim (cases_order from (count_of g)) [
       | inl at ↦ rw at (ap (λ (file : SourceFile). target_of n a file.links) (get_or-append_seam g.files new [] no_file ∙
-          ap (λ (links : List Link). record { name = name; text = text; built_in = built_in; links = links }) refl) ∙
+          ap (λ (links : List Link). record { name = name; text = text; built_in = built_in; words = words; links = links }) refl) ∙
           sym (ap (λ (file : SourceFile). target_of n a file.links) (get_or_past g.files (count_of g) no_file (omega arith))))
       | inr apart ↦ elim apart [
         | inl before ↦ ap (λ (file : SourceFile). target_of n a file.links) (get_or_append_left g.files (new ∷ []) no_file from before)

@@ -6,7 +6,8 @@ use Rattle.std.specs.Bool.{beq}
 use Rattle.p10_base.specs.declared.sources.Link.{Link}
 use Rattle.p10_base.specs.declared.sources.SourceFile.{SourceFile}
 use Rattle.p10_base.specs.declared.span.Span.{Span}
-use Rattle.p10_base.specs.Words.{Text}
+use Rattle.p10_base.specs.declared.word.WordPlace.{WordPlace}
+use Rattle.p10_base.specs.Words.{Text, PlainWord, words_at}
 
 -- the source files of a program in the order of their numbers, and the numbers of its roots in order
 pub record Gathered : Type 0 where
@@ -17,9 +18,9 @@ pub record Gathered : Type 0 where
 abbrev pub nothing_gathered : Gathered
 nothing_gathered = record { files = []; roots = [] }
 
--- a file without name, text and links, which stands where a number names no file
+-- a file without name, text, words and links, which stands where a number names no file
 abbrev pub no_file : SourceFile
-no_file = record { name = []; text = []; built_in = false; links = [] }
+no_file = record { name = []; text = []; built_in = false; words = []; links = [] }
 
 -- how many files there are; their numbers lie below
 abbrev pub count_of : Gathered → ℕ
@@ -40,6 +41,14 @@ name_of g number = (file_of g number).name
 -- the bytes of a file
 abbrev pub text_of : Gathered → ℕ → Text
 text_of g number = (file_of g number).text
+
+-- the places of a file's words
+abbrev pub places_of : Gathered → ℕ → List WordPlace
+places_of g number = (file_of g number).words
+
+-- the words of a file
+abbrev pub words_of : Gathered → ℕ → List PlainWord
+words_of g number = words_at number (text_of g number) (places_of g number)
 
 -- whether a file was gathered as a built-in header
 abbrev pub is_built_in : Gathered → ℕ → Bool
@@ -66,9 +75,10 @@ target_of name angle links = option_map (λ link. link.to) (find (is_link_of nam
 abbrev pub candidate_of : Gathered → ℕ → Text → Bool → Option ℕ
 candidate_of g from name angle = target_of name angle (file_of g from).links
 
--- the files with one more at the end, a built-in header or not, which has no links yet
-abbrev pub with_file : Gathered → Text → Text → Bool → Gathered
-with_file g name text built_in = record g { files = g.files ++ (record { name = name; text = text; built_in = built_in; links = [] }) ∷ [] }
+-- the files with one more at the end, a built-in header or not, with words at these places, which has no links yet
+abbrev pub with_file : Gathered → Text → Text → Bool → List WordPlace → Gathered
+with_file g name text built_in words =
+    record g { files = g.files ++ (record { name = name; text = text; built_in = built_in; words = words; links = [] }) ∷ [] }
 
 -- the files with one more root at the end
 abbrev pub with_root : Gathered → ℕ → Gathered

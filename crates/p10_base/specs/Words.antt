@@ -1,9 +1,10 @@
 -- Words as definitions speak of them: without where their texts lie in memory.
-use Rattle.std.specs.Prelude.{ℕ, Bool, true, false, ◌&&◌, List, map, bytes_eq}
+use Rattle.std.specs.Prelude.{ℕ, Bool, true, false, ◌&&◌, List, map, bytes_eq, slice_range}
 use Rattle.p10_base.specs.declared.span.Span.{Span}
 use Rattle.p10_base.specs.declared.word.Kind.{Kind}
 use Rattle.p10_base.specs.declared.word.Kind.TheVariants.{Name, Punct}
 use Rattle.p10_base.specs.declared.word.Word.{Word}
+use Rattle.p10_base.specs.declared.word.WordPlace.{WordPlace}
 
 -- a text: its bytes in order
 abbrev pub Text : Type 0
@@ -53,3 +54,15 @@ span_of file start end = record { file = file; start = start; end = end }
 -- the run from the first byte of one run to the end of another in the same file
 abbrev pub span_to : Span → Span → Span
 span_to first last = span_of first.file first.start last.end
+
+-- a word without its text
+abbrev pub place_of_word : PlainWord → WordPlace
+place_of_word word = record { kind = word.kind; start = word.at.start; end = word.at.end; first = word.first }
+
+-- the word at a place in the file with this number and text
+abbrev pub word_at : ℕ → Text → WordPlace → PlainWord
+word_at file text place = record { kind = place.kind; text = slice_range text place.start place.end; at = span_of file place.start place.end; first = place.first }
+
+-- the words at places in the file with this number and text
+abbrev pub words_at : ℕ → Text → List WordPlace → List PlainWord
+words_at file text places = map (word_at file text) places

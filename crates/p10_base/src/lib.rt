@@ -1,7 +1,7 @@
 //! What every layer of `p10` speaks of: places in files, words, violations, refusals, limits and
 //! bounds, and the gathered source files.
 //!
-//! Entry points: [`Sources`], the files of a program with their names, roots and include links; [`Word`], which
+//! Entry points: [`Sources`], the files of a program with their names, words, roots and include links; [`Word`], which
 //! definitions see as a `PlainWord`, without where its text lies in memory; [`Refusal`] and [`Limit`], with a name for
 //! each code that is printed, as in `Refusal::word(WordCode::Trigraph, span)`, which is X5, and `Limit::FILES`, which is
 //! M7; and [`NameList`], names that are found by their spelling.
@@ -26,4 +26,4 @@ pub use name_list::NameList;
 pub use report::{Bounds, Family, Limit, Refusal, Sub, Violation};
 pub use sources::Sources;
 pub use span::Span;
-pub use word::{Kind, Word};
+pub use word::{Kind, Word, WordPlace};

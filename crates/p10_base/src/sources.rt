@@ -1,7 +1,7 @@
-//! The gathered source files of a program: their names and bytes, the roots, and which file each
+//! The gathered source files of a program: their names, bytes and words, the roots, and which file each
 //! include line stands for.
 
-use crate::{ListBuf, Span, TextBuf};
+use crate::{ListBuf, Span, TextBuf, WordPlace};
 use std::alloc::{AllocError, Global};
 use std::marker::Model;
 
@@ -24,6 +24,7 @@ struct SourceFile {
     text: ListBuf<u8>,
     /// Whether it was gathered as a built-in header.
     built_in: bool,
+    words: ListBuf<WordPlace>,
     links: ListBuf<Link>,
 }
 
@@ -51,7 +52,7 @@ impl Model for Sources {
 impl Sources {
     ghost use Rattle.std.specs.Prelude.{◌≡◌, ◌+◌, ◌<◌, ◌^◌, false, true, None, Some, length, OnOk, OnErr, IfOk, IfSome};
     ghost use Rattle.std.specs.String.{string_bytes};
-    ghost use Rattle.p10_base.specs.Gathered.{LiesIn, candidate_of, count_of, name_of, nothing_gathered, root_count, root_of, is_built_in, text_of, with_file, with_link, with_root};
+    ghost use Rattle.p10_base.specs.Gathered.{LiesIn, candidate_of, count_of, name_of, nothing_gathered, places_of, root_count, root_of, is_built_in, text_of, with_file, with_link, with_root};
     ghost use Rattle.p10_base.specs.Places.{column_of, line_of};
 
     /// No files and no roots.
@@ -95,6 +96,14 @@ impl Sources {
         self.files[file as usize].text.as_slice()
     }
 
+    /// Where the words of the file with this number stand, as they were put with it.
+    pub fn words(&self, file: u32) -> &[WordPlace]
+        requires { file < count_of self.now }
+        ensures { result.now ≡ places_of self.now file }
+    {
+        self.files[file as usize].words.as_slice()
+    }
+
     /// Whether the file with this number was gathered as a built-in header.
     pub fn is_built_in(&self, file: u32) -> bool
         requires { file < count_of self.now }
@@ -133,33 +142,49 @@ impl Sources {
         target(file.links.as_slice(), name, angle)
     }
 
-    /// Puts a file after the others, without links, and gives its number. Out of memory, nothing is
-    /// put.
-    pub fn push(&mut self, name: String, text: Vec<u8>) -> Result<u32, AllocError>
+    /// Puts a file with words at these places after the others, without links, and gives its number. Out of
+    /// memory, nothing is put.
+    pub fn push(
+        &mut self,
+        name: String,
+        text: Vec<u8>,
+        words: Vec<WordPlace>,
+    ) -> Result<u32, AllocError>
         requires { count_of self.old + 1 < 2 ^ 32 }
         ensures number { IfOk result (λ number. number ≡ count_of self.old) }
-        ensures ok { OnOk result (self.new ≡ with_file self.old (string_bytes name) text.items false) }
+        ensures ok { OnOk result (self.new ≡ with_file self.old (string_bytes name) text.items false words.items) }
         ensures err { OnErr result (self.new ≡ self.old) }
     {
-        self.put(name, text, false)
+        self.put(name, text, false, words)
     }
 
-    /// Puts a built-in header after the files, without links, and gives its number. Out of memory,
-    /// nothing is put.
-    pub fn push_built_in(&mut self, name: String, text: Vec<u8>) -> Result<u32, AllocError>
+    /// Puts a built-in header with words at these places after the files, without links, and gives its number.
+    /// Out of memory, nothing is put.
+    pub fn push_built_in(
+        &mut self,
+        name: String,
+        text: Vec<u8>,
+        words: Vec<WordPlace>,
+    ) -> Result<u32, AllocError>
         requires { count_of self.old + 1 < 2 ^ 32 }
         ensures number { IfOk result (λ number. number ≡ count_of self.old) }
-        ensures ok { OnOk result (self.new ≡ with_file self.old (string_bytes name) text.items true) }
+        ensures ok { OnOk result (self.new ≡ with_file self.old (string_bytes name) text.items true words.items) }
         ensures err { OnErr result (self.new ≡ self.old) }
     {
-        self.put(name, text, true)
+        self.put(name, text, true, words)
     }
 
     /// Puts a file, or a built-in header, after the others.
-    fn put(&mut self, name: String, text: Vec<u8>, built_in: bool) -> Result<u32, AllocError>
+    fn put(
+        &mut self,
+        name: String,
+        text: Vec<u8>,
+        built_in: bool,
+        words: Vec<WordPlace>,
+    ) -> Result<u32, AllocError>
         requires { count_of self.old + 1 < 2 ^ 32 }
         ensures number { IfOk result (λ number. number ≡ count_of self.old) }
-        ensures ok { OnOk result (self.new ≡ with_file self.old (string_bytes name) text.items built_in) }
+        ensures ok { OnOk result (self.new ≡ with_file self.old (string_bytes name) text.items built_in words.items) }
         ensures err { OnErr result (self.new ≡ self.old) }
     {
         let number = self.files.len() as u32;
@@ -167,6 +192,7 @@ impl Sources {
             name: TextBuf::of(name),
             text: ListBuf::of(text),
             built_in,
+            words: ListBuf::of(words),
             links: ListBuf::of(Vec::new(self.alloc)),
         })?;
         Ok(number)

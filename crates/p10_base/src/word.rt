@@ -31,9 +31,21 @@ pub struct Word<'s> {
     pub first: bool,
 }
 
+/// A word of a file without its text: what it is, and where it stands in the file.
+#[derive(Clone, Copy, Debug)]
+pub struct WordPlace {
+    pub kind: Kind,
+    /// The first byte, counted from 0.
+    pub start: u32,
+    /// The byte past the last.
+    pub end: u32,
+    /// Whether no word stands before it on its line.
+    pub first: bool,
+}
+
 impl Word<'_> {
     ghost use Rattle.std.specs.Prelude.{◌≡◌};
-    ghost use Rattle.p10_base.specs.Words.{is_name, is_punctuator, plain_word};
+    ghost use Rattle.p10_base.specs.Words.{is_name, is_punctuator, place_of_word, plain_word};
 
     /// Whether the word is the identifier or keyword with this spelling.
     pub fn is_name(&self, text: &[u8]) -> bool
@@ -47,5 +59,17 @@ impl Word<'_> {
         ensures { result ≡ is_punctuator text.now (plain_word self.now) }
     {
         matches!(self.kind, Kind::Punct) && self.text == text
+    }
+
+    /// The word without its text.
+    pub fn place(&self) -> WordPlace
+        ensures { result ≡ place_of_word (plain_word self.now) }
+    {
+        WordPlace {
+            kind: self.kind,
+            start: self.at.start,
+            end: self.at.end,
+            first: self.first,
+        }
     }
 }

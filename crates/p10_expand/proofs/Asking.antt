@@ -5,6 +5,7 @@ use Rattle.std.proofs.lemmas.Bool.{le-leb, leb-true}
 use Rattle.std.proofs.lemmas.List.{get_or_append_left, get_or-map, length-map}
 use Rattle.std.proofs.lemmas.List.Elements.{All-nil, All-append, All-map, All-weaker, All-contains_itself, Contains-append_left, Contains-append_right}
 use Rattle.std.proofs.Math.Seq.{get_or-append_seam}
+use Rattle.p10_base.specs.declared.word.WordPlace.{WordPlace}
 use Rattle.p10_base.specs.Gathered.{Gathered, count_of, name_of, no_file, with_file}
 use Rattle.p10_base.proofs.Gathering.{candidate_of-with_file}
 use Rattle.p10_expand.specs.declared.place.Include.{Include}
@@ -12,7 +13,7 @@ use Rattle.p10_expand.specs.declared.place.Place.{Place}
 use Rattle.p10_expand.specs.declared.gathering.Known.{Known}
 use Rattle.p10_expand.specs.Candidates.{candidates_of}
 use Rattle.p10_expand.specs.Finding.{IsAbsent, IsFirst}
-use Rattle.p10_expand.specs.Gathering.{Setting, Request, Root, Line, depth_of, places_of, lines_of, no_known, known_at, IsAt, noted}
+use Rattle.p10_expand.specs.Gathering.{Setting, Request, Root, Line, depth_of, sought_places, lines_of, no_known, known_at, IsAt, noted}
 use Rattle.p10_expand.proofs.OnceAnswered.{old_or_last}
 use Rattle.p10_expand.proofs.Linking.{target, IsHeld, noted_file, noted_keeps, noted_targets, noted_own}
 use Rattle.p10_expand.proofs.Levels.{IsNoDeeper}
@@ -84,12 +85,12 @@ pub record Linked (s : Setting) (known : List Known) (g : Gathered) (from : ℕ)
 abbrev pub LinksStand : Setting → List Known → Gathered → Type 0
 LinksStand s known g = (from : ℕ) (include : Include) (number : ℕ) → target g from include ≡ Some number → Linked s known g from include number
 
-pub name_grown : (g : Gathered) (name text : List ℕ) (built_in : Bool) (number : ℕ) → number < count_of g → name_of (with_file g name text built_in) number ≡ name_of g number
-name_grown g name text built_in number held = ap (λ (f : _). f.name) (get_or_append_left g.files ((record { name = name; text = text; built_in = built_in; links = [] }) ∷ []) no_file number held)
+pub name_grown : (g : Gathered) (name text : List ℕ) (built_in : Bool) (words : List WordPlace) (number : ℕ) → number < count_of g → name_of (with_file g name text built_in words) number ≡ name_of g number
+name_grown g name text built_in words number held = ap (λ (f : _). f.name) (get_or_append_left g.files ((record { name = name; text = text; built_in = built_in; words = words; links = [] }) ∷ []) no_file number held)
 
-link_grown : (s : Setting) (known : List Known) (g : Gathered) (k : Known) (name text : List ℕ) (built_in : Bool) (from : ℕ) (include : Include) (number : ℕ) → length known ≡ count_of g → Linked s known g from include number →
-    Linked s (known ++ k ∷ []) (with_file g name text built_in) from include number
-link_grown s known g k name text built_in from include number many linked =
+link_grown : (s : Setting) (known : List Known) (g : Gathered) (k : Known) (name text : List ℕ) (built_in : Bool) (words : List WordPlace) (from : ℕ) (include : Include) (number : ℕ) → length known ≡ count_of g → Linked s known g from include number →
+    Linked s (known ++ k ∷ []) (with_file g name text built_in words) from include number
+link_grown s known g k name text built_in words from include number many linked =
     let from_same = known_grown known k from linked.line.held in
     let same = known_grown known k number linked.held in
     let line = asked_grown known k (Line from ((known_at known from).depth + 1) include) linked.line in
@@ -97,13 +98,13 @@ link_grown s known g k name text built_in from include number many linked =
       line = record { held = line.held; deep = refl; followed = line.followed; line = line.line };
       held = omega (arith, linked.held, length-append known (k ∷ []));
       near = subst (λ (x : Known). (known_at (known ++ k ∷ []) number).depth ≤ x.depth + 1) (sym from_same) (subst (λ (x : Known). x.depth ≤ (known_at known from).depth + 1) (sym same) linked.near);
-      first = subst (λ n. IsFirst s.held (candidates_of s.dirs n include) (known_at (known ++ k ∷ []) number).place) (sym (name_grown g name text built_in from (omega (arith, many, linked.line.held))))
+      first = subst (λ n. IsFirst s.held (candidates_of s.dirs n include) (known_at (known ++ k ∷ []) number).place) (sym (name_grown g name text built_in words from (omega (arith, many, linked.line.held))))
           (subst (λ (x : Known). IsFirst s.held (candidates_of s.dirs (name_of g from) include) x.place) (sym same) linked.first);
     }
 
-pub links_more : (s : Setting) (known : List Known) (g : Gathered) (k : Known) (name text : List ℕ) (built_in : Bool) → length known ≡ count_of g → LinksStand s known g → LinksStand s (known ++ k ∷ []) (with_file g name text built_in)
-links_more s known g k name text built_in many links from include number some =
-    link_grown s known g k name text built_in from include number many (links from include number (sym (candidate_of-with_file g name text built_in from include.name include.angle) ∙ some))
+pub links_more : (s : Setting) (known : List Known) (g : Gathered) (k : Known) (name text : List ℕ) (built_in : Bool) (words : List WordPlace) → length known ≡ count_of g → LinksStand s known g → LinksStand s (known ++ k ∷ []) (with_file g name text built_in words)
+links_more s known g k name text built_in words many links from include number some =
+    link_grown s known g k name text built_in words from include number many (links from include number (sym (candidate_of-with_file g name text built_in words from include.name include.angle) ∙ some))
 
 -- an include line that the request asked for is linked to the file that was found
 line_linked : (s : Setting) (known : List Known) (g : Gathered) (place : Place) (from depth : ℕ) (include : Include) (number : ℕ) → IsLineOf known from depth include → All (IsNoDeeper depth) known →
@@ -116,15 +117,15 @@ line_linked s known g place from depth include number line below first at = reco
 }
 
 pub links_noted : (s : Setting) (known : List Known) (g : Gathered) (request : Request) (place : Place) (number : ℕ) → length known ≡ count_of g → IsAsked known request → All (IsNoDeeper (depth_of request)) known →
-    IsFirst s.held (places_of s.dirs g request) place → IsAt known place number → LinksStand s known g → LinksStand s known (noted request number g)
+    IsFirst s.held (sought_places s.dirs g request) place → IsAt known place number → LinksStand s known g → LinksStand s known (noted request number g)
 links_noted s known g request place number many asked below first at links from include to some =
     let held = asked_held known g request many asked in
-    let named : name_of (noted request number g) from ≡ name_of g from = (noted_file g request number held from).0 in
+    let named : name_of (noted request number g) from ≡ name_of g from = (noted_file g request number held from).name in
     let there : Linked s known g from include to = elim (noted_targets g request number held from include to some) [
       | inl old ↦ links from include to old
       | inr (depth, is, found) ↦ subst (λ n. Linked s known g from include n) (sym found)
           (line_linked s known g place from depth include number (subst (λ r. IsAsked known r) is asked) (subst (λ r. All (IsNoDeeper (depth_of r)) known) is below)
-          (subst (λ r. IsFirst s.held (places_of s.dirs g r) place) is first) at)
+          (subst (λ r. IsFirst s.held (sought_places s.dirs g r) place) is first) at)
     ] in
     record { line = there.line; held = there.held; near = there.near; first = subst (λ n. IsFirst s.held (candidates_of s.dirs n include) (known_at known to).place) (sym named) there.first }
 
@@ -140,16 +141,16 @@ line_among number k include true on (i, within, is) =
     (i, omega (arith, within, length-map k.includes (Line number (k.depth + 1))), get_or-map (Line number (k.depth + 1)) k.includes i include (Line number (k.depth + 1) include) within ∙ ap (Line number (k.depth + 1)) is)
 line_among number k include false off line = absurd cc
 
-pub lines_more : (s : Setting) (known : List Known) (g : Gathered) (ahead : List Request) (number : ℕ) (k : Known) (name text : List ℕ) (built_in : Bool) → length known ≡ count_of g → length known ≡ number → LinesStand s known g ahead →
-    LinesStand s (known ++ k ∷ []) (with_file g name text built_in) (ahead ++ lines_of number k)
-lines_more s known g ahead number k name text built_in many last lines from include held few line =
+pub lines_more : (s : Setting) (known : List Known) (g : Gathered) (ahead : List Request) (number : ℕ) (k : Known) (name text : List ℕ) (built_in : Bool) (words : List WordPlace) → length known ≡ count_of g → length known ≡ number → LinesStand s known g ahead →
+    LinesStand s (known ++ k ∷ []) (with_file g name text built_in words) (ahead ++ lines_of number k)
+lines_more s known g ahead number k name text built_in words many last lines from include held few line =
     elim (old_or_last known k from held) [
       | inl old ↦
           let same = known_grown known k from old in
           elim (lines from include old (subst (λ (x : Known). x.depth ≤ 64) same few) (subst (λ (x : Known). Contains x.includes include) same line)) [
             | inl asked ↦ inl (Contains-append_left ahead (lines_of number k) _ (subst (λ (x : Known). Contains ahead (Line from (x.depth + 1) include)) (sym same) asked))
-            | inr none ↦ inr (λ unlinked. subst (λ n. All (IsAbsent s.held) (candidates_of s.dirs n include)) (sym (name_grown g name text built_in from (omega (arith, many, old))))
-                (none (sym (candidate_of-with_file g name text built_in from include.name include.angle) ∙ unlinked)))
+            | inr none ↦ inr (λ unlinked. subst (λ n. All (IsAbsent s.held) (candidates_of s.dirs n include)) (sym (name_grown g name text built_in words from (omega (arith, many, old))))
+                (none (sym (candidate_of-with_file g name text built_in words from include.name include.angle) ∙ unlinked)))
           ]
       | inr new ↦
           let same : known_at (known ++ k ∷ []) from ≡ k = ap (λ n. known_at (known ++ k ∷ []) n) new ∙ known_last known k in
@@ -196,7 +197,7 @@ pub lines_noted : (s : Setting) (known : List Known) (g : Gathered) (rest : List
 lines_noted s known g rest request number many asked lines f i held few line =
     let there = asked_held known g request many asked in
     elim (lines f i held few line) [
-      | inr absent ↦ inr (λ unlinked. subst (λ n. All (IsAbsent s.held) (candidates_of s.dirs n i)) (sym (noted_file g request number there f).0)
+      | inr absent ↦ inr (λ unlinked. subst (λ n. All (IsAbsent s.held) (candidates_of s.dirs n i)) (sym (noted_file g request number there f).name)
           (absent (unlinked_before (target g f i) (target (noted request number g) f i) (λ to some. noted_keeps g request number there f i to some) unlinked)))
       | inl ahead ↦ elim (first_or_rest request (Line f ((known_at known f).depth + 1) i) rest ahead) [
         | inr later ↦ inl later

@@ -3,6 +3,7 @@ use Rattle.std.proofs.Common.{◌≡◌, ℕ, zero, suc, ◌+◌, ◌<◌, ◌�
 use Rattle.std.specs.Prelude.{All, Contains, IsSome, nat_le}
 use Rattle.std.proofs.lemmas.List.{length-drop, length-map, get_or_default}
 use Rattle.std.proofs.lemmas.List.Elements.{All-nil, All-head, All-rest, All-map, Contains-push, Contains-get_or}
+use Rattle.p10_base.specs.declared.word.WordPlace.{WordPlace}
 use Rattle.p10_base.specs.Gathered.{Gathered, count_of, file_of, name_of, root_of, with_file}
 use Rattle.p10_base.proofs.Gathering.{candidate_of-with_file}
 use Rattle.p10_expand.specs.declared.place.Include.{Include}
@@ -11,7 +12,7 @@ use Rattle.p10_expand.specs.declared.gathering.Known.{Known}
 use Rattle.p10_expand.specs.Candidates.{candidates_of}
 use Rattle.p10_expand.specs.Finding.{name_at, is_header_place, HasText, IsAbsent, IsFirst}
 use Rattle.p10_expand.specs.Includes.{HasIncludes}
-use Rattle.p10_expand.specs.Gathering.{Setting, Request, Root, Line, Moment, depth_of, places_of, lines_of, no_known, known_at, IsAt, IsNew, noted, found, Answered, Reached, Gathers}
+use Rattle.p10_expand.specs.Gathering.{Setting, Request, Root, Line, Moment, depth_of, sought_places, lines_of, no_known, known_at, IsAt, IsNew, noted, found, Answered, Reached, Gathers}
 use Rattle.p10_expand.specs.Gathered.{RootsAreNamed, AreGathered, IsLink, IsLed, EndsChain, FilesAreKnown}
 use Rattle.p10_expand.proofs.OncePlaces.{first_once}
 use Rattle.p10_expand.proofs.OnceAnswered.{AreDistinct, distinct, old_or_last}
@@ -70,7 +71,7 @@ line_roots : (from depth : ℕ) (include : Include) (number : ℕ) (g : Gathered
 line_roots from depth include number g = either_linked (λ h. h.roots ≡ g.roots) from include number g (λ other is. refl) (λ none. refl)
 
 roots_noted : (s : Setting) (known : List Known) (g : Gathered) (rest : List Request) (request : Request) (place : Place) (number : ℕ) → All (IsNoDeeper (depth_of request)) known →
-    IsFirst s.held (places_of s.dirs g request) place → IsAt known place number → RootsStand s.roots known g.roots (request ∷ rest) → RootsStand s.roots known (noted request number g).roots rest
+    IsFirst s.held (sought_places s.dirs g request) place → IsAt known place number → RootsStand s.roots known g.roots (request ∷ rest) → RootsStand s.roots known (noted request number g).roots rest
 roots_noted s known g rest (Root name) place number below first at roots =
     let deep = below number no_known at.held in
     roots_root s.roots known g.roots rest name number roots (record { at = subst (λ p. IsAt known p number) (root_place s.held name place first) at; depth = omega (arith, deep) })
@@ -80,10 +81,10 @@ roots_noted s known g rest (Line from depth include) place number below first at
 gathered_noted : (s : Setting) (known : List Known) (g : Gathered) (request : Request) (number : ℕ) → IsHeld g request → AreGathered s.held known g → AreGathered s.held known (noted request number g)
 gathered_noted s known g request number held gathered n below =
     let same = noted_file g request number held n in
-    gathered_same s.held n (known_at known n) (file_of g n) (file_of (noted request number g) n) same.0 same.1 same.2 (gathered n (omega (arith, below, noted_count g request number)))
+    gathered_same s.held n (known_at known n) (file_of g n) (file_of (noted request number g) n) same (gathered n (omega (arith, below, noted_count g request number)))
 
 -- the next request stands for a file that is there
-meets : (s : Setting) (known : List Known) (g : Gathered) (rest : List Request) (request : Request) (place : Place) (number : ℕ) → IsFirst s.held (places_of s.dirs g request) place → IsAt known place number →
+meets : (s : Setting) (known : List Known) (g : Gathered) (rest : List Request) (request : Request) (place : Place) (number : ℕ) → IsFirst s.held (sought_places s.dirs g request) place → IsAt known place number →
     Holds s known g (request ∷ rest) → Holds s known (noted request number g) rest
 meets s known g rest request place number first at holds =
     let asked : IsAsked known request = All-head (IsAsked known) request rest holds.asked in
@@ -103,29 +104,29 @@ are_lines : (number : ℕ) (k : Known) (b : Bool) → All IsLine (cond b (map (L
 are_lines number k true = All-map IsLine (Line number (k.depth + 1)) k.includes (λ i d below. tt)
 are_lines number k false = All-nil IsLine
 
-gathered_put : (s : Setting) (known : List Known) (g : Gathered) (k : Known) (text : List ℕ) → length known ≡ count_of g → HasText s.held k.place text → HasIncludes (count_of g) text k.includes →
-    AreGathered s.held known g → AreGathered s.held (known ++ k ∷ []) (with_file g (name_at k.place) text (is_header_place k.place))
-gathered_put s known g k text many text_is lexed gathered =
-    gathered_more s.held known g.files k (record { name = name_at k.place; text = text; built_in = is_header_place k.place; links = [] }) many gathered (record { named = refl; text = text_is; marked = refl; lexed = lexed })
+gathered_put : (s : Setting) (known : List Known) (g : Gathered) (k : Known) (text : List ℕ) (words : List WordPlace) → length known ≡ count_of g → HasText s.held k.place text → HasIncludes (count_of g) text words k.includes →
+    AreGathered s.held known g → AreGathered s.held (known ++ k ∷ []) (with_file g (name_at k.place) text (is_header_place k.place) words)
+gathered_put s known g k text words many text_is lexed gathered =
+    gathered_more s.held known g.files k (record { name = name_at k.place; text = text; built_in = is_header_place k.place; words = words; links = [] }) many gathered (record { named = refl; text = text_is; marked = refl; lexed = lexed })
 
 -- a file that the next request finds is put behind the others
-puts : (s : Setting) (known : List Known) (g : Gathered) (rest : List Request) (request : Request) (k : Known) (text : List ℕ) → k.depth ≡ depth_of request → HasText s.held k.place text → HasIncludes (count_of g) text k.includes →
-    Holds s known g (request ∷ rest) → Holds s (known ++ k ∷ []) (with_file g (name_at k.place) text (is_header_place k.place)) (request ∷ (rest ++ lines_of (count_of g) k))
-puts s known g rest request k text deep text_is lexed holds = record {
-  many = length-append known (k ∷ []) ∙ (ap (λ n. n + 1) holds.many ∙ sym (length-append g.files ((record { name = name_at k.place; text = text; built_in = is_header_place k.place; links = [] }) ∷ [])));
-  gathered = gathered_put s known g k text holds.many text_is lexed holds.gathered;
+puts : (s : Setting) (known : List Known) (g : Gathered) (rest : List Request) (request : Request) (k : Known) (text : List ℕ) (words : List WordPlace) → k.depth ≡ depth_of request → HasText s.held k.place text → HasIncludes (count_of g) text words k.includes →
+    Holds s known g (request ∷ rest) → Holds s (known ++ k ∷ []) (with_file g (name_at k.place) text (is_header_place k.place) words) (request ∷ (rest ++ lines_of (count_of g) k))
+puts s known g rest request k text words deep text_is lexed holds = record {
+  many = length-append known (k ∷ []) ∙ (ap (λ n. n + 1) holds.many ∙ sym (length-append g.files ((record { name = name_at k.place; text = text; built_in = is_header_place k.place; words = words; links = [] }) ∷ [])));
+  gathered = gathered_put s known g k text words holds.many text_is lexed holds.gathered;
   asked = asked_more known (request ∷ rest) (count_of g) k holds.many holds.asked;
   depth = depth_of request;
   levels = levels_more known rest request (count_of g) k deep (levels_rest known (request ∷ rest) rest request holds.depth refl holds.levels);
   roots = roots_more s.roots known g.roots (request ∷ rest) (lines_of (count_of g) k) k (are_lines (count_of g) k (nat_le k.depth 64)) holds.roots;
-  links = links_more s known g k (name_at k.place) text (is_header_place k.place) holds.many holds.links;
-  lines = lines_more s known g (request ∷ rest) (count_of g) k (name_at k.place) text (is_header_place k.place) holds.many holds.many holds.lines;
+  links = links_more s known g k (name_at k.place) text (is_header_place k.place) words holds.many holds.links;
+  lines = lines_more s known g (request ∷ rest) (count_of g) k (name_at k.place) text (is_header_place k.place) words holds.many holds.many holds.lines;
 }
 
 -- the places of a request are the same when a file was put behind the others
-places_grown : (dirs : List (List ℕ)) (known : List Known) (g : Gathered) (request : Request) (name text : List ℕ) (built_in : Bool) → length known ≡ count_of g → IsAsked known request → places_of dirs (with_file g name text built_in) request ≡ places_of dirs g request
-places_grown dirs known g (Root name) other text built_in many asked = refl
-places_grown dirs known g (Line from depth include) other text built_in many asked = ap (λ n. candidates_of dirs n include) (name_grown g other text built_in from (omega (arith, many, asked.held)))
+places_grown : (dirs : List (List ℕ)) (known : List Known) (g : Gathered) (request : Request) (name text : List ℕ) (built_in : Bool) (words : List WordPlace) → length known ≡ count_of g → IsAsked known request → sought_places dirs (with_file g name text built_in words) request ≡ sought_places dirs g request
+places_grown dirs known g (Root name) other text built_in words many asked = refl
+places_grown dirs known g (Line from depth include) other text built_in words many asked = ap (λ n. candidates_of dirs n include) (name_grown g other text built_in words from (omega (arith, many, asked.held)))
 
 last_at : (known : List Known) (k : Known) (number : ℕ) → length known ≡ number → IsAt (known ++ k ∷ []) k.place number
 last_at known k number many = record {
@@ -134,14 +135,14 @@ last_at known k number many = record {
 }
 
 -- the next request stands for a file that is gathered now
-adds : (s : Setting) (known : List Known) (g : Gathered) (rest : List Request) (request : Request) (k : Known) (text : List ℕ) → k.depth ≡ depth_of request → IsFirst s.held (places_of s.dirs g request) k.place →
-    HasText s.held k.place text → HasIncludes (count_of g) text k.includes → Holds s known g (request ∷ rest) →
-    Holds s (known ++ k ∷ []) (noted request (count_of g) (with_file g (name_at k.place) text (is_header_place k.place))) (rest ++ lines_of (count_of g) k)
-adds s known g rest request k text deep first text_is lexed holds =
+adds : (s : Setting) (known : List Known) (g : Gathered) (rest : List Request) (request : Request) (k : Known) (text : List ℕ) (words : List WordPlace) → k.depth ≡ depth_of request → IsFirst s.held (sought_places s.dirs g request) k.place →
+    HasText s.held k.place text → HasIncludes (count_of g) text words k.includes → Holds s known g (request ∷ rest) →
+    Holds s (known ++ k ∷ []) (noted request (count_of g) (with_file g (name_at k.place) text (is_header_place k.place) words)) (rest ++ lines_of (count_of g) k)
+adds s known g rest request k text words deep first text_is lexed holds =
     let asked : IsAsked known request = All-head (IsAsked known) request rest holds.asked in
-    meets s (known ++ k ∷ []) (with_file g (name_at k.place) text (is_header_place k.place)) (rest ++ lines_of (count_of g) k) request k.place (count_of g)
-    (subst (λ ps. IsFirst s.held ps k.place) (sym (places_grown s.dirs known g request (name_at k.place) text (is_header_place k.place) holds.many asked)) first) (last_at known k (count_of g) holds.many)
-    (puts s known g rest request k text deep text_is lexed holds)
+    meets s (known ++ k ∷ []) (with_file g (name_at k.place) text (is_header_place k.place) words) (rest ++ lines_of (count_of g) k) request k.place (count_of g)
+    (subst (λ ps. IsFirst s.held ps k.place) (sym (places_grown s.dirs known g request (name_at k.place) text (is_header_place k.place) words holds.many asked)) first) (last_at known k (count_of g) holds.many)
+    (puts s known g rest request k text words deep text_is lexed holds)
 
 at_ahead : (s : Setting) (m : Moment) (ahead : List Request) → m.ahead ≡ ahead → HoldsAt s m → Holds s m.known m.sources ahead
 at_ahead s m ahead is holds = subst (λ rs. Holds s m.known m.sources rs) is holds
@@ -153,7 +154,7 @@ holds_after s before after holds (inr (inl is)) =
     subst (λ m. HoldsAt s m) (sym is.becomes) (meets s before.known before.sources is.rest is.request is.place is.number is.finds.first is.at (at_ahead s before (is.request ∷ is.rest) is.finds.asked holds))
 holds_after s before after holds (inr (inr is)) =
     subst (λ m. HoldsAt s m) (sym is.becomes)
-    (adds s before.known before.sources is.rest is.request (found is.request is.place is.includes) is.text refl is.finds.first is.text_is is.lexed (at_ahead s before (is.request ∷ is.rest) is.finds.asked holds))
+    (adds s before.known before.sources is.rest is.request (found is.request is.place is.includes) is.text is.words refl is.finds.first is.text_is is.lexed (at_ahead s before (is.request ∷ is.rest) is.finds.asked holds))
 
 holds : (s : Setting) (answered : ℕ) (m : Moment) → Reached s answered m → HoldsAt s m
 holds s zero m is = subst (λ x. HoldsAt s x) (sym is) (begins s)
@@ -169,63 +170,63 @@ chains_noted known g request number held chains n below =
     ((chains n below).0, chain_keeps g (noted request number g) (noted_roots g request number) (noted_keeps g request number held) (known_at known n).depth n (chains n below).1)
 
 -- the target of a line for which a new file is found is that file, where files are told
-new_target : (s : Setting) (known : List Known) (g : Gathered) (from depth : ℕ) (include : Include) (place : Place) (text : List ℕ) → IsSome s.held → length known ≡ count_of g → LinksStand s known g →
+new_target : (s : Setting) (known : List Known) (g : Gathered) (from depth : ℕ) (include : Include) (place : Place) (text : List ℕ) (words : List WordPlace) → IsSome s.held → length known ≡ count_of g → LinksStand s known g →
     IsLineOf known from depth include → IsFirst s.held (candidates_of s.dirs (name_of g from) include) place → IsNew known place →
-    target (noted (Line from depth include) (count_of g) (with_file g (name_at place) text (is_header_place place))) from include ≡ Some (count_of g)
-new_target s known g from depth include place text told many links asked first new =
-    let h = with_file g (name_at place) text (is_header_place place) in
-    let within : from < count_of h = omega (arith, many, asked.held, length-append g.files ((record { name = name_at place; text = text; built_in = is_header_place place; links = [] }) ∷ [])) in
+    target (noted (Line from depth include) (count_of g) (with_file g (name_at place) text (is_header_place place) words)) from include ≡ Some (count_of g)
+new_target s known g from depth include place text words told many links asked first new =
+    let h = with_file g (name_at place) text (is_header_place place) words in
+    let within : from < count_of h = omega (arith, many, asked.held, length-append g.files ((record { name = name_at place; text = text; built_in = is_header_place place; words = words; links = [] }) ∷ [])) in
     let (to, some, how) = noted_own h from depth include (count_of g) within in
     elim how [
       | inr last ↦ subst (λ n. target (noted (Line from depth include) (count_of g) h) from include ≡ Some n) last some
       | inl old ↦
-          let link = links from include to (sym (candidate_of-with_file g (name_at place) text (is_header_place place) from include.name include.angle) ∙ old) in
+          let link = links from include to (sym (candidate_of-with_file g (name_at place) text (is_header_place place) words from include.name include.angle) ∙ old) in
           let same = first_once s.held _ _ place (known_at known to).place told refl first link.first in
           absurd (new to (record { held = link.held; place_of = sym same }))
     ]
 
-new_chain : (s : Setting) (known : List Known) (g : Gathered) (request : Request) (place : Place) (text : List ℕ) → IsSome s.held → length known ≡ count_of g → LinksStand s known g → IsAsked known request →
-    IsFirst s.held (places_of s.dirs g request) place → IsNew known place → HaveChains known g →
-    (depth_of request ≤ 65) × EndsChain (noted request (count_of g) (with_file g (name_at place) text (is_header_place place))) (depth_of request) (count_of g)
-new_chain s known g (Root name) place text told many links asked first new chains = (omega arith, Contains-push g.roots (count_of g))
-new_chain s known g (Line from depth include) place text told many links asked first new chains =
-    let h = with_file g (name_at place) text (is_header_place place) in
+new_chain : (s : Setting) (known : List Known) (g : Gathered) (request : Request) (place : Place) (text : List ℕ) (words : List WordPlace) → IsSome s.held → length known ≡ count_of g → LinksStand s known g → IsAsked known request →
+    IsFirst s.held (sought_places s.dirs g request) place → IsNew known place → HaveChains known g →
+    (depth_of request ≤ 65) × EndsChain (noted request (count_of g) (with_file g (name_at place) text (is_header_place place) words)) (depth_of request) (count_of g)
+new_chain s known g (Root name) place text words told many links asked first new chains = (omega arith, Contains-push g.roots (count_of g))
+new_chain s known g (Line from depth include) place text words told many links asked first new chains =
+    let h = with_file g (name_at place) text (is_header_place place) words in
     let after = noted (Line from depth include) (count_of g) h in
-    let within : from < count_of h = omega (arith, many, asked.held, length-append g.files ((record { name = name_at place; text = text; built_in = is_header_place place; links = [] }) ∷ [])) in
+    let within : from < count_of h = omega (arith, many, asked.held, length-append g.files ((record { name = name_at place; text = text; built_in = is_header_place place; words = words; links = [] }) ∷ [])) in
     let keeps : (f : ℕ) (i : Include) (to : ℕ) → target g f i ≡ Some to → target after f i ≡ Some to =
-    λ f i to some. noted_keeps h (Line from depth include) (count_of g) within f i to (candidate_of-with_file g (name_at place) text (is_header_place place) f i.name i.angle ∙ some) in
+    λ f i to some. noted_keeps h (Line from depth include) (count_of g) within f i to (candidate_of-with_file g (name_at place) text (is_header_place place) words f i.name i.angle ∙ some) in
     let to_from : EndsChain after (known_at known from).depth from =
     chain_keeps g after (noted_roots h (Line from depth include) (count_of g)) keeps (known_at known from).depth from (chains from asked.held).1 in
     let deep : suc (known_at known from).depth ≡ depth = omega (arith, asked.deep) in (
       omega (arith, asked.deep, asked.followed),
-      subst (λ n. EndsChain after n (count_of g)) deep (from, include, to_from, new_target s known g from depth include place text told many links asked first new),
+      subst (λ n. EndsChain after n (count_of g)) deep (from, include, to_from, new_target s known g from depth include place text words told many links asked first new),
     )
 
-chains_added : (s : Setting) (known : List Known) (g : Gathered) (request : Request) (place : Place) (text : List ℕ) (includes : List Include) → IsSome s.held → length known ≡ count_of g → LinksStand s known g → IsAsked known request →
-    IsFirst s.held (places_of s.dirs g request) place → IsNew known place → HaveChains known g →
-    HaveChains (known ++ found request place includes ∷ []) (noted request (count_of g) (with_file g (name_at place) text (is_header_place place)))
-chains_added s known g request place text includes told many links asked first new chains n below =
+chains_added : (s : Setting) (known : List Known) (g : Gathered) (request : Request) (place : Place) (text : List ℕ) (words : List WordPlace) (includes : List Include) → IsSome s.held → length known ≡ count_of g → LinksStand s known g → IsAsked known request →
+    IsFirst s.held (sought_places s.dirs g request) place → IsNew known place → HaveChains known g →
+    HaveChains (known ++ found request place includes ∷ []) (noted request (count_of g) (with_file g (name_at place) text (is_header_place place) words))
+chains_added s known g request place text words includes told many links asked first new chains n below =
     let k = found request place includes in
-    let h = with_file g (name_at place) text (is_header_place place) in
+    let h = with_file g (name_at place) text (is_header_place place) words in
     let after = noted request (count_of g) h in
     elim (old_or_last known k n below) [
       | inl old ↦
-          let held : IsHeld h request = held_grown g request (name_at place) text (is_header_place place) (asked_held known g request many asked) in
+          let held : IsHeld h request = held_grown g request (name_at place) text (is_header_place place) words (asked_held known g request many asked) in
           let chain = chains n old in
           subst (λ (x : Known). (x.depth ≤ 65) × EndsChain after x.depth n) (sym (known_grown known k n old)) (
             chain.0,
             chain_keeps g after (noted_roots h request (count_of g))
-                (λ f i to some. noted_keeps h request (count_of g) held f i to (candidate_of-with_file g (name_at place) text (is_header_place place) f i.name i.angle ∙ some)) (known_at known n).depth n chain.1,
+                (λ f i to some. noted_keeps h request (count_of g) held f i to (candidate_of-with_file g (name_at place) text (is_header_place place) words f i.name i.angle ∙ some)) (known_at known n).depth n chain.1,
           )
       | inr last ↦
           let same : known_at (known ++ k ∷ []) n ≡ k = ap (λ i. known_at (known ++ k ∷ []) i) last ∙ known_last known k in
           subst (λ (x : Known). (x.depth ≤ 65) × EndsChain after x.depth n) (sym same)
-          (subst (λ i. (k.depth ≤ 65) × EndsChain after k.depth i) (sym (last ∙ many)) (new_chain s known g request place text told many links asked first new chains))
+          (subst (λ i. (k.depth ≤ 65) × EndsChain after k.depth i) (sym (last ∙ many)) (new_chain s known g request place text words told many links asked first new chains))
     ]
   where
-    held_grown : (g : Gathered) (request : Request) (name text : List ℕ) (built_in : Bool) → IsHeld g request → IsHeld (with_file g name text built_in) request
-    held_grown g (Root name) other text built_in held = tt
-    held_grown g (Line from depth include) other text built_in held = omega (arith, held, length-append g.files ((record { name = other; text = text; built_in = built_in; links = [] }) ∷ []))
+    held_grown : (g : Gathered) (request : Request) (name text : List ℕ) (built_in : Bool) (words : List WordPlace) → IsHeld g request → IsHeld (with_file g name text built_in words) request
+    held_grown g (Root name) other text built_in words held = tt
+    held_grown g (Line from depth include) other text built_in words held = omega (arith, held, length-append g.files ((record { name = other; text = text; built_in = built_in; words = words; links = [] }) ∷ []))
 
 abbrev HaveChainsAt : Moment → Type 0
 HaveChainsAt m = HaveChains m.known m.sources
@@ -240,7 +241,7 @@ chains_after s before after told holds chains (inr (inl is)) =
     (chains_noted before.known before.sources is.request is.number (asked_held before.known before.sources is.request holds.many (next_asked s before is.request is.rest is.finds.asked holds)) chains)
 chains_after s before after told holds chains (inr (inr is)) =
     subst (λ m. HaveChainsAt m) (sym is.becomes)
-    (chains_added s before.known before.sources is.request is.place is.text is.includes told holds.many holds.links (next_asked s before is.request is.rest is.finds.asked holds) is.finds.first is.new chains)
+    (chains_added s before.known before.sources is.request is.place is.text is.words is.includes told holds.many holds.links (next_asked s before is.request is.rest is.finds.asked holds) is.finds.first is.new chains)
 
 chains : (s : Setting) (answered : ℕ) (m : Moment) → IsSome s.held → Reached s answered m → HaveChainsAt m
 chains s zero m told is = subst (λ x. HaveChainsAt x) (sym is) (λ number below. absurd (omega (arith, below)))

@@ -1,5 +1,6 @@
 -- Lemmas of this crate.
 pub mod Texts
+pub mod WordPlaces
 pub mod Naming
 pub mod Including
 pub mod Lacking

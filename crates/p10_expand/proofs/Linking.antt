@@ -13,7 +13,7 @@ use Rattle.p10_base.proofs.Gathering.{candidate_of-with_link_own, candidate_of-w
 use Rattle.p10_expand.specs.declared.place.Include.{Include}
 use Rattle.p10_expand.specs.Gathering.{Request, Root, Line, linked, noted}
 use Rattle.p10_expand.specs.Gathered.{EndsChain}
-use Rattle.p10_expand.proofs.Standing.{link_file}
+use Rattle.p10_expand.proofs.Standing.{AreAlike, alike, link_file}
 
 -- the file to which an include is linked
 abbrev pub target : Gathered → ℕ → Include → Option ℕ
@@ -118,13 +118,11 @@ noted_count g (Root name) number = refl
 noted_count g (Line from depth include) number = either_linked (λ h. count_of h ≡ count_of g) from include number g (λ other is. refl) (λ none. link_count g from include number)
 
 -- the names, the texts and the marks of files
-pub noted_file : (g : Gathered) (request : Request) (number : ℕ) → IsHeld g request → (n : ℕ) →
-    ((file_of (noted request number g) n).name ≡ (file_of g n).name) × ((file_of (noted request number g) n).text ≡ (file_of g n).text)
-    × ((file_of (noted request number g) n).built_in ≡ (file_of g n).built_in)
-noted_file g (Root name) number held n = (refl, refl, refl)
+pub noted_file : (g : Gathered) (request : Request) (number : ℕ) → IsHeld g request → (n : ℕ) → AreAlike (file_of g n) (file_of (noted request number g) n)
+noted_file g (Root name) number held n = alike (file_of g n)
 noted_file g (Line from depth include) number held n =
-    either_linked (λ h. ((file_of h n).name ≡ (file_of g n).name) × ((file_of h n).text ≡ (file_of g n).text) × ((file_of h n).built_in ≡ (file_of g n).built_in)) from include number g
-    (λ other is. (refl, refl, refl)) (λ none. link_file g.files from n (record { name = include.name; angle = include.angle; to = number }) held)
+    either_linked (λ h. AreAlike (file_of g n) (file_of h n)) from include number g
+    (λ other is. alike (file_of g n)) (λ none. link_file g.files from n (record { name = include.name; angle = include.angle; to = number }) held)
 
 pub noted_roots : (g : Gathered) (request : Request) (number : ℕ) (root : ℕ) → Contains g.roots root → Contains (noted request number g).roots root
 noted_roots g (Root name) number root there = Contains-append_left g.roots (number ∷ []) root there

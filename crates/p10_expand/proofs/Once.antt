@@ -61,14 +61,14 @@ lacks_ends s m after number told lacks (inr (inr adds)) = lacks_or_finds s m num
 
 -- the next file isn't gathered where its text has no include lines
 next_ends : (s : Setting) (m after : Moment) (place : Place) (text : List ℕ) → IsSome s.held → IsNext s m place text →
-    ((includes : _) → HasIncludes (count_of m.sources) text includes → ⊥) → Answered s m after → ⊥
+    ((words : _) (includes : _) → HasIncludes (count_of m.sources) text words includes → ⊥) → Answered s m after → ⊥
 next_ends s m after place text told next none (inl passes) = no_pass s m after next.request next.rest place told next.finds passes
 next_ends s m after place text told next none (inr (inl meets)) =
     new_or_met m.known place meets.place meets.number (found_once s m next.request meets.request next.rest meets.rest place meets.place told next.finds meets.finds) next.new meets.at
 next_ends s m after place text told next none (inr (inr adds)) =
     let place_is = found_once s m adds.request next.request adds.rest next.rest adds.place place told adds.finds next.finds in
     let text_is = text_once s.held place adds.text text told (subst (λ p. HasText s.held p adds.text) place_is adds.text_is) next.text_is in
-    none adds.includes (subst (λ t. HasIncludes (count_of m.sources) t adds.includes) text_is adds.lexed)
+    none adds.words adds.includes (subst (λ t. HasIncludes (count_of m.sources) t adds.words adds.includes) text_is adds.lexed)
 
 full_ends : (s : Setting) (m after : Moment) (limit : Limit) → IsSome s.held → IsOneTooMany s m limit → Answered s m after → ⊥
 full_ends s m after limit told many (inl passes) = no_pass s m after many.request many.rest (File many.name) told many.finds passes
@@ -80,9 +80,9 @@ ends : (s : Setting) (m after : Moment) (ending : Result Gathered GatherFault) �
 ends s m after (Ok g) told (done, is) answers = done_ends s m after done answers
 ends s m after (Err (RootAbsent number)) told lacks answers = lacks_ends s m after number told lacks answers
 ends s m after (Err (Refused refusal g)) told refuses answers =
-    next_ends s m after refuses.place refuses.text told refuses.next (λ includes has. included_or_refused (count_of m.sources) refuses.text includes refusal has refuses.refused) answers
+    next_ends s m after refuses.place refuses.text told refuses.next (λ words includes has. included_or_refused (count_of m.sources) refuses.text words includes refusal has refuses.refused) answers
 ends s m after (Err (Over limit)) told (inl over) answers =
-    next_ends s m after over.place over.text told over.next (λ includes has. included_or_over (count_of m.sources) over.text includes limit has over.over) answers
+    next_ends s m after over.place over.text told over.next (λ words includes has. included_or_over (count_of m.sources) over.text words includes limit has over.over) answers
 ends s m after (Err (Over limit)) told (inr many) answers = full_ends s m after limit told many answers
 ends s m after (Err Read) told never answers = never
 ends s m after (Err Memory) told never answers = never
@@ -105,7 +105,7 @@ refuses_once s m refusal other g h told is are =
     let place = next_place s m is.place are.place is.text are.text told is.next are.next in
     let text = next_text s m is.place are.place is.text are.text told is.next are.next in (
       refusal_once (count_of m.sources) are.text refusal other (next_answers s m is.place are.place is.text are.text (Err (lexing.Refused refusal)) told is.next are.next is.refused) are.refused,
-      is.sources ∙ ((λ i. with_file m.sources (name_at (place i)) (text i) (is_header_place (place i))) ∙ sym are.sources),
+      is.sources ∙ ((λ i. with_file m.sources (name_at (place i)) (text i) (is_header_place (place i)) []) ∙ sym are.sources),
     )
 
 refuses_or_over : (s : Setting) (m : Moment) (refusal : Refusal) (g : Gathered) (limit : Limit) → IsSome s.held → RefusesNext s m refusal g → EndsAt s m (Over limit) → ⊥

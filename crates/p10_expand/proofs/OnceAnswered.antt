@@ -9,9 +9,10 @@ use Rattle.p10_expand.specs.declared.place.Place.{Place}
 use Rattle.p10_expand.specs.declared.gathering.Known.{Known}
 use Rattle.p10_expand.specs.Finding.{HasText, IsAbsent}
 use Rattle.p10_expand.specs.Includes.{HasIncludes}
-use Rattle.p10_expand.specs.Gathering.{Setting, Request, Line, Moment, places_of, no_known, known_at, IsAt, IsNew, noted, Finds, Passes, Meets, found, added, Adds, Answered, Reached}
+use Rattle.p10_expand.specs.Gathering.{Setting, Request, Line, Moment, sought_places, no_known, known_at, IsAt, IsNew, noted, Finds, Passes, Meets, found, added, Adds, Answered, Reached}
 use Rattle.p10_expand.proofs.OncePlaces.{same_head, same_tail, text_once, first_once, none_first}
 use Rattle.p10_expand.proofs.OnceLexed.{includes_once}
+use Rattle.p10_expand.proofs.WordPlaces.{places_once}
 
 -- ## What is asked, and what is found
 
@@ -22,19 +23,19 @@ same_rest : (m : Moment) (request other : Request) (rest others : List Request) 
 same_rest m request other rest others is are = same_tail request other rest others (sym is ∙ are)
 
 same_places : (s : Setting) (m : Moment) (request other : Request) (rest others : List Request) → m.ahead ≡ request ∷ rest → m.ahead ≡ other ∷ others →
-    places_of s.dirs m.sources request ≡ places_of s.dirs m.sources other
-same_places s m request other rest others is are = ap (λ r. places_of s.dirs m.sources r) (same_request m request other rest others is are)
+    sought_places s.dirs m.sources request ≡ sought_places s.dirs m.sources other
+same_places s m request other rest others is are = ap (λ r. sought_places s.dirs m.sources r) (same_request m request other rest others is are)
 
 -- one place is found
 pub found_once : (s : Setting) (m : Moment) (request other : Request) (rest others : List Request) (place place' : Place) → IsSome s.held → Finds s m request rest place → Finds s m other others place' → place ≡ place'
 found_once s m request other rest others place place' told is are =
-    first_once s.held (places_of s.dirs m.sources request) (places_of s.dirs m.sources other) place place' told (same_places s m request other rest others is.asked are.asked) is.first are.first
+    first_once s.held (sought_places s.dirs m.sources request) (sought_places s.dirs m.sources other) place place' told (same_places s m request other rest others is.asked are.asked) is.first are.first
 
 -- where there is a file at none of the places, none is found
-pub none_found : (s : Setting) (m : Moment) (request other : Request) (rest others : List Request) (place : Place) → IsSome s.held → m.ahead ≡ request ∷ rest → All (IsAbsent s.held) (places_of s.dirs m.sources request) →
+pub none_found : (s : Setting) (m : Moment) (request other : Request) (rest others : List Request) (place : Place) → IsSome s.held → m.ahead ≡ request ∷ rest → All (IsAbsent s.held) (sought_places s.dirs m.sources request) →
     Finds s m other others place → ⊥
 none_found s m request other rest others place told is none are =
-    none_first s.held (places_of s.dirs m.sources request) (places_of s.dirs m.sources other) place told (same_places s m request other rest others is are.asked) none are.first
+    none_first s.held (sought_places s.dirs m.sources request) (sought_places s.dirs m.sources other) place told (same_places s m request other rest others is are.asked) none are.first
 
 -- a file that is new wasn't met before
 pub new_or_met : (known : List Known) (place other : Place) (number : ℕ) → place ≡ other → IsNew known place → IsAt known other number → ⊥
@@ -116,8 +117,10 @@ adds_once s m after other told is are =
     let rest = same_rest m is.request are.request is.rest are.rest is.finds.asked are.finds.asked in
     let place = found_once s m is.request are.request is.rest are.rest is.place are.place told is.finds are.finds in
     let text = text_once s.held are.place is.text are.text told (subst (λ p. HasText s.held p is.text) place is.text_is) are.text_is in
-    let includes = includes_once (count_of m.sources) are.text is.includes are.includes (subst (λ t. HasIncludes (count_of m.sources) t is.includes) text is.lexed) are.lexed in
-    is.becomes ∙ ((λ i. added (request i) (rest i) (found (request i) (place i) (includes i)) (text i) m) ∙ sym are.becomes)
+    let lexed = subst (λ t. HasIncludes (count_of m.sources) t is.words is.includes) text is.lexed in
+    let includes = includes_once (count_of m.sources) are.text is.words are.words is.includes are.includes lexed are.lexed in
+    let words = places_once (count_of m.sources) are.text is.words are.words lexed.lexes are.lexed.lexes in
+    is.becomes ∙ ((λ i. added (request i) (rest i) (found (request i) (place i) (includes i)) (text i) (words i) m) ∙ sym are.becomes)
 
 pub answered_once : (s : Setting) (m after other : Moment) → IsSome s.held → AreDistinct m.known → Answered s m after → Answered s m other → after ≡ other
 answered_once s m after other told distinct (inl is) (inl are) = passes_once s m after other is are

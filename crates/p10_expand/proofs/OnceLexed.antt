@@ -5,7 +5,8 @@ use Rattle.p10_base.specs.declared.report.Refusal.{Refusal}
 use Rattle.p10_base.specs.declared.report.Limit.{Limit}
 use Rattle.p10_lex.specs.declared.fault.LexFault.{LexFault}
 use Rattle.p10_lex.specs.declared.fault.LexFault.TheVariants.{Refused, Over, Memory}
-use Rattle.p10_base.specs.Words.{PlainWord}
+use Rattle.p10_base.specs.declared.word.WordPlace.{WordPlace}
+use Rattle.p10_base.specs.Words.{PlainWord, words_at}
 use Rattle.p10_lex.specs.Lexes.{Answers}
 use Rattle.p10_lex.proofs.Uniqueness.{same_words, same_answer}
 use Rattle.p10_direct.specs.Lines.{Piece, DirectiveLine, TextRun, AreCut}
@@ -70,13 +71,13 @@ pub refused_or_over : (number : ℕ) (text : List ℕ) (refusal : Refusal) (limi
 refused_or_over number text refusal limit is are =
     refusal_below refusal limit (same_answer number text (refused_by refusal) (passing limit) (refusal_there refusal) (limit_there limit) is are)
 
-pub included_or_refused : (number : ℕ) (text : List ℕ) (includes : List Wanted) (refusal : Refusal) → HasIncludes number text includes → Answers number text (Err (Refused refusal)) → ⊥
-included_or_refused number text includes refusal has are =
-    words_apart has.words refusal (same_answer number text (words_are has.words) (refused_by refusal) (words_there has.words) (refusal_there refusal) has.lexes are)
+pub included_or_refused : (number : ℕ) (text : List ℕ) (places : List WordPlace) (includes : List Wanted) (refusal : Refusal) → HasIncludes number text places includes → Answers number text (Err (Refused refusal)) → ⊥
+included_or_refused number text places includes refusal has are =
+    words_apart (words_at number text places) refusal (same_answer number text (words_are (words_at number text places)) (refused_by refusal) (words_there (words_at number text places)) (refusal_there refusal) has.lexes are)
 
-pub included_or_over : (number : ℕ) (text : List ℕ) (includes : List Wanted) (limit : Limit) → HasIncludes number text includes → Answers number text (Err (Over limit)) → ⊥
-included_or_over number text includes limit has are =
-    words_below has.words limit (same_answer number text (words_are has.words) (passing limit) (words_there has.words) (limit_there limit) has.lexes are)
+pub included_or_over : (number : ℕ) (text : List ℕ) (places : List WordPlace) (includes : List Wanted) (limit : Limit) → HasIncludes number text places includes → Answers number text (Err (Over limit)) → ⊥
+included_or_over number text places includes limit has are =
+    words_below (words_at number text places) limit (same_answer number text (words_are (words_at number text places)) (passing limit) (words_there (words_at number text places)) (limit_there limit) has.lexes are)
 
 -- ## Include lines
 
@@ -103,9 +104,11 @@ named_once (DirectiveLine line ∷ pieces) includes others (inr (include, rest, 
     ∙ (ap (λ is. other ∷ is) (named_once pieces rest rest' named named') ∙ sym parts'))
 
 -- a text has one list of include lines
-pub includes_once : (number : ℕ) (text : List ℕ) (includes others : List Wanted) → HasIncludes number text includes → HasIncludes number text others → includes ≡ others
-includes_once number text includes others has have =
-    let words : has.words ≡ have.words = same_words number text has.words have.words has.lexes.2 have.lexes.2 in
-    let cut : AreCut have.words has.named.pieces = subst (λ ws. AreCut ws has.named.pieces) words has.named.cut in
-    let pieces : has.named.pieces ≡ have.named.pieces = cut_once have.words has.named.pieces have.named.pieces cut have.named.cut in
+pub includes_once : (number : ℕ) (text : List ℕ) (places places' : List WordPlace) (includes others : List Wanted) → HasIncludes number text places includes → HasIncludes number text places' others → includes ≡ others
+includes_once number text places places' includes others has have =
+    let these : List PlainWord = words_at number text places in
+    let those : List PlainWord = words_at number text places' in
+    let words : these ≡ those = same_words number text these those has.lexes.2 have.lexes.2 in
+    let cut : AreCut those has.named.pieces = subst (λ ws. AreCut ws has.named.pieces) words has.named.cut in
+    let pieces : has.named.pieces ≡ have.named.pieces = cut_once those has.named.pieces have.named.pieces cut have.named.cut in
     named_once have.named.pieces includes others (subst (λ ps. NamedIn ps includes) pieces has.named.named) have.named.named

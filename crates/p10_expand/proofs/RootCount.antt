@@ -57,7 +57,7 @@ answered_roots s before after (inr (inl meets)) =
 answered_roots s before after (inr (inr adds)) =
     let k : Known = found adds.request adds.place adds.includes in
     let number : ℕ = count_of before.sources in
-    let g : Gathered = with_file before.sources (name_at adds.place) adds.text (is_header_place adds.place) in
+    let g : Gathered = with_file before.sources (name_at adds.place) adds.text (is_header_place adds.place) adds.words in
     let ahead : asked_roots (adds.rest ++ lines_of number k) ≡ asked_roots adds.rest = omega (arith, asked_append adds.rest (lines_of number k), lines_by (nat_le k.depth 64) number (k.depth + 1) k.includes) in
     let here : root_count g ≡ root_count before.sources = refl in
     ap (λ (m : Moment). root_count m.sources + asked_roots m.ahead) adds.becomes
@@ -90,7 +90,7 @@ pub refused_placed : (s : Setting) (refusal : Refusal) (g : Gathered) → FailsB
 refused_placed s refusal g fails =
     let next = fails.ends in
     let number : ℕ = count_of fails.last.sources in
-    let file : SourceFile = record { name = name_at next.place; text = next.text; built_in = is_header_place next.place; links = [] } in
+    let file : SourceFile = record { name = name_at next.place; text = next.text; built_in = is_header_place next.place; words = []; links = [] } in
     let last : text_of g number ≡ next.text =
     ap (λ x. text_of x number) next.sources ∙ ap (λ (f : SourceFile). f.text) (get_or-append_seam fails.last.sources.files file [] no_file) in
     let placed = answer_place number next.text (lexing.Refused refusal) next.refused in

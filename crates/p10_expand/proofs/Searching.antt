@@ -27,9 +27,10 @@ fresh_back told old mid place text keeps fresh = record {
 
 adds_back : (old mid new : Gathering) (place : Place) (depth : ℕ) (text : List ℕ) (number : ℕ) → Keeps old mid → AddsFile mid new place depth text number → AddsFile old new place depth text number
 adds_back old mid new place depth text number keeps adds = record {
+  words = adds.words;
   includes = adds.includes;
   next = adds.next ∙ ap count_of keeps.sources;
-  sources = adds.sources ∙ ap (λ g. with_file g (name_at place) text (is_header_place place)) keeps.sources;
+  sources = adds.sources ∙ ap (λ g. with_file g (name_at place) text (is_header_place place) adds.words) keeps.sources;
   lexed = adds.lexed;
   known = adds.known ∙ ap (λ ks. ks ++ (record { place = place; depth = depth; includes = adds.includes }) ∷ []) keeps.known;
 }
@@ -45,7 +46,7 @@ located_back told old mid new place depth number keeps located = record {
 
 fails_back : (told : Option (List Named)) (old mid new : Gathering) (place : Place) (trouble : Trouble) → Keeps old mid → Fails told mid new place trouble → Fails told old new place trouble
 fails_back told old mid new place (Refused refusal) keeps (text, fresh, fails) =
-    (text, fresh_back told old mid place text keeps fresh, (subst (λ n. Answers n text (Err (lexing.Refused refusal))) (ap count_of keeps.sources) fails.0, fails.1 ∙ ap (λ g. with_file g (name_at place) text (is_header_place place)) keeps.sources))
+    (text, fresh_back told old mid place text keeps fresh, (subst (λ n. Answers n text (Err (lexing.Refused refusal))) (ap count_of keeps.sources) fails.0, fails.1 ∙ ap (λ g. with_file g (name_at place) text (is_header_place place) []) keeps.sources))
 fails_back told old mid new place (Over limit) keeps (inl (text, fresh, fails)) =
     inl (text, fresh_back told old mid place text keeps fresh, subst (λ n. Answers n text (Err (lexing.Over limit))) (ap count_of keeps.sources) fails)
 fails_back told old mid new place (Over limit) keeps (inr (limit_is, full)) =

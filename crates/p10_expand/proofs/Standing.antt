@@ -1,18 +1,17 @@
 -- What stands after a file was put behind the others, or linked.
 use Rattle.std.proofs.Common.{◌≡◌, ℕ, zero, suc, ◌+◌, ◌<◌, ◌≤◌, Bool, true, false, cond, List, [], ◌∷◌, ◌++◌, length, take, Option, Some, None, refl, ap, sym, ◌∙◌, subst, inl, inr, arith, length-append, get_or, set, below_more, ◌≢◌}
-use Rattle.std.specs.Prelude.{All, IsSome, IsSomeAnd, Ok, Err, is_some, map}
+use Rattle.std.specs.Prelude.{All, IsSome, IsSomeAnd, Err, is_some}
 use Rattle.std.proofs.lemmas.Bool.{cases_order}
 use Rattle.std.proofs.lemmas.List.{get_or_append_left, get_or-set_same, get_or-set_other, length-set, length-take}
 use Rattle.std.proofs.Math.Seq.{get_or-append_seam}
 use Rattle.p10_base.specs.declared.report.Limit.{Limit}
 use Rattle.p10_base.specs.declared.sources.SourceFile.{SourceFile}
 use Rattle.p10_base.specs.declared.sources.Link.{Link}
-use Rattle.p10_base.specs.declared.word.Word.{Word}
-use Rattle.p10_base.specs.Gathered.{Gathered, count_of, file_of, text_of, no_file, candidate_of, with_file, with_link, add_link}
+use Rattle.p10_base.specs.declared.word.WordPlace.{WordPlace}
+use Rattle.p10_base.specs.Gathered.{count_of, file_of, no_file, candidate_of, with_file, with_link, add_link}
 use Rattle.p10_world.specs.Files.{Named, Lacks, GrowsByFile}
 use Rattle.p10_world.specs.Files as world
 use Rattle.p10_lex.specs.declared.fault.LexFault.TheVariants as lexing
-use Rattle.p10_base.specs.Words.{plain_word}
 use Rattle.p10_lex.specs.Lexes.{Answers}
 use Rattle.p10_expand.specs.declared.place.Include.{Include}
 use Rattle.p10_expand.specs.declared.place.Place.{Place}
@@ -24,7 +23,7 @@ use Rattle.p10_expand.specs.declared.fault.Trouble.TheVariants.{Read, Refused, O
 use Rattle.p10_expand.specs.Headers.{header_of}
 use Rattle.p10_expand.specs.Finding.{name_at, is_header_place, HasText, IsThere}
 use Rattle.p10_expand.specs.Gathered.{IsGathered, AreGathered}
-use Rattle.p10_expand.specs.Includes.{AreIncludes, HasIncludes}
+use Rattle.p10_expand.specs.Includes.{HasIncludes}
 use Rattle.p10_expand.specs.Gathering.{no_known, known_at, IsAt, IsNew, HasRoom, present}
 use Rattle.p10_expand.specs.private.Standing.{HasFront, Stands, AddsFile, FailsToAdd, Links, IsLocated, Fails}
 
@@ -105,15 +104,15 @@ gathered_more told known files k f same old last n below =
     below_more P (length files) before here n (omega (arith, length-append files (f ∷ []), below))
 
 -- the length of a text that is lexed is bounded
-few_bytes : (number : ℕ) (text : List ℕ) (includes : List Include) → HasIncludes number text includes → length text ≤ 1048576
-few_bytes number text includes lexed = lexed.lexes.0
+few_bytes : (number : ℕ) (text : List ℕ) (words : List WordPlace) (includes : List Include) → HasIncludes number text words includes → length text ≤ 1048576
+few_bytes number text words includes lexed = lexed.lexes.0
 
 pub adds_stands : (told : Option (List Named)) (old new : Gathering) (place : Place) (depth : ℕ) (text : List ℕ) (number : ℕ) →
     Stands told old → HasFront told place text → AddsFile old new place depth text number → new.absent ≡ old.absent → Stands told new
 adds_stands told old new place depth text number stands front adds absent =
     let k : Known = record { place = place; depth = depth; includes = adds.includes } in
-    let last : IsGathered told (length old.sources.files) k (record { name = name_at place; text = text; built_in = is_header_place place; links = [] }) =
-    record { named = refl; text = whole_told told place text front (few_bytes number text adds.includes adds.lexed); marked = refl; lexed = subst (λ n. HasIncludes n text adds.includes) adds.next adds.lexed } in
+    let last : IsGathered told (length old.sources.files) k (record { name = name_at place; text = text; built_in = is_header_place place; words = adds.words; links = [] }) =
+    record { named = refl; text = whole_told told place text front (few_bytes number text adds.words adds.includes adds.lexed); marked = refl; lexed = subst (λ n. HasIncludes n text adds.words adds.includes) adds.next adds.lexed } in
     record {
       known = ap length adds.known ∙ (length-append old.known.items _ ∙ (ap (λ n. n + 1) stands.known ∙ (sym (length-append old.sources.files _) ∙ sym (ap count_of adds.sources))));
       gathered = subst (λ known. AreGathered told known new.sources) (sym adds.known)
@@ -125,7 +124,7 @@ adds_stands told old new place depth text number stands front adds absent =
 pub adds_located : (told : Option (List Named)) (old new : Gathering) (place : Place) (depth : ℕ) (text : List ℕ) (number : ℕ) →
     IsNew old.known.items place → HasRoom old.known.items place → HasFront told place text → AddsFile old new place depth text number → IsLocated told old new place depth number
 adds_located told old new place depth text number new_place room front adds =
-    let whole = whole_told told place text front (few_bytes number text adds.includes adds.lexed) in
+    let whole = whole_told told place text front (few_bytes number text adds.words adds.includes adds.lexed) in
     record { there = text_there told place text whole; how = inr (text, record { new = new_place; room = room; text_is = whole }, adds) }
 
 pub fails_to_add : (told : Option (List Named)) (old new : Gathering) (place : Place) (text : List ℕ) (trouble : Trouble) →
@@ -153,26 +152,37 @@ at_located told s place depth number stands at =
       how = inl (at, record { sources = refl; known = refl });
     }
 
-pub gathered_same : (told : Option (List Named)) (number : ℕ) (k : Known) (f g : SourceFile) → g.name ≡ f.name → g.text ≡ f.text → g.built_in ≡ f.built_in → IsGathered told number k f → IsGathered told number k g
-gathered_same told number k f g name text mark old = record {
-  named = name ∙ old.named;
-  text = subst (λ t. HasText told k.place t) (sym text) old.text;
-  marked = mark ∙ old.marked;
-  lexed = subst (λ t. HasIncludes number t k.includes) (sym text) old.lexed;
+-- a file with the same name, text, mark and words
+pub record AreAlike (f g : SourceFile) : Type 0 where
+  pub name : g.name ≡ f.name
+  pub text : g.text ≡ f.text
+  pub mark : g.built_in ≡ f.built_in
+  pub words : g.words ≡ f.words
+
+pub alike : (f : SourceFile) → AreAlike f f
+alike f = record { name = refl; text = refl; mark = refl; words = refl }
+
+pub gathered_same : (told : Option (List Named)) (number : ℕ) (k : Known) (f g : SourceFile) → AreAlike f g → IsGathered told number k f → IsGathered told number k g
+gathered_same told number k f g same old = record {
+  named = same.name ∙ old.named;
+  text = subst (λ t. HasText told k.place t) (sym same.text) old.text;
+  marked = same.mark ∙ old.marked;
+  lexed = subst (λ t. HasIncludes number t g.words k.includes) (sym same.text) (subst (λ ws. HasIncludes number f.text ws k.includes) (sym same.words) old.lexed);
 }
 
+-- a file that was linked is alike
+linked_alike : (f : SourceFile) (l : Link) → AreAlike f (add_link f l)
+linked_alike f l = record { name = refl; text = refl; mark = refl; words = refl }
+
 pub link_file : (files : List SourceFile) (from n : ℕ) (l : Link) → from < length files →
-    ((get_or (set files from (add_link (get_or files from no_file) l)) n no_file).name ≡ (get_or files n no_file).name)
-    × ((get_or (set files from (add_link (get_or files from no_file) l)) n no_file).text ≡ (get_or files n no_file).text)
-    × ((get_or (set files from (add_link (get_or files from no_file) l)) n no_file).built_in ≡ (get_or files n no_file).built_in)
+    AreAlike (get_or files n no_file) (get_or (set files from (add_link (get_or files from no_file) l)) n no_file)
 link_file files from n l below =
+    let after : List SourceFile = set files from (add_link (get_or files from no_file) l) in
     elim (cases_order n from) [
-      | inl same ↦ subst (λ m. ((get_or (set files from (add_link (get_or files from no_file) l)) m no_file).name ≡ (get_or files m no_file).name)
-          × ((get_or (set files from (add_link (get_or files from no_file) l)) m no_file).text ≡ (get_or files m no_file).text)
-          × ((get_or (set files from (add_link (get_or files from no_file) l)) m no_file).built_in ≡ (get_or files m no_file).built_in)) (sym same)
-          (let e = get_or-set_same files from (add_link (get_or files from no_file) l) no_file below in (ap (λ (x : SourceFile). x.name) e, ap (λ (x : SourceFile). x.text) e, ap (λ (x : SourceFile). x.built_in) e))
+      | inl same ↦ subst (λ m. AreAlike (get_or files m no_file) (get_or after m no_file)) (sym same)
+          (subst (λ g. AreAlike (get_or files from no_file) g) (sym (get_or-set_same files from (add_link (get_or files from no_file) l) no_file below)) (linked_alike (get_or files from no_file) l))
       | inr apart ↦ let ne : n ≢ from = elim apart [ inl lt ↦ omega (arith, lt) | inr lt ↦ omega (arith, lt) ] in
-          let e = get_or-set_other files from n (add_link (get_or files from no_file) l) no_file ne in (ap (λ (x : SourceFile). x.name) e, ap (λ (x : SourceFile). x.text) e, ap (λ (x : SourceFile). x.built_in) e)
+          subst (λ g. AreAlike (get_or files n no_file) g) (sym (get_or-set_other files from n (add_link (get_or files from no_file) l) no_file ne)) (alike (get_or files n no_file))
     ]
 
 stands_link : (told : Option (List Named)) (old new : Gathering) (from : ℕ) (name : List ℕ) (angle : Bool) (to : ℕ) → from < count_of old.sources →
@@ -180,8 +190,7 @@ stands_link : (told : Option (List Named)) (old new : Gathering) (from : ℕ) (n
 stands_link told old new from name angle to below stands sources known absent =
     let l : Link = record { name = name; angle = angle; to = to } in
     let linked : AreGathered told old.known.items (with_link old.sources from name angle to) =
-    λ n h. (let parts = link_file old.sources.files from n l below in
-    gathered_same told n (get_or old.known.items n no_known) (get_or old.sources.files n no_file) _ parts.0 parts.1 parts.2 (stands.gathered n (omega (arith, length-set old.sources.files from (add_link (get_or old.sources.files from no_file) l), h)))) in
+    λ n h. (gathered_same told n (get_or old.known.items n no_known) (get_or old.sources.files n no_file) _ (link_file old.sources.files from n l below) (stands.gathered n (omega (arith, length-set old.sources.files from (add_link (get_or old.sources.files from no_file) l), h)))) in
     record {
       known = ap length known ∙ (stands.known ∙ (sym (length-set old.sources.files from (add_link (get_or old.sources.files from no_file) l)) ∙ sym (ap count_of sources)));
       gathered = subst (λ k. AreGathered told k new.sources) (sym known) (subst (λ g. AreGathered told old.known.items g) (sym sources) linked);
@@ -210,19 +219,15 @@ not_here known place number apart at = apart at.place_of
 pub all_new : (known : List Known) (place : Place) (count : ℕ) → length known ≤ count → ((k : ℕ) → k < count → IsAt known place k → ⊥) → IsNew known place
 all_new known place count few none number at = none number (omega (arith, few, at.held)) at
 
-text_last : (g h : Gathered) (name text : List ℕ) (built_in : Bool) (number : ℕ) → number ≡ count_of g → h ≡ with_file g name text built_in → text_of h number ≡ text
-text_last g h name text built_in number next is =
-    ap (λ x. text_of x number) is ∙ (ap (λ n. text_of (with_file g name text built_in) n) next
-    ∙ ap (λ (f : SourceFile). f.text) (get_or-append_seam g.files (record { name = name; text = text; built_in = built_in; links = [] }) [] no_file))
-
-pub file_added : (old new : Gathering) (g : Gathered) (place : Place) (depth number : ℕ) (name text body : List ℕ) (words read : List Word) (includes : List Include) →
-    number ≡ count_of old.sources → g ≡ with_file old.sources name text (is_header_place place) → new.sources ≡ g → name ≡ name_at place → body ≡ text_of g number → Answers number body (Ok (map plain_word words)) → read ≡ words → AreIncludes (map plain_word read) includes →
+pub file_added : (old new : Gathering) (place : Place) (depth number : ℕ) (name text : List ℕ) (words : List WordPlace) (includes : List Include) →
+    number ≡ count_of old.sources → new.sources ≡ with_file old.sources name text (is_header_place place) words → name ≡ name_at place → HasIncludes number text words includes →
     new.known.items ≡ old.known.items ++ (record { place = place; depth = depth; includes = includes }) ∷ [] → AddsFile old new place depth text number
-file_added old new g place depth number name text body words read includes next with_it sources named body_is lexes same are known = record {
+file_added old new place depth number name text words includes next sources named lexed known = record {
+  words = words;
   includes = includes;
   next = next;
-  sources = sources ∙ (with_it ∙ ap (λ n. with_file old.sources n text (is_header_place place)) named);
-  lexed = record { words = map plain_word words; lexes = subst (λ t. Answers number t (Ok (map plain_word words))) (body_is ∙ text_last old.sources g name text (is_header_place place) number next with_it) lexes; named = subst (λ ws. AreIncludes (map plain_word ws) includes) same are };
+  sources = sources ∙ ap (λ n. with_file old.sources n text (is_header_place place) words) named;
+  lexed = lexed;
   known = known;
 }
 

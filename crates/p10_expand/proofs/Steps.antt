@@ -19,7 +19,7 @@ use Rattle.p10_expand.specs.declared.fault.Trouble.TheVariants.{Read, Refused, O
 use Rattle.p10_expand.specs.Candidates.{candidates_of}
 use Rattle.p10_expand.specs.Finding.{name_at, is_header_place, IsAbsent, IsFirst}
 use Rattle.p10_expand.specs.Includes.{HasIncludes, no_include}
-use Rattle.p10_expand.specs.Gathering.{Setting, Request, Root, Line, Moment, depth_of, places_of, lines_of, no_known, known_at, IsNew, linked, noted, Finds, Answered, Reached, Gathers, FailsBy, IsFault, HaveWords}
+use Rattle.p10_expand.specs.Gathering.{Setting, Request, Root, Line, Moment, depth_of, sought_places, lines_of, no_known, known_at, IsNew, linked, noted, Finds, Answered, Reached, Gathers, FailsBy, IsFault, HaveWords}
 use Rattle.p10_expand.specs.private.Standing.{Stands, Keeps, Grows, Links, IsLocated, FindsFirst, Fails, FailsFirst, moment, lines_from, new_lines, Steps, StopsAt, Stops, Comes, ComesTo, Follows, StopsFollowing, fault_with}
 use Rattle.p10_expand.specs.Setting.{setting}
 use Rattle.p10_expand.proofs.Standing.{links_stands}
@@ -47,7 +47,7 @@ nothing_more old new rest same = ap (λ ls. rest ++ ls) (none_new old new same) 
 -- ## One request
 
 pub located_steps : (held : Option (List Named)) (dirs : List (List ℕ)) (old mid new : Gathering) (request : Request) (depth : ℕ) (place : Place) (number : ℕ) →
-    length old.known.items ≡ count_of old.sources → depth ≡ depth_of request → IsFirst held (places_of dirs old.sources request) place →
+    length old.known.items ≡ count_of old.sources → depth ≡ depth_of request → IsFirst held (sought_places dirs old.sources request) place →
     IsLocated held old mid place depth number → new.sources ≡ noted request number mid.sources → new.known.items ≡ mid.known.items → Steps held dirs old new request
 located_steps held dirs old mid new request depth place number many deep first located sources known roots rest =
     let finds : Finds (setting held roots dirs) (moment old (request ∷ rest)) request rest place = record { asked = refl; first = first } in
@@ -70,15 +70,16 @@ located_steps held dirs old mid new request depth place number many deep first l
             rest = rest;
             place = place;
             text = text;
+            words = adds.words;
             includes = adds.includes;
             finds = finds;
             new = fresh.1.new;
             room = fresh.1.room;
             text_is = fresh.1.text_is;
-            lexed = subst (λ n. HasIncludes n text adds.includes) adds.next adds.lexed;
+            lexed = subst (λ n. HasIncludes n text adds.words adds.includes) adds.next adds.lexed;
             becomes = moments _ _ _ _ _ _
                 (known ∙ (adds.known ∙ ap (λ d. old.known.items ++ k d ∷ []) deep))
-                (sources ∙ (ap (λ g. noted request number g) adds.sources ∙ ap (λ n. noted request n (with_file old.sources (name_at place) text (is_header_place place))) adds.next))
+                (sources ∙ (ap (λ g. noted request number g) adds.sources ∙ ap (λ n. noted request n (with_file old.sources (name_at place) text (is_header_place place) adds.words)) adds.next))
                 (ap (λ ls. rest ++ ls) (one_new old new (k depth) (known ∙ adds.known) ∙ (ap (λ n. lines_of n (k depth)) many ∙ ap (λ d. lines_of (count_of old.sources) (k d)) deep)));
           }))
     ]
@@ -96,7 +97,7 @@ passed_steps held dirs old new from depth include none keeps roots rest = inl (r
 })
 
 fails_stop : (held : Option (List Named)) (dirs : List (List ℕ)) (old new : Gathering) (request : Request) (place : Place) (trouble : Trouble) →
-    IsFirst held (places_of dirs old.sources request) place → Fails held old new place trouble → Stops held dirs old new request trouble
+    IsFirst held (sought_places dirs old.sources request) place → Fails held old new place trouble → Stops held dirs old new request trouble
 fails_stop held dirs old new request place (Refused refusal) first (text, fresh, fails) roots rest = record {
   place = place;
   text = text;
@@ -114,7 +115,7 @@ fails_stop held dirs old new request place (Over limit) first (inr (limit_is, fu
   request = request;
   rest = rest;
   name = full.name;
-  finds = record { asked = refl; first = subst (λ p. IsFirst held (places_of dirs old.sources request) p) full.place_is first };
+  finds = record { asked = refl; first = subst (λ p. IsFirst held (sought_places dirs old.sources request) p) full.place_is first };
   new = subst (λ p. IsNew old.known.items p) full.place_is full.new;
   full = full.full;
   limit_is = limit_is;
@@ -123,7 +124,7 @@ fails_stop held dirs old new request place Read first fails roots rest = tt
 fails_stop held dirs old new request place Memory first fails roots rest = tt
 
 pub first_stops : (held : Option (List Named)) (dirs : List (List ℕ)) (old new : Gathering) (request : Request) (places : List Place) (trouble : Trouble) →
-    places ≡ places_of dirs old.sources request → FailsFirst held old new places trouble → Stops held dirs old new request trouble
+    places ≡ sought_places dirs old.sources request → FailsFirst held old new places trouble → Stops held dirs old new request trouble
 first_stops held dirs old new request places (Refused refusal) are (place, first, fails) =
     fails_stop held dirs old new request place (Refused refusal) (subst (λ ps. IsFirst held ps place) are first) fails
 first_stops held dirs old new request places (Over limit) are (place, first, fails) =
@@ -255,7 +256,7 @@ line_ends s old new file i depth k trouble few deep within stops comes =
     (subst (λ d. Stops s.held s.dirs old new (Line file d (get_or k.includes i no_include)) trouble) deep stops s.roots _)
 
 pub have_words : (told : Option (List Named)) (state : Gathering) → Stands told state → HaveWords state.sources
-have_words told state stands number within = let lexed = (stands.gathered number within).lexed in (lexed.words, lexed.lexes)
+have_words told state stands number within = (stands.gathered number within).lexed.lexes
 
 -- ## What the code found
 
@@ -264,7 +265,7 @@ some_located : (held : Option (List Named)) (old new : Gathering) (places : List
 some_located held old new places depth found number finds some = subst (λ o. FindsFirst held old new places depth o) some finds
 
 pub found_steps : (held : Option (List Named)) (dirs : List (List ℕ)) (old mid new : Gathering) (request : Request) (places : List Place) (depth : ℕ) (found : Option ℕ) (number : ℕ) →
-    length old.known.items ≡ count_of old.sources → depth ≡ depth_of request → places ≡ places_of dirs old.sources request → FindsFirst held old mid places depth found → found ≡ Some number →
+    length old.known.items ≡ count_of old.sources → depth ≡ depth_of request → places ≡ sought_places dirs old.sources request → FindsFirst held old mid places depth found → found ≡ Some number →
     new.sources ≡ noted request number mid.sources → new.known.items ≡ mid.known.items → Steps held dirs old new request
 found_steps held dirs old mid new request places depth found number many deep are finds some sources known =
     let (place, first, located) = some_located held old mid places depth found number finds some in

@@ -16,7 +16,7 @@ use Rattle.p10_expand.specs.declared.expansion.fault.ExpandFault.{ExpandFault}
 use Rattle.p10_expand.specs.declared.expansion.fault.ExpandFault.TheVariants.{Over, Memory}
 use Rattle.p10_expand.specs.declared.expansion.state.State.{State as CodedState}
 use Rattle.p10_expand.specs.declared.expansion.texts.Texts.{Texts}
-use Rattle.p10_expand.specs.private.Steps.{AreTexts, IsCut, Steps, CountsTo, Reaches, words_at}
+use Rattle.p10_expand.specs.private.Steps.{AreTexts, IsCut, Steps, CountsTo, Reaches, words_among}
 use Rattle.p10_direct.specs.declared.mark.Mark.{Mark}
 use Rattle.p10_direct.specs.Balance.{mark_of}
 use Rattle.p10_expand.specs.declared.expansion.stand.Stand.{Stand}
@@ -139,13 +139,13 @@ element_at xs place x P holds there is =
     rw found at holds
 
 -- a file's lines are those of its words
-pub cut_at : (texts : Texts) (number : ℕ) (cut : Lines) → AreTexts texts → number < count_of texts.sources.now → cut ≡ get_or texts.cuts.items number cut → IsCut (words_at texts.words.now number) cut
+pub cut_at : (texts : Texts) (number : ℕ) (cut : Lines) → AreTexts texts → number < count_of texts.sources.now → cut ≡ get_or texts.cuts.items number cut → IsCut (words_among texts.words.now number) cut
 cut_at texts number cut stands held is =
-    element_at texts.cuts.items number cut (IsCut (words_at texts.words.now number)) (stands.cuts.cut number held) (omega (arith, held, stands.cuts.all)) is
+    element_at texts.cuts.items number cut (IsCut (words_among texts.words.now number)) (stands.cuts.cut number held) (omega (arith, held, stands.cuts.all)) is
 
 -- a file has as many words as the code counts
 pub count_here : (texts : Texts) (number : ℕ) (words : Vec Word Global) → AreTexts texts → number < count_of texts.sources.now → words ≡ get_or texts.words.now number words →
-    length (words_at texts.words.now number) ≡ length words.items
+    length (words_among texts.words.now number) ≡ length words.items
 count_here texts number words stands held is =
     let here : get_or (lists_of texts.words.now) number [] ≡ words.items =
     get_or-map (λ (words : Vec Word Global). words.items) texts.words.now number words [] (omega (arith, held, stands.words.many)) ∙ ap (λ (words : Vec Word Global). words.items) (sym is) in

@@ -27,12 +27,12 @@ RootsAreNamed = (s : Setting) (g : Gathered) → Gathers s g → AreRoots s g
 -- ## The files
 
 -- a gathered file: it stands at its place, with the name and the text of that place; it is marked where a built-in header stands there,
--- and nowhere else; and its include lines are known
+-- and nowhere else; its words are known, and its include lines
 pub record IsGathered (held : Option (List Named)) (number : ℕ) (known : Known) (file : SourceFile) : Type 0 where
   pub named : file.name ≡ name_at known.place
   pub text : HasText held known.place file.text
   pub marked : file.built_in ≡ is_header_place known.place
-  pub lexed : HasIncludes number file.text known.includes
+  pub lexed : HasIncludes number file.text file.words known.includes
 
 -- each file is gathered, with what is known of it
 abbrev pub AreGathered : Option (List Named) → List Known → Gathered → Type 0

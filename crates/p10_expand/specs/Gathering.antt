@@ -4,10 +4,11 @@ use Rattle.std.specs.Prelude.{ℕ, ◌≡◌, zero, suc, ◌+◌, ◌<◌, ◌�
 use Rattle.std.specs.List.{filter}
 use Rattle.p10_base.specs.declared.report.Refusal.{Refusal}
 use Rattle.p10_base.specs.declared.report.Limit.{Limit}
-use Rattle.p10_base.specs.Gathered.{Gathered, nothing_gathered, count_of, root_count, name_of, text_of, candidate_of, with_file, with_root, with_link}
+use Rattle.p10_base.specs.Gathered.{Gathered, nothing_gathered, count_of, root_count, name_of, text_of, words_of, candidate_of, with_file, with_root, with_link}
 use Rattle.p10_world.specs.Files.{Named}
 use Rattle.p10_lex.specs.declared.fault.LexFault.TheVariants as lexing
-use Rattle.p10_base.specs.Words.{PlainWord, Text}
+use Rattle.p10_base.specs.declared.word.WordPlace.{WordPlace}
+use Rattle.p10_base.specs.Words.{Text}
 use Rattle.p10_lex.specs.Lexes.{Answers}
 use Rattle.p10_expand.specs.declared.place.Include.{Include}
 use Rattle.p10_expand.specs.declared.place.Place.{Place}
@@ -40,9 +41,9 @@ depth_of (Root name) = 0
 depth_of (Line from depth include) = depth
 
 -- where it is looked for, in this order
-abbrev pub places_of : List Text → Gathered → Request → List Place
-places_of dirs g (Root name) = File name ∷ []
-places_of dirs g (Line from depth include) = candidates_of dirs (name_of g from) include
+abbrev pub sought_places : List Text → Gathered → Request → List Place
+sought_places dirs g (Root name) = File name ∷ []
+sought_places dirs g (Line from depth include) = candidates_of dirs (name_of g from) include
 
 -- the include lines of a file that are followed: all of them where the chain that led to the file has at most 64 includes. Files
 -- are found breadth first, so that chain is the shortest
@@ -99,7 +100,7 @@ noted (Line from depth include) number g = linked from include number g
 -- the next request, with the others behind it, and the first of its places at which there is a file
 pub record Finds (s : Setting) (m : Moment) (request : Request) (rest : List Request) (place : Place) : Type 0 where
   pub asked : m.ahead ≡ request ∷ rest
-  pub first : IsFirst s.held (places_of s.dirs m.sources request) place
+  pub first : IsFirst s.held (sought_places s.dirs m.sources request) place
 
 -- ## How the next request is answered
 
@@ -110,7 +111,7 @@ pub record Passes (s : Setting) (before after : Moment) : Type 0 where
   pub include : Include
   pub rest : List Request
   pub asked : before.ahead ≡ Line from depth include ∷ rest
-  pub none : All (IsAbsent s.held) (places_of s.dirs before.sources (Line from depth include))
+  pub none : All (IsAbsent s.held) (sought_places s.dirs before.sources (Line from depth include))
   pub becomes : after ≡ record { known = before.known; sources = before.sources; ahead = rest }
 
 -- the request stands for a file that was gathered before
@@ -127,11 +128,11 @@ pub record Meets (s : Setting) (before after : Moment) : Type 0 where
 abbrev pub found : Request → Place → List Include → Known
 found request place includes = record { place = place; depth = depth_of request; includes = includes }
 
--- a file is put behind the others, marked where it is a built-in header, and its include lines behind the other requests
-abbrev pub added : Request → List Request → Known → List ℕ → Moment → Moment
-added request rest known text before = record {
+-- a file is put behind the others with its words, marked where it is a built-in header, and its include lines behind the other requests
+abbrev pub added : Request → List Request → Known → Text → List WordPlace → Moment → Moment
+added request rest known text words before = record {
   known = before.known ++ known ∷ [];
-  sources = noted request (count_of before.sources) (with_file before.sources (name_at known.place) text (is_header_place known.place));
+  sources = noted request (count_of before.sources) (with_file before.sources (name_at known.place) text (is_header_place known.place) words);
   ahead = rest ++ lines_of (count_of before.sources) known;
 }
 
@@ -141,13 +142,14 @@ pub record Adds (s : Setting) (before after : Moment) : Type 0 where
   pub rest : List Request
   pub place : Place
   pub text : List ℕ
+  pub words : List WordPlace
   pub includes : List Include
   pub finds : Finds s before request rest place
   pub new : IsNew before.known place
   pub room : HasRoom before.known place
   pub text_is : HasText s.held place text
-  pub lexed : HasIncludes (count_of before.sources) text includes
-  pub becomes : after ≡ added request rest (found request place includes) text before
+  pub lexed : HasIncludes (count_of before.sources) text words includes
+  pub becomes : after ≡ added request rest (found request place includes) text words before
 
 -- the next request was answered: it met a file that is gathered, found none, or added one
 abbrev pub Answered : Setting → Moment → Moment → Type 0
@@ -176,13 +178,13 @@ pub record IsNext (s : Setting) (m : Moment) (place : Place) (text : List ℕ) :
   pub room : HasRoom m.known place
   pub text_is : HasText s.held place text
 
--- the next file is refused by one of X1 to X6; these are the files gathered so far, the refused one last
+-- the next file is refused by one of X1 to X6; these are the files gathered so far, the refused one last, without words
 pub record RefusesNext (s : Setting) (m : Moment) (refusal : Refusal) (g : Gathered) : Type 0 where
   pub place : Place
   pub text : List ℕ
   pub next : IsNext s m place text
   pub refused : Answers (count_of m.sources) text (Err (lexing.Refused refusal))
-  pub sources : g ≡ with_file m.sources (name_at place) text (is_header_place place)
+  pub sources : g ≡ with_file m.sources (name_at place) text (is_header_place place) []
 
 -- the next file passes M1 or M2
 pub record PassesLimit (s : Setting) (m : Moment) (limit : Limit) : Type 0 where
@@ -237,9 +239,9 @@ abbrev pub IsEnding : Setting → Result Gathered GatherFault → Type 0
 IsEnding s (Ok g) = Gathers s g
 IsEnding s (Err fault) = FailsBy s fault
 
--- each of the files has words
+-- the words of each file are those of its text
 abbrev pub HaveWords : Gathered → Type 0
-HaveWords g = (number : ℕ) → number < count_of g → (words : List PlainWord) × Answers number (text_of g number) (Ok words)
+HaveWords g = (number : ℕ) → number < count_of g → Answers number (text_of g number) (Ok (words_of g number))
 
 -- where files are told, it ends in one way only
 abbrev pub EndsOnce : Type 0

@@ -1,6 +1,7 @@
 -- The include lines of a file (C99 6.10.2).
 use Rattle.std.specs.Prelude.{ℕ, ◌≡◌, List, [], ◌∷◌, Bool, false, ◌⊎◌, Option, Some, None, Ok}
-use Rattle.p10_base.specs.Words.{PlainWord}
+use Rattle.p10_base.specs.declared.word.WordPlace.{WordPlace}
+use Rattle.p10_base.specs.Words.{PlainWord, words_at}
 use Rattle.p10_lex.specs.Lexes.{Answers}
 use Rattle.p10_direct.specs.Directives.{Include, Spells}
 use Rattle.p10_direct.specs.Form.{BeginsWithHash}
@@ -35,8 +36,7 @@ pub record AreIncludes (words : List PlainWord) (includes : List Wanted) : Type 
   pub cut : AreCut words pieces
   pub named : NamedIn pieces includes
 
--- the text of the file with this number has words, and these are its include lines
-pub record HasIncludes (number : ℕ) (text : List ℕ) (includes : List Wanted) : Type 0 where
-  pub words : List PlainWord
-  pub lexes : Answers number text (Ok words)
-  pub named : AreIncludes words includes
+-- the words of the text of the file with this number stand at these places, and these are its include lines
+pub record HasIncludes (number : ℕ) (text : List ℕ) (places : List WordPlace) (includes : List Wanted) : Type 0 where
+  pub lexes : Answers number text (Ok (words_at number text places))
+  pub named : AreIncludes (words_at number text places) includes

@@ -14,11 +14,13 @@ mod state;
 mod step;
 mod texts;
 
-ghost use Rattle.std.specs.Prelude.{◌≡◌, ◌<◌, ◌^◌, [], ◌++◌, Some, length, map, replicate, sum_by, IfOk, IfErr};
-ghost use Rattle.p10_base.specs.Gathered.{count_of};
+ghost use Rattle.std.specs.Prelude.{◌≡◌, ◌<◌, ◌^◌, [], ◌++◌, All, Ok, Some, length, map, replicate, sum_by, IfOk, IfErr};
+ghost use Rattle.p10_base.specs.Gathered.{count_of, text_of};
+ghost use Rattle.p10_base.specs.Words.{plain_word, plain_words, words_at};
+ghost use Rattle.p10_lex.specs.Lexes.{Answers};
 ghost use Rattle.p10_expand.specs.Gathering.{HaveWords};
 ghost use Rattle.p10_expand.specs.Coming.{ExpansionComes};
-ghost use Rattle.p10_expand.specs.private.Steps.{AreWords, AreCuts, AreTexts, lists_in};
+ghost use Rattle.p10_expand.specs.private.Steps.{StandsIn, AreWords, AreCuts, AreTexts, lists_in};
 ghost use Rattle.p10_expand.specs.Answers.{IsExpansion, IsFault, expansion_of, lists_of, plain_obeyed};
 
 use crate::expanded::{Expanded, Obeyed};
@@ -28,9 +30,8 @@ use crate::expansion::texts::Texts;
 use crate::includes::MOST_NESTED;
 pub use fault::ExpandFault;
 pub use laws::{expands_to_once, words_before_give};
-use p10_base::{Limit, ListBuf, Refusal, Sources, Word};
+use p10_base::{Limit, ListBuf, Refusal, Sources, Span, Word, WordPlace};
 use p10_direct::{Lines, lines};
-use p10_lex::lex;
 use std::alloc::{AllocError, Global};
 
 /// The most words of files and of replacements (M4).
@@ -38,7 +39,7 @@ const MOST_WORDS: u64 = Limit::MOST_EXPANDED_WORDS;
 
 /// Expands a program: obeys its directives and replaces its macros (C99 6.10).
 ///
-/// Each file lexes within its limits, as in what `gather` gives. The first of D1 to D8 is the refusal; a limit is answered
+/// The words of each file are those of its text, as in what `gather` gives. The first of D1 to D8 is the refusal; a limit is answered
 /// where it is passed before one: M3 by the 65th nested include, M4 by 1,048,577 words of files and of replacements, and M6
 /// by 8,193 macros that are defined at once, without those of built-in headers.
 pub fn expand<'s>(alloc: Global, sources: &'s Sources) -> Result<Expanded<'s>, ExpandFault>
@@ -68,13 +69,48 @@ fn words_of_files<'s>(alloc: Global, sources: &'s Sources) -> Result<Vec<Vec<Wor
 {
     let mut all = Vec::new(alloc);
     for number in 0..sources.count() {
-        match lex(alloc, number, sources.text(number)) {
-            Ok(words) => all.push(words)?,
-            // Each file lexes, so memory is wanting.
-            Err(_) => return Err(AllocError),
-        }
+        all.push(words_of_file(alloc, sources, number)?)?;
     }
     Ok(all)
+}
+
+/// The words of a file.
+fn words_of_file<'s>(
+    alloc: Global,
+    sources: &'s Sources,
+    number: u32,
+) -> Result<Vec<Word<'s>>, AllocError>
+    requires have { HaveWords sources.now }
+    requires held { number < count_of sources.now }
+    ensures { IfOk result (λ words. Answers number (text_of sources.now number) (Ok (map plain_word words.items))) }
+{
+    words_in(alloc, number, sources.text(number), sources.words(number))
+}
+
+/// The words at places in the text of the file with this number.
+fn words_in<'s>(
+    alloc: Global,
+    file: u32,
+    text: &'s [u8],
+    places: &[WordPlace],
+) -> Result<Vec<Word<'s>>, AllocError>
+    requires { All (StandsIn text.now) places.now }
+    ensures { IfOk result (λ words. plain_words words.items ≡ words_at file text.now places.now) }
+{
+    let mut words = Vec::with_capacity(alloc, places.len())?;
+    for place in places {
+        words.push(Word {
+            kind: place.kind,
+            text: &text[place.start as usize..place.end as usize],
+            at: Span {
+                file,
+                start: place.start,
+                end: place.end,
+            },
+            first: place.first,
+        })?;
+    }
+    Ok(words)
 }
 
 /// The lines of each file.

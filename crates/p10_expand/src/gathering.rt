@@ -1,15 +1,14 @@
 //! The files gathered so far.
 
-ghost use Rattle.std.specs.Prelude.{◌≡◌, ◌↔◌, ◌+◌, ◌<◌, ◌^◌, not, IfOk, IfErr, IfSome, IsTrue, OnOk, string_bytes};
+ghost use Rattle.std.specs.Prelude.{◌≡◌, ◌↔◌, ◌+◌, ◌<◌, ◌^◌, not, IfOk, IfErr, IfSome, IsTrue, OnOk, OnErr, string_bytes};
 ghost use Rattle.p10_base.specs.Gathered.{count_of, with_file};
 ghost use Rattle.p10_expand.specs.Finding.{name_at, is_header_place};
 
 use crate::absent::Absent;
 use crate::fault::Trouble;
-use crate::includes::includes_of;
 use crate::place::{Include, Place};
-use p10_base::{ListBuf, Sources};
-use p10_lex::{LexFault, lex};
+use crate::reading::{Reading, read_text};
+use p10_base::{ListBuf, Sources, WordPlace};
 use std::alloc::{AllocError, Global};
 
 /// What is known of a gathered file besides its name and its text.
@@ -124,8 +123,8 @@ impl Gathering {
         self.absent.has(name)
     }
 
-    /// Gathers one more file, which has this name, as a built-in header or not: lexes its text and reads
-    /// its include lines.
+    /// Gathers one more file, which has this name, as a built-in header or not: cuts its text into words and
+    /// reads its include lines. A refused file is gathered without words, so that the refusal has its place.
     pub fn add(
         &mut self,
         place: Place,
@@ -138,35 +137,44 @@ impl Gathering {
         ensures refused { IfErr result (FailsToAdd self.old self.new place text.items) }
         ensures absent { self.new.absent ≡ self.old.absent }
     {
-        if self.sources.count() >= u32::MAX - 1 {
+        let number = self.sources.count();
+        if number >= u32::MAX - 1 {
             return Err(Trouble::Memory);
         }
-        let number = put(&mut self.sources, &place, name, text)?;
-        let words = match lex(self.alloc, number, self.sources.text(number)) {
-            Ok(words) => words,
-            Err(LexFault::Refused(refusal)) => return Err(Trouble::Refused(refusal)),
-            Err(LexFault::Over(limit)) => return Err(Trouble::Over(limit)),
-            Err(LexFault::Memory) => return Err(Trouble::Memory),
-        };
-        let includes = ListBuf::of(includes_of(self.alloc, &words)?);
-        self.known.push(Known {
-            place,
-            depth,
-            includes,
-        })?;
-        Ok(number)
+        match read_text(self.alloc, number, &text) {
+            Ok(Reading { words, includes }) => {
+                put(&mut self.sources, &place, name, text, words)?;
+                self.known.push(Known {
+                    place,
+                    depth,
+                    includes: ListBuf::of(includes),
+                })?;
+                Ok(number)
+            }
+            Err(Trouble::Refused(refusal)) => {
+                put(&mut self.sources, &place, name, text, Vec::new(self.alloc))?;
+                Err(Trouble::Refused(refusal))
+            }
+            Err(trouble) => Err(trouble),
+        }
     }
 }
 
-/// Puts a file after the others; one at the place of a built-in header is marked as one.
-fn put(sources: &mut Sources, place: &Place, name: String, text: Vec<u8>) -> Result<u32, AllocError>
+/// Puts a file with words at these places after the others; one at the place of a built-in header is marked as one.
+fn put(
+    sources: &mut Sources,
+    place: &Place,
+    name: String,
+    text: Vec<u8>,
+    words: Vec<WordPlace>,
+) -> Result<u32, AllocError>
     requires { count_of sources.old + 1 < 2 ^ 32 }
-    ensures number { IfOk result (λ number. number ≡ count_of sources.old) }
-    ensures ok { OnOk result (sources.new ≡ with_file sources.old (string_bytes name) text.items (is_header_place place.now)) }
+    ensures ok { OnOk result (sources.new ≡ with_file sources.old (string_bytes name) text.items (is_header_place place.now) words.items) }
+    ensures err { OnErr result (sources.new ≡ sources.old) }
 {
     match place {
-        Place::File(_) => sources.push(name, text),
-        Place::Header(_) => sources.push_built_in(name, text),
+        Place::File(_) => sources.push(name, text, words),
+        Place::Header(_) => sources.push_built_in(name, text, words),
     }
 }
 

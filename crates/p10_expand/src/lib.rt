@@ -1,7 +1,7 @@
 //! The words of a program: its source files gathered, their directives obeyed and their macros replaced.
 //!
 //! Entry points: [`gather`], which reads the roots and every file that their include lines can reach, cuts
-//! each into words and links its include lines to the files for which they stand (C99 6.10.2); and
+//! each into words, which it keeps, and links its include lines to the files for which they stand (C99 6.10.2); and
 //! [`expand`], which gives the words of each root after its directives are obeyed and its macros replaced
 //! (C99 5.1.1.2, phase 4), and the directives that were obeyed. Invariants: every gathered file is a held
 //! file with its bytes or a built-in header with its text; every word of an expansion is a run of bytes of a
@@ -19,6 +19,7 @@ mod includes;
 mod laws;
 mod load;
 mod place;
+mod reading;
 mod walk;
 
 pub use expanded::{Expanded, Obeyed};

@@ -1,5 +1,5 @@
 -- Where files are told, it is decided what is at a place, and each text has words, a refusal or too many bytes or words.
-use Rattle.std.proofs.Common.{◌≡◌, ℕ, zero, suc, ◌<◌, ◌≤◌, List, [], ◌∷◌, length, Bool, true, false, refl, sym, ◌∙◌, ap, subst, inl, inr, ◌⊎◌, arith, Option, Some, None, Ok, Err}
+use Rattle.std.proofs.Common.{◌≡◌, ℕ, zero, suc, ◌<◌, ◌≤◌, List, [], ◌∷◌, length, map, Bool, true, false, refl, sym, ◌∙◌, ap, subst, inl, inr, ◌⊎◌, arith, Option, Some, None, Ok, Err}
 use Rattle.std.specs.Prelude.{All, IsSome, bytes_eq}
 use Rattle.std.proofs.lemmas.Bool.{both_ways, cases_order}
 use Rattle.std.proofs.lemmas.Option.{none-some}
@@ -8,7 +8,7 @@ use Rattle.std.proofs.lemmas.List.Elements.{All-nil, All-cons}
 use Rattle.p10_base.specs.declared.report.Refusal.{Refusal}
 use Rattle.p10_base.specs.declared.report.Limit.{Limit}
 use Rattle.p10_base.specs.declared.report.TheConstants.Limit.{FILE_BYTES, FILE_WORDS, MOST_FILE_BYTES, MOST_FILE_WORDS, MOST_FILES}
-use Rattle.p10_base.specs.Words.{PlainWord}
+use Rattle.p10_base.specs.Words.{PlainWord, place_of_word}
 use Rattle.p10_world.specs.Files.{Named}
 use Rattle.p10_world.specs.Files as world
 use Rattle.p10_lex.specs.declared.fault.LexFault.TheVariants as lexing
@@ -25,6 +25,7 @@ use Rattle.p10_expand.specs.Headers.{header_of}
 use Rattle.p10_expand.specs.Finding.{HasText, IsThere, IsAbsent, IsFirst}
 use Rattle.p10_expand.specs.Includes.{IsNamedBy, NamedIn, HasIncludes}
 use Rattle.p10_expand.specs.Gathering.{IsAt, IsNew, present, HasRoom}
+use Rattle.p10_expand.proofs.WordPlaces.{words_placed}
 use Rattle.p10_expansion_laws.proofs.PartsThere.{cut_there}
 
 -- ## Places
@@ -175,8 +176,8 @@ named_there (TextRun words ∷ pieces) = named_there pieces
 named_there (DirectiveLine line ∷ pieces) = named_by line (one_outcome line) pieces (wanted_of (one_outcome line).outcome) refl (named_there pieces)
 
 -- a text that has words has include lines
-pub includes_there : (number : ℕ) (text : List ℕ) (words : List PlainWord) → Answers number text (Ok words) → (includes : List Wanted) × HasIncludes number text includes
+pub includes_there : (number : ℕ) (text : List ℕ) (words : List PlainWord) → Answers number text (Ok words) → (includes : List Wanted) × HasIncludes number text (map place_of_word words) includes
 includes_there number text words lexes =
     let (pieces, cut) = cut_there words in
     let (includes, named) = named_there pieces in
-    (includes, record { words = words; lexes = lexes; named = record { pieces = pieces; cut = cut; named = named } })
+    (includes, words_placed number text words includes lexes (record { pieces = pieces; cut = cut; named = named }))

@@ -5,7 +5,8 @@ use Rattle.std.proofs.lemmas.List.Elements.{All-head}
 use Rattle.std.proofs.Math.Seq.{get_or-append_seam}
 use Rattle.p10_base.specs.declared.report.TheConstants.Limit.{FILES, MOST_NESTED_INCLUDES}
 use Rattle.p10_base.specs.Gathered.{Gathered, count_of, root_count, candidate_of, with_file, with_link}
-use Rattle.p10_base.specs.Words.{Text}
+use Rattle.p10_base.specs.declared.word.WordPlace.{WordPlace}
+use Rattle.p10_base.specs.Words.{Text, place_of_word}
 use Rattle.p10_expand.specs.declared.fault.GatherFault.{GatherFault}
 use Rattle.p10_expand.specs.declared.fault.GatherFault.TheVariants.{RootAbsent, Refused, Over}
 use Rattle.p10_expand.specs.declared.place.Include.{Include}
@@ -13,7 +14,7 @@ use Rattle.p10_expand.specs.declared.place.Place.{Place}
 use Rattle.p10_expand.specs.declared.place.Place.TheVariants.{File}
 use Rattle.p10_expand.specs.declared.gathering.Known.{Known}
 use Rattle.p10_expand.specs.Finding.{name_at, is_header_place, HasText, IsThere, IsAbsent}
-use Rattle.p10_expand.specs.Gathering.{Setting, Request, Root, Line, Moment, places_of, lines_of, beginning, IsNew, HasRoom, noted, found, added, Finds, Answered, Reached, EndsAt, IsEnding}
+use Rattle.p10_expand.specs.Gathering.{Setting, Request, Root, Line, Moment, sought_places, lines_of, beginning, IsNew, HasRoom, noted, found, added, Finds, Answered, Reached, EndsAt, IsEnding}
 use Rattle.p10_expansion_laws.specs.Existing.{GatheringEnds}
 use Rattle.p10_expansion_laws.proofs.FilesThere.{first_or_none, text_at, met_or_new, room_or_full, IsLexed, lexed_there, includes_there}
 use Rattle.p10_expansion_laws.proofs.Slots.{slots_of, one_slot_less}
@@ -23,18 +24,18 @@ use Rattle.p10_expansion_laws.proofs.Slots.{slots_of, one_slot_less}
 -- what comes of the next request, for which there is a file
 data Step (s : Setting) (m : Moment) (request : Request) (rest : List Request) : Type 0 where
   meets : (number : ℕ) → Answered s m (record { known = m.known; sources = noted request number m.sources; ahead = rest }) → Step s m request rest
-  adds : (known : Known) (text : List ℕ) → Answered s m (added request rest known text m) → slots_of (m.known ++ known ∷ []) < slots_of m.known → Step s m request rest
+  adds : (known : Known) (text : List ℕ) (words : List WordPlace) → Answered s m (added request rest known text words m) → slots_of (m.known ++ known ∷ []) < slots_of m.known → Step s m request rest
   fails : (fault : GatherFault) → EndsAt s m fault → Step s m request rest
 
 module _ (s : Setting) (told : IsSome s.held) (m : Moment) (request : Request) (rest : List Request) (place : Place) (finds : Finds s m request rest place) where
   lexed_step : (text : List ℕ) → HasText s.held place text → IsNew m.known place → HasRoom m.known place → IsLexed (count_of m.sources) text → Step s m request rest
   lexed_step text has new room (inl (words, lexes)) =
       let (includes, lexed) = includes_there (count_of m.sources) text words lexes in
-      adds (found request place includes) text
-      (inr (inr (record { request = request; rest = rest; place = place; text = text; includes = includes; finds = finds; new = new; room = room; text_is = has; lexed = lexed; becomes = refl })))
+      adds (found request place includes) text (map place_of_word words)
+      (inr (inr (record { request = request; rest = rest; place = place; text = text; words = map place_of_word words; includes = includes; finds = finds; new = new; room = room; text_is = has; lexed = lexed; becomes = refl })))
       (one_slot_less m.known (found request place includes) place refl new room (λ name is. subst (IsThere s.held) is finds.first.there))
   lexed_step text has new room (inr (inl (refusal, refused))) =
-      fails (Refused refusal (with_file m.sources (name_at place) text (is_header_place place))) (record {
+      fails (Refused refusal (with_file m.sources (name_at place) text (is_header_place place) [])) (record {
         place = place;
         text = text;
         next = record { request = request; rest = rest; finds = finds; new = new; room = room; text_is = has };
@@ -75,9 +76,9 @@ module _ (s : Setting) (told : IsSome s.held) (m : Moment) (request : Request) (
       ]
 
 -- the next request stands for a file, or there is none for it
-next_step : (s : Setting) → IsSome s.held → (m : Moment) (request : Request) (rest : List Request) → m.ahead ≡ request ∷ rest → Step s m request rest ⊎ All (IsAbsent s.held) (places_of s.dirs m.sources request)
+next_step : (s : Setting) → IsSome s.held → (m : Moment) (request : Request) (rest : List Request) → m.ahead ≡ request ∷ rest → Step s m request rest ⊎ All (IsAbsent s.held) (sought_places s.dirs m.sources request)
 next_step s told m request rest asked =
-    elim (first_or_none s.held told (places_of s.dirs m.sources request)) [
+    elim (first_or_none s.held told (sought_places s.dirs m.sources request)) [
       | inl first ↦ inl (found_step s told m request rest first.0 (record { asked = asked; first = first.1 }))
       | inr none ↦ inr none
     ]
@@ -169,10 +170,10 @@ module _ (s : Setting) (told : IsSome s.held) where
       let after : Moment = record { known = m.known; sources = noted (Root name) number m.sources; ahead = map Root names ++ lines } in
       let next = root_stage s m after done names name lines [] number m.sources stage refl tt refl (sym (append-nil (map Root names ++ lines))) in
       each after (suc answered) (done ++ name ∷ []) names (lines ++ []) (m, reached, answers) next p (omega (arith, q, nothing_more lines))
-  root_next slots size lower each m answered done names name lines reached stage p q (adds known text answers less) =
+  root_next slots size lower each m answered done names name lines reached stage p q (adds known text words answers less) =
       let more = lines_of (count_of m.sources) known in
-      let after : Moment = added (Root name) (map Root names ++ lines) known text m in
-      let next = root_stage s m after done names name lines more (count_of m.sources) (with_file m.sources (name_at known.place) text (is_header_place known.place)) stage refl
+      let after : Moment = added (Root name) (map Root names ++ lines) known text words m in
+      let next = root_stage s m after done names name lines more (count_of m.sources) (with_file m.sources (name_at known.place) text (is_header_place known.place) words) stage refl
       (lines_if (nat_le known.depth MOST_NESTED_INCLUDES) (count_of m.sources) (known.depth + 1) known.includes) refl refl in
       fewer slots lower (slots_of m.known) (slots_of (m.known ++ known ∷ [])) after (suc answered) (done ++ name ∷ []) names (lines ++ more) less p refl (m, reached, answers) next
   root_next slots size lower each m answered done names name lines reached stage p q (fails fault ends) = fails_by m answered fault reached ends
@@ -194,17 +195,17 @@ module _ (s : Setting) (told : IsSome s.held) where
       let after : Moment = record { known = m.known; sources = noted (Line from depth include) number m.sources; ahead = lines } in
       let next = line_stage s m after done from depth include lines [] stage tt (linked_by (is_some (candidate_of m.sources from include.name include.angle)) m.sources from include number) (sym (append-nil lines)) in
       each after (suc answered) done [] (lines ++ []) (m, reached, answers) next p (omega (arith, q, nothing_more lines))
-  line_next slots size lower each m answered done from depth include lines reached stage p q (adds known text answers less) =
+  line_next slots size lower each m answered done from depth include lines reached stage p q (adds known text words answers less) =
       let more = lines_of (count_of m.sources) known in
-      let after : Moment = added (Line from depth include) lines known text m in
-      let g : Gathered = with_file m.sources (name_at known.place) text (is_header_place known.place) in
+      let after : Moment = added (Line from depth include) lines known text words m in
+      let g : Gathered = with_file m.sources (name_at known.place) text (is_header_place known.place) words in
       let next = line_stage s m after done from depth include lines more stage (lines_if (nat_le known.depth MOST_NESTED_INCLUDES) (count_of m.sources) (known.depth + 1) known.includes)
       (linked_by (is_some (candidate_of g from include.name include.angle)) g from include (count_of m.sources)) refl in
       fewer slots lower (slots_of m.known) (slots_of (m.known ++ known ∷ [])) after (suc answered) done [] (lines ++ more) less p refl (m, reached, answers) next
   line_next slots size lower each m answered done from depth include lines reached stage p q (fails fault ends) = fails_by m answered fault reached ends
 
   line_passed : (slots size : ℕ) → UpTo slots size → (m : Moment) (answered : ℕ) (done : List Text) (from depth : ℕ) (include : Include) (lines : List Request) → Reached s answered m →
-      Stage s m done [] (Line from depth include ∷ lines) → slots_of m.known ≤ slots → length lines ≤ size → All (IsAbsent s.held) (places_of s.dirs m.sources (Line from depth include)) → Ending
+      Stage s m done [] (Line from depth include ∷ lines) → slots_of m.known ≤ slots → length lines ≤ size → All (IsAbsent s.held) (sought_places s.dirs m.sources (Line from depth include)) → Ending
   line_passed slots size each m answered done from depth include lines reached stage p q none =
       let after : Moment = record { known = m.known; sources = m.sources; ahead = lines } in
       let answers : Answered s m after = inl (record { from = from; depth = depth; include = include; rest = lines; asked = stage.ahead; none = none; becomes = refl }) in

@@ -14,6 +14,7 @@ fn one_file(alloc: Global, name: &str, text: &[u8]) -> Result<Sources, AllocErro
     let _ = sources.push(
         String::from_str(alloc, name)?,
         Vec::from_slice(alloc, text)?,
+        Vec::new(alloc),
     )?;
     Ok(sources)
 }

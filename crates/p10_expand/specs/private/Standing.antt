@@ -21,6 +21,7 @@ use Rattle.p10_expand.specs.Gathered.{AreGathered}
 use Rattle.p10_expand.specs.Gathering.{Setting, Request, Moment, lines_of, IsAt, IsNew, HasRoom, present, linked, Reached, Answered, RefusesNext, PassesLimit, IsOneTooMany, IsFault}
 use Rattle.p10_base.specs.declared.report.TheConstants.Limit.{FILES, MOST_FILES, MOST_FILE_BYTES}
 use Rattle.p10_expand.specs.Setting.{setting}
+use Rattle.p10_base.specs.declared.word.WordPlace.{WordPlace}
 use Rattle.p10_base.specs.Words.{Text}
 
 -- the text is all of the file at a place, or the first 1,048,577 bytes of a longer one
@@ -46,18 +47,24 @@ pub record Grows (old new : Gathering) : Type 0 where
 
 -- a file was put behind the others, at this place
 pub record AddsFile (old new : Gathering) (place : Place) (depth : ℕ) (text : List ℕ) (number : ℕ) : Type 0 where
+  pub words : List WordPlace
   pub includes : List Include
   pub next : number ≡ count_of old.sources
-  pub sources : new.sources ≡ with_file old.sources (name_at place) text (is_header_place place)
-  pub lexed : HasIncludes number text includes
+  pub sources : new.sources ≡ with_file old.sources (name_at place) text (is_header_place place) words
+  pub lexed : HasIncludes number text words includes
   pub known : new.known.items ≡ old.known.items ++ (record { place = place; depth = depth; includes = includes }) ∷ []
+
+-- why the text of the file with this number can't be read
+abbrev pub FailsToRead : ℕ → Text → Trouble → Type 0
+FailsToRead number text (Refused refusal) = Answers number text (Err (lexing.Refused refusal))
+FailsToRead number text (Over limit) = Answers number text (Err (lexing.Over limit))
+FailsToRead number text Read = ⊥
+FailsToRead number text Memory = Unit {0}
 
 -- why a file with this text isn't added; a refused one was put behind the others
 abbrev pub FailsToAdd : Gathering → Gathering → Place → List ℕ → Trouble → Type 0
-FailsToAdd old new place text (Refused refusal) = Answers (count_of old.sources) text (Err (lexing.Refused refusal)) × (new.sources ≡ with_file old.sources (name_at place) text (is_header_place place))
-FailsToAdd old new place text (Over limit) = Answers (count_of old.sources) text (Err (lexing.Over limit))
-FailsToAdd old new place text Read = ⊥
-FailsToAdd old new place text Memory = Unit {0}
+FailsToAdd old new place text (Refused refusal) = Answers (count_of old.sources) text (Err (lexing.Refused refusal)) × (new.sources ≡ with_file old.sources (name_at place) text (is_header_place place) [])
+FailsToAdd old new place text trouble = FailsToRead (count_of old.sources) text trouble
 
 -- a file that isn't gathered yet is found, and there is room for it; it has this text
 pub record IsFresh (held : Option (List Named)) (s : Gathering) (place : Place) (text : List ℕ) : Type 0 where
@@ -89,8 +96,7 @@ Fails held old new place (Refused refusal) = (text : List ℕ) × IsFresh held o
 Fails held old new place (Over limit) =
     ((text : List ℕ) × IsFresh held old place text × FailsToAdd old new place text (Over limit))
     ⊎ ((limit ≡ FILES) × IsFull held old place)
-Fails held old new place Read = Unit {0}
-Fails held old new place Memory = Unit {0}
+Fails held old new place trouble = Unit {0}
 
 -- what is found at these places
 abbrev pub FindsFirst : Option (List Named) → Gathering → Gathering → List Place → ℕ → Option ℕ → Type 0
@@ -101,8 +107,7 @@ FindsFirst held old new places depth (Some number) = (place : Place) × IsFirst 
 abbrev pub FailsFirst : Option (List Named) → Gathering → Gathering → List Place → Trouble → Type 0
 FailsFirst held old new places (Refused refusal) = (place : Place) × IsFirst held places place × Fails held old new place (Refused refusal)
 FailsFirst held old new places (Over limit) = (place : Place) × IsFirst held places place × Fails held old new place (Over limit)
-FailsFirst held old new places Read = Unit {0}
-FailsFirst held old new places Memory = Unit {0}
+FailsFirst held old new places trouble = Unit {0}
 
 -- an include of a file was linked
 pub record Links (old new : Gathering) (from : ℕ) (include : Include) (to : ℕ) : Type 0 where
@@ -134,8 +139,7 @@ Steps held dirs old new request =
 abbrev pub StopsAt : Setting → Moment → Gathered → Trouble → Type 0
 StopsAt s m g (Refused refusal) = RefusesNext s m refusal g
 StopsAt s m g (Over limit) = PassesLimit s m limit ⊎ IsOneTooMany s m limit
-StopsAt s m g Read = Unit {0}
-StopsAt s m g Memory = Unit {0}
+StopsAt s m g trouble = Unit {0}
 
 -- the gathering stops at this request, whatever its roots are and whatever is asked for behind it
 abbrev pub Stops : Option (List Named) → List Text → Gathering → Gathering → Request → Trouble → Type 0

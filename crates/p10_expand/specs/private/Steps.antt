@@ -1,8 +1,9 @@
 -- Values of the code as those of the definitions, and what the functions answer.
-use Rattle.std.specs.Prelude.{ℕ, ◌≡◌, ◌<◌, Vec, List, map, length, slice_get, slice_index_or, [], Option, Some, None, IfSome, Result, Ok, Err}
+use Rattle.std.specs.Prelude.{ℕ, ◌≡◌, ◌<◌, ◌≤◌, Vec, List, map, length, slice_get, slice_index_or, [], Option, Some, None, IfSome, Result, Ok, Err}
 use Rattle.std.specs.Borrow.{Bor}
 use Rattle.std.specs.declared.alloc.Global.{Global}
 use Rattle.p10_base.specs.declared.word.Word.{Word}
+use Rattle.p10_base.specs.declared.word.WordPlace.{WordPlace}
 use Rattle.p10_base.specs.declared.report.Refusal.{Refusal}
 use Rattle.p10_base.specs.Gathered.{Gathered, count_of, text_of}
 use Rattle.p10_lex.specs.Lexes.{Answers}
@@ -54,15 +55,20 @@ abbrev pub lists_in : Vec (Vec Word Global) Global → List (List PlainWord)
 lists_in all = map (map plain_word) (lists_of all.items)
 
 -- the words of a file among those of all
-abbrev pub words_at : List (Vec Word Global) → ℕ → List PlainWord
-words_at all number = map plain_word (slice_index_or (lists_of all) number [])
+abbrev pub words_among : List (Vec Word Global) → ℕ → List PlainWord
+words_among all number = map plain_word (slice_index_or (lists_of all) number [])
 
 -- ## What stands
+
+-- a word's place is one in a text
+pub record StandsIn (text : Text) (place : WordPlace) : Type 0 where
+  pub ordered : place.start ≤ place.end
+  pub within : place.end ≤ length text
 
 -- these are the words of the first files, which are so many (C99 6.4)
 pub record AreWords (g : Gathered) (count : ℕ) (all : List (Vec Word Global)) : Type 0 where
   pub many : length all ≡ count
-  pub lexed : (number : ℕ) → number < count → Answers number (text_of g number) (Ok (words_at all number))
+  pub lexed : (number : ℕ) → number < count → Answers number (text_of g number) (Ok (words_among all number))
 
 -- a file's lines are those of its words
 pub record IsCut (words : List PlainWord) (cut : Lines) : Type 0 where
@@ -72,7 +78,7 @@ pub record IsCut (words : List PlainWord) (cut : Lines) : Type 0 where
 -- the lines of the first files with these words, which are so many
 pub record AreCuts (words : List (Vec Word Global)) (count : ℕ) (cuts : List Lines) : Type 0 where
   pub all : length cuts ≡ count
-  pub cut : (number : ℕ) → number < count → IfSome (slice_get cuts number) (IsCut (words_at words number))
+  pub cut : (number : ℕ) → number < count → IfSome (slice_get cuts number) (IsCut (words_among words number))
 
 -- the files are cut into words and lines
 pub record AreTexts (texts : Texts) : Type 0 where
