@@ -21,7 +21,7 @@ pub struct Nodes<'p> {
 }
 
 impl<'p> Nodes<'p> {
-    ghost use Rattle.std.specs.Prelude.{◌≡◌, [], ◌∷◌, ◌++◌, IfOk, map, option_map, option_copied};
+    ghost use Rattle.std.specs.Prelude.{◌≡◌, [], ◌∷◌, ◌++◌, IfOk, IfNone, map, option_map, option_copied};
     ghost use Rattle.p10_core.specs.Nodes.{nodes_of_value, nodes_of_place, nodes_of_values, nodes_of_statement, nodes_of_statements, nodes_of_items, nodes_of_initializer, nodes_of_maybe, nodes_of_written, in_loop_order, nodes_in, nodes_in_form, nodes_in_place_form, nodes_in_statement_form};
     ghost use Rattle.p10_core.specs.Views.{plain_value, plain_place, plain_values, plain_form, plain_place_form, plain_item, plain_written, plain_initializer, plain_statement, plain_statements, plain_statement_form};
     ghost use Rattle.p10_core.specs.Walks.{plain_node, nodes_ahead, left_in, WalksOn};
@@ -64,7 +64,8 @@ impl<'p> Nodes<'p> {
 
     /// The next node, or `None` at the end. Out of memory, nothing is said of what is left.
     pub fn next(&mut self) -> Result<Option<Node<'p>>, AllocError>
-        ensures { IfOk result (λ found. WalksOn found (left_in self.old) (left_in self.new)) }
+        ensures walks { IfOk result (λ found. WalksOn found (left_in self.old) (left_in self.new)) }
+        ensures end { IfOk result (λ found. IfNone found (left_in self.new ≡ [])) }
     {
         match self.ahead.pop() {
             Some(node) => {
