@@ -17,9 +17,9 @@ loop-node-preserved c =
     let objects : ℕ = c.args.objects in
     let of : List PlainNode → List Problem = undefined_among functions objects in
     turned of (use_undefined functions objects (function_used n) (object_used n)) c.loop-node.found c.first_with-found.result n (left_in c.loop-node.nodes) (left_in c.next.new.self)
-    (walked c.in_ok-node.field-0 c.in-Some.node (left_in c.loop-node.nodes) (left_in c.next.new.self) c.in-Some.is c.in_ok-node.ensures) (undefined_next functions objects n (left_in c.next.new.self)) (c.first_with-found.ensures ∙ ap (first_with c.loop-node.found) c.in_ok-problem.ensures)
+    (walked c.in_ok-node.field-0 c.in-Some.node (left_in c.loop-node.nodes) (left_in c.next.new.self) c.in-Some.is c.in_ok-node.ensures.walks) (undefined_next functions objects n (left_in c.next.new.self)) (c.first_with-found.ensures ∙ ap (first_with c.loop-node.found) c.in_ok-problem.ensures)
     ∙ c.loop-node.invariant
 
 pub returns : goal.returns
 returns c =
-    turned_all (undefined_among c.args.functions c.args.objects) c.loop-node.found (left_in c.loop-node.nodes) refl (ended c.in_ok-node.field-0 (left_in c.loop-node.nodes) (left_in c.next.new.self) c.in_default.is c.in_ok-node.ensures) ∙ c.loop-node.invariant
+    turned_all (undefined_among c.args.functions c.args.objects) c.loop-node.found (left_in c.loop-node.nodes) refl (ended c.in_ok-node.field-0 (left_in c.loop-node.nodes) (left_in c.next.new.self) c.in_default.is c.in_ok-node.ensures.walks) ∙ c.loop-node.invariant
