@@ -14,7 +14,7 @@ RefusalLineIsItsText = (g : Gathered) (r : Refusal) → refusal_line g r ≡ ref
 
 -- a file with one function, whose name is at the bytes 4 to 8
 abbrev pub one_file : Gathered
-one_file = record { files = (record { name = codes "a.c"; text = codes "int main(void) { return 0; }\n"; built_in = false; links = [] }) ∷ []; roots = 0 ∷ [] }
+one_file = record { files = (record { name = codes "a.c"; text = codes "int main(void) { return 0; }\n"; built_in = false; words = []; links = [] }) ∷ []; roots = 0 ∷ [] }
 
 -- it asserts nothing
 abbrev pub unasserted : Violation
