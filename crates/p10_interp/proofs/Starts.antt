@@ -1,7 +1,8 @@
 -- Elements of arrays that are objects as a whole.
-use Rattle.std.proofs.Common.{◌≡◌, ℕ, zero, suc, ◌<◌, true, false, List, sym, ◌∙◌, subst, ap, refl, arith, map, slice_get, ℤ, pos, ◌+ℤ◌, Option, Some, None, IfSome, Result, Ok, Err, if◌then◌else◌}
+use Rattle.std.proofs.Common.{◌≡◌, ℕ, zero, suc, ◌<◌, true, false, List, sym, ◌∙◌, subst, ap, refl, arith, map, slice_get, ℤ, pos, ◌+ℤ◌, option_map, Option, Some, None, IfSome, Result, Ok, Err, if◌then◌else◌, ◌≤◌}
 use Rattle.p10_base.specs.declared.at.At.{At}
 use Rattle.p10_int.specs.declared.operators.Stop.{Stop}
+use Rattle.p10_int.specs.declared.operators.Stop.TheVariants.{U6}
 use Rattle.p10_core.specs.declared.typed.Place.{Place}
 use Rattle.p10_core.specs.declared.typed.Value.{Value}
 use Rattle.p10_core.specs.declared.program.Global.{Global}
@@ -9,16 +10,19 @@ use Rattle.p10_core.specs.Types.{PlainType, plain_type}
 use Rattle.p10_core.specs.Typed.{PlainValue, value, decay, PlainPlace, place, place_type, PlainPlaceForm, variable, global, index, PlainObject}
 use Rattle.p10_core.specs.Views.{plain_form, plain_value, plain_place, plain_place_form, plain_object, plain_program}
 use Rattle.p10_meaning.specs.declared.pointers.Scalar.TheVariants.{Int, Pointer}
+use Rattle.p10_meaning.specs.declared.pointers.Scalar.{Scalar}
+use Rattle.p10_meaning.specs.declared.pointers.Cell.{Cell}
+use Rattle.p10_meaning.specs.declared.pointers.Window.{Window}
 use Rattle.p10_meaning.specs.declared.pointers.Ptr.{Ptr}
 use Rattle.p10_meaning.specs.declared.pointers.Ptr.TheVariants.{Null, To}
-use Rattle.p10_meaning.specs.Pointers.{first_of, window_in, whole_window}
-use Rattle.p10_meaning.specs.Objects.{Object, on_ok, alive, reach, shift, inner, placed}
+use Rattle.p10_meaning.specs.Pointers.{first_of, window_in, whole_window, read_of, scalar_of}
+use Rattle.p10_meaning.specs.Objects.{Object, on_ok, or_stop, alive, reach, scalar_at, cell_at, may_write, put_at, write_at, shift, inner, placed}
 use Rattle.p10_meaning.specs.Scalars.{number_of, pointer_of}
 use Rattle.p10_meaning.specs.States.{State, Progress, gives, step_at, step, and_then, or_undefined}
-use Rattle.p10_meaning.specs.Values.{Setting, Held, stands, Sensor, Element, pointer_to, variable_target, global_target, width, element_type, element_count, used, give, evaluate, locate, find_place}
+use Rattle.p10_meaning.specs.Values.{Setting, Held, stands, Sensor, Element, pointer_to, variable_target, global_target, width, element_type, element_count, read_target, used, give, evaluate, locate, find_place}
 use Rattle.p10_interp.specs.declared.surroundings.Surroundings.{Surroundings}
 use Rattle.p10_interp.specs.private.Standing.{held_of}
-use Rattle.p10_interp.specs.private.AtOnce.{Finds, IsFound, LocatesObject, StartsArray, IsNoSensor, array_window}
+use Rattle.p10_interp.specs.private.AtOnce.{Finds, IsFound, IsTaken, IsElement, IsMoved, LocatesObject, StartsArray, IsNoSensor, array_window, read_at_place}
 
 -- ## Objects
 
@@ -74,9 +78,13 @@ decayed around v q (Some start) e h = subst (λ form. StartsArray around (value 
 
 -- ## An element
 
-reached : (r : Result Object Stop) (go : Object → Result Ptr Stop) (q : Ptr) → on_ok r go ≡ Ok q → (object : Object) × (r ≡ Ok object)
+reached : {A : Type 0} (r : Result Object Stop) (go : Object → Result A Stop) (q : A) → on_ok r go ≡ Ok q → (object : Object) × (r ≡ Ok object)
 reached (Ok object) go q e = (object, refl)
 reached (Err stop) go q e = absurd (let no : Err stop ≡ Ok q = e in cc)
+
+was_live : {A B : Type 0} (r : Result Object Stop) (go : Object → Result A Stop) (next : A → Result B Stop) (q : B) → on_ok (on_ok r go) next ≡ Ok q → (object : Object) × (r ≡ Ok object)
+was_live (Ok object) go next q e = (object, refl)
+was_live (Err stop) go next q e = absurd (let no : Err stop ≡ Ok q = e in cc)
 
 -- a pointer that was moved reaches its object
 moved_reaches : (objects : List Object) (start q : Ptr) (by : ℤ) → shift objects start by ≡ Ok q → (object : Object) × (reach objects start ≡ Ok object)
@@ -97,3 +105,37 @@ index_found s held at t v i objects before n m k after start q by e d starts run
     (ap (λ o. and_then o (λ y w. or_undefined (shift w.objects start (number_of y)) at.span w (λ q. gives (Element q) w))) (run more w same) ∙
     (ap (λ r. or_undefined r at.span (record w { left = k }) (λ q. gives (Element q) (record w { left = k }))) (ap (λ xs. shift xs start by) same ∙ h.1) ∙
     ap (λ n. gives (Element q) (record w { left = n })) (sym h.0))))
+
+-- what is read from an element of an array that is an object as a whole
+pub element_read : (s : Setting) (held : List Held) (at : At) (own t : PlainType) (v i : PlainValue) (objects : List Object) (before n m k after : ℕ) (start : Ptr) (by : ℤ) (x z : Scalar) (cell : Option Cell) → z ≡ x → before ≡ suc n → n ≡ suc m →
+    ((w : State) (object : Object) → reach w.objects start ≡ Ok object → evaluate s held v w ≡ step w (λ w. gives (Pointer start) w)) →
+    Finds (evaluate s held i) objects m (Int by) k → IfSome cell (λ c. IsElement objects start by c) → IsTaken cell k x after → Finds (read_at_place (place at own (index v i)) t s held) objects before z after
+element_read s held at own t v i objects before n m k after start by x z None is e d starts run element taken = λ some w same. absurd ((taken some).1)
+element_read s held at own t v i objects before n m k after start by x z (Some cell) is e d starts run element taken = λ some w same.
+    let j : (after ≡ k) × (cell.value ≡ Some x) = taken some in
+    let more : 0 < k = subst (λ n. 0 < n) j.0 some in
+    let found : Finds (find_place s held at own (index v i)) objects before (Element element.there) k = index_found s held at own v i objects before n m k k start element.there by e d starts run (λ _. (refl, element.moved)) in
+    ap (λ o. and_then o (λ target w. read_target at.span t held target w)) (found more w same) ∙
+    (ap (λ r. or_undefined (on_ok r read_of) at.span (record w { left = k }) (λ x. gives x (record w { left = k }))) (ap (λ xs. cell_at xs element.there) same ∙ element.held) ∙
+    (ap (λ o. or_undefined (scalar_of o) at.span (record w { left = k }) (λ x. gives x (record w { left = k }))) j.1 ∙ (ap (λ n. gives x (record w { left = n })) (sym j.0) ∙ ap (λ x. gives x (record w { left = after })) (sym is))))
+
+-- a cell that is there is one of an object that is live
+pub cell_reaches : (objects : List Object) (q : Ptr) (cell : Cell) → cell_at objects q ≡ Ok cell → (object : Object) × (reach objects q ≡ Ok object)
+cell_reaches objects Null cell e = absurd (let no : cell_at objects Null ≡ Ok cell = e in cc)
+cell_reaches objects (To o window n) cell e = reached (alive objects o) (λ object. on_ok (scalar_at window n) (λ i. or_stop (slice_get object.cells i) U6)) cell e
+
+-- a write reaches an object that is live
+pub write_reaches : (objects : List Object) (q : Ptr) (cell : Cell) (new : List Object) → write_at objects q cell ≡ Ok new → (object : Object) × (reach objects q ≡ Ok object)
+write_reaches objects Null cell new e = absurd (let no : write_at objects Null cell ≡ Ok new = e in cc)
+write_reaches objects (To o window n) cell new e = was_live (alive objects o) (λ object. on_ok (scalar_at window n) (λ i. on_ok (or_stop (slice_get object.cells i) U6) (λ cell. on_ok (may_write object.origin) (λ _. Ok cell)))) (λ _. Ok (put_at objects (To o window n) cell)) new e
+
+-- the cell of an element was found
+pub element_found : {A : Type 0} (now : A → Cell) (objects : List Object) (start there : Ptr) (by : ℤ) (r : Option A) → IsMoved start by there → IfSome r (λ c. cell_at objects there ≡ Ok (now c)) → IfSome r (λ c. IsElement objects start by (now c))
+element_found now objects start there by None moved e = tt
+element_found now objects start there by (Some c) moved e =
+    let live : (object : Object) × (reach objects there ≡ Ok object) = cell_reaches objects there (now c) e in record { there = there; moved = moved objects live.0 live.1; held = e }
+
+-- what holds of what a reference refers to
+pub element_behind : {A : Type 0} (now : A → Cell) (objects : List Object) (start : Ptr) (by : ℤ) (r : Option A) → IfSome r (λ c. IsElement objects start by (now c)) → IfSome (option_map now r) (λ c. IsElement objects start by c)
+element_behind now objects start by None h = tt
+element_behind now objects start by (Some c) h = h

@@ -209,6 +209,7 @@ impl<'p> Calls<'p> {
     }
 
     /// The innermost block is left, whose objects are dead.
+    #[inline(always)]
     pub fn leave_block(&mut self)
         ensures { (f : Open) (calls : List Open) → calls_in self.old ≡ f ∷ calls → f.frame.opened ≡ [] → calls_in self.new ≡ after_block f ∷ calls }
     {
@@ -252,6 +253,7 @@ impl<'p> Calls<'p> {
     }
 
     /// A block is entered.
+    #[inline(always)]
     pub fn enter_block(&mut self) -> Result<(), Halt>
         ensures ok { OnOk result ((f : Open) (calls : List Open) → calls_in self.old ≡ f ∷ calls → calls_in self.new ≡ in_new_block f ∷ calls) }
         ensures err { IfErr result (λ e. e ≡ Halt.Memory) }
@@ -264,6 +266,7 @@ impl<'p> Calls<'p> {
     }
 
     /// Puts a mark after all others.
+    #[inline(always)]
     fn mark(&mut self, mark: Option<u128>) -> Result<(), Halt>
         ensures held { self.new.held.items ≡ self.old.held.items }
         ensures bases { self.new.bases.items ≡ self.old.bases.items }

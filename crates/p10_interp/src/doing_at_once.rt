@@ -18,10 +18,9 @@ use crate::base::Depth;
 use crate::calls_at_once::{Caller, value_of_call};
 use crate::entering::raise;
 use crate::outside::Outside;
-use crate::scalars::is_true;
 use crate::stacks::Stacks;
 use crate::statements_at_once::{execute_at_once, number_in_call};
-use crate::turns_at_once::take_turn;
+use crate::turns_at_once::{TURNS, test_at_once};
 use crate::work::{Halt, Operand, StatementStep, ValueStep, Work};
 use p10_core::{Program, Stmt, StmtForm, Value, ValueForm};
 use p10_meaning::Scalar;
@@ -84,7 +83,7 @@ fn statement_at_once<'p>(
 {
     match step {
         StatementStep::Execute => execute_one_at_once(p, statement, stacks, outside),
-        StatementStep::TestLoop => test_at_once(p, statement, stacks, outside),
+        StatementStep::TestLoop => test_at_once(p, statement, stacks, outside, TURNS),
         _ => Ok(false),
     }
 }
@@ -203,61 +202,4 @@ fn execute_one_at_once<'p>(
     ensures err { IfErr result (λ e. e ≡ Halt.Memory) }
 {
     Ok(execute_at_once(p, statement, &mut stacks.calls, &mut stacks.frame, outside))
-}
-
-/// The test of a loop, and where it is true, a turn of it.
-fn test_at_once<'p>(
-    p: &'p Program<'p>,
-    statement: &'p Stmt,
-    stacks: &mut Stacks<'p>,
-    outside: &mut Outside,
-) -> Result<bool, Halt>
-    requires structures { AreWholeStructures (plain_types p.now.types) }
-    ensures ok { IfOk result (λ done. (io : Around) (f : Open) (calls : List Open) → calls_in stacks.old.calls ≡ f ∷ calls → Does (plain_program p.now) (in_loop (λ keyword l. test_loop l) (plain_statement statement.now)) stacks.old (state_of outside.old io) done stacks.new (state_of outside.new io)) }
-    ensures err { IfErr result (λ e. e ≡ Halt.Memory) }
-{
-    match &statement.form {
-        StmtForm::Loop(_, _, tested, third, body) => {
-            test_by_number(
-                p,
-                statement,
-                (tested, third.as_slice(), body),
-                stacks,
-                outside,
-            )
-        }
-        _ => Ok(false),
-    }
-}
-
-/// The test of a loop that comes to a number; where it is true, a turn is taken.
-fn test_by_number<'p>(
-    p: &'p Program<'p>,
-    statement: &'p Stmt,
-    parts: (&'p Option<Value>, &'p [Stmt], &'p Stmt),
-    stacks: &mut Stacks<'p>,
-    outside: &mut Outside,
-) -> Result<bool, Halt>
-    requires structures { AreWholeStructures (plain_types p.now.types) }
-    ensures ok { IfOk result (λ done. (io : Around) (f : Open) (calls : List Open) (l : Loop) → l.tested ≡ option_map plain_value parts.entry.0.now → l.third ≡ plain_statements parts.entry.1.now → l.body ≡ plain_statement parts.entry.2.now → in_loop (λ keyword l. test_loop l) (plain_statement statement.now) ≡ test_loop l → in_loop (λ keyword l. end_turn l) (plain_statement statement.now) ≡ end_turn l → calls_in stacks.old.calls ≡ f ∷ calls → Does (plain_program p.now) (test_loop l) stacks.old (state_of outside.old io) done stacks.new (state_of outside.new io)) }
-    ensures err { IfErr result (λ e. e ≡ Halt.Memory) }
-{
-    let (tested, third, body) = parts;
-    let Some(value) = tested else {
-        return Ok(false);
-    };
-    let mut left = outside.left;
-    let number = number_in_call(p, value, &stacks.calls, outside, &mut left);
-    if left == 0 {
-        return Ok(false);
-    }
-    if left >= outside.left {
-        return Ok(false);
-    }
-    outside.left = left;
-    if !is_true(Scalar::Int(number)) {
-        return Ok(true);
-    }
-    take_turn(p, statement, (body, third), stacks, outside)?;
-    Ok(true)
 }

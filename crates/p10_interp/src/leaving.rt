@@ -19,6 +19,7 @@ use p10_meaning::Scalar;
 use p10_store::Store;
 
 /// The objects of the innermost block die, the last first.
+#[inline(always)]
 fn close_own(calls: &mut Calls<'_>, store: &mut Store)
     ensures { (f : Open) (around : List Open) → calls_in calls.old ≡ f ∷ around → ClosesOwn f around (calls_in calls.new) store.old store.new }
 {
@@ -28,6 +29,7 @@ fn close_own(calls: &mut Calls<'_>, store: &mut Store)
 }
 
 /// The end of a block, after which execution goes on in any way.
+#[inline(always)]
 pub fn end_block(stacks: &mut Stacks<'_>, outside: &mut Outside)
     ensures { (io : Around) (flow : Flow) (f : Open) (calls : List Open) → calls_in stacks.old.calls ≡ f ∷ calls → goes_back flow (tasks_in stacks.old.tasks) stacks.old.operands (after_block f ∷ calls) (block_closed f (state_of outside.old io)) ≡ gives (rig_of flow stacks.new) (state_of outside.new io) }
 {

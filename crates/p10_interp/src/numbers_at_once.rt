@@ -56,6 +56,7 @@ pub fn is_decided(op: LogicOp, number: i128) -> bool
 
 /// A number converted to an integer type (C99 6.3.1): one that the type holds stays.
 #[tactic(auto, using(p10_int::proofs::Conversions::converted_keeps))]
+#[inline(always)]
 pub fn convert_number(t: &CType, number: i128, left: &mut u64) -> i128
     ensures { IsConverted (plain_type t.now) number left.old result left.new }
 {
@@ -114,8 +115,20 @@ fn calculate_one(op: UnOp, t: IntType, number: i128, left: &mut u64) -> i128
 }
 
 /// A binary operator on two numbers (C99 6.5.5 to 6.5.12).
+#[inline(always)]
 pub fn apply_to_numbers(op: BinOp, t: &CType, numbers: (i128, i128), left: &mut u64) -> i128
     ensures { IsFound (operate op (integer_type (plain_type t.now)) numbers.0 numbers.1) left.old result left.new }
+{
+    match integer_type(t) {
+        IntType::UInt => calculate_naturals(op, numbers, left),
+        kind => calculate(op, kind, numbers, left),
+    }
+}
+
+/// A binary operator, by the type of its tree. A comparison is one of numbers of any type (C99 6.5.8p6, 6.5.9p3).
+#[inline(always)]
+fn calculate(op: BinOp, t: IntType, numbers: (i128, i128), left: &mut u64) -> i128
+    ensures { IsFound (operate op t numbers.0 numbers.1) left.old result left.new }
 {
     let (x, y) = numbers;
     match op {
@@ -125,27 +138,18 @@ pub fn apply_to_numbers(op: BinOp, t: &CType, numbers: (i128, i128), left: &mut 
         BinOp::Ge => i128::from(x >= y),
         BinOp::Eq => i128::from(x == y),
         BinOp::Ne => i128::from(x != y),
-        _ => calculate(op, integer_type(t), (x, y), left),
-    }
-}
-
-/// A binary operator, by the type of its operands.
-fn calculate(op: BinOp, t: IntType, numbers: (i128, i128), left: &mut u64) -> i128
-    ensures { IsFound (operate op t numbers.0 numbers.1) left.old result left.new }
-{
-    match t {
-        IntType::UInt => calculate_naturals(op, numbers, left),
-        _ => calculate_two(op, t, numbers, left),
+        _ => calculate_two(op, t, (x, y), left),
     }
 }
 
 /// A binary operator on numbers of `unsigned int`: those of 32 bits in 32 bits.
+#[inline(always)]
 fn calculate_naturals(op: BinOp, numbers: (i128, i128), left: &mut u64) -> i128
     ensures { IsFound (operate op UInt numbers.0 numbers.1) left.old result left.new }
 {
     let (x, y) = numbers;
     if !(p10_int::holds(IntType::UInt, x) && p10_int::holds(IntType::UInt, y)) {
-        return calculate_two(op, IntType::UInt, (x, y), left);
+        return calculate_any(op, IntType::UInt, (x, y), left);
     }
     match op {
         BinOp::Add => sum_of(natural_of(x), natural_of(y)),
@@ -154,8 +158,16 @@ fn calculate_naturals(op: BinOp, numbers: (i128, i128), left: &mut u64) -> i128
         BinOp::And => common_bits_of(natural_of(x), natural_of(y)),
         BinOp::Or => joint_bits_of(natural_of(x), natural_of(y)),
         BinOp::Xor => different_bits_of(natural_of(x), natural_of(y)),
-        _ => calculate_two(op, IntType::UInt, (x, y), left),
+        _ => calculate_any(op, IntType::UInt, (x, y), left),
     }
+}
+
+/// A binary operator on any numbers.
+#[inline(never)]
+fn calculate_any(op: BinOp, t: IntType, numbers: (i128, i128), left: &mut u64) -> i128
+    ensures { IsFound (operate op t numbers.0 numbers.1) left.old result left.new }
+{
+    calculate(op, t, numbers, left)
 }
 
 /// A number of `unsigned int` in 32 bits.
@@ -209,6 +221,7 @@ fn different_bits_of(a: u32, b: u32) -> i128
 }
 
 /// A binary operator on numbers of its type.
+#[inline(never)]
 fn calculate_two(op: BinOp, t: IntType, numbers: (i128, i128), left: &mut u64) -> i128
     ensures { IsFound (operate op t numbers.0 numbers.1) left.old result left.new }
 {

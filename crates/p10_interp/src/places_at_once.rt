@@ -17,7 +17,7 @@ use crate::members::scalars_before;
 use crate::places::single;
 use crate::pointing::{count_of, element_of};
 use crate::surroundings::Surroundings;
-use crate::widths::width_of;
+use crate::widths::{width_at_once, width_of};
 use p10_core::{CType, Global, Place, PlaceForm, Value, ValueForm};
 use p10_meaning::{Ptr, Window};
 use p10_store::{Shape, Store};
@@ -149,6 +149,7 @@ pub fn member_in(
 }
 
 /// The pointer to the first element of an array that is an object as a whole; whether this one is live isn't tested yet.
+#[inline(always)]
 pub fn start_of_array(around: &Surroundings<'_>, array: &Value) -> Option<Ptr>
     requires structures { AreWholeStructures (plain_types around.now.p.now.types) }
     ensures { IfSome result (λ start. StartsArray around.now (plain_value array.now) start) }
@@ -160,6 +161,7 @@ pub fn start_of_array(around: &Surroundings<'_>, array: &Value) -> Option<Ptr>
 }
 
 /// The pointer to the first element of the array that is a place.
+#[inline(always)]
 fn start_in_place(around: &Surroundings<'_>, place: &Place) -> Option<Ptr>
     requires structures { AreWholeStructures (plain_types around.now.p.now.types) }
     ensures { IfSome result (λ start. (at : At) (t : PlainType) → StartsArray around.now (value at t (decay (plain_place place.now))) start) }
@@ -168,13 +170,14 @@ fn start_in_place(around: &Surroundings<'_>, place: &Place) -> Option<Ptr>
     let Some(object) = whole_object(around, place) else {
         return None;
     };
-    match width_of(&around.p.types, element_of(t)) {
+    match width_at_once(&around.p.types, element_of(t)) {
         Some(scalars) => Some(start_of(object, scalars, count_of(t))),
         None => None,
     }
 }
 
 /// The pointer to the first of so many elements of so many scalars of an object.
+#[inline(always)]
 fn start_of(object: u128, scalars: u64, count: u64) -> Ptr
     ensures { result ≡ To object (array_window scalars count) 0 }
 {
@@ -192,6 +195,7 @@ fn start_of(object: u128, scalars: u64, count: u64) -> Ptr
 }
 
 /// The number of the object that a place is as a whole.
+#[inline(always)]
 fn whole_object(around: &Surroundings<'_>, place: &Place) -> Option<u128>
     ensures { IfSome result (λ object. LocatesObject around.now (plain_place place.now) object) }
 {
@@ -203,6 +207,7 @@ fn whole_object(around: &Surroundings<'_>, place: &Place) -> Option<u128>
 }
 
 /// The number of the object that a variable is.
+#[inline(always)]
 fn held_object(held: &[Held], number: u32) -> Option<u128>
     ensures { IfSome result (λ object. slice_get (map held_of held.now) number ≡ Some (stands object)) }
 {
@@ -213,6 +218,7 @@ fn held_object(held: &[Held], number: u32) -> Option<u128>
 }
 
 /// The number of an object of static lifetime that is no sensor.
+#[inline(always)]
 fn static_object(globals: &[Global<'_>], number: u32) -> Option<u128>
     ensures { IfSome result (λ object. (object ≡ number) × IsNoSensor (slice_get (map plain_object globals.now) number)) }
 {

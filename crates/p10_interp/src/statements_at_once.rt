@@ -10,7 +10,7 @@ ghost use Rattle.p10_base.specs.declared.at.At.{At};
 ghost use Rattle.p10_base.specs.declared.span.Span.{Span};
 ghost use Rattle.p10_meaning.specs.declared.pointers.Scalar.TheVariants.{Int};
 ghost use Rattle.p10_meaning.specs.Pointers.{holding};
-ghost use Rattle.p10_meaning.specs.Objects.{write_at};
+ghost use Rattle.p10_meaning.specs.Objects.{Object, reach, write_at};
 ghost use Rattle.p10_meaning.specs.Values.{Setting, Element, holds, evaluate, locate};
 ghost use Rattle.p10_interp.specs.private.Standing.{held_of};
 ghost use Rattle.p10_interp.specs.private.Tasks.{Open};
@@ -28,7 +28,7 @@ use crate::held::Held;
 use crate::numbers_at_once::{apply_to_numbers, convert_number, pays};
 use crate::outside::Outside;
 use crate::surroundings::{DEPTH, Surroundings};
-use crate::values_at_once::{number_at_once, place_at_once};
+use crate::values_at_once::{number_at_once, target_at_once};
 use p10_core::{CType, Place, PlaceForm, Program, Stmt, StmtForm, UpdateKind, Value, ValueForm};
 use p10_int::BinOp;
 use p10_meaning::{Cell, Ptr, Scalar};
@@ -185,7 +185,7 @@ fn set_element(
     if !pays(&mut left) {
         return false;
     }
-    let pointer = place_in_call(p, place, calls, outside, &mut left);
+    let pointer = target_in_call(p, place, calls, outside, &mut left);
     if left == 0 {
         return false;
     }
@@ -295,6 +295,7 @@ fn number_held(held: &[Held], number: u32, left: &mut u64) -> i128
 }
 
 /// The number that a value comes to in the innermost call.
+#[inline(always)]
 pub fn number_in_call(
     p: &Program<'_>,
     value: &Value,
@@ -319,8 +320,8 @@ pub fn number_in_call(
     number
 }
 
-/// The place in an object that a tree stands for in the innermost call.
-fn place_in_call(
+/// The place in an object that a tree stands for in the innermost call, if its object is live.
+fn target_in_call(
     p: &Program<'_>,
     place: &Place,
     calls: &Calls<'_>,
@@ -328,7 +329,7 @@ fn place_in_call(
     left: &mut u64,
 ) -> Ptr
     requires structures { AreWholeStructures (plain_types p.now.types) }
-    ensures found { (s : Setting) (f : Open) (around : List Open) → s.program ≡ plain_program p.now → calls_in calls.now ≡ f ∷ around → Finds (locate s f.frame.held (plain_place place.now)) outside.now.store.objects left.old (Element result) left.new }
+    ensures found { (s : Setting) (f : Open) (around : List Open) → s.program ≡ plain_program p.now → calls_in calls.now ≡ f ∷ around → (object : Object) → reach outside.now.store.objects result ≡ Ok object → Finds (locate s f.frame.held (plain_place place.now)) outside.now.store.objects left.old (Element result) left.new }
     ensures fewer { left.new ≤ left.old }
 {
     let before = *left;
@@ -337,7 +338,7 @@ fn place_in_call(
         held: calls.standing(),
         store: &outside.store,
     };
-    let pointer = place_at_once(&around, place, left, DEPTH);
+    let pointer = target_at_once(&around, place, left, DEPTH);
     if before < *left {
         *left = 0;
     }

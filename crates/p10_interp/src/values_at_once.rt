@@ -2,17 +2,21 @@
 //! pointers. Where anything stands in the way, or no step would be left after them, no step is left of those that were given:
 //! then nothing was found, and the tree is evaluated by acts.
 
-ghost use Rattle.std.specs.Prelude.{Some, option_map};
+ghost use Rattle.std.specs.Prelude.{◌≡◌, Ok, Some, option_map};
+ghost use Rattle.p10_base.specs.declared.at.At.{At};
 ghost use Rattle.p10_core.specs.Types.{PlainType, plain_type};
-ghost use Rattle.p10_core.specs.Typed.{PlainValue, unary, binary, logic, convert, cast, read, decay, index, member, dereference};
+ghost use Rattle.p10_core.specs.Typed.{PlainValue, place, unary, binary, logic, convert, cast, read, decay, index, member, dereference};
 ghost use Rattle.p10_core.specs.Views.{plain_types, plain_value, plain_place};
 ghost use Rattle.p10_core.specs.WholePrograms.{AreWholeStructures};
 ghost use Rattle.p10_meaning.specs.declared.pointers.Scalar.{Scalar};
 ghost use Rattle.p10_meaning.specs.declared.pointers.Scalar.TheVariants.{Int, Pointer};
+ghost use Rattle.p10_meaning.specs.Objects.{Object, reach};
 ghost use Rattle.p10_meaning.specs.Values.{evaluate, locate, Element};
 ghost use Rattle.p10_interp.specs.private.AtOnce.{Settles, Performs, Locates, IsHolding, StartsArray, read_at_place};
 
-use crate::cells_at_once::{cell_in, number_in, pointer_in};
+use crate::cells_at_once::{
+    cell_from, cell_in, number_in, pointer_from, pointer_in, variable_cell,
+};
 use crate::held::Held;
 use crate::numbers_at_once::{
     apply_to_number, apply_to_numbers, convert_number, is_decided, is_structure, pays, truth_of,
@@ -25,9 +29,24 @@ use p10_core::{CType, LogicOp, Place, PlaceForm, Value, ValueForm};
 use p10_int::{BinOp, UnOp};
 use p10_meaning::{Cell, Ptr};
 
-/// The number that a value comes to.
+/// The number that a value comes to. A constant and a number that is read are found here, so that they take no frame.
 #[cycle(at_once)]
+#[inline(always)]
 pub fn number_at_once(around: &Surroundings<'_>, value: &Value, left: &mut u64, depth: u32) -> i128
+    requires structures { AreWholeStructures (plain_types around.now.p.now.types) }
+    ensures { Settles around.now (λ s held. evaluate s held (plain_value value.now)) left.old (Int result) left.new }
+{
+    match &value.form {
+        ValueForm::Const(number) => { if pays(left) { *number } else { 0 } }
+        ValueForm::Read(place) => read_number(around, &value.ty, place, left, depth),
+        _ => number_by_form(around, value, left, depth),
+    }
+}
+
+/// The number that a value of another form comes to.
+#[cycle(at_once)]
+#[inline(never)]
+fn number_by_form(around: &Surroundings<'_>, value: &Value, left: &mut u64, depth: u32) -> i128
     requires structures { AreWholeStructures (plain_types around.now.p.now.types) }
     ensures { Settles around.now (λ s held. evaluate s held (plain_value value.now)) left.old (Int result) left.new }
 {
@@ -37,8 +56,6 @@ pub fn number_at_once(around: &Surroundings<'_>, value: &Value, left: &mut u64, 
     }
     let t = &value.ty;
     match &value.form {
-        ValueForm::Const(number) => { if pays(left) { *number } else { 0 } }
-        ValueForm::Read(place) => read_number(around, t, place, left, depth - 1),
         ValueForm::Convert(operand) => converted_at_once(around, t, operand, left, depth - 1),
         ValueForm::Cast(operand) => cast_at_once(around, t, operand, left, depth - 1),
         ValueForm::Unary(op, operand) => {
@@ -55,6 +72,7 @@ pub fn number_at_once(around: &Surroundings<'_>, value: &Value, left: &mut u64, 
 
 /// A number that is read (C99 6.3.2.1p2).
 #[cycle(at_once)]
+#[inline(always)]
 fn read_number(
     around: &Surroundings<'_>,
     t: &CType,
@@ -72,7 +90,64 @@ fn read_number(
     if !pays(left) {
         return 0;
     }
-    let cell = cell_at_once(around, place, left, depth);
+    match variable_cell(around, place) {
+        Some(cell) => number_in(Some(cell), left),
+        None => number_in_object(around, place, left, depth),
+    }
+}
+
+/// The number at a place in an object.
+#[cycle(at_once)]
+#[inline(never)]
+fn number_in_object(around: &Surroundings<'_>, place: &Place, left: &mut u64, depth: u32) -> i128
+    requires structures { AreWholeStructures (plain_types around.now.p.now.types) }
+    ensures { (t : PlainType) → Settles around.now (read_at_place (plain_place place.now) t) left.old (Int result) left.new }
+{
+    if depth == 0 {
+        *left = 0;
+        return 0;
+    }
+    match &place.form {
+        PlaceForm::Index(array, number) => match start_of_array(around, array) {
+            Some(start) => number_from(around, start, number, left, depth - 1),
+            None => number_by_pointer(around, place, left, depth),
+        },
+        _ => number_by_pointer(around, place, left, depth),
+    }
+}
+
+/// The number at a place in an object, by the pointer to it.
+#[cycle(at_once)]
+#[inline(never)]
+fn number_by_pointer(around: &Surroundings<'_>, place: &Place, left: &mut u64, depth: u32) -> i128
+    requires structures { AreWholeStructures (plain_types around.now.p.now.types) }
+    ensures { (t : PlainType) → Settles around.now (read_at_place (plain_place place.now) t) left.old (Int result) left.new }
+{
+    let cell = element_at_once(around, place, left, depth);
+    number_in(cell, left)
+}
+
+/// The number in an element of the array whose first element this pointer points to (C99 6.5.2.1).
+#[cycle(at_once)]
+#[inline(always)]
+fn number_from(
+    around: &Surroundings<'_>,
+    start: Ptr,
+    number: &Value,
+    left: &mut u64,
+    depth: u32,
+) -> i128
+    requires structures { AreWholeStructures (plain_types around.now.p.now.types) }
+    ensures { (array : PlainValue) (at : At) (own t : PlainType) → StartsArray around.now array start → Settles around.now (read_at_place (place at own (index array (plain_value number.now))) t) left.old (Int result) left.new }
+{
+    if !pays(left) {
+        return 0;
+    }
+    if !pays(left) {
+        return 0;
+    }
+    let by = number_at_once(around, number, left, depth);
+    let cell = cell_from(around.store, start, by);
     number_in(cell, left)
 }
 
@@ -218,6 +293,50 @@ fn element_at_once<'a>(
         return None;
     }
     cell_in(around.store, pointer)
+}
+
+/// The place in an object that a tree stands for, if its object is live: of an element of an array that is an object as a whole that
+/// isn't tested.
+#[inline(always)]
+pub fn target_at_once(around: &Surroundings<'_>, place: &Place, left: &mut u64, depth: u32) -> Ptr
+    requires structures { AreWholeStructures (plain_types around.now.p.now.types) }
+    ensures { (object : Object) → reach around.now.store.now.objects result ≡ Ok object → Settles around.now (λ s held. locate s held (plain_place place.now)) left.old (Element result) left.new }
+{
+    match &place.form {
+        PlaceForm::Index(array, number) => match start_of_array(around, array) {
+            Some(start) => target_from(around, start, number, left, depth),
+            None => place_at_once(around, place, left, depth),
+        },
+        _ => place_at_once(around, place, left, depth),
+    }
+}
+
+/// An element of the array whose first element this pointer points to, if its object is live (C99 6.5.2.1).
+#[inline(always)]
+fn target_from(
+    around: &Surroundings<'_>,
+    start: Ptr,
+    number: &Value,
+    left: &mut u64,
+    depth: u32,
+) -> Ptr
+    requires structures { AreWholeStructures (plain_types around.now.p.now.types) }
+    ensures { (object : Object) → reach around.now.store.now.objects result ≡ Ok object → (array : PlainValue) (t : PlainType) → StartsArray around.now array start → Locates around.now t (index array (plain_value number.now)) left.old result left.new }
+{
+    if !pays(left) {
+        return Ptr::Null;
+    }
+    if !pays(left) {
+        return Ptr::Null;
+    }
+    let by = number_at_once(around, number, left, depth);
+    match pointer_from(start, by) {
+        Some(there) => there,
+        None => {
+            *left = 0;
+            Ptr::Null
+        }
+    }
 }
 
 /// The place in an object that a tree stands for.

@@ -23,6 +23,19 @@ pub fn width_of(types: &Types<'_>, t: &CType) -> Option<u64>
     }
 }
 
+/// The same: a number and a pointer are known here.
+#[inline(always)]
+#[tactic(auto, unfolding(p10_core::specs::Sizes::layout_of))]
+pub fn width_at_once(types: &Types<'_>, t: &CType) -> Option<u64>
+    requires structures { AreWholeStructures (plain_types types.now) }
+    ensures { IfSome result (λ n. n ≡ length (scalars_of (plain_types types.now) (bare (plain_types types.now) (plain_type t.now)))) }
+{
+    match &t.form {
+        TypeForm::Int(_) | TypeForm::Pointer(_) => Some(1),
+        _ => width_of(types, t),
+    }
+}
+
 /// How many scalars a structure has: 0 where it isn't complete.
 fn structure_width(types: &Types<'_>, number: u32) -> u64
     requires structures { AreWholeStructures (plain_types types.now) }

@@ -10,7 +10,7 @@ use Rattle.p10_meaning.specs.declared.pointers.Scalar.TheVariants.{Int, Pointer}
 use Rattle.p10_meaning.specs.declared.pointers.Cell.{Cell}
 use Rattle.p10_meaning.specs.declared.pointers.Ptr.{Ptr}
 use Rattle.p10_meaning.specs.declared.pointers.Window.{Window}
-use Rattle.p10_meaning.specs.Objects.{Object, reach}
+use Rattle.p10_meaning.specs.Objects.{Object, reach, shift, cell_at}
 use Rattle.p10_meaning.specs.Pointers.{first_of}
 use Rattle.p10_meaning.specs.Scalars.{converted_to}
 use Rattle.p10_meaning.specs.States.{State, Progress, gives, step, and_then}
@@ -77,3 +77,13 @@ IsNoSensor (Some object) = object.sensor ≡ false
 -- the array of so many elements of so many scalars that an object is as a whole
 abbrev pub array_window : ℕ → ℕ → Window
 array_window stride count = record { start = 0; stride = stride; count = count; inside = true; whole = false }
+
+-- a pointer stands so many elements after another one in its array, where their object is live
+abbrev pub IsMoved : Ptr → ℤ → Ptr → Type 0
+IsMoved start by there = (objects : List Object) (object : Object) → reach objects there ≡ Ok object → shift objects start by ≡ Ok there
+
+-- the cell of an element, by a number from the first one on
+pub record IsElement (objects : List Object) (start : Ptr) (by : ℤ) (cell : Cell) : Type 0 where
+  pub there : Ptr
+  pub moved : shift objects start by ≡ Ok there
+  pub held : cell_at objects there ≡ Ok cell
