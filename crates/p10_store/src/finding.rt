@@ -1,16 +1,17 @@
 //! Objects and cells, found by number and by pointer.
 
-ghost use Rattle.std.specs.Prelude.{◌≡◌, option_map, is_some, is_ok, length};
+ghost use Rattle.std.specs.Prelude.{◌≡◌, option_map, is_some, is_ok, length, IfSome};
 ghost use Rattle.p10_meaning.specs.Objects.{find, may_write, positions};
 ghost use Rattle.p10_meaning.specs.Pointers.{window_in, same_window};
 ghost use Rattle.p10_store.specs.Ranges.{AreGrowing, AreTiled, kind_of, objects_of};
-ghost use Rattle.p10_store.specs.Places.{slot_at, place_in, Places, Targets, HasPlace, HasLivePlace, FreesAt, frees};
+ghost use Rattle.p10_store.specs.Places.{slot_at, place_in, Places, Targets, HasSlot, HasPlace, HasLivePlace, FreesAt, frees};
 
 use crate::slots::{Provenance, Slot};
 use p10_int::Stop;
 use p10_meaning::{Cell, Ptr, Window};
 
 /// The place of a pointer's cell among all cells, and what its object is: U5, U7, U6.
+#[inline(always)]
 pub fn cell_place(cells: &[Cell], slots: &[Slot], pointer: Ptr) -> Result<(usize, Provenance), Stop>
     requires tiled { AreTiled 0 slots.now (length cells.now) }
     requires growing { AreGrowing 0 slots.now }
@@ -28,6 +29,7 @@ pub fn cell_place(cells: &[Cell], slots: &[Slot], pointer: Ptr) -> Result<(usize
 }
 
 /// The place among all cells of a pointer's cell that is to be written: U5, U7, U6, U12.
+#[inline(always)]
 pub fn target_place(cells: &[Cell], slots: &[Slot], pointer: Ptr) -> Result<usize, Stop>
     requires tiled { AreTiled 0 slots.now (length cells.now) }
     requires growing { AreGrowing 0 slots.now }
@@ -56,6 +58,7 @@ fn is_writable(provenance: Provenance) -> bool
 }
 
 /// That place, by the slots alone.
+#[inline(always)]
 fn place_in(slots: &[Slot], pointer: Ptr) -> Result<(u128, Provenance), Stop>
     requires growing { AreGrowing 0 slots.now }
     ensures { result ≡ place_in slots.now pointer }
@@ -83,6 +86,7 @@ fn place_in(slots: &[Slot], pointer: Ptr) -> Result<(u128, Provenance), Stop>
 }
 
 /// The slot of the live object of a number.
+#[inline(always)]
 pub fn slot_of(slots: &[Slot], number: u128) -> Option<&Slot>
     requires growing { AreGrowing 0 slots.now }
     ensures { option_map (λ s. s.now) result ≡ slot_at number slots.now }
@@ -94,6 +98,7 @@ pub fn slot_of(slots: &[Slot], number: u128) -> Option<&Slot>
 }
 
 /// The place of the slot of the live object of a number.
+#[inline(always)]
 pub fn live_place(slots: &[Slot], number: u128) -> Option<usize>
     requires growing { AreGrowing 0 slots.now }
     ensures { HasLivePlace slots.now number result }
@@ -104,8 +109,37 @@ pub fn live_place(slots: &[Slot], number: u128) -> Option<usize>
     }
 }
 
-/// The place of the slot of a number, live or dead: a binary search.
+/// The place of the slot of a number, live or dead: its own number where no slot before it was let go, else by a search.
+#[inline(always)]
 pub fn place_of(slots: &[Slot], number: u128) -> Option<usize>
+    requires growing { AreGrowing 0 slots.now }
+    ensures { HasPlace slots.now number result }
+{
+    match own_place(slots, number) {
+        Some(place) => Some(place),
+        None => searched_place(slots, number),
+    }
+}
+
+/// The slot of a number, if it stands at this number.
+#[inline(always)]
+fn own_place(slots: &[Slot], number: u128) -> Option<usize>
+    ensures { IfSome result (λ place. HasSlot slots.now number place) }
+{
+    if number >= slots.len() as u128 {
+        return None;
+    }
+    let place = number as usize;
+    if slots[place].number == number {
+        Some(place)
+    } else {
+        None
+    }
+}
+
+/// The place of the slot of a number, live or dead: a binary search.
+#[inline(never)]
+fn searched_place(slots: &[Slot], number: u128) -> Option<usize>
     requires growing { AreGrowing 0 slots.now }
     ensures { HasPlace slots.now number result }
 {

@@ -69,6 +69,7 @@ impl Store {
     }
 
     /// The cell at a pointer: U5, U7, U6 (C99 6.5.3.2p4). The elements of the pointer's array are scalars.
+    #[inline(always)]
     pub fn place(&self, pointer: Ptr) -> Result<&Cell, Stop>
         ensures { result_map_both (λ c. c.now) (λ e. e) result ≡ cell_at self.now.objects pointer }
     {
@@ -79,6 +80,7 @@ impl Store {
     }
 
     /// Lends the cell at a pointer, to be written: U5, U7, U6, U12. All other cells stay.
+    #[inline(always)]
     pub fn place_mut(&mut self, pointer: Ptr) -> Result<&mut Cell, Stop>
         ensures* lends { sem 𝓛 (LendsCell self.entry pointer result) }
         ensures value { result_map_both (λ c. c.now) (λ e. e) result ≡ target_at self.old.objects pointer }

@@ -1,6 +1,6 @@
 -- One half is left.
 use Rattle.p10_store.proofs.NumberedSlots.{up_from_middle, down_to_middle}
-use Rattle.p10_store.proofs.finding.place_of.Goals as goal
+use Rattle.p10_store.proofs.finding.searched_place.Goals as goal
 
 pub loop-low-preserved-then-found-number-2 : goal.loop-low-preserved-then-found-number-2
 loop-low-preserved-then-found-number-2 c =
