@@ -77,8 +77,7 @@ Judges whole (Gives made left) judged =
 Judges whole (Refused number at) judged = judged ≡ Fails (refusal_of number at)
 Judges whole TooMany judged = judged ≡ Exceeds
 
--- what comes of a condition of a directive at this place: `defined` is answered, then macros are replaced in what is left of the
--- line (C99 6.10.1p4)
+-- what comes of a condition of a directive at this place: `defined` is answered, then macros are replaced in what is left of the line (C99 6.10.1p4)
 abbrev pub JudgesCondition : Table → Span → List PlainWord → ℕ → Judged → Type 0
 JudgesCondition macros whole words left judged =
     (ending : Ending (List Sourced)) × RunEnds macros (answered macros 0 words) left ending × Judges whole ending judged

@@ -23,8 +23,7 @@ use Rattle.p10_base.specs.declared.report.TheConstants.Limit.{FILES, MOST_FILES,
 
 -- ## What is asked for
 
--- what the files are gathered from: the held files, where they are told, the names of the roots, and the directories of
--- included files
+-- what the files are gathered from: the held files, where they are told, the names of the roots, and the directories of included files
 pub record Setting : Type 0 where
   pub held : Option (List Named)
   pub roots : List Text

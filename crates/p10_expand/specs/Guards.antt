@@ -28,8 +28,7 @@ abbrev pub defines_as_nothing : Text → List PlainWord → Bool
 defines_as_nothing name (hash ∷ word ∷ defined ∷ []) = is_name (codes "define") word && is_name name defined
 defines_as_nothing name _ = false
 
--- the conditional that is open ends with the last of these lines, and has no `#elif` and no `#else`; so many conditionals have
--- begun in it and are open
+-- the conditional that is open ends with the last of these lines, and has no `#elif` and no `#else`; so many conditionals have begun in it and are open
 abbrev pub closes_last : ℕ → List Mark → Bool
 closes_last inner [] = false
 closes_last inner (Opens ∷ marks) = closes_last (suc inner) marks

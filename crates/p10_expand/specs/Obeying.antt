@@ -27,8 +27,7 @@ use Rattle.p10_base.specs.declared.report.TheConstants.Limit.{EXPANDED_WORDS, MA
 
 -- ## What is known between two lines
 
--- a directive that was obeyed, or the refused one, which for D2 may stand in a skipped group: its words, its place, and whether it
--- begins an include guard
+-- a directive that was obeyed, or the refused one, which for D2 may stand in a skipped group: its words, its place, and whether it begins an include guard
 pub record PlainObeyed : Type 0 where
   pub words : List PlainWord
   pub span : Span
@@ -201,8 +200,7 @@ Does g file line InitDone s next = next ≡ GoesOn true (with_words s (mark_word
 Does g file line TaskLoop s next = next ≡ GoesOn true (with_words s (mark_word line))
 Does g file line OtherPragma s next = next ≡ GoesOn true s
 
--- what comes of an obeyed line with this outcome: one of another form is refused, then one that breaks the structure of the
--- file's conditionals
+-- what comes of an obeyed line with this outcome: one of another form is refused, then one that breaks the structure of the file's conditionals
 abbrev pub Acts : Gathered → File → Bool → List PlainWord → Outcome → State → Next → Type 0
 Acts g file breaks line BadForm s next = next ≡ refuse s (directive_number BadDirective) (place_of line)
 Acts g file breaks line (BadDefinition at) s next = next ≡ refuse s (directive_number code.BadDefinition) at
@@ -239,8 +237,7 @@ abbrev pub ObeyedGives : Gathered → File → ℕ → List PlainWord → State 
 ObeyedGives g file place line s next =
     (outcome : Outcome) × IsOutcome line outcome × Acts g file (breaks_at file place) line outcome s next
 
--- what comes of a line or a run of text at this place among the lines of its file, which is obeyed or not; a directive that is obeyed is
--- listed
+-- what comes of a line or a run of text at this place among the lines of its file, which is obeyed or not; a directive that is obeyed is listed
 abbrev pub LineGives : Gathered → File → Bool → ℕ → Piece → State → Next → Type 0
 LineGives g file true place (DirectiveLine line) s next = ObeyedGives g file place line (listed file place line s) next
 LineGives g file false place (DirectiveLine line) s next = next ≡ passed file place line s

@@ -10,8 +10,7 @@ use Rattle.p10_expand.specs.Obeying.{PlainObeyed, State, Finished, GoesOn, Enter
 use Rattle.p10_expand.specs.Expands.{counted, passed_line, fresh, FileEnds}
 use Rattle.p10_base.specs.declared.report.TheConstants.Limit.{MOST_NESTED_INCLUDES, MOST_EXPANDED_WORDS}
 
--- these roots are the last of the program, and the ones before them came to an end, with these obeyed directives and so many words that
--- may still be counted
+-- these roots are the last of the program, and the ones before them came to an end, with these obeyed directives and so many words that may still be counted
 pub data ReachesRoots (g : Gathered) : List ℕ → List PlainObeyed → ℕ → Type 0 where
   all_roots : ReachesRoots g g.roots [] MOST_EXPANDED_WORDS
   roots_after : {number : ℕ} {numbers : List ℕ} {obeyed : List PlainObeyed} {left : ℕ} {s : State} →
