@@ -8,7 +8,7 @@ use Rattle.std.proofs.lemmas.List.Elements.{All-nil, All-head, All-tail, All-app
 use Rattle.std.proofs.Math.Seq.{get_or-append_seam}
 use Rattle.p10_base.specs.declared.sources.SourceFile.{SourceFile}
 use Rattle.p10_base.specs.declared.word.WordPlace.{WordPlace}
-use Rattle.p10_base.specs.Gathered.{Gathered, nothing_gathered, no_file, count_of, name_of, text_of, places_of, with_file}
+use Rattle.p10_base.specs.Gathered.{Gathered, nothing_gathered, no_file, count_of, name_of, text_of, word_places_of, with_file}
 use Rattle.p10_base.specs.Words.{Text}
 use Rattle.p10_world.specs.Files.{Named}
 use Rattle.p10_expand.specs.declared.place.Include.{Include}
@@ -30,7 +30,7 @@ record Begins (g h : Gathered) : Type 0 where
   few : count_of g ≤ count_of h
   names : (n : ℕ) → n < count_of g → name_of h n ≡ name_of g n
   texts : (n : ℕ) → n < count_of g → text_of h n ≡ text_of g n
-  words : (n : ℕ) → n < count_of g → places_of h n ≡ places_of g n
+  words : (n : ℕ) → n < count_of g → word_places_of h n ≡ word_places_of g n
 
 begins_itself : (g : Gathered) → Begins g g
 begins_itself g = record { few = omega arith; names = λ n below. refl; texts = λ n below. refl; words = λ n below. refl }
@@ -52,7 +52,7 @@ begins_more g name text built_in words = record {
 }
 
 last_file : (g : Gathered) (name text : Text) (built_in : Bool) (words : List WordPlace) →
-    (text_of (with_file g name text built_in words) (count_of g) ≡ text) × (places_of (with_file g name text built_in words) (count_of g) ≡ words)
+    (text_of (with_file g name text built_in words) (count_of g) ≡ text) × (word_places_of (with_file g name text built_in words) (count_of g) ≡ words)
 last_file g name text built_in words =
     let last = get_or-append_seam g.files (record { name = name; text = text; built_in = built_in; words = words; links = [] }) [] no_file in
     (ap (λ (f : SourceFile). f.text) last, ap (λ (f : SourceFile). f.words) last)
@@ -71,7 +71,7 @@ begins_noted g request number held = record {
 record IsLine (g : Gathered) (from : ℕ) (include : Include) : Type 0 where
   held : from < count_of g
   includes : List Include
-  lexed : HasIncludes from (text_of g from) (places_of g from) includes
+  lexed : HasIncludes from (text_of g from) (word_places_of g from) includes
   line : Contains includes include
 
 abbrev IsWanted : Setting → Gathered → Request → Type 0
@@ -82,10 +82,10 @@ held_of : (s : Setting) (g : Gathered) (request : Request) → IsWanted s g requ
 held_of s g (Root name) wanted = tt
 held_of s g (Line from depth include) wanted = wanted.held
 
-kept_includes : (g h : Gathered) → Begins g h → (from : ℕ) (includes : List Include) → from < count_of g → HasIncludes from (text_of g from) (places_of g from) includes →
-    HasIncludes from (text_of h from) (places_of h from) includes
+kept_includes : (g h : Gathered) → Begins g h → (from : ℕ) (includes : List Include) → from < count_of g → HasIncludes from (text_of g from) (word_places_of g from) includes →
+    HasIncludes from (text_of h from) (word_places_of h from) includes
 kept_includes g h begins from includes held lexed =
-    subst (λ (t : Text). HasIncludes from t (places_of h from) includes) (sym (begins.texts from held))
+    subst (λ (t : Text). HasIncludes from t (word_places_of h from) includes) (sym (begins.texts from held))
     (subst (λ (ws : List WordPlace). HasIncludes from (text_of g from) ws includes) (sym (begins.words from held)) lexed)
 
 kept : (s : Setting) (g h : Gathered) → Begins g h → (request : Request) → IsWanted s g request → IsWanted s h request
@@ -101,7 +101,7 @@ wanted_begin : (s : Setting) → All (IsWanted s nothing_gathered) (map Root s.r
 wanted_begin s = All-map (IsWanted s nothing_gathered) Root s.roots (All-contains_itself s.roots)
 
 -- the include lines of a file that is put now
-lines_wanted : (s : Setting) (g : Gathered) (number : ℕ) (k : Known) (b : Bool) → number < count_of g → HasIncludes number (text_of g number) (places_of g number) k.includes → All (IsWanted s g) (cond b (map (Line number (k.depth + 1)) k.includes) [])
+lines_wanted : (s : Setting) (g : Gathered) (number : ℕ) (k : Known) (b : Bool) → number < count_of g → HasIncludes number (text_of g number) (word_places_of g number) k.includes → All (IsWanted s g) (cond b (map (Line number (k.depth + 1)) k.includes) [])
 lines_wanted s g number k true held lexed =
     All-map (IsWanted s g) (Line number (k.depth + 1)) k.includes
     (All-weaker (Contains k.includes) (λ include. IsLine g number include) (λ include line. record { held = held; includes = k.includes; lexed = lexed; line = line }) k.includes (All-contains_itself k.includes))
@@ -129,10 +129,10 @@ put_goes s g request rest k text words lexed wanted others =
     let there = noted_file more request (count_of g) held (count_of g) in
     let here = last_file g (name_at k.place) text (is_header_place k.place) words in
     let text_is : text_of last (count_of g) ≡ text = there.text ∙ here.0 in
-    let words_are : places_of last (count_of g) ≡ words = there.words ∙ here.1 in
+    let words_are : word_places_of last (count_of g) ≡ words = there.words ∙ here.1 in
     let within : count_of g < count_of last = omega (arith, noted_count more request (count_of g), length-append g.files ((record { name = name_at k.place; text = text; built_in = is_header_place k.place; words = words; links = [] }) ∷ [])) in (
       All-append (IsWanted s last) rest (lines_of (count_of g) k) (All-weaker (IsWanted s g) (IsWanted s last) (kept s g last begins) rest others)
-          (lines_wanted s last (count_of g) k (nat_le k.depth 64) within (subst (λ (t : Text). HasIncludes (count_of g) t (places_of last (count_of g)) k.includes) (sym text_is)
+          (lines_wanted s last (count_of g) k (nat_le k.depth 64) within (subst (λ (t : Text). HasIncludes (count_of g) t (word_places_of last (count_of g)) k.includes) (sym text_is)
           (subst (λ (ws : List WordPlace). HasIncludes (count_of g) text ws k.includes) (sym words_are) lexed))),
       begins,
     )

@@ -1,6 +1,6 @@
 -- At which names the files of a program are looked for.
 use Rattle.std.specs.Prelude.{ℕ, ◌≡◌, ◌<◌, ◌⊎◌, List, [], ◌∷◌, Contains, Option, Some}
-use Rattle.p10_base.specs.Gathered.{Gathered, count_of, name_of, text_of, places_of}
+use Rattle.p10_base.specs.Gathered.{Gathered, count_of, name_of, text_of, word_places_of}
 use Rattle.p10_base.specs.Words.{Text}
 use Rattle.p10_world.specs.Files.{Named, file_of}
 use Rattle.p10_expand.specs.declared.place.Include.{Include}
@@ -30,7 +30,7 @@ pub record IsLookedFor (s : Setting) (place : Place) : Type 0 where
 -- a place is the one of a root's name, or a candidate of an include line of a gathered file (C99 6.10.2)
 pub data IsCandidate (s : Setting) (g : Gathered) (place : Place) : Type 0 where
   of_root : (name : Text) → Contains s.roots name → place ≡ File name → IsCandidate s g place
-  of_line : (from : ℕ) (includes : List Include) (include : Include) → from < count_of g → HasIncludes from (text_of g from) (places_of g from) includes → Contains includes include
+  of_line : (from : ℕ) (includes : List Include) (include : Include) → from < count_of g → HasIncludes from (text_of g from) (word_places_of g from) includes → Contains includes include
       → Contains (candidates_of s.dirs (name_of g from) include) place → IsCandidate s g place
 
 -- at each name at which the files of these sources are looked for, the later files hold what the earlier ones hold

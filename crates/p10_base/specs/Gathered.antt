@@ -43,12 +43,12 @@ abbrev pub text_of : Gathered → ℕ → Text
 text_of g number = (file_of g number).text
 
 -- the places of a file's words
-abbrev pub places_of : Gathered → ℕ → List WordPlace
-places_of g number = (file_of g number).words
+abbrev pub word_places_of : Gathered → ℕ → List WordPlace
+word_places_of g number = (file_of g number).words
 
 -- the words of a file
-abbrev pub words_of : Gathered → ℕ → List PlainWord
-words_of g number = words_at number (text_of g number) (places_of g number)
+abbrev pub words_of_file : Gathered → ℕ → List PlainWord
+words_of_file g number = words_at number (text_of g number) (word_places_of g number)
 
 -- whether a file was gathered as a built-in header
 abbrev pub is_built_in : Gathered → ℕ → Bool

@@ -52,7 +52,7 @@ impl Model for Sources {
 impl Sources {
     ghost use Rattle.std.specs.Prelude.{◌≡◌, ◌+◌, ◌<◌, ◌^◌, false, true, None, Some, length, OnOk, OnErr, IfOk, IfSome};
     ghost use Rattle.std.specs.String.{string_bytes};
-    ghost use Rattle.p10_base.specs.Gathered.{LiesIn, candidate_of, count_of, name_of, nothing_gathered, places_of, root_count, root_of, is_built_in, text_of, with_file, with_link, with_root};
+    ghost use Rattle.p10_base.specs.Gathered.{LiesIn, candidate_of, count_of, name_of, nothing_gathered, word_places_of, root_count, root_of, is_built_in, text_of, with_file, with_link, with_root};
     ghost use Rattle.p10_base.specs.Places.{column_of, line_of};
 
     /// No files and no roots.
@@ -99,7 +99,7 @@ impl Sources {
     /// Where the words of the file with this number stand, as they were put with it.
     pub fn words(&self, file: u32) -> &[WordPlace]
         requires { file < count_of self.now }
-        ensures { result.now ≡ places_of self.now file }
+        ensures { result.now ≡ word_places_of self.now file }
     {
         self.files[file as usize].words.as_slice()
     }

@@ -22,11 +22,11 @@ pub enum Kind {
 /// A word that borrows its text from the source.
 #[derive(Clone, Copy, Debug)]
 pub struct Word<'s> {
-    pub kind: Kind,
     /// The bytes of the word, as the source spells them.
     pub text: &'s [u8],
     /// Where the word stands; for a word that a macro gave, the name in the use of the outermost macro.
     pub at: Span,
+    pub kind: Kind,
     /// Whether no word stands before it on its line.
     pub first: bool,
 }
@@ -34,11 +34,11 @@ pub struct Word<'s> {
 /// A word of a file without its text: what it is, and where it stands in the file.
 #[derive(Clone, Copy, Debug)]
 pub struct WordPlace {
-    pub kind: Kind,
     /// The first byte, counted from 0.
     pub start: u32,
     /// The byte past the last.
     pub end: u32,
+    pub kind: Kind,
     /// Whether no word stands before it on its line.
     pub first: bool,
 }

@@ -5,7 +5,7 @@ use Rattle.std.proofs.lemmas.List.Elements.{All-nil, All-cons}
 use Rattle.std.specs.declared.alloc.Global.{Global}
 use Rattle.p10_base.specs.declared.word.Word.{Word}
 use Rattle.p10_base.specs.declared.word.WordPlace.{WordPlace}
-use Rattle.p10_base.specs.Gathered.{Gathered, count_of, text_of, places_of}
+use Rattle.p10_base.specs.Gathered.{Gathered, count_of, text_of, word_places_of}
 use Rattle.p10_base.specs.Words.{PlainWord, Text, plain_words, place_of_word, word_at, words_at}
 use Rattle.p10_lex.specs.Lexes.{Answers}
 use Rattle.p10_lex.specs.Slices.{IsSlice, AreSlices}
@@ -61,12 +61,12 @@ text_read file text words these those places includes lexed this named that are 
     (words_placed file text (plain_words words) includes lexed (subst (λ ws. AreIncludes (plain_words ws) includes) this named))
 
 -- where the words of each file are those of its text, they stand in it
-pub words_lent : (g : Gathered) (number : ℕ) (text : Text) (places : List WordPlace) → HaveWords g → number < count_of g → text ≡ text_of g number → places ≡ places_of g number → All (StandsIn text) places
+pub words_lent : (g : Gathered) (number : ℕ) (text : Text) (places : List WordPlace) → HaveWords g → number < count_of g → text ≡ text_of g number → places ≡ word_places_of g number → All (StandsIn text) places
 words_lent g number text places have held text_is places_are =
-    subst (λ t. All (StandsIn t) places) (sym text_is) (subst (λ ps. All (StandsIn (text_of g number)) ps) (sym places_are) (words_within number (text_of g number) (places_of g number) (have number held)))
+    subst (λ t. All (StandsIn t) places) (sym text_is) (subst (λ ps. All (StandsIn (text_of g number)) ps) (sym places_are) (words_within number (text_of g number) (word_places_of g number) (have number held)))
 
 -- the words that were made of their places are those of the text
-pub words_made : {E : Type 0} (g : Gathered) (number : ℕ) (text : Text) (places : List WordPlace) (result : Result (Vec Word Global) E) → HaveWords g → number < count_of g → text ≡ text_of g number → places ≡ places_of g number →
+pub words_made : {E : Type 0} (g : Gathered) (number : ℕ) (text : Text) (places : List WordPlace) (result : Result (Vec Word Global) E) → HaveWords g → number < count_of g → text ≡ text_of g number → places ≡ word_places_of g number →
     IfOk result (λ words. plain_words words.items ≡ words_at number text places) → IfOk result (λ words. Answers number (text_of g number) (Ok (plain_words words.items)))
 words_made g number text places (Ok words) have held text_is places_are are =
     subst (λ ws. Answers number (text_of g number) (Ok ws)) (sym (are ∙ λ i. words_at number (text_is i) (places_are i))) (have number held)

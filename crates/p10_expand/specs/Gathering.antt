@@ -4,7 +4,7 @@ use Rattle.std.specs.Prelude.{ℕ, ◌≡◌, zero, suc, ◌+◌, ◌<◌, ◌�
 use Rattle.std.specs.List.{filter}
 use Rattle.p10_base.specs.declared.report.Refusal.{Refusal}
 use Rattle.p10_base.specs.declared.report.Limit.{Limit}
-use Rattle.p10_base.specs.Gathered.{Gathered, nothing_gathered, count_of, root_count, name_of, text_of, words_of, candidate_of, with_file, with_root, with_link}
+use Rattle.p10_base.specs.Gathered.{Gathered, nothing_gathered, count_of, root_count, name_of, text_of, words_of_file, candidate_of, with_file, with_root, with_link}
 use Rattle.p10_world.specs.Files.{Named}
 use Rattle.p10_lex.specs.declared.fault.LexFault.TheVariants as lexing
 use Rattle.p10_base.specs.declared.word.WordPlace.{WordPlace}
@@ -240,7 +240,7 @@ IsEnding s (Err fault) = FailsBy s fault
 
 -- the words of each file are those of its text
 abbrev pub HaveWords : Gathered → Type 0
-HaveWords g = (number : ℕ) → number < count_of g → Answers number (text_of g number) (Ok (words_of g number))
+HaveWords g = (number : ℕ) → number < count_of g → Answers number (text_of g number) (Ok (words_of_file g number))
 
 -- where files are told, it ends in one way only
 abbrev pub EndsOnce : Type 0

@@ -5,7 +5,7 @@ use Rattle.std.proofs.lemmas.List.{get_or_past}
 use Rattle.p10_base.specs.declared.sources.SourceFile.{SourceFile}
 use Rattle.p10_base.specs.declared.report.Limit.{Limit}
 use Rattle.p10_base.specs.declared.report.TheConstants.Limit.{EXPANDED_WORDS, NESTED_INCLUDES, MOST_NESTED_INCLUDES, MOST_EXPANDED_WORDS}
-use Rattle.p10_base.specs.Gathered.{Gathered, no_file, count_of, text_of, words_of}
+use Rattle.p10_base.specs.Gathered.{Gathered, no_file, count_of, text_of, words_of_file}
 use Rattle.p10_base.specs.Words.{PlainWord}
 use Rattle.p10_lex.specs.Lexes.{Answers}
 use Rattle.p10_lex.specs.Pieces.{beginning}
@@ -64,7 +64,7 @@ module _ (g : Gathered) where
     words_there number =
         elim (cases_order number (count_of g)) [
           | inl same ↦ none_there number (omega (arith, same))
-          | inr apart ↦ elim apart [ inl held ↦ (words_of g number, have number held) | inr past ↦ none_there number (omega (arith, past)) ]
+          | inr apart ↦ elim apart [ inl held ↦ (words_of_file g number, have number held) | inr past ↦ none_there number (omega (arith, past)) ]
         ]
 
     counted_there : (nested : ℕ) (files : FilesEnd nested) (number : ℕ) (built_in : Bool) (s : State) (words : List PlainWord) → Answers number (text_of g number) (Ok words) →
