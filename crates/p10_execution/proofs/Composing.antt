@@ -26,12 +26,11 @@ use Rattle.p10_absx.specs.Describing.{Describes, MaybeDescribes}
 use Rattle.p10_pass.specs.Scopes.{form_assigns, assigned_forgotten}
 use Rattle.p10_pass.specs.Claiming.{head_of, loop_claimed}
 use Rattle.p10_pass.specs.Arguments.{has_value, failing_in}
-use Rattle.p10_pass.specs.Passing.{Left, Manner, nowhere, reached, where_going, followed, and_then_pass, beside, with_calls, as_block, by_claim, round_of, loop_left, switch_left, pass_statement, pass_statements, pass_switch, pass_from}
+use Rattle.p10_pass.specs.Passing.{Left, Manner, manner_in, nowhere, reached, where_going, followed, and_then_pass, beside, with_calls, as_block, by_claim, round_of, loop_left, switch_left, pass_statement, pass_statements, pass_switch, pass_from}
 use Rattle.p10_evaluation.specs.Claimed.{ResultsLie}
 use Rattle.p10_execution.specs.Scoping.{IsBefore}
 use Rattle.p10_execution.specs.Standing.{StandsSoundly}
 use Rattle.p10_execution.specs.Leaving.{NoneFails, LeavesAs}
-use Rattle.p10_execution.specs.Laws.{manner_in}
 use Rattle.p10_execution.proofs.Giving.{holds_step, holds_then, holds_if, holds_both, holds_weaker}
 use Rattle.p10_execution.proofs.AssessedScopes.{MaybeSame, assessed_scope}
 use Rattle.p10_execution.proofs.ScopedEnds.{nothing, MaybeScoped, EndsScoped, before_left, before_right, before_same, before_scoped, before_body}

@@ -33,13 +33,12 @@ use Rattle.p10_absx.specs.Environments.{Environment, known, learned}
 use Rattle.p10_absx.specs.Assessing.{abstract_value}
 use Rattle.p10_absx.specs.Describing.{HoldsNumber, Describes, MaybeDescribes, MaybeHolds}
 use Rattle.p10_pass.specs.Arguments.{has_value, failing_in, failing_at}
-use Rattle.p10_pass.specs.Passing.{Left, Manner, reached, where_going, value_passed, items_passed, integer_declared, other_declared, declared as declared_left, pass_statement}
+use Rattle.p10_pass.specs.Passing.{Left, Manner, manner_in, reached, where_going, value_passed, items_passed, integer_declared, other_declared, declared as declared_left, pass_statement}
 use Rattle.p10_evaluation.specs.Claimed.{ResultsLie}
 use Rattle.p10_evaluation.specs.Laws.{IsHeldBy}
 use Rattle.p10_execution.specs.Scoping.{IsNumber, IsBefore}
 use Rattle.p10_execution.specs.Standing.{StandsSoundly}
 use Rattle.p10_execution.specs.Leaving.{NoneFails, LeavesAs}
-use Rattle.p10_execution.specs.Laws.{manner_in}
 use Rattle.p10_execution.proofs.Giving.{holds_step, holds_then, holds_after, holds_or, holds_weaker}
 use Rattle.p10_execution.proofs.InFrame.{cell_set, object_set}
 use Rattle.p10_execution.proofs.Frames.{number_fits, held_there, unknown_set, learned_set, whole_unset}

@@ -24,14 +24,13 @@ use Rattle.p10_absx.specs.Environments.{Environment, known, hull_reached}
 use Rattle.p10_absx.specs.Describing.{Describes, MaybeDescribes}
 use Rattle.p10_pass.specs.Claiming.{head_of, enters_ranked, goes_back_ranked, is_enough, rank_in, ranges_hold, ranges_hold_reached, no_claim, loop_claimed}
 use Rattle.p10_pass.specs.Scopes.{form_assigns}
-use Rattle.p10_pass.specs.Passing.{Failing, Weakness, Left, Manner, where_going, tested_in, failing_if, rank_fails, weakness_of, Round, round_of, place_unless, loop_left, pass_statement, pass_statements}
+use Rattle.p10_pass.specs.Passing.{Failing, Weakness, Left, Manner, manner_in, where_going, tested_in, failing_if, rank_fails, weakness_of, Round, round_of, place_unless, loop_left, pass_statement, pass_statements}
 use Rattle.p10_evaluation.specs.Claimed.{IsCoveredCall, ResultsLie}
 use Rattle.p10_evaluation.proofs.Hulls.{reached_left, reached_right}
 use Rattle.p10_execution.specs.Scoping.{KnowsNumbers, IsBefore}
 use Rattle.p10_execution.specs.Standing.{StandsSoundly}
 use Rattle.p10_execution.specs.Leaving.{NoneFails, LeavesAs}
 use Rattle.p10_execution.specs.Bounding.{trees_among, IsBounded, is_task, AreMadeUp}
-use Rattle.p10_execution.specs.Laws.{manner_in}
 use Rattle.p10_execution.proofs.Giving.{holds_weaker}
 use Rattle.p10_execution.proofs.Entries.{changed_knows}
 use Rattle.p10_execution.proofs.ScopedEnds.{nothing, MaybeScoped, third_expressions, third_declares, before_same, before_scoped, before_nothing, changed_scope}

@@ -29,12 +29,11 @@ use Rattle.p10_absx.specs.Environments.{Environment, known, learned}
 use Rattle.p10_absx.specs.Assessing.{abstract_value}
 use Rattle.p10_absx.specs.Describing.{Describes, MaybeDescribes}
 use Rattle.p10_pass.specs.Arguments.{has_value, failing_in, failing_at}
-use Rattle.p10_pass.specs.Passing.{Left, Manner, reached, where_going, items_passed, integer_declared, other_declared, declared as declared_left, pass_statement}
+use Rattle.p10_pass.specs.Passing.{Left, Manner, manner_in, reached, where_going, items_passed, integer_declared, other_declared, declared as declared_left, pass_statement}
 use Rattle.p10_evaluation.specs.Claimed.{ResultsLie}
 use Rattle.p10_execution.specs.Scoping.{IsNumber, IsBefore}
 use Rattle.p10_execution.specs.Standing.{StandsSoundly}
 use Rattle.p10_execution.specs.Leaving.{NoneFails}
-use Rattle.p10_execution.specs.Laws.{manner_in}
 use Rattle.p10_execution.proofs.Giving.{holds_weaker}
 use Rattle.p10_execution.proofs.Frames.{held_there, unknown_set, learned_set, whole_unset}
 use Rattle.p10_execution.proofs.Ends.{calls_none, followed_none_left, followed_none_right}

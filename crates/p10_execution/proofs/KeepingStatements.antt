@@ -6,7 +6,7 @@ use Rattle.p10_core.specs.declared.statements.LoopHead.{LoopHead}
 use Rattle.p10_meaning.specs.declared.pointers.Scalar.{Scalar}
 use Rattle.std.proofs.Common.{ap, ◌≤◌, ◌∷◌, ◌∙◌}
 use Rattle.p10_execution.proofs.ScopedEnds.{before_scoped}
-use Rattle.p10_pass.specs.Passing.{pass_switch}
+use Rattle.p10_pass.specs.Passing.{manner_in, pass_switch}
 use Rattle.std.proofs.Common.{◌≡◌, ℕ, zero, suc, ◌+◌, ◌<◌, Bool, true, false, List, [], ◌++◌, refl, subst, Option, Some, None, slice_get, length, arith}
 use Rattle.std.specs.Prelude.{if◌then◌else◌, All}
 use Rattle.std.proofs.lemmas.List.Elements.{All-head, All-tail}
@@ -26,7 +26,6 @@ use Rattle.p10_evaluation.specs.Claimed.{ResultsLie}
 use Rattle.p10_execution.specs.Scoping.{IsBefore}
 use Rattle.p10_execution.specs.Standing.{StandsSoundly}
 use Rattle.p10_execution.specs.Leaving.{NoneFails, LeavesAs}
-use Rattle.p10_execution.specs.Laws.{manner_in}
 use Rattle.p10_execution.proofs.Giving.{holds_weaker}
 use Rattle.p10_execution.proofs.ScopedEnds.{nothing, MaybeScoped, before_left, before_right, before_rest}
 use Rattle.p10_execution.proofs.TopDeclarations.{declares_here}

@@ -15,13 +15,13 @@ use Rattle.p10_meaning.proofs.SoundStatements.{scope_after, scope_after_all}
 use Rattle.p10_sums.specs.Keeping.{HoldsOf}
 use Rattle.p10_absx.specs.Environments.{Environment, hull_reached}
 use Rattle.p10_absx.specs.Describing.{Describes, MaybeDescribes}
-use Rattle.p10_pass.specs.Passing.{Left, Manner, nowhere, reached, where_going, followed, and_then_pass, is_labelled, pass_statement, pass_statements, pass_from}
+use Rattle.p10_pass.specs.Passing.{Left, Manner, manner_in, nowhere, reached, where_going, followed, and_then_pass, is_labelled, pass_statement, pass_statements, pass_from}
 use Rattle.p10_evaluation.specs.Claimed.{ResultsLie}
 use Rattle.p10_evaluation.proofs.Hulls.{reached_left, reached_right}
 use Rattle.p10_execution.specs.Scoping.{KnowsNumbers, IsBefore}
 use Rattle.p10_execution.specs.Standing.{StandsSoundly}
 use Rattle.p10_execution.specs.Leaving.{NoneFails, LeavesAs, Leaves}
-use Rattle.p10_execution.specs.Laws.{manner_in, StatementsLeaveWhatIsSaid}
+use Rattle.p10_execution.specs.Laws.{StatementsLeaveWhatIsSaid}
 use Rattle.p10_execution.proofs.Giving.{holds_step, holds_then, holds_weaker}
 use Rattle.p10_execution.proofs.ScopedEnds.{nothing, MaybeScoped, scoped_here, reached_scoped, if_scoped, before_left, before_right, before_rest}
 use Rattle.p10_execution.proofs.TopDeclarations.{declares_here}

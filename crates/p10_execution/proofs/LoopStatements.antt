@@ -21,12 +21,11 @@ use Rattle.p10_absx.specs.Environments.{Environment, known}
 use Rattle.p10_absx.specs.Describing.{Describes, MaybeDescribes}
 use Rattle.p10_pass.specs.Scopes.{assigns, form_assigns, any_assigns, assigned_forgotten, offsets_restored}
 use Rattle.p10_pass.specs.Claiming.{head_of, ranges_hold, ranges_hold_reached}
-use Rattle.p10_pass.specs.Passing.{Left, Manner, reached, where_going, and_then_pass, as_block, Round, round_of, place_unless, loop_left, pass_statement, pass_statements}
+use Rattle.p10_pass.specs.Passing.{Left, Manner, manner_in, reached, where_going, and_then_pass, as_block, Round, round_of, place_unless, loop_left, pass_statement, pass_statements}
 use Rattle.p10_evaluation.specs.Claimed.{ResultsLie}
 use Rattle.p10_execution.specs.Scoping.{IsBefore}
 use Rattle.p10_execution.specs.Standing.{StandsSoundly}
 use Rattle.p10_execution.specs.Leaving.{NoneFails, ReturnsAs, LeavesAs}
-use Rattle.p10_execution.specs.Laws.{manner_in}
 use Rattle.p10_execution.proofs.Giving.{holds_any, holds_step, holds_then, holds_both, holds_weaker}
 use Rattle.p10_execution.proofs.Numbers.{or_false}
 use Rattle.p10_execution.proofs.Entries.{changed_knows}

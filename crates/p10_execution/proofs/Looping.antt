@@ -17,13 +17,12 @@ use Rattle.p10_absx.specs.Environments.{Environment, known, hull_reached}
 use Rattle.p10_absx.specs.Assessing.{assess, known_where}
 use Rattle.p10_absx.specs.Describing.{Describes, MaybeDescribes}
 use Rattle.p10_pass.specs.Claiming.{head_of, ranges_hold_reached, enters_ranked, goes_back_ranked}
-use Rattle.p10_pass.specs.Passing.{Left, Manner, where_going, Tested, tested_in, tested_reached, Round, round_of, pass_statement, pass_statements}
+use Rattle.p10_pass.specs.Passing.{Left, Manner, manner_in, where_going, Tested, tested_in, tested_reached, Round, round_of, pass_statement, pass_statements}
 use Rattle.p10_evaluation.specs.Claimed.{ResultsLie}
 use Rattle.p10_evaluation.proofs.Hulls.{reached_left, reached_right}
 use Rattle.p10_execution.specs.Scoping.{KnowsNumbers, IsBefore}
 use Rattle.p10_execution.specs.Standing.{StandsSoundly}
 use Rattle.p10_execution.specs.Leaving.{NoneFails, ReturnsAs, LeavesAs}
-use Rattle.p10_execution.specs.Laws.{manner_in}
 use Rattle.p10_execution.specs.Bounding.{EntersAtMost}
 use Rattle.p10_execution.proofs.Ranks.{RankAtMost, entered_positive, back_falls}
 use Rattle.p10_execution.proofs.Giving.{holds_step, holds_then, holds_both, holds_weaker}

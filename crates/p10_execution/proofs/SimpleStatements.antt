@@ -28,13 +28,12 @@ use Rattle.p10_absx.specs.Environments.{Environment}
 use Rattle.p10_absx.specs.Assessing.{assess, known_where, abstract_value}
 use Rattle.p10_absx.specs.Describing.{Describes, MaybeDescribes, MaybeHolds}
 use Rattle.p10_pass.specs.Arguments.{has_value, failing_in, failing_at}
-use Rattle.p10_pass.specs.Passing.{Left, Manner, reached, with_calls, stored, set_value, pass_statement}
+use Rattle.p10_pass.specs.Passing.{Left, Manner, manner_in, reached, with_calls, stored, set_value, pass_statement}
 use Rattle.p10_evaluation.specs.Claimed.{ResultsLie}
 use Rattle.p10_evaluation.specs.Laws.{IsHeldBy}
 use Rattle.p10_execution.specs.Scoping.{KnowsNumbers}
 use Rattle.p10_execution.specs.Standing.{StandsSoundly}
 use Rattle.p10_execution.specs.Leaving.{NoneFails, LeavesAs}
-use Rattle.p10_execution.specs.Laws.{manner_in}
 use Rattle.p10_execution.proofs.Giving.{holds_step, holds_then, holds_after, holds_or, holds_both, holds_weaker}
 use Rattle.p10_execution.proofs.Frames.{number_fits}
 use Rattle.p10_execution.proofs.Ends.{calls_none, nothing_right, with_calls_as, reached_as}

@@ -34,14 +34,13 @@ use Rattle.p10_absx.specs.Operators.{converted_abstract}
 use Rattle.p10_absx.specs.Assessing.{abstract_value}
 use Rattle.p10_absx.specs.Describing.{HoldsNumber, Describes, MaybeDescribes, MaybeHolds}
 use Rattle.p10_pass.specs.Arguments.{failing_in, failing_at}
-use Rattle.p10_pass.specs.Passing.{Left, Manner, nowhere, reached, with_calls, stored, before_update, updated_value, result_lies, range_returned, value_returned, pass_statement}
+use Rattle.p10_pass.specs.Passing.{Left, Manner, manner_in, nowhere, reached, with_calls, stored, before_update, updated_value, result_lies, range_returned, value_returned, pass_statement}
 use Rattle.p10_evaluation.specs.Claimed.{ResultsLie}
 use Rattle.p10_evaluation.specs.Laws.{IsHeldBy}
 use Rattle.p10_evaluation.proofs.Operating.{within_of, in_within, converted_holds}
 use Rattle.p10_execution.specs.Scoping.{KnowsNumbers}
 use Rattle.p10_execution.specs.Standing.{AreInFrame, StandsSoundly}
 use Rattle.p10_execution.specs.Leaving.{NoneFails, LiesInClaim, ReturnsIn, ReturnsAs, LeavesAs}
-use Rattle.p10_execution.specs.Laws.{manner_in}
 use Rattle.p10_execution.proofs.Giving.{holds_step, holds_then, holds_after, holds_or, holds_both}
 use Rattle.p10_execution.proofs.Frames.{number_fits}
 use Rattle.p10_execution.proofs.Ends.{calls_none, calls_rest, nothing_right, with_calls_as}

@@ -15,15 +15,11 @@ use Rattle.p10_meaning.specs.Sound.{region_at}
 use Rattle.p10_sums.specs.Keeping.{OnGives, StatementKeeps}
 use Rattle.p10_absx.specs.Environments.{Environment}
 use Rattle.p10_absx.specs.Describing.{Describes}
-use Rattle.p10_pass.specs.Passing.{Manner, pass_statement}
+use Rattle.p10_pass.specs.Passing.{manner_in, pass_statement}
 use Rattle.p10_evaluation.specs.Claimed.{ResultsLie}
 use Rattle.p10_execution.specs.Scoping.{IsBefore}
 use Rattle.p10_execution.specs.Standing.{StandsSoundly}
 use Rattle.p10_execution.specs.Leaving.{NoneFails, Leaves}
-
--- how calls and loops count in a function, by some claims or in a trial pass
-abbrev pub manner_in : PlainFunction → Option Claims → Option (List Loop) → Option Value → Manner
-manner_in f calls loops result = record { calls = calls; loops = loops; result = result; variables = f.variables }
 
 -- a whole statement of a function of a whole program, executed in a sound state and a frame that an environment describes, where calls
 -- that claims allow give results in the claimed ranges and none of K3, K5, K6 and K7 fails: what it gives is as the pass says

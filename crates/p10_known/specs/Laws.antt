@@ -5,12 +5,8 @@ use Rattle.p10_core.specs.WholePrograms.{IsWholeStatement}
 use Rattle.p10_cert.specs.Claims.{Value, Loop, Claims}
 use Rattle.p10_meaning.specs.Sound.{region_at}
 use Rattle.p10_absx.specs.Environments.{Environment}
-use Rattle.p10_pass.specs.Passing.{Manner, pass_statement}
+use Rattle.p10_pass.specs.Passing.{manner_in, pass_statement}
 use Rattle.p10_known.specs.Typing.{AreOfTypes, EndsOfTypes, LoopsOfTypes, ResultsOfTypes}
-
--- how calls and loops count in a function, by some claims or in a trial pass
-abbrev pub manner_in : PlainFunction → Option Claims → Option (List Loop) → Option Value → Manner
-manner_in f calls loops result = record { calls = calls; loops = loops; result = result; variables = f.variables }
 
 -- a pass over a whole statement of a function: where each range that is known before it, and each that is claimed of results and at
 -- loops, has a number and only numbers of its type, so has each that is known at an end of the statement, and what it returns

@@ -131,6 +131,10 @@ pub record Manner : Type 0 where
   pub result : Option Value
   pub variables : List PlainVariable
 
+-- the same in a function, by some claims or in a trial pass
+abbrev pub manner_in : PlainFunction → Option Claims → Option (List Loop) → Option Value → Manner
+manner_in f calls loops result = record { calls = calls; loops = loops; result = result; variables = f.variables }
+
 -- ## Assignments and declarations
 
 -- the environment in which a place has another value: only integer frame variables in scope are known

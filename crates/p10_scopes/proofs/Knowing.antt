@@ -13,9 +13,8 @@ use Rattle.p10_absx.specs.Environments.{Environment, known}
 use Rattle.p10_absx.proofs.Entries.{get_below}
 use Rattle.p10_fit.specs.Sites.{in_scope_after}
 use Rattle.p10_fit.specs.Fits.{frame_integer, counter_type}
-use Rattle.p10_pass.specs.Passing.{Left, Manner, integer_declared, other_declared, declared, pass_statement}
+use Rattle.p10_pass.specs.Passing.{Left, Manner, manner_in, integer_declared, other_declared, declared, pass_statement}
 use Rattle.p10_known.specs.Typing.{AreOfTypes}
-use Rattle.p10_known.specs.Laws.{manner_in}
 use Rattle.p10_execution.specs.Scoping.{IsNumber}
 use Rattle.p10_execution.proofs.TopDeclarations.{declares_here}
 use Rattle.p10_execution.proofs.ScopedEnds.{MaybeScoped, EndsScoped}

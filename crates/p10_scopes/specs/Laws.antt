@@ -6,9 +6,8 @@ use Rattle.p10_cert.specs.Claims.{Value, Loop, Func, Claims}
 use Rattle.p10_meaning.specs.Sound.{region_at}
 use Rattle.p10_absx.specs.Environments.{Environment}
 use Rattle.p10_absx.specs.Entering.{entry_of_function}
-use Rattle.p10_pass.specs.Passing.{pass_statement}
+use Rattle.p10_pass.specs.Passing.{manner_in, pass_statement}
 use Rattle.p10_known.specs.Typing.{AreOfTypes, LoopsOfTypes, ResultsOfTypes}
-use Rattle.p10_known.specs.Laws.{manner_in}
 use Rattle.p10_scopes.specs.Knowing.{KnowsScope, EndsInScope, AreNew}
 
 -- where a function begins exactly its integer frame parameters are known, whatever is claimed of it

@@ -20,14 +20,13 @@ use Rattle.p10_absx.specs.Describing.{Describes}
 use Rattle.p10_fit.specs.Sites.{loop_sites, loop_number_at, task_loop_number}
 use Rattle.p10_fit.specs.Fits.{fits_loops}
 use Rattle.p10_pass.specs.Claiming.{loop_claimed}
-use Rattle.p10_pass.specs.Passing.{Left, Weakness, Manner, manner_of, pass_statement, pass_statements, pass_body, pass_of}
+use Rattle.p10_pass.specs.Passing.{Left, Weakness, Manner, manner_in, manner_of, pass_statement, pass_statements, pass_body, pass_of}
 use Rattle.p10_check.specs.Passes.{Standing, left_by, unranked_loops}
 use Rattle.p10_evaluation.specs.Claimed.{IsCoveredCall, ResultsLie}
 use Rattle.p10_evaluation.specs.Laws.{IsDescribed}
 use Rattle.p10_execution.specs.Scoping.{IsBefore}
 use Rattle.p10_execution.specs.Standing.{AreInFrame, StandsSoundly}
 use Rattle.p10_execution.specs.Leaving.{NoneFails}
-use Rattle.p10_execution.specs.Laws.{manner_in}
 use Rattle.p10_execution.proofs.KeepingStatements.{statements_keep, statements_keep_all}
 use Rattle.p10_turns.specs.Laws.{IsLawful}
 use Rattle.p10_task.proofs.Passes.{result_claimed, manner_is, Stands, IsFine}

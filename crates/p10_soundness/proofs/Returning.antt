@@ -21,13 +21,12 @@ use Rattle.p10_sums.specs.Keeping.{HoldsOf, OnGives}
 use Rattle.p10_absx.specs.Environments.{Environment}
 use Rattle.p10_absx.specs.Assessing.{result_claimed as range_of_result}
 use Rattle.p10_absx.specs.Describing.{Describes, MaybeDescribes}
-use Rattle.p10_pass.specs.Passing.{Left, Manner, where_going, pass_statement, pass_statements}
+use Rattle.p10_pass.specs.Passing.{Left, Manner, manner_in, where_going, pass_statement, pass_statements}
 use Rattle.p10_evaluation.specs.Claimed.{ResultLies, ResultsLie}
 use Rattle.p10_evaluation.proofs.Finding.{in_type}
 use Rattle.p10_execution.specs.Scoping.{IsBefore}
 use Rattle.p10_execution.specs.Standing.{StandsSoundly}
 use Rattle.p10_execution.specs.Leaving.{NoneFails, LiesInClaim, LeavesAs, Leaves}
-use Rattle.p10_execution.specs.Laws.{manner_in}
 use Rattle.p10_execution.proofs.Giving.{holds_then, holds_both, holds_weaker}
 use Rattle.p10_execution.proofs.ScopedEnds.{MaybeScoped, before_left, before_rest}
 use Rattle.p10_execution.proofs.PassedScopes.{statement_scoped}

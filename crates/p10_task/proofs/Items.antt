@@ -16,12 +16,11 @@ use Rattle.p10_sums.specs.Counting.{Counting}
 use Rattle.p10_sums.specs.Keeping.{HoldsOf, OnNormal, StatementKeeps, StatementsKeep}
 use Rattle.p10_absx.specs.Environments.{Environment}
 use Rattle.p10_absx.specs.Describing.{Describes, MaybeDescribes}
-use Rattle.p10_pass.specs.Passing.{Left, Weakness, Manner, where_going, pass_statement, pass_statements}
+use Rattle.p10_pass.specs.Passing.{Left, Weakness, Manner, manner_in, where_going, pass_statement, pass_statements}
 use Rattle.p10_evaluation.specs.Claimed.{IsCoveredCall, ResultsLie}
 use Rattle.p10_execution.specs.Scoping.{IsBefore}
 use Rattle.p10_execution.specs.Standing.{StandsSoundly}
 use Rattle.p10_execution.specs.Leaving.{NoneFails, LeavesAs, Leaves}
-use Rattle.p10_execution.specs.Laws.{manner_in}
 use Rattle.p10_execution.proofs.Giving.{holds_then, holds_both, holds_weaker}
 use Rattle.p10_execution.proofs.ScopedEnds.{Scoped, MaybeScoped, before_left, before_rest}
 use Rattle.p10_execution.proofs.PassedScopes.{statement_scoped}

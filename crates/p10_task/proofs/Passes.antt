@@ -10,11 +10,10 @@ use Rattle.p10_core.specs.Typed.{PlainValue, PlainStatement, statement, loop, no
 use Rattle.p10_cert.specs.Claims.{Value, Func, Loop, Claims}
 use Rattle.p10_absx.specs.Environments.{Environment}
 use Rattle.p10_pass.specs.Claiming.{head_of, ranges_hold, ranges_hold_reached, loop_claimed}
-use Rattle.p10_pass.specs.Passing.{Left, Weakness, Manner, where_going, followed, place_unless, rank_fails, weakness_of, Round, round_of, pass_statement, pass_statements, claimed_manner}
+use Rattle.p10_pass.specs.Passing.{Left, Weakness, Manner, manner_in, where_going, followed, place_unless, rank_fails, weakness_of, Round, round_of, pass_statement, pass_statements, claimed_manner}
 use Rattle.p10_core.specs.Typed.{PlainVariable, PlainFunction}
 use Rattle.p10_sums.specs.Counting.{loops_claimed}
 use Rattle.p10_execution.specs.Leaving.{NoneFails}
-use Rattle.p10_execution.specs.Laws.{manner_in}
 use Rattle.p10_execution.proofs.Ends.{nothing_left, nothing_right, followed_none_left, followed_none_right}
 
 -- ## How calls and loops count

@@ -17,13 +17,12 @@ use Rattle.p10_absx.specs.Environments.{Environment}
 use Rattle.p10_absx.specs.Entering.{entry_at}
 use Rattle.p10_absx.specs.Describing.{Describes, MaybeDescribes}
 use Rattle.p10_pass.specs.Claiming.{head_of, loop_claimed}
-use Rattle.p10_pass.specs.Passing.{Weakness, Manner, pass_statement, pass_statements, pass_body}
+use Rattle.p10_pass.specs.Passing.{Weakness, Manner, manner_in, pass_statement, pass_statements, pass_body}
 use Rattle.p10_evaluation.specs.Claimed.{IsCoveredCall, ResultsLie}
 use Rattle.p10_evaluation.proofs.Rules.{after_step}
 use Rattle.p10_execution.specs.Scoping.{IsBefore}
 use Rattle.p10_execution.specs.Standing.{AreInFrame, StandsSoundly}
 use Rattle.p10_execution.specs.Leaving.{NoneFails}
-use Rattle.p10_execution.specs.Laws.{manner_in}
 use Rattle.p10_execution.proofs.Giving.{holds_step, holds_then, holds_weaker}
 use Rattle.p10_execution.proofs.Heads.{head_describes}
 use Rattle.p10_task.specs.Coming.{items_before, main_manner, item_claimed, IsAsClaimed}

@@ -18,14 +18,13 @@ use Rattle.p10_sums.specs.Keeping.{HoldsOf, OnGives, TestKeeps, StatementKeeps}
 use Rattle.p10_absx.specs.Environments.{Environment, hull_reached}
 use Rattle.p10_absx.specs.Describing.{Describes, MaybeDescribes}
 use Rattle.p10_pass.specs.Claiming.{head_of, ranges_hold_reached}
-use Rattle.p10_pass.specs.Passing.{Left, Weakness, Manner, where_going, Tested, tested_in, pass_statement}
+use Rattle.p10_pass.specs.Passing.{Left, Weakness, Manner, manner_in, where_going, Tested, tested_in, pass_statement}
 use Rattle.p10_evaluation.specs.Claimed.{IsCoveredCall, ResultsLie}
 use Rattle.p10_evaluation.proofs.Hulls.{reached_left, reached_right}
 use Rattle.p10_evaluation.proofs.WholeFunctions.{values_keep}
 use Rattle.p10_execution.specs.Scoping.{IsBefore}
 use Rattle.p10_execution.specs.Standing.{StandsSoundly}
 use Rattle.p10_execution.specs.Leaving.{LeavesAs, Leaves}
-use Rattle.p10_execution.specs.Laws.{manner_in}
 use Rattle.p10_execution.proofs.Giving.{holds_then, holds_both, holds_weaker, holds_if}
 use Rattle.p10_execution.proofs.Ends.{nothing_left, nothing_right}
 use Rattle.p10_execution.proofs.ScopedEnds.{nothing, Scoped, MaybeScoped, EndsScoped, scoped_same, scoped_trans, ends_trans, ends_wider, reached_scoped, changed_scope, before_scoped}

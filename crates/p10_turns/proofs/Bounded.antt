@@ -7,10 +7,9 @@ use Rattle.p10_cert.specs.Claims.{Loop}
 use Rattle.p10_meaning.proofs.SoundStatements.{scope_after_all}
 use Rattle.p10_absx.specs.Environments.{Environment}
 use Rattle.p10_pass.specs.Claiming.{ranges_hold, ranges_hold_reached}
-use Rattle.p10_pass.specs.Passing.{Failing, Round, rank_fails, trial_manner}
+use Rattle.p10_pass.specs.Passing.{manner_in, Failing, Round, rank_fails, trial_manner}
 use Rattle.p10_evaluation.proofs.WholeFunctions.{results_lie}
 use Rattle.p10_evaluation.proofs.Operating.{both_true}
-use Rattle.p10_execution.specs.Laws.{manner_in}
 use Rattle.p10_execution.proofs.ScopedEnds.{third_expressions, third_declares}
 use Rattle.p10_turns.specs.LoopParts.{LoopParts, round_under}
 use Rattle.p10_turns.specs.Ranked.{is_ranked, StandsByRank}

@@ -12,14 +12,13 @@ use Rattle.p10_sums.specs.Keeping.{HoldsOf}
 use Rattle.p10_absx.specs.Environments.{Environment}
 use Rattle.p10_absx.specs.Assessing.{assess, known_where}
 use Rattle.p10_absx.specs.Describing.{MaybeDescribes}
-use Rattle.p10_pass.specs.Passing.{Left, Manner, where_going, tested_in, tested_reached, pass_statement, pass_statements}
+use Rattle.p10_pass.specs.Passing.{Left, Manner, manner_in, where_going, tested_in, tested_reached, pass_statement, pass_statements}
 use Rattle.p10_evaluation.specs.Claimed.{ResultsLie}
 use Rattle.p10_evaluation.specs.Laws.{IsFound}
 use Rattle.p10_evaluation.proofs.WholeFunctions.{values_found}
 use Rattle.p10_execution.specs.Scoping.{KnowsNumbers, IsBefore}
 use Rattle.p10_execution.specs.Standing.{StandsSoundly}
 use Rattle.p10_execution.specs.Leaving.{NoneFails, LeavesAs, Leaves}
-use Rattle.p10_execution.specs.Laws.{manner_in}
 use Rattle.p10_execution.proofs.Giving.{holds_step, holds_then, holds_both, holds_weaker}
 use Rattle.p10_execution.proofs.Ends.{nothing_left, nothing_right, followed_none_left, followed_none_right}
 use Rattle.p10_execution.proofs.TopDeclarations.{declares_here}

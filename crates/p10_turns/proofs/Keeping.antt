@@ -14,12 +14,11 @@ use Rattle.p10_sums.specs.Keeping.{OnGives, OnBack, LoopKeeps}
 use Rattle.p10_absx.specs.Environments.{Environment}
 use Rattle.p10_absx.specs.Describing.{Describes}
 use Rattle.p10_pass.specs.Claiming.{head_of, ranges_hold, ranges_hold_reached}
-use Rattle.p10_pass.specs.Passing.{Manner, Round, tested_in, pass_statement, pass_statements}
+use Rattle.p10_pass.specs.Passing.{Manner, manner_in, Round, tested_in, pass_statement, pass_statements}
 use Rattle.p10_evaluation.specs.Claimed.{ResultsLie}
 use Rattle.p10_execution.specs.Scoping.{KnowsNumbers, IsBefore}
 use Rattle.p10_execution.specs.Standing.{StandsSoundly}
 use Rattle.p10_execution.specs.Leaving.{NoneFails}
-use Rattle.p10_execution.specs.Laws.{manner_in}
 use Rattle.p10_execution.proofs.ScopedEnds.{third_expressions, third_declares}
 use Rattle.p10_turns.specs.Entrances.{EntersAtMost}
 use Rattle.p10_turns.specs.LoopParts.{LoopParts, form_of, round_under}

@@ -14,13 +14,12 @@ use Rattle.p10_meaning.specs.Sound.{region_at}
 use Rattle.p10_sums.specs.Keeping.{HoldsOf, OnGives, OnBack, LoopKeeps}
 use Rattle.p10_absx.specs.Environments.{Environment, hull_reached}
 use Rattle.p10_pass.specs.Claiming.{head_of, ranges_hold_reached}
-use Rattle.p10_pass.specs.Passing.{Left, Manner, where_going, tested_in, tested_reached, Round, round_of, pass_statement, pass_statements}
+use Rattle.p10_pass.specs.Passing.{Left, Manner, manner_in, where_going, tested_in, tested_reached, Round, round_of, pass_statement, pass_statements}
 use Rattle.p10_evaluation.specs.Claimed.{ResultsLie}
 use Rattle.p10_evaluation.proofs.Hulls.{reached_left, reached_right}
 use Rattle.p10_execution.specs.Scoping.{KnowsNumbers, IsBefore}
 use Rattle.p10_execution.specs.Standing.{StandsSoundly}
 use Rattle.p10_execution.specs.Leaving.{NoneFails, LeavesAs}
-use Rattle.p10_execution.specs.Laws.{manner_in}
 use Rattle.p10_execution.proofs.Giving.{holds_then, holds_weaker}
 use Rattle.p10_execution.proofs.Entries.{changed_knows}
 use Rattle.p10_execution.proofs.Ends.{nothing_left, nothing_right}

@@ -9,10 +9,10 @@ use Rattle.p10_meaning.specs.Statements.{Frame, test, round}
 use Rattle.p10_meaning.specs.Calling.{Depth, setting_of, call_at}
 use Rattle.p10_meaning.specs.Sound.{region_at}
 use Rattle.p10_absx.specs.Environments.{Environment}
+use Rattle.p10_pass.specs.Passing.{manner_in}
 use Rattle.p10_evaluation.specs.Claimed.{ResultsLie}
 use Rattle.p10_execution.specs.Scoping.{IsBefore}
 use Rattle.p10_execution.specs.Standing.{StandsSoundly}
-use Rattle.p10_execution.specs.Laws.{manner_in}
 use Rattle.p10_turns.specs.Entrances.{EntersAtMost}
 use Rattle.p10_turns.specs.LoopParts.{LoopParts, form_of, loops_among}
 use Rattle.p10_turns.specs.Ranked.{RangesDescribe, StandsByRank}
