@@ -1,6 +1,7 @@
 """Runs commands and measures them; the scripts beside this one share it."""
 import os
 import pathlib
+import re
 import subprocess
 
 ROOT = pathlib.Path(__file__).resolve().parent.parent
@@ -43,6 +44,13 @@ def built_p10():
     return str(ROOT / "build" / "p10")
 
 
+def environment_of(words):
+    """The environment of a command: that in which the script `p10` runs the program, where it's that one, and else this one's."""
+    given = re.search(r"^export (\w+)=\$\{\1:-(.*)\}$", (ROOT / "p10").read_text(), re.MULTILINE)
+    is_p10 = words[0] == str(ROOT / "build" / "p10")
+    return {given[1]: given[2], **os.environ} if is_p10 else dict(os.environ)
+
+
 def built_probe(folder):
     probe = os.path.join(folder, "probe")
     subprocess.run(["cc", "-O1", "-x", "c", "-", "-o", probe], input=PROBE, text=True, check=True)
@@ -55,7 +63,8 @@ def measure(probe, commands, repeats):
     runs = [[] for _ in commands]
     for _ in range(repeats):
         for number, (words, wanted) in enumerate(commands):
-            time, peak, status = subprocess.run([probe, *words], check=True, capture_output=True, text=True).stdout.split()
+            ran = subprocess.run([probe, *words], check=True, capture_output=True, text=True, env=environment_of(words))
+            time, peak, status = ran.stdout.split()
             if int(status) != wanted:
                 raise SystemExit(f"{words} ended with {status}, not {wanted}")
             runs[number].append((int(time) / 1e9, int(peak)))
