@@ -6,12 +6,12 @@ use Rattle.clap.specs.Walk.{Row, Text, Held, Walk, Waiting, idle, option, positi
 use Rattle.clap.specs.Simple.{Shape}
 use Rattle.clap.specs.Kinds.{Kinds, or_else}
 use Rattle.clap.specs.Faults.{turn_fault, settle_fault, use_fault}
-use Rattle.p10_words.specs.CommandLines.{Given, value_of}
+use Rattle.p10_words.specs.CommandLines.{Given, is_flag, value_of}
 use Rattle.p10_words.specs.private.Scanning.{Split, is_among, is_name, scan, scan_value, scan_word, scan_long, with_option, with_file}
 use Rattle.p10_words.specs.private.Parsing.{file_id, option_rule, rules_of}
-use Rattle.p10_words.proofs.Rows.{Clean, clean_option, found_id}
-use Rattle.p10_words.proofs.Walking.{held, at, asking, none, Quiet, quiet_idle, quiet_positional, Fails, later_fails, dashes_turn, unknown_turn, joined_turn, option_turn, IsFile, trailing_turn, plain_turn, IsValue, value_turn, waiting_fails}
-use Rattle.p10_words.proofs.Verdicts.{end, total, total_passes, total_fails, end_step, total_none, end_none, Settled, settled_file, settled_option, use_passes, use_again, unused, was_used, Verdict, unread, moved, after_option, after_file, file_fails, value_fails, again}
+use Rattle.p10_words.proofs.Rows.{Clean, found_id}
+use Rattle.p10_words.proofs.Walking.{held, at, asking, none, Quiet, quiet_idle, quiet_positional, Fails, later_fails, dashes_turn, unknown_turn, IsUse, joined_turn, flag_turn, valued_turn, option_turn, option_fails, IsFile, trailing_turn, plain_turn, IsValue, value_turn, waiting_fails}
+use Rattle.p10_words.proofs.Verdicts.{end, total, total_passes, total_fails, end_step, total_none, end_none, Settled, settled_file, settled_option, Uses, with_value, without_value, used_clean, unused, was_used, Verdict, unread, moved, after_option, after_file, file_fails, value_fails, again}
 
 -- ---- after `--`
 record Trails (s : Shape) (names : List Text) (w : Walk) (words : List Text) (os : List Given) (fs : List Text) : Type 0 where
@@ -48,19 +48,9 @@ doomed : (s : Shape) (names words : List Text) (r : List Row) (p : Option (Text 
 doomed s names [] r p q y f = subst Fails (sym (total_none s names (at r p q false))) f
 doomed s names (word ∷ words) r p q y f = by_dashes (bytes_eq word (codes "--")) refl
   where
-    settle : Kinds
-    settle = settle_fault (rules_of names) false (held r p)
-
-    by_value : (name : Text) (v : Option Text) → bytes_eq word (codes "--") ≡ false → long_of word ≡ Some (name, v) → is_among names name ≡ true → Fails (turn_fault (asking s names) none (at r p q false) word)
-    by_value name (Some v) e l a =
-        subst Fails (sym (joined_turn s names r p q word name v y.sub e l a).0)
-        (later_fails (or_else (settle_fault (rules_of names) false (held r p)) (use_fault false (option_rule name) (v ∷ []) (settled_rows (rules_of names) p r))) []
-        (later_fails (settle_fault (rules_of names) false (held r p)) (use_fault false (option_rule name) (v ∷ []) (settled_rows (rules_of names) p r)) f))
-    by_value name None e l a = subst Fails (sym (option_turn s names r p q word name y.sub e l a).0) (later_fails (settle_fault (rules_of names) false (held r p)) [] f)
-
     by_name : (o : Text × Option Text) (b : Bool) → bytes_eq word (codes "--") ≡ false → long_of word ≡ Some o → is_among names o.0 ≡ b → Fails (turn_fault (asking s names) none (at r p q false) word)
     by_name o false e l a = unknown_turn s names r p q word o y.sub e l a
-    by_name o true e l a = by_value o.0 o.1 e l a
+    by_name o true e l a = option_fails s names r p q word o.0 o.1 y.sub e l a f
 
     by_long : (o : Option (Text × Option Text)) → bytes_eq word (codes "--") ≡ false → long_of word ≡ o → Fails (turn_fault (asking s names) none (at r p q false) word)
     by_long None e l = elim (plain_turn s names r p q word y e l) [ inl b ↦ b.0 | inr i ↦ subst Fails (sym i.0) (later_fails (settle_fault (rules_of names) false (held r p)) [] f) ]
@@ -85,13 +75,13 @@ Reading s names words =
 
 Awaiting : Shape → List Text → List Text → Type 0
 Awaiting s names words =
-    (r : List Row) (os : List Given) (fs : List Text) (name : Text) → is_among names name ≡ true → Clean names r os fs
+    (r : List Row) (os : List Given) (fs : List Text) (name : Text) → is_among names name ≡ true → is_flag name ≡ false → Clean names r os fs
     → Verdict names (total s names (at r (Some (name, [])) (option name) false) words) (end names (at r (Some (name, [])) (option name) false) words) (scan names (Some name) words) os fs
 
 -- the value that an option waits for
 awaited : (s : Shape) (names words : List Text) (word : Text) → is_among names file_id ≡ false → Reading s names words → Awaiting s names (word ∷ words)
 unfolding Reading Awaiting scan
-awaited s names words word f reading r os fs name a c = by_dashes (bytes_eq word (codes "--")) refl
+awaited s names words word f reading r os fs name a g c = by_dashes (bytes_eq word (codes "--")) refl
   where
     w : Walk
     w = at r (Some (name, [])) (option name) false
@@ -100,31 +90,24 @@ awaited s names words word f reading r os fs name a c = by_dashes (bytes_eq word
     sub x = refl
 
     lost : Fails (settle_fault (rules_of names) false (held r (Some (name, []))))
-    lost = waiting_fails names r name a
+    lost = waiting_fails names r name a g
 
     Ours : Option Split → Type 0
     Ours scanned = Verdict names (total s names (at r (Some (name, [])) (option name) false) (word ∷ words)) (end names (at r (Some (name, [])) (option name) false) (word ∷ words)) scanned os fs
 
-    by_value : (n : Text) (v : Option Text) → bytes_eq word (codes "--") ≡ false → long_of word ≡ Some (n, v) → is_among names n ≡ true → Fails (turn_fault (asking s names) none (at r (Some (name, [])) (option name) false) word)
-    by_value n (Some v) e l b =
-        subst Fails (sym (joined_turn s names r (Some (name, [])) (option name) word n v sub e l b).0)
-        (later_fails (or_else (settle_fault (rules_of names) false (held r (Some (name, [])))) (use_fault false (option_rule n) (v ∷ []) (settled_rows (rules_of names) (Some (name, [])) r))) []
-        (later_fails (settle_fault (rules_of names) false (held r (Some (name, [])))) (use_fault false (option_rule n) (v ∷ []) (settled_rows (rules_of names) (Some (name, [])) r)) lost))
-    by_value n None e l b = subst Fails (sym (option_turn s names r (Some (name, [])) (option name) word n sub e l b).0) (later_fails (settle_fault (rules_of names) false (held r (Some (name, [])))) [] lost)
-
     by_name : (o : Text × Option Text) (b : Bool) → bytes_eq word (codes "--") ≡ false → long_of word ≡ Some o → is_among names o.0 ≡ b → Fails (turn_fault (asking s names) none (at r (Some (name, [])) (option name) false) word)
     by_name o false e l b = unknown_turn s names r (Some (name, [])) (option name) word o sub e l b
-    by_name o true e l b = by_value o.0 o.1 e l b
+    by_name o true e l b = option_fails s names r (Some (name, [])) (option name) word o.0 o.1 sub e l b lost
 
     by_given : (u : Option Text) → value_of os name ≡ u → walked (rules_of names) none (at r (Some (name, [])) (option name) false) word ≡ at r (Some (name, word ∷ [])) idle false
         → turn_fault (asking s names) none (at r (Some (name, [])) (option name) false) word ≡ [] → Verdict names (total s names (at r (Some (name, [])) (option name) false) (word ∷ words)) (end names (at r (Some (name, [])) (option name) false) (word ∷ words)) (with_option name word (scan names None words)) os fs
     by_given None u i t =
         moved names _ _ _ _ _ os fs (total_passes s names _ _ word words i t) (end_step names _ _ word words i)
-        (after_option names _ _ _ os fs name word u (reading r (Some (name, word ∷ [])) idle (os ++ (name, word) ∷ []) fs quiet_idle (settled_option names r os fs name word f a c u)))
+        (after_option names _ _ _ os fs name word u (reading r (Some (name, word ∷ [])) idle (os ++ (name, word) ∷ []) fs quiet_idle (settled_option names r os fs name word g f a c u)))
     by_given (Some x) u i t =
         again names _ _ _ os fs name word x
         (subst Fails (sym (total_passes s names _ _ word words i t))
-        (doomed s names words r (Some (name, word ∷ [])) idle quiet_idle (rw (found_id names name a) (use_again name word r (was_used names r os fs name x a c u))))) u
+        (doomed s names words r (Some (name, word ∷ [])) idle quiet_idle (rw (found_id names name a) ((with_value name word g).again r (was_used names r os fs name x a c u))))) u
 
     by_turn : IsValue s names r name word → Verdict names (total s names (at r (Some (name, [])) (option name) false) (word ∷ words)) (end names (at r (Some (name, [])) (option name) false) (word ∷ words)) (with_option name word (scan names None words)) os fs
     by_turn (inl b) = value_fails names _ _ _ os fs name word (total_fails s names _ word words b.0) b.1
@@ -132,7 +115,7 @@ awaited s names words word f reading r os fs name a c = by_dashes (bytes_eq word
 
     by_long : (o : Option (Text × Option Text)) → bytes_eq word (codes "--") ≡ false → long_of word ≡ o
         → Verdict names (total s names (at r (Some (name, [])) (option name) false) (word ∷ words)) (end names (at r (Some (name, [])) (option name) false) (word ∷ words)) (scan_value name word o (scan names None words)) os fs
-    by_long None e l = rw e (by_turn (value_turn s names r name word a e l))
+    by_long None e l = rw e (by_turn (value_turn s names r name word a g e l))
     by_long (Some o) e l = unread names _ _ _ os fs (total_fails s names _ word words (by_name o (is_among names o.0) e l refl)) refl
 
     by_dashes : (b : Bool) → bytes_eq word (codes "--") ≡ b
@@ -149,36 +132,37 @@ first_read : (s : Shape) (names words : List Text) (word : Text) → is_among na
 unfolding Reading Awaiting scan
 first_read s names words word f reading awaiting r p q os fs y t = by_dashes (bytes_eq word (codes "--")) refl
   where
-    by_given : (name v : Text) (u : Option Text) → value_of os name ≡ u → bytes_eq word (codes "--") ≡ false → long_of word ≡ Some (name, Some v) → is_among names name ≡ true
+    by_given : (name v : Text) (vs : List Text) (u : Option Text) → value_of os name ≡ u → Uses name v vs → IsUse s names r p q word name vs → is_among names name ≡ true
         → Verdict names (total s names (at r p q false) (word ∷ words)) (end names (at r p q false) (word ∷ words)) (with_option name v (scan names None words)) os fs
-    by_given name v None u e l a =
-        let turn = joined_turn s names r p q word name v y.sub e l a in
+    by_given name v vs None u uses turn a =
         let free = unused names (settled_rows (rules_of names) p r) os fs name a t.clean u in
-        let passes : turn_fault (asking s names) none (at r p q false) word ≡ [] = turn.0 ∙ ap (λ (k : Kinds). or_else (or_else k (use_fault false (option_rule name) (v ∷ []) (settled_rows (rules_of names) p r))) []) t.fine
-        ∙ ap (λ (k : Kinds). or_else k []) (use_passes name v (settled_rows (rules_of names) p r) free) in
+        let passes : turn_fault (asking s names) none (at r p q false) word ≡ [] = turn.0 ∙ ap (λ (k : Kinds). or_else (or_else k (use_fault false (option_rule name) vs (settled_rows (rules_of names) p r))) []) t.fine
+        ∙ ap (λ (k : Kinds). or_else k []) (uses.passes (settled_rows (rules_of names) p r) free) in
         moved names _ _ _ _ _ os fs (total_passes s names _ _ word words turn.1 passes) (end_step names _ _ word words turn.1)
         (after_option names _ _ _ os fs name v u
         (reading _ None idle (os ++ (name, v) ∷ []) fs quiet_idle
-        (record { fine = refl; clean = clean_option names (settled_rows (rules_of names) p r) os fs name v _ _ f a t.clean u })))
-    by_given name v (Some x) u e l a =
-        let turn = joined_turn s names r p q word name v y.sub e l a in
+        (record { fine = refl; clean = used_clean names (settled_rows (rules_of names) p r) os fs name v vs uses f a t.clean u })))
+    by_given name v vs (Some x) u uses turn a =
         again names _ _ _ os fs name v x
         (total_fails s names _ word words
-        (subst Fails (sym (turn.0 ∙ ap (λ (k : Kinds). or_else (or_else k (use_fault false (option_rule name) (v ∷ []) (settled_rows (rules_of names) p r))) []) t.fine))
-        (later_fails (use_fault false (option_rule name) (v ∷ []) (settled_rows (rules_of names) p r)) [] (use_again name v (settled_rows (rules_of names) p r) (was_used names (settled_rows (rules_of names) p r) os fs name x a t.clean u))))) u
+        (subst Fails (sym (turn.0 ∙ ap (λ (k : Kinds). or_else (or_else k (use_fault false (option_rule name) vs (settled_rows (rules_of names) p r))) []) t.fine))
+        (later_fails (use_fault false (option_rule name) vs (settled_rows (rules_of names) p r)) [] (uses.again (settled_rows (rules_of names) p r) (was_used names (settled_rows (rules_of names) p r) os fs name x a t.clean u))))) u
 
-    by_value : (name : Text) (v : Option Text) → bytes_eq word (codes "--") ≡ false → long_of word ≡ Some (name, v) → is_among names name ≡ true
+    by_value : (name : Text) (v : Option Text) (b : Bool) → bytes_eq word (codes "--") ≡ false → long_of word ≡ Some (name, v) → is_among names name ≡ true → is_flag name ≡ b
         → Verdict names (total s names (at r p q false) (word ∷ words)) (end names (at r p q false) (word ∷ words)) (scan_long name v (scan names None words) (λ n. scan names (Some n) words)) os fs
-    by_value name (Some v) e l a = by_given name v (value_of os name) refl e l a
-    by_value name None e l a =
-        let turn = option_turn s names r p q word name y.sub e l a in
-        moved names _ _ _ _ _ os fs (total_passes s names _ _ word words turn.1 (turn.0 ∙ ap (λ (k : Kinds). or_else k []) t.fine)) (end_step names _ _ word words turn.1)
-        (awaiting (settled_rows (rules_of names) p r) os fs name a t.clean)
+    by_value name (Some v) true e l a g = rw g (unread names _ _ _ os fs (total_fails s names _ word words (valued_turn s names r p q word name v y.sub e l a g)) refl)
+    by_value name (Some v) false e l a g = rw g (by_given name v (v ∷ []) (value_of os name) refl (with_value name v g) (joined_turn s names r p q word name v y.sub e l a g) a)
+    by_value name None true e l a g = rw g (by_given name (codes "true") [] (value_of os name) refl (without_value name g) (flag_turn s names r p q word name y.sub e l a g) a)
+    by_value name None false e l a g =
+        let turn = option_turn s names r p q word name y.sub e l a g in
+        rw g
+        (moved names _ _ _ _ _ os fs (total_passes s names _ _ word words turn.1 (turn.0 ∙ ap (λ (k : Kinds). or_else k []) t.fine)) (end_step names _ _ word words turn.1)
+        (awaiting (settled_rows (rules_of names) p r) os fs name a g t.clean))
 
     by_name : (o : Text × Option Text) (b : Bool) → bytes_eq word (codes "--") ≡ false → long_of word ≡ Some o → is_among names o.0 ≡ b
         → Verdict names (total s names (at r p q false) (word ∷ words)) (end names (at r p q false) (word ∷ words)) (if b then scan_long o.0 o.1 (scan names None words) (λ n. scan names (Some n) words) else None) os fs
     by_name o false e l a = unread names _ _ _ os fs (total_fails s names _ word words (unknown_turn s names r p q word o y.sub e l a)) refl
-    by_name o true e l a = by_value o.0 o.1 e l a
+    by_name o true e l a = by_value o.0 o.1 (is_flag o.0) e l a refl
 
     by_turn : (Fails (turn_fault (asking s names) none (at r p q false) word) × (is_name word ≡ false)) ⊎ IsFile s names r p q false word
         → Verdict names (total s names (at r p q false) (word ∷ words)) (end names (at r p q false) (word ∷ words)) (with_file word (scan names None words)) os fs
@@ -222,7 +206,7 @@ no_words s names r p q os fs y t =
 
 no_value : (s : Shape) (names : List Text) → Awaiting s names []
 unfolding Awaiting scan
-no_value s names r os fs name a c = unread names _ _ _ os fs (subst Fails (sym (total_none s names (at r (Some (name, [])) (option name) false))) (waiting_fails names r name a)) refl
+no_value s names r os fs name a g c = unread names _ _ _ os fs (subst Fails (sym (total_none s names (at r (Some (name, [])) (option name) false))) (waiting_fails names r name a g)) refl
 
 all_read : (s : Shape) (names words : List Text) → is_among names file_id ≡ false → Reading s names words × Awaiting s names words
 all_read s names [] f = (no_words s names, no_value s names)

@@ -1,6 +1,6 @@
 -- What the functions answer.
-use Rattle.std.proofs.Common.{◌≡◌, true, ap, sym, ◌∙◌, refl, subst, List, [], ◌∷◌, Option, Some, None, Result, Ok, Err, Bor}
-use Rattle.std.specs.Prelude.{option_map, codes}
+use Rattle.std.proofs.Common.{◌≡◌, true, Bool, ap, sym, ◌∙◌, refl, subst, List, [], ◌∷◌, Option, Some, None, Result, Ok, Err, Bor}
+use Rattle.std.specs.Prelude.{option_map, codes, bytes_eq, is_some, unwrap_or}
 use Rattle.clap.specs.Matches.{found_of, first_value, matched_of, raw_values}
 use Rattle.clap.specs.declared.parser.matches.ArgMatches.{ArgMatches}
 use Rattle.p10_words.specs.declared.command.Command.{Command}
@@ -10,7 +10,8 @@ use Rattle.p10_base.specs.Words.{Text}
 use Rattle.p10_words.specs.CommandLines.{value_of}
 use Rattle.p10_words.specs.Commands.{check_options, derive_options, verify_options, run_options, IsRestOf}
 use Rattle.p10_words.specs.private.Parsing.{file_id, some_list, Matched, IsParse}
-use Rattle.p10_words.specs.private.Deciding.{has_files, IsCheckOf, IsDeriveOf, IsVerifyOf, IsRunOf, IsGenerateOf, Answers}
+use Rattle.p10_words.specs.private.Deciding.{is_true, has_files, IsCheckOf, IsDeriveOf, IsVerifyOf, IsRunOf, IsGenerateOf, Answers}
+use Rattle.p10_words.proofs.Named.{Known, known, flag_value}
 use Rattle.p10_words.proofs.Deciding.{check_is, check_from, no_check, derive_is, derive_from, no_derive, verify_is, verify_from, no_verify, run_is, run_from, no_run, generate_is, generate_from, no_generate}
 
 -- an answer by another condition that is the same
@@ -34,7 +35,7 @@ pub check_done : (words : List Text) (m : ArgMatches) (include format : Option T
 check_done words m include format files r h i j k a =
     let s = h.split in
     let there : IsCheckOf include format files ≡ IsCheckOf (value_of s.options (codes "include")) (value_of s.options (codes "format")) s.files =
-    ap (λ (o : Option Text). IsCheckOf o format files) (i ∙ h.reads.options (codes "include") refl) ∙ ap (λ (o : Option Text). IsCheckOf (value_of s.options (codes "include")) o files) (j ∙ h.reads.options (codes "format") refl)
+    ap (λ (o : Option Text). IsCheckOf o format files) (i ∙ h.reads.options (codes "include") refl refl) ∙ ap (λ (o : Option Text). IsCheckOf (value_of s.options (codes "include")) o files) (j ∙ h.reads.options (codes "format") refl refl)
     ∙ ap (λ (l : List Text). IsCheckOf (value_of s.options (codes "include")) (value_of s.options (codes "format")) l) (sym (some_files s.files files (sym (k ∙ h.reads.files)))) in
     carried (IsCheckOf (value_of s.options (codes "include")) (value_of s.options (codes "format")) s.files) (λ c. IsRestOf c (codes "check") words) r
     (λ c v. check_is words s c h.scanned h.once v) (λ c v. check_from words s c h.scanned v) (subst (λ (P : Command → Type 0). Answers P r) there a)
@@ -56,7 +57,7 @@ pub derive_done : (words : List Text) (m : ArgMatches) (include : Option Text) (
 derive_done words m include files r h i k a =
     let s = h.split in
     let there : IsDeriveOf include files ≡ IsDeriveOf (value_of s.options (codes "include")) s.files =
-    ap (λ (o : Option Text). IsDeriveOf o files) (i ∙ h.reads.options (codes "include") refl)
+    ap (λ (o : Option Text). IsDeriveOf o files) (i ∙ h.reads.options (codes "include") refl refl)
     ∙ ap (λ (l : List Text). IsDeriveOf (value_of s.options (codes "include")) l) (sym (some_files s.files files (sym (k ∙ h.reads.files)))) in
     carried (IsDeriveOf (value_of s.options (codes "include")) s.files) (λ c. IsRestOf c (codes "derive") words) r
     (λ c v. derive_is words s c h.scanned h.once v) (λ c v. derive_from words s c h.scanned v) (subst (λ (P : Command → Type 0). Answers P r) there a)
@@ -72,16 +73,25 @@ derive_lost words Refused n = λ c v. no_derive words c n v
 derive_lost words Memory n = tt
 
 -- ---- `verify`
-pub verify_done : (words : List Text) (m : ArgMatches) (include cert : Option Text) (files : List Text) (r : Result Command Usage) → Matched verify_options words m
-    → include ≡ first_value (found_of m) (codes "include") → cert ≡ first_value (found_of m) (codes "cert") → Some files ≡ option_map raw_values (matched_of (found_of m) file_id)
-    → Answers (IsVerifyOf include cert files) r → Answers (λ c. IsRestOf c (codes "verify") words) r
-verify_done words m include cert files r h i j k a =
+flag_given : (o : Option Text) → ((v : Text) → o ≡ Some v → bytes_eq v (codes "true") ≡ true) → is_true (Some (unwrap_or o (codes "false"))) ≡ is_some o
+flag_given None f = refl
+flag_given (Some v) f = f v refl
+
+pub verify_done : (words : List Text) (m : ArgMatches) (include : Option Text) (clean : Bool) (flag cert : Option Text) (files : List Text) (r : Result Command Usage) → Matched verify_options words m
+    → include ≡ first_value (found_of m) (codes "include") → clean ≡ is_true flag → flag ≡ first_value (found_of m) (codes "clean") → cert ≡ first_value (found_of m) (codes "cert") → Some files ≡ option_map raw_values (matched_of (found_of m) file_id)
+    → Answers (IsVerifyOf include clean cert files) r → Answers (λ c. IsRestOf c (codes "verify") words) r
+unfolding Known
+verify_done words m include clean flag cert files r h i t g j k a =
     let s = h.split in
-    let there : IsVerifyOf include cert files ≡ IsVerifyOf (value_of s.options (codes "include")) (value_of s.options (codes "cert")) s.files =
-    ap (λ (o : Option Text). IsVerifyOf o cert files) (i ∙ h.reads.options (codes "include") refl) ∙ ap (λ (o : Option Text). IsVerifyOf (value_of s.options (codes "include")) o files) (j ∙ h.reads.options (codes "cert") refl)
-    ∙ ap (λ (l : List Text). IsVerifyOf (value_of s.options (codes "include")) (value_of s.options (codes "cert")) l) (sym (some_files s.files files (sym (k ∙ h.reads.files)))) in
-    carried (IsVerifyOf (value_of s.options (codes "include")) (value_of s.options (codes "cert")) s.files) (λ c. IsRestOf c (codes "verify") words) r
-    (λ c v. verify_is words s c h.scanned h.once v) (λ c v. verify_from words s c h.scanned v) (subst (λ (P : Command → Type 0). Answers P r) there a)
+    let read = (known verify_options words).0 s h.scanned in
+    let given : clean ≡ is_some (value_of s.options (codes "clean")) =
+    t ∙ ap is_true (g ∙ h.reads.flags (codes "clean") refl refl) ∙ flag_given (value_of s.options (codes "clean")) (λ v e. flag_value verify_options s.options (codes "clean") v read refl e) in
+    let includes = i ∙ h.reads.options (codes "include") refl refl in
+    let certs = j ∙ h.reads.options (codes "cert") refl refl in
+    let files_are = sym (some_files s.files files (sym (k ∙ h.reads.files))) in
+    carried (IsVerifyOf (value_of s.options (codes "include")) (is_some (value_of s.options (codes "clean"))) (value_of s.options (codes "cert")) s.files) (λ c. IsRestOf c (codes "verify") words) r
+    (λ c v. verify_is words s c h.scanned h.once v) (λ c v. verify_from words s c h.scanned v)
+    (subst (λ (P : Command → Type 0). Answers P r) (λ n. IsVerifyOf (includes n) (given n) (certs n) (files_are n)) a)
 
 pub verify_without : (words : List Text) (m : ArgMatches) → Matched verify_options words m → None ≡ option_map raw_values (matched_of (found_of m) file_id) → (c : Command) → IsRestOf c (codes "verify") words → ⊥
 verify_without words m h k c v =
@@ -100,11 +110,11 @@ pub run_done : (words : List Text) (m : ArgMatches) (include steps turns deny ce
     → Answers (IsRunOf include steps turns deny cert files) r → Answers (λ c. IsRestOf c (codes "run") words) r
 run_done words m include steps turns deny cert files r h i t u d q k a =
     let s = h.split in
-    let includes = i ∙ h.reads.options (codes "include") refl in
-    let steps_are = t ∙ h.reads.options (codes "steps") refl in
-    let turns_are = u ∙ h.reads.options (codes "turns") refl in
-    let denied = d ∙ h.reads.options (codes "deny") refl in
-    let certs = q ∙ h.reads.options (codes "cert") refl in
+    let includes = i ∙ h.reads.options (codes "include") refl refl in
+    let steps_are = t ∙ h.reads.options (codes "steps") refl refl in
+    let turns_are = u ∙ h.reads.options (codes "turns") refl refl in
+    let denied = d ∙ h.reads.options (codes "deny") refl refl in
+    let certs = q ∙ h.reads.options (codes "cert") refl refl in
     let files_are = sym (some_files s.files files (sym (k ∙ h.reads.files))) in
     carried (IsRunOf (value_of s.options (codes "include")) (value_of s.options (codes "steps")) (value_of s.options (codes "turns")) (value_of s.options (codes "deny")) (value_of s.options (codes "cert")) s.files)
     (λ c. IsRestOf c (codes "run") words) r (λ c v. run_is words s c h.scanned h.once v) (λ c v. run_from words s c h.scanned v)
@@ -138,6 +148,6 @@ pub generate_lost : (words : List Text) (u : Usage) → IsParse [] words (Err u)
 generate_lost words Refused n = λ c v. no_generate words c n v
 generate_lost words Memory n = tt
 
-pub cert_given : (include : Option Text) (o : Option (Bor Text)) (cert : Bor Text) (files : List Text) (r : Result Command Usage) → o ≡ Some cert
-    → Answers (IsVerifyOf include (Some cert.now) files) r → Answers (IsVerifyOf include (option_map (λ w. w.now) o) files) r
-cert_given include o cert files r e a = subst (λ (p : Option (Bor Text)). Answers (IsVerifyOf include (option_map (λ w. w.now) p) files) r) (sym e) a
+pub cert_given : (include : Option Text) (clean : Bool) (o : Option (Bor Text)) (cert : Bor Text) (files : List Text) (r : Result Command Usage) → o ≡ Some cert
+    → Answers (IsVerifyOf include clean (Some cert.now) files) r → Answers (IsVerifyOf include clean (option_map (λ w. w.now) o) files) r
+cert_given include clean o cert files r e a = subst (λ (p : Option (Bor Text)). Answers (IsVerifyOf include clean (option_map (λ w. w.now) p) files) r) (sym e) a

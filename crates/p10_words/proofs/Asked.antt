@@ -3,7 +3,7 @@ use Rattle.std.proofs.Common.{◌≡◌, refl, codes, true, []}
 use Rattle.clap.specs.Simple.{App, with_rule}
 use Rattle.clap.proofs.OnLiterals.{clap_on_literals}
 use Rattle.p10_words.specs.Commands.{check_options, derive_options, verify_options, run_options}
-use Rattle.p10_words.specs.private.Parsing.{bare, option_asked, files_asked, IsAsked, are_askable}
+use Rattle.p10_words.specs.private.Parsing.{bare, option_asked, flag_asked, files_asked, IsAsked, are_askable}
 
 abbrev pub check_app : App
 check_app = with_rule (with_rule (with_rule (bare (codes "check")) (option_asked (codes "include"))) (option_asked (codes "format"))) files_asked
@@ -12,7 +12,7 @@ abbrev pub derive_app : App
 derive_app = with_rule (with_rule (bare (codes "derive")) (option_asked (codes "include"))) files_asked
 
 abbrev pub verify_app : App
-verify_app = with_rule (with_rule (with_rule (bare (codes "verify")) (option_asked (codes "include"))) (option_asked (codes "cert"))) files_asked
+verify_app = with_rule (with_rule (with_rule (with_rule (bare (codes "verify")) (option_asked (codes "include"))) (flag_asked (codes "clean"))) (option_asked (codes "cert"))) files_asked
 
 abbrev pub run_app : App
 run_app =

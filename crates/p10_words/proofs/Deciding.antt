@@ -1,6 +1,6 @@
 -- What the values that `clap` found come to, against the command lines.
 use Rattle.std.proofs.Common.{◌≡◌, ℕ, true, false, Bool, ap, sym, ◌∙◌, refl, subst, List, [], ◌∷◌, Option, Some, None, arith, ◌==◌, ◌<◌, inl, inr}
-use Rattle.std.specs.Prelude.{◌&&◌, ◌||◌, codes, bytes_eq, not, decimal}
+use Rattle.std.specs.Prelude.{◌&&◌, ◌||◌, codes, bytes_eq, not, decimal, is_some}
 use Rattle.std.specs.List.{list_all}
 use Rattle.std.specs.Char.{digit_value}
 use Rattle.std.specs.Str.Parse.{IsNumeral}
@@ -18,7 +18,7 @@ use Rattle.p10_words.specs.private.Deciding.{is_given_name, has_directories, has
 use Rattle.p10_words.proofs.Rows.{same_text}
 use Rattle.p10_words.proofs.Asked.{check_askable, derive_askable, verify_askable, run_askable, none_askable}
 use Rattle.p10_words.proofs.Splitting.{and_left, and_right, all_named, all_names, read_so, split_so}
-use Rattle.p10_words.proofs.Named.{and_both, are_among, Known, known, all_pass, value_passes, files_some, files_named, files_have}
+use Rattle.p10_words.proofs.Named.{and_both, are_among, Known, known, all_pass, value_passes, flag_value, files_some, files_named, files_have}
 use Rattle.p10_words.proofs.Naming.{checks, derives, verifies, runs, generates}
 
 -- ---- `check`
@@ -81,22 +81,29 @@ derive_is words sp c e g v =
     )
 
 -- ---- `verify`
-by_verify : (n : Text) (P : Text → Type 0) → is_among verify_options n ≡ true → P (codes "include") → P (codes "cert") → P n
-by_verify n P a i c = by_tests (bytes_eq (codes "include") n) (bytes_eq (codes "cert") n) refl refl a
+by_verify : (n : Text) (P : Text → Type 0) → is_among verify_options n ≡ true → P (codes "include") → P (codes "clean") → P (codes "cert") → P n
+by_verify n P a i l c = by_tests (bytes_eq (codes "include") n) (bytes_eq (codes "clean") n) (bytes_eq (codes "cert") n) refl refl refl a
   where
-    by_tests : (x y : Bool) → bytes_eq (codes "include") n ≡ x → bytes_eq (codes "cert") n ≡ y → x || (y || false) ≡ true → P n
-    by_tests true y p q e = subst P (same_text (codes "include") n p) i
-    by_tests false true p q e = subst P (same_text (codes "cert") n q) c
-    by_tests false false p q e = absurd cc
+    by_tests : (x y z : Bool) → bytes_eq (codes "include") n ≡ x → bytes_eq (codes "clean") n ≡ y → bytes_eq (codes "cert") n ≡ z → x || (y || (z || false)) ≡ true → P n
+    by_tests true y z p q r e = subst P (same_text (codes "include") n p) i
+    by_tests false true z p q r e = subst P (same_text (codes "clean") n q) l
+    by_tests false false true p q r e = subst P (same_text (codes "cert") n r) c
+    by_tests false false false p q r e = absurd cc
+
+-- `true` is a name
+true_named : (o : Option Text) → ((v : Text) → o ≡ Some v → bytes_eq v (codes "true") ≡ true) → is_given_name o ≡ true
+true_named None f = refl
+true_named (Some v) f = ap is_name (same_text v (codes "true") (f v refl))
 
 pub verify_is : (words : List Text) (sp : Split) (c : Command) → scan verify_options None words ≡ Some sp → AreGivenOnce [] sp.options
-    → IsVerifyOf (value_of sp.options (codes "include")) (value_of sp.options (codes "cert")) sp.files c → IsRestOf c (codes "verify") words
+    → IsVerifyOf (value_of sp.options (codes "include")) (is_some (value_of sp.options (codes "clean"))) (value_of sp.options (codes "cert")) sp.files c → IsRestOf c (codes "verify") words
 unfolding Known
 verify_is words sp c e g v =
     let value = and_left (is_given_name (value_of sp.options (codes "include"))) (list_all is_name (directories_in (value_of sp.options (codes "include")))) v.directories in
     let parts = and_right (is_given_name (value_of sp.options (codes "include"))) (list_all is_name (directories_in (value_of sp.options (codes "include")))) v.directories in
-    let options = all_pass verify_options [] sp.options g ((known verify_options words).0 sp e)
-    (λ n a. by_verify n (λ m. is_given_name (value_of sp.options m) ≡ true) a value (ap is_given_name v.given ∙ v.name)) in
+    let read = (known verify_options words).0 sp e in
+    let options = all_pass verify_options [] sp.options g read
+    (λ n a. by_verify n (λ m. is_given_name (value_of sp.options m) ≡ true) a value (true_named (value_of sp.options (codes "clean")) (λ x f. flag_value verify_options sp.options (codes "clean") x read refl f)) (ap is_given_name v.given ∙ v.name)) in
     let names = and_both (list_all (λ (o : Given). is_name o.1) sp.options) (list_all is_name sp.files) options (files_named sp.files v.some) in
     subst (λ (x : Command). IsRestOf x (codes "verify") words) (sym v.is) (
       refl,
@@ -104,6 +111,7 @@ verify_is words sp c e g v =
         options = sp.options;
         split = record { splits = split_so verify_options words sp e names; once = g; some = files_some sp.files v.some };
         include = record { are = refl; names = all_names (directories_in (value_of sp.options (codes "include"))) parts };
+        flag = refl;
         cert = v.given;
       },
     )
@@ -134,9 +142,10 @@ has_all options directories e d =
     and_both (is_given_name (value_of options (codes "include"))) (list_all is_name (directories_in (value_of options (codes "include")))) (value_passes options (codes "include") e)
     (subst (λ (l : List Text). list_all is_name l ≡ true) d.are (all_named directories d.names))
 
-verify_of : (options : List Given) (words directories : List Text) (certificate : Text) (files : List Text) → IsSplit verify_options words options files → AreDirectories options directories
-    → value_of options (codes "cert") ≡ Some certificate → IsVerifyOf (value_of options (codes "include")) (value_of options (codes "cert")) files (Verify directories certificate files)
-verify_of options words directories certificate files s d e =
+verify_of : (options : List Given) (words directories : List Text) (clean : Bool) (certificate : Text) (files : List Text) → IsSplit verify_options words options files → AreDirectories options directories
+    → is_some (value_of options (codes "clean")) ≡ clean → value_of options (codes "cert") ≡ Some certificate
+    → IsVerifyOf (value_of options (codes "include")) (is_some (value_of options (codes "clean"))) (value_of options (codes "cert")) files (Verify directories clean certificate files)
+verify_of options words directories clean certificate files s d f e =
     let r = read verify_options words options files verify_askable s in
     record {
       certificate = certificate;
@@ -144,7 +153,7 @@ verify_of options words directories certificate files s d e =
       given = e;
       name = subst (λ (v : Option Text). is_given_name v ≡ true) e (value_passes options (codes "cert") r.options_named);
       some = r.files_are;
-      is = ap (λ (l : List Text). Verify l certificate files) d.are;
+      is = λ i. Verify (d.are i) (sym f i) certificate files;
     }
 
 pub same_split : (o : Option Split) (i j : Split) → o ≡ Some i → o ≡ Some j → i ≡ j
@@ -190,13 +199,13 @@ pub no_derive : (words : List Text) (c : Command) → IsNoSplit derive_options w
 no_derive words c n r = let v = derives words c r in not_split derive_options words v.rest.options v.files derive_askable n v.rest.split
 
 pub verify_from : (words : List Text) (sp : Split) (c : Command) → scan verify_options None words ≡ Some sp → IsRestOf c (codes "verify") words
-    → IsVerifyOf (value_of sp.options (codes "include")) (value_of sp.options (codes "cert")) sp.files c
+    → IsVerifyOf (value_of sp.options (codes "include")) (is_some (value_of sp.options (codes "clean"))) (value_of sp.options (codes "cert")) sp.files c
 verify_from words sp c e r =
     let v = verifies words c r in
     let same = same_split _ _ _ (read verify_options words v.rest.options v.files verify_askable v.rest.split).scanned e in
-    subst (λ (d : Command). IsVerifyOf (value_of sp.options (codes "include")) (value_of sp.options (codes "cert")) sp.files d) (sym v.is)
-    (subst (λ (x : Split). IsVerifyOf (value_of x.options (codes "include")) (value_of x.options (codes "cert")) x.files (Verify v.directories v.certificate v.files)) same
-    (verify_of v.rest.options words v.directories v.certificate v.files v.rest.split v.rest.include v.rest.cert))
+    subst (λ (d : Command). IsVerifyOf (value_of sp.options (codes "include")) (is_some (value_of sp.options (codes "clean"))) (value_of sp.options (codes "cert")) sp.files d) (sym v.is)
+    (subst (λ (x : Split). IsVerifyOf (value_of x.options (codes "include")) (is_some (value_of x.options (codes "clean"))) (value_of x.options (codes "cert")) x.files (Verify v.directories v.clean v.certificate v.files)) same
+    (verify_of v.rest.options words v.directories v.clean v.certificate v.files v.rest.split v.rest.include v.rest.flag v.rest.cert))
 
 pub no_verify : (words : List Text) (c : Command) → IsNoSplit verify_options words → IsRestOf c (codes "verify") words → ⊥
 no_verify words c n r = let v = verifies words c r in not_split verify_options words v.rest.options v.files verify_askable n v.rest.split

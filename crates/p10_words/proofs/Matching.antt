@@ -1,9 +1,9 @@
--- What `clap` promises of a command with options of one value and files.
-use Rattle.std.proofs.Common.{◌≡◌, true, false, Bool, ap, sym, ◌∙◌, refl, subst, List, [], ◌∷◌, map, Option, Some, None, is_some, inl, inr, Err}
-use Rattle.std.specs.Prelude.{◌&&◌, ◌||◌, not, if◌then◌else◌, option_map, option_and_then, slice_get, find, bytes_eq, drop}
+-- What `clap` promises of a command with options and files.
+use Rattle.std.proofs.Common.{◌≡◌, true, false, Bool, ap, sym, ◌∙◌, refl, subst, List, [], ◌∷◌, ◌++◌, map, Option, Some, None, is_some, inl, inr, Err}
+use Rattle.std.specs.Prelude.{◌&&◌, ◌||◌, not, if◌then◌else◌, option_map, option_and_then, unwrap_or, slice_get, find, bytes_eq, codes, drop}
 use Rattle.std.specs.List.{fold, list_any, list_all}
 use Rattle.clap.specs.Lexer.{has_byte}
-use Rattle.clap.specs.Walk.{Row, Rule, Text, idle, has_row, all_of, first_of, rows_of, settled, with_default, finished, walk, nothing_held, rows_after, is_empty}
+use Rattle.clap.specs.Walk.{Row, Rule, Text, idle, has_row, all_of, first_of, rows_of, settled, with_default, with_values, finished, walk, nothing_held, rows_after, is_empty}
 use Rattle.clap.specs.Simple.{App, Shape, built, names_of, label_of, entered, matches_of, HasMatchesOf}
 use Rattle.clap.specs.Takes.{is_given}
 use Rattle.clap.specs.Kinds.{Kinds, or_else, HasKind, IsAmong as IsAmongKinds}
@@ -13,24 +13,27 @@ use Rattle.clap.specs.declared.error.kind.ErrorKind.{ErrorKind}
 use Rattle.p10_words.specs.declared.command.Usage.{Usage}
 use Rattle.p10_words.specs.declared.command.Usage.TheVariants.{Refused, Memory}
 use Rattle.clap.specs.Faults.{fault_of, built_fault, level_fault, entered_fault, defaults_fault, default_fault, given_default_fault, check_fault, settle_fault, walk_fault}
-use Rattle.clap.specs.Matches.{found_of}
+use Rattle.clap.specs.Matches.{found_of, first_value}
 use Rattle.clap.proofs.WalkLemmas.{first_value-rows, raw_values-rows}
 use Rattle.clap.specs.declared.parser.matches.ArgMatches.{ArgMatches}
-use Rattle.p10_words.specs.CommandLines.{value_of}
+use Rattle.clap.specs.declared.builder.value_parser.Reading.TheVariants.{AsWritten}
+use Rattle.clap.specs.declared.parser.matches.ValueSource.TheVariants.{DefaultValue}
+use Rattle.p10_words.specs.CommandLines.{is_flag, value_of}
 use Rattle.p10_words.specs.private.Scanning.{Split, is_among}
-use Rattle.p10_words.specs.private.Parsing.{file_id, option_rule, files_rule, rules_of, IsAsked, are_askable, Reads, Matched, IsNoSplit, IsParse, IsUsage}
-use Rattle.p10_words.proofs.Rows.{Clean}
+use Rattle.p10_words.specs.private.Parsing.{file_id, rule_as, option_rule, files_rule, rules_of, IsAsked, are_askable, Reads, Matched, IsNoSplit, IsParse, IsUsage}
+use Rattle.p10_words.proofs.Rows.{Clean, same_text, row_there, put_values}
 use Rattle.p10_words.proofs.Walking.{at, asking, none}
 use Rattle.p10_words.proofs.Verdicts.{end, total}
 use Rattle.p10_words.proofs.Agreeing.{agrees}
 
--- ---- after the walk there are no faults, and no defaults
-default_none : (rows : List Row) (name : Text) → default_fault rows (option_rule name) ≡ []
-default_none rows name = by_row (has_row name rows)
+-- ---- after the walk there are no faults, and a flag that isn't given is `false`
+default_none : (rows : List Row) (name : Text) (flag : Bool) → default_fault rows (rule_as flag name) ≡ []
+default_none rows name flag = by_row (has_row name rows) flag
   where
-    by_row : (b : Bool) → (if b || true then [] else given_default_fault (option_rule name) []) ≡ []
-    by_row true = refl
-    by_row false = refl
+    by_row : (b flag : Bool) → (if b || is_empty (rule_as flag name).defaults then [] else given_default_fault (rule_as flag name) (rule_as flag name).defaults) ≡ []
+    by_row true flag = refl
+    by_row false true = refl
+    by_row false false = refl
 
 files_none : (rows : List Row) → default_fault rows files_rule ≡ []
 files_none rows = by_row (has_row file_id rows)
@@ -43,14 +46,7 @@ defaults_none : (names : List Text) (rows : List Row) → defaults_fault rows (r
 unfolding defaults_fault
 defaults_none [] rows = ap (λ (k : Kinds). or_else k []) (files_none rows)
 defaults_none (n ∷ names) rows =
-    ap (λ (k : Kinds). or_else k (defaults_fault (with_default rows (option_rule n)) (rules_of names))) (default_none rows n) ∙ defaults_none names (with_default rows (option_rule n))
-
-option_default : (rows : List Row) (name : Text) → with_default rows (option_rule name) ≡ rows
-option_default rows name = by_row (has_row name rows)
-  where
-    by_row : (b : Bool) → (if b then rows else rows) ≡ rows
-    by_row true = refl
-    by_row false = refl
+    ap (λ (k : Kinds). or_else k (defaults_fault (with_default rows (option_rule n)) (rules_of names))) (default_none rows n (is_flag n)) ∙ defaults_none names (with_default rows (option_rule n))
 
 file_default : (rows : List Row) → with_default rows files_rule ≡ rows
 file_default rows = by_row (has_row file_id rows)
@@ -59,9 +55,75 @@ file_default rows = by_row (has_row file_id rows)
     by_row true = refl
     by_row false = refl
 
-no_defaults : (names : List Text) (rows : List Row) → fold with_default rows (rules_of names) ≡ rows
-no_defaults [] rows = file_default rows
-no_defaults (n ∷ names) rows = ap (λ (rs : List Row). fold with_default rs (rules_of names)) (option_default rows n) ∙ no_defaults names rows
+and_false : (b : Bool) → b && false ≡ false
+and_false true = refl
+and_false false = refl
+
+-- what stands under an id, or what it has by default
+or_default : Option (List Text) → Bool → Option (List Text)
+or_default None b = if b then Some (codes "false" ∷ []) else None
+or_default (Some vs) b = Some vs
+
+no_default : (o : Option (List Text)) (b : Bool) → b ≡ false → or_default o b ≡ o
+unfolding or_default
+no_default None b e = rw e refl
+no_default (Some vs) b e = refl
+
+or_either : (o : Option (List Text)) (b c : Bool) → or_default (or_default o b) c ≡ or_default o (b || c)
+unfolding or_default
+or_either None true c = refl
+or_either None false c = refl
+or_either (Some vs) b c = refl
+
+option_default : (x name : Text) (rows : List Row) (flag : Bool) → all_of x (with_default rows (rule_as flag name)) ≡ or_default (all_of x rows) (flag && bytes_eq name x)
+unfolding or_default
+option_default x name rows false = by_row (has_row name rows) ∙ sym (no_default (all_of x rows) false refl)
+  where
+    by_row : (b : Bool) → all_of x (if b then rows else rows) ≡ all_of x rows
+    by_row true = refl
+    by_row false = refl
+option_default x name rows true = by_row (has_row name rows) (bytes_eq name x) refl refl
+  where
+    stays : (o : Option (List Text)) → is_some o ≡ true → o ≡ or_default o true
+    stays None e = absurd cc
+    stays (Some vs) e = refl
+
+    new : (o : Option (List Text)) → is_some o ≡ false → Some (unwrap_or o [] ++ codes "false" ∷ []) ≡ or_default o true
+    new None e = refl
+    new (Some vs) e = absurd cc
+
+    there : bytes_eq name x ≡ true → is_some (all_of x rows) ≡ has_row name rows
+    there e = subst (λ (t : Text). is_some (all_of t rows) ≡ has_row name rows) (same_text name x e) (sym (row_there name rows))
+
+    by_row : (b c : Bool) → has_row name rows ≡ b → bytes_eq name x ≡ c → all_of x (if b then rows else with_values name AsWritten DefaultValue (codes "false" ∷ []) rows) ≡ or_default (all_of x rows) c
+    by_row true true e f = stays (all_of x rows) (there f ∙ e)
+    by_row true false e f = sym (no_default (all_of x rows) false refl)
+    by_row false false e f = put_values x name AsWritten DefaultValue (codes "false" ∷ []) rows
+        ∙ ap (λ (t : Bool). if t then Some (unwrap_or (all_of name rows) [] ++ codes "false" ∷ []) else all_of x rows) f ∙ sym (no_default (all_of x rows) false refl)
+    by_row false true e f = put_values x name AsWritten DefaultValue (codes "false" ∷ []) rows
+        ∙ ap (λ (t : Bool). if t then Some (unwrap_or (all_of name rows) [] ++ codes "false" ∷ []) else all_of x rows) f
+        ∙ ap (λ (t : Text). Some (unwrap_or (all_of t rows) [] ++ codes "false" ∷ [])) (same_text name x f) ∙ new (all_of x rows) (there f ∙ e)
+
+-- the rows with the defaults of all options
+by_default : (x : Text) (names : List Text) (rows : List Row) → all_of x (fold with_default rows (rules_of names)) ≡ or_default (all_of x rows) (is_flag x && is_among names x)
+by_default x [] rows = ap (all_of x) (file_default rows) ∙ sym (no_default (all_of x rows) (is_flag x && false) (and_false (is_flag x)))
+by_default x (n ∷ names) rows =
+    by_default x names (with_default rows (option_rule n))
+    ∙ ap (λ (o : Option (List Text)). or_default o (is_flag x && is_among names x)) (option_default x n rows (is_flag n))
+    ∙ or_either (all_of x rows) (is_flag n && bytes_eq n x) (is_flag x && is_among names x)
+    ∙ ap (or_default (all_of x rows)) (joined (bytes_eq n x) refl)
+  where
+    joined : (b : Bool) → bytes_eq n x ≡ b → (is_flag n && bytes_eq n x) || (is_flag x && is_among names x) ≡ is_flag x && (bytes_eq n x || is_among names x)
+    joined true e = rw (e, ap is_flag (same_text n x e)) (both (is_flag x) (is_among names x))
+      where
+        both : (b c : Bool) → (b && true) || (b && c) ≡ b && (true || c)
+        both true c = refl
+        both false c = refl
+    joined false e = rw e (first (is_flag n) (is_flag x && is_among names x))
+      where
+        first : (b c : Bool) → (b && false) || c ≡ c
+        first true c = refl
+        first false c = refl
 
 none_required : (names : List Text) (rows : List Row) → list_any (λ (a : Rule). a.required && not (is_given a.id rows)) (rules_of names) ≡ false
 none_required [] rows = refl
@@ -83,10 +145,6 @@ level_is s names words h r =
 
     rows : List Row
     rows = finished (rules_of names) (walk (rules_of names) none nothing_held words).held
-
-    and_false : (b : Bool) → b && false ≡ false
-    and_false true = refl
-    and_false false = refl
 
     checks : check_fault (asking s names) (finished (rules_of names) (walk (rules_of names) none nothing_held words).held) false ≡ []
     checks = rw (h, r, none_required names (finished (rules_of names) (walk (rules_of names) none nothing_held words).held), and_false (not (s.subcommand_negates_reqs && false))) refl
@@ -116,12 +174,11 @@ faults_are a names words i =
 
 -- ---- the matches are the rows of the walk
 rows_built : (b : App) (names words : List Text) → b.subs ≡ [] → b.top.rules ≡ rules_of names
-    → rows_after b.top.rules (names_of b) words ≡ (settled (rules_of names) (walk (rules_of names) none nothing_held words).held).rows
+    → rows_after b.top.rules (names_of b) words ≡ finished (rules_of names) (walk (rules_of names) none nothing_held words).held
 rows_built b names words e r =
     ap (λ (xs : List Shape). rows_after b.top.rules (map label_of xs) words) e ∙ ap (λ (c : List Rule). rows_after c none words) r
-    ∙ no_defaults names (settled (rules_of names) (walk (rules_of names) none nothing_held words).held).rows
 
-matches_are : (a : App) (names words : List Text) → IsAsked a names → matches_of a words ≡ (settled (rules_of names) (end names (at [] None idle false) words)).rows
+matches_are : (a : App) (names words : List Text) → IsAsked a names → matches_of a words ≡ finished (rules_of names) (end names (at [] None idle false) words)
 unfolding end
 matches_are a names words i =
     ap (λ (b : Bool). rows_after (built a).top.rules (names_of (built a)) (if b then words else drop 1 words)) i.no_binary_name
@@ -139,12 +196,25 @@ one_value : (o : Option Text) → option_and_then (λ vs. slice_get vs 0) (optio
 one_value None = refl
 one_value (Some v) = refl
 
-reads : (names : List Text) (m : ArgMatches) (rows : List Row) (s : Split) → rows_of (found_of m) ≡ rows → Clean names rows s.options s.files → Reads names m s
-reads names m rows s e c = record {
-  options = λ name a. first_value-rows (found_of m) name ∙ ap (first_of name) e ∙ first_is name rows
-      ∙ ap (option_and_then (λ vs. slice_get vs 0)) (c.options name a) ∙ one_value (value_of s.options name);
-  files = raw_values-rows (found_of m) file_id ∙ ap (all_of file_id) e ∙ c.files;
+a_default : (o : Option Text) → option_and_then (λ vs. slice_get vs 0) (or_default (option_map (λ v. v ∷ []) o) true) ≡ Some (unwrap_or o (codes "false"))
+unfolding or_default
+a_default None = refl
+a_default (Some v) = refl
+
+reads : (names : List Text) (m : ArgMatches) (rows : List Row) (s : Split) → is_among names file_id ≡ false → rows_of (found_of m) ≡ fold with_default rows (rules_of names) → Clean names rows s.options s.files
+    → Reads names m s
+reads names m rows s f e c = record {
+  options = λ name a g. value name ∙ ap (option_and_then (λ vs. slice_get vs 0)) (no_default (all_of name rows) (is_flag name && is_among names name) (ap (λ (b : Bool). b && is_among names name) g) ∙ c.options name a)
+      ∙ one_value (value_of s.options name);
+  flags = λ name a g. value name
+      ∙ ap (option_and_then (λ vs. slice_get vs 0)) (ap (λ (b : Bool). or_default (all_of name rows) (b && is_among names name)) g ∙ ap (or_default (all_of name rows)) a ∙ ap (λ (o : Option (List Text)). or_default o true) (c.options name a))
+      ∙ a_default (value_of s.options name);
+  files = raw_values-rows (found_of m) file_id ∙ ap (all_of file_id) e ∙ by_default file_id names rows
+      ∙ no_default (all_of file_id rows) (is_flag file_id && is_among names file_id) (ap (λ (b : Bool). is_flag file_id && b) f ∙ and_false (is_flag file_id)) ∙ c.files;
 }
+  where
+    value : (name : Text) → first_value (found_of m) name ≡ option_and_then (λ vs. slice_get vs 0) (or_default (all_of name rows) (is_flag name && is_among names name))
+    value name = first_value-rows (found_of m) name ∙ ap (first_of name) e ∙ first_is name (fold with_default rows (rules_of names)) ∙ ap (option_and_then (λ vs. slice_get vs 0)) (by_default name names rows)
 
 -- no name of an option is that of the files
 apart : (names : List Text) → are_askable names ≡ true → is_among names file_id ≡ false
@@ -163,7 +233,7 @@ ok_matches a names words m i k f h =
       split = fine.split;
       scanned = fine.is;
       once = fine.once;
-      reads = reads names m _ fine.split ((h i.simple).0 ∙ matches_are a names words i) fine.clean;
+      reads = reads names m _ fine.split (apart names k) ((h i.simple).0 ∙ matches_are a names words i) fine.clean;
     }
 
 pub err_matches : (a : App) (names words : List Text) → IsAsked a names → are_askable names ≡ true → (fault_of a words ≡ [] → ⊥) → IsNoSplit names words

@@ -21,7 +21,7 @@ pub record Checks (words : List Text) (c : Command) : Type 0 where
 pub checks : (words : List Text) (c : Command) → IsRestOf c (codes "check") words → Checks words c
 checks words (Check directories json files) r = record { directories = directories; json = json; files = files; rest = r.1; is = refl }
 checks words (Derive directories files) r = absurd (apart (codes "check") (codes "derive") refl r.0)
-checks words (Verify directories certificate files) r = absurd (apart (codes "check") (codes "verify") refl r.0)
+checks words (Verify directories clean certificate files) r = absurd (apart (codes "check") (codes "verify") refl r.0)
 checks words (Run directories budget turns deny files) r = absurd (apart (codes "check") (codes "run") refl r.0)
 checks words (Generate functions) r = absurd (apart (codes "check") (codes "gen") refl r.0)
 
@@ -34,21 +34,22 @@ pub record Derives (words : List Text) (c : Command) : Type 0 where
 pub derives : (words : List Text) (c : Command) → IsRestOf c (codes "derive") words → Derives words c
 derives words (Check directories json files) r = absurd (apart (codes "derive") (codes "check") refl r.0)
 derives words (Derive directories files) r = record { directories = directories; files = files; rest = r.1; is = refl }
-derives words (Verify directories certificate files) r = absurd (apart (codes "derive") (codes "verify") refl r.0)
+derives words (Verify directories clean certificate files) r = absurd (apart (codes "derive") (codes "verify") refl r.0)
 derives words (Run directories budget turns deny files) r = absurd (apart (codes "derive") (codes "run") refl r.0)
 derives words (Generate functions) r = absurd (apart (codes "derive") (codes "gen") refl r.0)
 
 pub record Verifies (words : List Text) (c : Command) : Type 0 where
   pub directories : List Text
+  pub clean : Bool
   pub certificate : Text
   pub files : List Text
-  pub rest : IsVerify words directories certificate files
-  pub is : c ≡ Verify directories certificate files
+  pub rest : IsVerify words directories clean certificate files
+  pub is : c ≡ Verify directories clean certificate files
 
 pub verifies : (words : List Text) (c : Command) → IsRestOf c (codes "verify") words → Verifies words c
 verifies words (Check directories json files) r = absurd (apart (codes "verify") (codes "check") refl r.0)
 verifies words (Derive directories files) r = absurd (apart (codes "verify") (codes "derive") refl r.0)
-verifies words (Verify directories certificate files) r = record { directories = directories; certificate = certificate; files = files; rest = r.1; is = refl }
+verifies words (Verify directories clean certificate files) r = record { directories = directories; clean = clean; certificate = certificate; files = files; rest = r.1; is = refl }
 verifies words (Run directories budget turns deny files) r = absurd (apart (codes "verify") (codes "run") refl r.0)
 verifies words (Generate functions) r = absurd (apart (codes "verify") (codes "gen") refl r.0)
 
@@ -64,7 +65,7 @@ pub record Runs (words : List Text) (c : Command) : Type 0 where
 pub runs : (words : List Text) (c : Command) → IsRestOf c (codes "run") words → Runs words c
 runs words (Check directories json files) r = absurd (apart (codes "run") (codes "check") refl r.0)
 runs words (Derive directories files) r = absurd (apart (codes "run") (codes "derive") refl r.0)
-runs words (Verify directories certificate files) r = absurd (apart (codes "run") (codes "verify") refl r.0)
+runs words (Verify directories clean certificate files) r = absurd (apart (codes "run") (codes "verify") refl r.0)
 runs words (Run directories budget turns deny files) r = record { directories = directories; budget = budget; turns = turns; deny = deny; files = files; rest = r.1; is = refl }
 runs words (Generate functions) r = absurd (apart (codes "run") (codes "gen") refl r.0)
 
@@ -76,6 +77,6 @@ pub record Generates (words : List Text) (c : Command) : Type 0 where
 pub generates : (words : List Text) (c : Command) → IsRestOf c (codes "gen") words → Generates words c
 generates words (Check directories json files) r = absurd (apart (codes "gen") (codes "check") refl r.0)
 generates words (Derive directories files) r = absurd (apart (codes "gen") (codes "derive") refl r.0)
-generates words (Verify directories certificate files) r = absurd (apart (codes "gen") (codes "verify") refl r.0)
+generates words (Verify directories clean certificate files) r = absurd (apart (codes "gen") (codes "verify") refl r.0)
 generates words (Run directories budget turns deny files) r = absurd (apart (codes "gen") (codes "run") refl r.0)
 generates words (Generate functions) r = record { functions = functions; rest = r.1; is = refl }

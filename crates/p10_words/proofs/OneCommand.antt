@@ -1,6 +1,6 @@
 -- A line is one command.
 use Rattle.std.proofs.Common.{◌≡◌, ℕ, Bool, true, refl, ap, sym, ◌∙◌, subst, List, [], ◌∷◌, Option, Some, None, inl, inr}
-use Rattle.std.specs.Prelude.{codes, bytes_eq}
+use Rattle.std.specs.Prelude.{codes, bytes_eq, is_some}
 use Rattle.p10_words.specs.declared.command.Command.{Command}
 use Rattle.p10_words.specs.declared.command.Command.TheVariants.{Check, Derive, Verify, Run, Generate}
 use Rattle.p10_words.specs.declared.command.Budget.{Budget}
@@ -70,14 +70,15 @@ one_derive words d f v c w =
     let dirs : d ≡ w.directories = v.include.are ∙ ap (λ (x : Split). directories_in (value_in (codes "include") x)) same ∙ sym w.rest.include.are in
     (λ i. Derive (dirs i) (files i)) ∙ sym w.is
 
-one_verify : (words d : List Text) (k : Text) (f : List Text) (v : IsVerify words d k f) (c : Command) → Verifies words c → Verify d k f ≡ c
+one_verify : (words d : List Text) (b : Bool) (k : Text) (f : List Text) (v : IsVerify words d b k f) (c : Command) → Verifies words c → Verify d b k f ≡ c
 unfolding value_in split_of
-one_verify words d k f v c w =
+one_verify words d b k f v c w =
     let same = one_split verify_options words v.options w.rest.options f w.files verify_askable v.split w.rest.split in
     let files : f ≡ w.files = ap (λ (x : Split). x.files) same in
     let dirs : d ≡ w.directories = v.include.are ∙ ap (λ (x : Split). directories_in (value_in (codes "include") x)) same ∙ sym w.rest.include.are in
+    let clean : b ≡ w.clean = sym v.flag ∙ ap (λ (x : Split). is_some (value_in (codes "clean") x)) same ∙ w.rest.flag in
     let cert : k ≡ w.certificate = same_value _ _ k w.certificate (ap (value_in (codes "cert")) same) v.cert w.rest.cert in
-    (λ i. Verify (dirs i) (cert i) (files i)) ∙ sym w.is
+    (λ i. Verify (dirs i) (clean i) (cert i) (files i)) ∙ sym w.is
 
 one_run : (words d : List Text) (b : Budget) (t n : ℕ) (f : List Text) (v : IsRun words d b t n f) (c : Command) → Runs words c → Run d b t n f ≡ c
 unfolding value_in split_of
@@ -102,7 +103,7 @@ one_generate words n v c w =
 one_rest : (a b : Command) (word : Text) (words : List Text) → IsRestOf a word words → IsRestOf b word words → a ≡ b
 one_rest (Check d json f) b word words i j = one_check words d json f i.1 b (checks words b (subst (λ (w : Text). IsRestOf b w words) i.0 j))
 one_rest (Derive d f) b word words i j = one_derive words d f i.1 b (derives words b (subst (λ (w : Text). IsRestOf b w words) i.0 j))
-one_rest (Verify d k f) b word words i j = one_verify words d k f i.1 b (verifies words b (subst (λ (w : Text). IsRestOf b w words) i.0 j))
+one_rest (Verify d l k f) b word words i j = one_verify words d l k f i.1 b (verifies words b (subst (λ (w : Text). IsRestOf b w words) i.0 j))
 one_rest (Run d g t n f) b word words i j = one_run words d g t n f i.1 b (runs words b (subst (λ (w : Text). IsRestOf b w words) i.0 j))
 one_rest (Generate n) b word words i j = one_generate words n i.1 b (generates words b (subst (λ (w : Text). IsRestOf b w words) i.0 j))
 

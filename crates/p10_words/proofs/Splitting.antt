@@ -5,7 +5,7 @@ use Rattle.std.specs.List.{list_all, before_first, after_first, position_or_len}
 use Rattle.clap.specs.Lexer.{long_of, long_of_rest, strip_byte, has_byte}
 use Rattle.clap.specs.Walk.{is_empty}
 use Rattle.p10_base.specs.Words.{Text}
-use Rattle.p10_words.specs.CommandLines.{Given, IsName, AreNames, Splits, no_words, file, option, option_joined, ended, dashed, joined}
+use Rattle.p10_words.specs.CommandLines.{Given, IsName, AreNames, Splits, no_words, file, option, option_joined, flag, is_flag, ended, dashed, joined}
 use Rattle.p10_words.specs.private.Scanning.{Split, is_among, is_name, has_names, scan, scan_value, scan_word, scan_long, with_option, with_file}
 use Rattle.p10_words.specs.private.Parsing.{are_askable}
 use Rattle.p10_words.proofs.Rows.{same_text}
@@ -240,19 +240,28 @@ read_so names words options files k (file {word = word} {words = rest} {options 
       scanned = read_file names word rest f.1 f.0 ∙ ap (with_file word) r.scanned;
       names_alone = three (list_all (λ (o : Given). is_name o.1) given) (is_name word) (list_all is_name others) (is_named word n) r.names_alone;
     }
-read_so names words options files k (option {name = name} {value = value} {words = rest} {options = others} {files = kept} a n s) =
+read_so names words options files k (option {name = name} {value = value} {words = rest} {options = others} {files = kept} a g n s) =
     let r = read_so names rest others kept k s in
     let d = dashed_is name (askable_name names name (askable_names names k) a) in
     record {
-      scanned = read_option names (dashed name) name None (value ∷ rest) d.1 d.0 a ∙ read_value names name value rest others kept n r.scanned;
+      scanned = read_option names (dashed name) name None (value ∷ rest) d.1 d.0 a ∙ ap (λ (b : Bool). if b then with_option name (codes "true") (scan names None (value ∷ rest)) else scan names (Some name) (value ∷ rest)) g
+          ∙ read_value names name value rest others kept n r.scanned;
       names_alone = two (is_name value) (list_all (λ (o : Given). is_name o.1) others) (list_all is_name kept) (is_named value n) r.names_alone;
     }
-read_so names words options files k (option_joined {name = name} {value = value} {words = rest} {options = others} {files = kept} a n s) =
+read_so names words options files k (option_joined {name = name} {value = value} {words = rest} {options = others} {files = kept} a g n s) =
     let r = read_so names rest others kept k s in
     let d = joined_is name value (askable_name names name (askable_names names k) a) in
     record {
-      scanned = read_option names (joined name value) name (Some value) rest d.1 d.0 a ∙ ap (with_option name value) r.scanned;
+      scanned = read_option names (joined name value) name (Some value) rest d.1 d.0 a ∙ ap (λ (b : Bool). if b then None else with_option name value (scan names None rest)) g ∙ ap (with_option name value) r.scanned;
       names_alone = two (is_name value) (list_all (λ (o : Given). is_name o.1) others) (list_all is_name kept) (is_named value n) r.names_alone;
+    }
+read_so names words options files k (flag {name = name} {words = rest} {options = others} {files = kept} a g s) =
+    let r = read_so names rest others kept k s in
+    let d = dashed_is name (askable_name names name (askable_names names k) a) in
+    record {
+      scanned = read_option names (dashed name) name None rest d.1 d.0 a ∙ ap (λ (b : Bool). if b then with_option name (codes "true") (scan names None rest) else scan names (Some name) rest) g
+          ∙ ap (with_option name (codes "true")) r.scanned;
+      names_alone = two true (list_all (λ (o : Given). is_name o.1) others) (list_all is_name kept) refl r.names_alone;
     }
 read_so names words options files k (ended {words = rest} n) = record { scanned = refl; names_alone = all_named rest n }
 
@@ -261,7 +270,7 @@ Unread : List Text → List Text → Type 0
 Unread names words = (sp : Split) → scan names None words ≡ Some sp → has_names sp ≡ true → Splits names words sp.options sp.files
 
 Valued : List Text → List Text → Type 0
-Valued names words = (name : Text) (sp : Split) → is_among names name ≡ true → scan names (Some name) words ≡ Some sp → has_names sp ≡ true → Splits names (dashed name ∷ words) sp.options sp.files
+Valued names words = (name : Text) (sp : Split) → is_among names name ≡ true → is_flag name ≡ false → scan names (Some name) words ≡ Some sp → has_names sp ≡ true → Splits names (dashed name ∷ words) sp.options sp.files
 
 from_file : (names words : List Text) (word : Text) → Unread names words → (sp : Split) → with_file word (scan names None words) ≡ Some sp → has_names sp ≡ true → Splits names (word ∷ words) sp.options sp.files
 unfolding Unread
@@ -298,11 +307,11 @@ from_option names words name value P u make sp e n = given (scan names None word
 
 valued_more : (names words : List Text) (word : Text) → Unread names words → Valued names (word ∷ words)
 unfolding Valued scan
-valued_more names words word u name sp a e n = by_long (long_of word) e
+valued_more names words word u name sp a g e n = by_long (long_of word) e
   where
     by_dashes : (b : Bool) → (if b then None else with_option name word (scan names None words)) ≡ Some sp → Splits names (dashed name ∷ word ∷ words) sp.options sp.files
     by_dashes true e = absurd cc
-    by_dashes false e = from_option names words name word (λ options files. Splits names (dashed name ∷ word ∷ words) options files) u (λ options files m s. option a m s) sp e n
+    by_dashes false e = from_option names words name word (λ options files. Splits names (dashed name ∷ word ∷ words) options files) u (λ options files m s. option a g m s) sp e n
 
     by_long : (o : Option (Text × Option Text)) → scan_value name word o (scan names None words) ≡ Some sp → Splits names (dashed name ∷ word ∷ words) sp.options sp.files
     by_long None e = by_dashes (bytes_eq word (codes "--")) e
@@ -312,17 +321,25 @@ unread_more : (names words : List Text) (word : Text) → Unread names words →
 unfolding Unread Valued scan WordOf
 unread_more names words word u v sp e n = by_dashes (bytes_eq word (codes "--")) refl e
   where
-    by_value : (name : Text) (o : Option Text) → WordOf word name o → is_among names name ≡ true → scan_long name o (scan names None words) (λ m. scan names (Some m) words) ≡ Some sp
+    by_value : (name : Text) (o : Option Text) (b : Bool) → is_flag name ≡ b → WordOf word name o → is_among names name ≡ true → scan_long name o (scan names None words) (λ m. scan names (Some m) words) ≡ Some sp
         → Splits names (word ∷ words) sp.options sp.files
-    by_value name None w a e = subst (λ (t : Text). Splits names (t ∷ words) sp.options sp.files) (sym w) (v name sp a e n)
-    by_value name (Some value) w a e =
+    by_value name None true g w a e =
         subst (λ (t : Text). Splits names (t ∷ words) sp.options sp.files) (sym w)
-        (from_option names words name value (λ options files. Splits names (joined name value ∷ words) options files) u (λ options files m s. option_joined a m s) sp e n)
+        (from_option names words name (codes "true") (λ options files. Splits names (dashed name ∷ words) options files) u (λ options files m s. flag a g s) sp
+        (sym (ap (λ (b : Bool). if b then with_option name (codes "true") (scan names None words) else scan names (Some name) words) g) ∙ e) n)
+    by_value name None false g w a e =
+        subst (λ (t : Text). Splits names (t ∷ words) sp.options sp.files) (sym w)
+        (v name sp a g (sym (ap (λ (b : Bool). if b then with_option name (codes "true") (scan names None words) else scan names (Some name) words) g) ∙ e) n)
+    by_value name (Some value) true g w a e = absurd (let t : ◌≡◌ {A = Option Split} None (Some sp) = sym (ap (λ (b : Bool). if b then None else with_option name value (scan names None words)) g) ∙ e in cc)
+    by_value name (Some value) false g w a e =
+        subst (λ (t : Text). Splits names (t ∷ words) sp.options sp.files) (sym w)
+        (from_option names words name value (λ options files. Splits names (joined name value ∷ words) options files) u (λ options files m s. option_joined a g m s) sp
+        (sym (ap (λ (b : Bool). if b then None else with_option name value (scan names None words)) g) ∙ e) n)
 
     by_name : (p : Text × Option Text) (b : Bool) → is_among names p.0 ≡ b → long_of word ≡ Some p → (if b then scan_long p.0 p.1 (scan names None words) (λ m. scan names (Some m) words) else None) ≡ Some sp
         → Splits names (word ∷ words) sp.options sp.files
     by_name p false a l e = absurd cc
-    by_name p true a l e = by_value p.0 p.1 (word_of word p.0 p.1 l) a e
+    by_name p true a l e = by_value p.0 p.1 (is_flag p.0) refl (word_of word p.0 p.1 l) a e
 
     by_long : (o : Option (Text × Option Text)) → long_of word ≡ o → scan_word names word o (scan names None words) (λ m. scan names (Some m) words) ≡ Some sp → Splits names (word ∷ words) sp.options sp.files
     by_long None l e = from_file names words word u sp e n
@@ -344,7 +361,7 @@ no_words_unread names sp e n = let whole : record { options = []; files = [] } �
 
 no_words_valued : (names : List Text) → Valued names []
 unfolding Valued scan
-no_words_valued names name sp a e n = absurd cc
+no_words_valued names name sp a g e n = absurd cc
 
 both_read : (names words : List Text) → Unread names words × Valued names words
 both_read names [] = (no_words_unread names, no_words_valued names)

@@ -1,12 +1,15 @@
 -- What `clap` makes of all the words, against the reading of them.
 use Rattle.std.proofs.Common.{◌≡◌, true, false, Bool, ap, sym, ◌∙◌, refl, subst, List, [], ◌∷◌, ◌++◌, Option, Some, None, is_some, append_assoc}
-use Rattle.std.specs.Prelude.{◌&&◌, option_map}
+use Rattle.std.specs.Prelude.{◌&&◌, option_map, codes}
 use Rattle.std.specs.List.{fold, list_all}
-use Rattle.clap.specs.Walk.{Row, Text, Held, Walk, has_row, settled_rows, walked}
+use Rattle.clap.specs.Walk.{Row, Text, Held, Walk, has_row, settled_rows, used, walked, with_values, without}
 use Rattle.clap.specs.Simple.{Shape}
 use Rattle.clap.specs.Kinds.{Kinds, or_else}
 use Rattle.clap.specs.Faults.{turn_fault, walk_fault, settle_fault, use_fault}
-use Rattle.p10_words.specs.CommandLines.{Given, value_of, AreGivenOnce}
+use Rattle.clap.specs.declared.builder.value_parser.Reading.{Reading}
+use Rattle.clap.specs.declared.builder.value_parser.Reading.TheVariants.{AsWritten}
+use Rattle.clap.specs.declared.parser.matches.ValueSource.TheVariants.{CommandLine}
+use Rattle.p10_words.specs.CommandLines.{Given, is_flag, value_of, AreGivenOnce}
 use Rattle.p10_words.specs.private.Scanning.{Split, is_among, is_name, has_names, with_option, with_file}
 use Rattle.p10_words.specs.private.Parsing.{file_id, option_rule, rules_of}
 use Rattle.p10_words.proofs.Rows.{Clean, clean_option, clean_file, found_id, found_files, row_there}
@@ -68,17 +71,27 @@ unused names r os fs name a c e = row_there name r ∙ ap is_some (c.options nam
 pub was_used : (names : List Text) (r : List Row) (os : List Given) (fs : List Text) (name u : Text) → is_among names name ≡ true → Clean names r os fs → value_of os name ≡ Some u → has_row name r ≡ true
 was_used names r os fs name u a c e = row_there name r ∙ ap is_some (c.options name a ∙ ap (λ (o : Option Text). option_map (λ v. v ∷ []) o) e)
 
-pub use_passes : (name v : Text) (r : List Row) → has_row name r ≡ false → use_fault false (option_rule name) (v ∷ []) r ≡ []
-use_passes name v r e = rw e refl
+-- a use of an option with these values sets its value, where it has none
+pub record Uses (name value : Text) (values : List Text) : Type 0 where
+  pub passes : (r : List Row) → has_row name r ≡ false → use_fault false (option_rule name) values r ≡ []
+  pub again : (r : List Row) → has_row name r ≡ true → Fails (use_fault false (option_rule name) values r)
+  pub sets : (r : List Row) → used (option_rule name) values r ≡ with_values name AsWritten CommandLine (value ∷ []) (without name r)
 
-pub use_again : (name v : Text) (r : List Row) → has_row name r ≡ true → Fails (use_fault false (option_rule name) (v ∷ []) r)
-use_again name v r e = rw e (λ f. absurd cc)
+pub with_value : (name v : Text) → is_flag name ≡ false → Uses name v (v ∷ [])
+with_value name v g = record { passes = λ r e. rw (g, e) refl; again = λ r e. rw (g, e) (λ f. absurd cc); sets = λ r. rw g refl }
 
-pub settled_option : (names : List Text) (r : List Row) (os : List Given) (fs : List Text) (name v : Text) → is_among names file_id ≡ false → is_among names name ≡ true → Clean names r os fs → value_of os name ≡ None
+pub without_value : (name : Text) → is_flag name ≡ true → Uses name (codes "true") []
+without_value name g = record { passes = λ r e. rw (g, e) refl; again = λ r e. rw (g, e) (λ f. absurd cc); sets = λ r. rw g refl }
+
+pub used_clean : (names : List Text) (r : List Row) (os : List Given) (fs : List Text) (name v : Text) (vs : List Text) → Uses name v vs → is_among names file_id ≡ false → is_among names name ≡ true
+    → Clean names r os fs → value_of os name ≡ None → Clean names (used (option_rule name) vs r) (os ++ (name, v) ∷ []) fs
+used_clean names r os fs name v vs u f a c e = subst (λ (rows : List Row). Clean names rows (os ++ (name, v) ∷ []) fs) (sym (u.sets r)) (clean_option names r os fs name v AsWritten CommandLine f a c e)
+
+pub settled_option : (names : List Text) (r : List Row) (os : List Given) (fs : List Text) (name v : Text) → is_flag name ≡ false → is_among names file_id ≡ false → is_among names name ≡ true → Clean names r os fs → value_of os name ≡ None
     → Settled names r (Some (name, v ∷ [])) (os ++ (name, v) ∷ []) fs
-settled_option names r os fs name v f a c e = record {
-  fine = rw (found_id names name a) (use_passes name v r (unused names r os fs name a c e));
-  clean = rw (found_id names name a) (clean_option names r os fs name v _ _ f a c e);
+settled_option names r os fs name v g f a c e = record {
+  fine = rw (found_id names name a) ((with_value name v g).passes r (unused names r os fs name a c e));
+  clean = rw (found_id names name a) (used_clean names r os fs name v (v ∷ []) (with_value name v g) f a c e);
 }
 
 -- ---- verdicts

@@ -1,5 +1,5 @@
 -- What a word does to a walk of `clap`'s, for options of one value and files.
-use Rattle.std.proofs.Common.{◌≡◌, ℕ, zero, suc, true, false, Bool, ap, sym, ◌∙◌, refl, List, [], ◌∷◌, length, Option, Some, None, ◌⊎◌, inl, inr}
+use Rattle.std.proofs.Common.{◌≡◌, ℕ, zero, suc, true, false, Bool, ap, sym, ◌∙◌, refl, subst, List, [], ◌∷◌, length, Option, Some, None, ◌⊎◌, inl, inr}
 use Rattle.std.specs.Prelude.{◌&&◌, ◌||◌, not, ◌==◌, option_and_then, if◌then◌else◌, codes, bytes_eq, slice_get}
 use Rattle.std.specs.Str.{chars}
 use Rattle.std.specs.Option.{option_map_or}
@@ -8,6 +8,7 @@ use Rattle.clap.specs.Walk.{Rule, Row, Text, Held, Walk, Waiting, idle, option, 
 use Rattle.clap.specs.Simple.{Shape}
 use Rattle.clap.specs.Kinds.{Kinds, or_else}
 use Rattle.clap.specs.Faults.{turn_fault, settle_fault, use_fault, bundle_fault, flags_fault, positional_fault, step_fault, stray_fault}
+use Rattle.p10_words.specs.CommandLines.{is_flag}
 use Rattle.p10_words.specs.private.Scanning.{is_among, is_name}
 use Rattle.p10_words.specs.private.Parsing.{file_id, option_rule, files_rule, rules_of}
 use Rattle.p10_words.proofs.Rows.{found_long, found_id, found_index, no_short, text_same}
@@ -58,21 +59,57 @@ pub unknown_turn : (s : Shape) (names : List Text) (r : List Row) (p : Option (T
     → Fails (turn_fault (asking s names) none (at r p q false) word)
 unknown_turn s names r p q word o sub e l a = rw (sub word, e, l, found_long names o.0, a) (λ f. absurd cc)
 
+-- the word uses an option with these values
+abbrev pub IsUse : Shape → List Text → List Row → Option (Text × List Text) → Waiting → Text → Text → List Text → Type 0
+IsUse s names r p q word name values =
+    (turn_fault (asking s names) none (at r p q false) word ≡ or_else (or_else (settle_fault (rules_of names) false (held r p)) (use_fault false (option_rule name) values (settled_rows (rules_of names) p r))) [])
+    × (walked (rules_of names) none (at r p q false) word ≡ at (used (option_rule name) values (settled_rows (rules_of names) p r)) None idle false)
+
 -- an option with its value
 pub joined_turn : (s : Shape) (names : List Text) (r : List Row) (p : Option (Text × List Text)) (q : Waiting) (word name v : Text)
-    → ((w : Text) → subcommand_met none q w ≡ None) → bytes_eq word (codes "--") ≡ false → long_of word ≡ Some (name, Some v) → is_among names name ≡ true
-    → (turn_fault (asking s names) none (at r p q false) word ≡ or_else (or_else (settle_fault (rules_of names) false (held r p)) (use_fault false (option_rule name) (v ∷ []) (settled_rows (rules_of names) p r))) [])
-    × (walked (rules_of names) none (at r p q false) word ≡ at (used (option_rule name) (v ∷ []) (settled_rows (rules_of names) p r)) None idle false)
+    → ((w : Text) → subcommand_met none q w ≡ None) → bytes_eq word (codes "--") ≡ false → long_of word ≡ Some (name, Some v) → is_among names name ≡ true → is_flag name ≡ false
+    → IsUse s names r p q word name (v ∷ [])
 unfolding walked
-joined_turn s names r p q word name v sub e l a = (rw (sub word, e, l, found_long names name, a) refl, rw (sub word, e, l, found_long names name, a) refl)
+joined_turn s names r p q word name v sub e l a g = (rw (sub word, e, l, found_long names name, a, g) refl, rw (sub word, e, l, found_long names name, a, g) refl)
+
+-- a flag
+pub flag_turn : (s : Shape) (names : List Text) (r : List Row) (p : Option (Text × List Text)) (q : Waiting) (word name : Text)
+    → ((w : Text) → subcommand_met none q w ≡ None) → bytes_eq word (codes "--") ≡ false → long_of word ≡ Some (name, None) → is_among names name ≡ true → is_flag name ≡ true
+    → IsUse s names r p q word name []
+unfolding walked
+flag_turn s names r p q word name sub e l a g = (rw (sub word, e, l, found_long names name, a, g) refl, rw (sub word, e, l, found_long names name, a, g) refl)
+
+-- a flag with a value
+pub valued_turn : (s : Shape) (names : List Text) (r : List Row) (p : Option (Text × List Text)) (q : Waiting) (word name v : Text)
+    → ((w : Text) → subcommand_met none q w ≡ None) → bytes_eq word (codes "--") ≡ false → long_of word ≡ Some (name, Some v) → is_among names name ≡ true → is_flag name ≡ true
+    → Fails (turn_fault (asking s names) none (at r p q false) word)
+valued_turn s names r p q word name v sub e l a g = rw (sub word, e, l, found_long names name, a, g) (λ f. absurd cc)
 
 -- an option that waits for its value
 pub option_turn : (s : Shape) (names : List Text) (r : List Row) (p : Option (Text × List Text)) (q : Waiting) (word name : Text)
-    → ((w : Text) → subcommand_met none q w ≡ None) → bytes_eq word (codes "--") ≡ false → long_of word ≡ Some (name, None) → is_among names name ≡ true
+    → ((w : Text) → subcommand_met none q w ≡ None) → bytes_eq word (codes "--") ≡ false → long_of word ≡ Some (name, None) → is_among names name ≡ true → is_flag name ≡ false
     → (turn_fault (asking s names) none (at r p q false) word ≡ or_else (settle_fault (rules_of names) false (held r p)) [])
     × (walked (rules_of names) none (at r p q false) word ≡ at (settled_rows (rules_of names) p r) (Some (name, [])) (option name) false)
 unfolding walked
-option_turn s names r p q word name sub e l a = (rw (sub word, e, l, found_long names name, a) refl, rw (sub word, e, l, found_long names name, a) refl)
+option_turn s names r p q word name sub e l a g = (rw (sub word, e, l, found_long names name, a, g) refl, rw (sub word, e, l, found_long names name, a, g) refl)
+
+-- a word of an option fails where what is pending does
+pub option_fails : (s : Shape) (names : List Text) (r : List Row) (p : Option (Text × List Text)) (q : Waiting) (word name : Text) (v : Option Text)
+    → ((w : Text) → subcommand_met none q w ≡ None) → bytes_eq word (codes "--") ≡ false → long_of word ≡ Some (name, v) → is_among names name ≡ true
+    → Fails (settle_fault (rules_of names) false (held r p)) → Fails (turn_fault (asking s names) none (at r p q false) word)
+option_fails s names r p q word name v sub e l a f = by_value v (is_flag name) l refl
+  where
+    in_use : (values : List Text) → IsUse s names r p q word name values → Fails (turn_fault (asking s names) none (at r p q false) word)
+    in_use values u =
+        subst Fails (sym u.0)
+        (later_fails (or_else (settle_fault (rules_of names) false (held r p)) (use_fault false (option_rule name) values (settled_rows (rules_of names) p r))) []
+        (later_fails (settle_fault (rules_of names) false (held r p)) (use_fault false (option_rule name) values (settled_rows (rules_of names) p r)) f))
+
+    by_value : (o : Option Text) (b : Bool) → long_of word ≡ Some (name, o) → is_flag name ≡ b → Fails (turn_fault (asking s names) none (at r p q false) word)
+    by_value (Some x) true l g = valued_turn s names r p q word name x sub e l a g
+    by_value (Some x) false l g = in_use (x ∷ []) (joined_turn s names r p q word name x sub e l a g)
+    by_value None true l g = in_use [] (flag_turn s names r p q word name sub e l a g)
+    by_value None false l g = subst Fails (sym (option_turn s names r p q word name sub e l a g).0) (later_fails (settle_fault (rules_of names) false (held r p)) [] f)
 
 -- short options: there are none, so the word fails, or spells no character and is taken as it is
 bundle_is : (names : List Text) (flags : Text) (r : List Row) (p : Option (Text × List Text))
@@ -171,18 +208,18 @@ IsValue s names r name word =
     ⊎ ((turn_fault (asking s names) none (at r (Some (name, [])) (option name) false) word ≡ []) × (walked (rules_of names) none (at r (Some (name, [])) (option name) false) word ≡ at r (Some (name, word ∷ [])) idle false))
 
 -- a word that begins with no `--` is its value
-pub value_turn : (s : Shape) (names : List Text) (r : List Row) (name word : Text) → is_among names name ≡ true → bytes_eq word (codes "--") ≡ false → long_of word ≡ None → IsValue s names r name word
+pub value_turn : (s : Shape) (names : List Text) (r : List Row) (name word : Text) → is_among names name ≡ true → is_flag name ≡ false → bytes_eq word (codes "--") ≡ false → long_of word ≡ None → IsValue s names r name word
 unfolding walked
-value_turn s names r name word a e l = by_short (short_of word) refl
+value_turn s names r name word a g e l = by_short (short_of word) refl
   where
     by_short : (o : Option Text) → short_of word ≡ o → IsValue s names r name word
-    by_short None f = inr (rw (e, l, f) refl, rw (e, l, f, found_id names name a, text_same name) refl)
+    by_short None f = inr (rw (e, l, f) refl, rw (e, l, f, found_id names name a, text_same name, g) refl)
     by_short (Some flags) f = by_bundle (bundle_is names flags r (Some (name, [])))
       where
         by_bundle : Fails (bundle_fault (rules_of names) false flags (held r (Some (name, [])))) ⊎ ((bundle_fault (rules_of names) false flags (held r (Some (name, []))) ≡ []) × (bundle (rules_of names) flags (held r (Some (name, []))) ≡ (held r (Some (name, [])), plain))) → IsValue s names r name word
         by_bundle (inl b) = inl (rw (e, l, f) (later_fails _ _ b), no_name word flags f)
-        by_bundle (inr b) = inr (rw (e, l, f, b.0, b.1) refl, rw (e, l, f, b.1, found_id names name a, text_same name) refl)
+        by_bundle (inr b) = inr (rw (e, l, f, b.0, b.1) refl, rw (e, l, f, b.1, found_id names name a, text_same name, g) refl)
 
 -- what is pending with no value fails where it is settled
-pub waiting_fails : (names : List Text) (r : List Row) (name : Text) → is_among names name ≡ true → Fails (settle_fault (rules_of names) false (held r (Some (name, []))))
-waiting_fails names r name a = rw (found_id names name a) (λ f. absurd cc)
+pub waiting_fails : (names : List Text) (r : List Row) (name : Text) → is_among names name ≡ true → is_flag name ≡ false → Fails (settle_fault (rules_of names) false (held r (Some (name, []))))
+waiting_fails names r name a g = rw (found_id names name a, g) (λ f. absurd cc)

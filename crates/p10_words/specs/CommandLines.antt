@@ -27,15 +27,24 @@ joined name value = codes "--" ++ (name ++ (codes "=" ++ value))
 abbrev pub IsAmong : List Text → Text → Type 0
 IsAmong names name = list_any (λ n. bytes_eq n name) names ≡ true
 
--- options of these names and files, in any order: `--x v` and `--x=v` are the same, and after `--` each word is a file
+-- the options that are flags: they are given without a value
+abbrev pub flags : List Text
+flags = codes "clean" ∷ []
+
+abbrev pub is_flag : Text → Bool
+is_flag name = list_any (λ n. bytes_eq n name) flags
+
+-- options of these names and files, in any order: `--x v` and `--x=v` are the same, a flag that is given counts as `true`, and after `--` each word is a file
 pub data Splits (names : List Text) : List Text → List Given → List Text → Type 0 where
   no_words : Splits names [] [] []
   file : {word : Text} {words : List Text} {options : List Given} {files : List Text} →
       IsName word → Splits names words options files → Splits names (word ∷ words) options (word ∷ files)
   option : {name value : Text} {words : List Text} {options : List Given} {files : List Text} →
-      IsAmong names name → IsName value → Splits names words options files → Splits names (dashed name ∷ value ∷ words) ((name, value) ∷ options) files
+      IsAmong names name → is_flag name ≡ false → IsName value → Splits names words options files → Splits names (dashed name ∷ value ∷ words) ((name, value) ∷ options) files
   option_joined : {name value : Text} {words : List Text} {options : List Given} {files : List Text} →
-      IsAmong names name → IsName value → Splits names words options files → Splits names (joined name value ∷ words) ((name, value) ∷ options) files
+      IsAmong names name → is_flag name ≡ false → IsName value → Splits names words options files → Splits names (joined name value ∷ words) ((name, value) ∷ options) files
+  flag : {name : Text} {words : List Text} {options : List Given} {files : List Text} →
+      IsAmong names name → is_flag name ≡ true → Splits names words options files → Splits names (dashed name ∷ words) ((name, codes "true") ∷ options) files
   ended : {words : List Text} → AreNames words → Splits names (codes "--" ∷ words) [] words
 
 -- the value that an option was given first

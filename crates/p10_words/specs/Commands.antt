@@ -1,5 +1,5 @@
 -- The commands, and the words that are each of them.
-use Rattle.std.specs.Prelude.{◌≡◌, ◌≢◌, ℕ, ◌≤◌, Bool, List, [], ◌∷◌, codes, length, Option, Some, None}
+use Rattle.std.specs.Prelude.{◌≡◌, ◌≢◌, ℕ, ◌≤◌, Bool, List, [], ◌∷◌, codes, length, Option, Some, None, is_some}
 use Rattle.p10_words.specs.declared.command.Command.{Command}
 use Rattle.p10_words.specs.declared.command.Command.TheVariants.{Check, Derive, Verify, Run, Generate}
 use Rattle.p10_words.specs.declared.command.Budget.{Budget}
@@ -15,7 +15,7 @@ abbrev pub derive_options : List Text
 derive_options = codes "include" ∷ []
 
 abbrev pub verify_options : List Text
-verify_options = codes "include" ∷ codes "cert" ∷ []
+verify_options = codes "include" ∷ codes "clean" ∷ codes "cert" ∷ []
 
 abbrev pub run_options : List Text
 run_options = codes "include" ∷ codes "steps" ∷ codes "turns" ∷ codes "deny" ∷ codes "cert" ∷ []
@@ -44,11 +44,12 @@ pub record IsDerive (words : List Text) (directories : List Text) (files : List 
   pub split : IsSplit derive_options words options files
   pub include : AreDirectories options directories
 
--- `verify [--include D] --cert C FILE..`
-pub record IsVerify (words : List Text) (directories : List Text) (certificate : Text) (files : List Text) : Type 0 where
+-- `verify [--include D] [--clean] --cert C FILE..`
+pub record IsVerify (words : List Text) (directories : List Text) (clean : Bool) (certificate : Text) (files : List Text) : Type 0 where
   pub options : List Given
   pub split : IsSplit verify_options words options files
   pub include : AreDirectories options directories
+  pub flag : is_some (value_of options (codes "clean")) ≡ clean
   pub cert : value_of options (codes "cert") ≡ Some certificate
 
 -- what bounds the steps, by the values of `--steps` and `--cert`, which exclude each other: 10,000,000 steps where neither is given
@@ -75,7 +76,7 @@ pub record IsGenerate (words : List Text) (functions : ℕ) : Type 0 where
 abbrev pub IsRestOf : Command → Text → List Text → Type 0
 IsRestOf (Check directories json files) word words = (word ≡ codes "check") × IsCheck words directories json files
 IsRestOf (Derive directories files) word words = (word ≡ codes "derive") × IsDerive words directories files
-IsRestOf (Verify directories certificate files) word words = (word ≡ codes "verify") × IsVerify words directories certificate files
+IsRestOf (Verify directories clean certificate files) word words = (word ≡ codes "verify") × IsVerify words directories clean certificate files
 IsRestOf (Run directories budget turns deny files) word words = (word ≡ codes "run") × IsRun words directories budget turns deny files
 IsRestOf (Generate functions) word words = (word ≡ codes "gen") × IsGenerate words functions
 

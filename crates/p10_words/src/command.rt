@@ -21,10 +21,12 @@ pub enum Command {
         /// The source files; there is one at least.
         files: ListBuf<TextBuf>,
     },
-    /// `verify [--include D] --cert C FILE..`
+    /// `verify [--include D] [--clean] --cert C FILE..`
     Verify {
         /// The directories of `--include`, in their order.
         dirs: ListBuf<TextBuf>,
+        /// Whether the certificate has to be clean, too.
+        clean: bool,
         /// The name of the certificate's file.
         cert: TextBuf,
         /// The source files; there is one at least.

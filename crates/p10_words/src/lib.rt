@@ -5,6 +5,7 @@
 //!     check --format json a.c        Check of the file a.c, as JSON
 //!     derive a.c                     Derive of the file a.c
 //!     verify --cert a.p10 a.c        Verify of the certificate a.p10 and the file a.c
+//!     verify --clean --cert c a.c    Verify of the certificate c, which has to be clean, and a.c
 //!     run a.c --steps=500            Run of a.c with 500 steps, 1 turn and no denied request
 //!     run --cert a.p10 a.c           Run of a.c with the steps that the certificate a.p10 claims
 //!     gen 700                        Generate, 700 functions

@@ -4,7 +4,7 @@ ghost use Rattle.std.specs.Prelude.{◌≡◌, [], ◌∷◌, List, ℕ, false, 
 ghost use Rattle.clap.specs.Walk.{rule_of};
 ghost use Rattle.clap.specs.Simple.{app_of, with_rule};
 ghost use Rattle.p10_words.specs.Commands.{check_options, derive_options, verify_options, run_options};
-ghost use Rattle.p10_words.specs.private.Parsing.{bare as bare_app, option_asked, files_asked, IsAsked, IsParse, IsUsage, are_askable};
+ghost use Rattle.p10_words.specs.private.Parsing.{bare as bare_app, option_asked, flag_asked, files_asked, IsAsked, IsParse, IsUsage, are_askable};
 
 use crate::command::Usage;
 use clap::error::ErrorKind;
@@ -88,6 +88,7 @@ fn verify_command<'w>(alloc: Global) -> Result<Command<'w>, AllocError>
 {
     let command = bare(alloc, "verify")
         .arg(option(alloc, "include"))?
+        .arg(flag(alloc, "clean"))?
         .arg(option(alloc, "cert"))?
         .arg(files(alloc))?;
     Ok(command)
@@ -130,6 +131,14 @@ fn option<'w>(alloc: Global, name: &'w str) -> Arg<'w>
     ensures local { result.global ≡ false }
 {
     Arg::new(alloc, name).long(name).action(ArgAction::Set)
+}
+
+/// A flag, once at most.
+fn flag<'w>(alloc: Global, name: &'w str) -> Arg<'w>
+    ensures rule { rule_of result ≡ flag_asked name.entry.now }
+    ensures local { result.global ≡ false }
+{
+    Arg::new(alloc, name).long(name).action(ArgAction::SetTrue)
 }
 
 /// The files.

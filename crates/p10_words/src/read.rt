@@ -11,7 +11,8 @@ ghost use Rattle.p10_words.specs.private.Deciding.{IsCheckOf, IsDeriveOf, IsVeri
 use crate::command::{Budget, Command, Usage};
 use crate::parse::{check_matches, derive_matches, generate_matches, run_matches, verify_matches};
 use crate::values::{
-    decimal, directories, is_json, name_files, names_directories, names_file, number, text, texts,
+    decimal, directories, is_given, is_json, name_files, names_directories, names_file, number,
+    text, texts,
 };
 use std::alloc::{AllocError, Global};
 
@@ -109,12 +110,16 @@ fn verify(alloc: Global, words: &[String]) -> Result<Command, Usage>
 {
     match verify_matches(alloc, words) {
         Ok(found) => match found.get_strs("FILE") {
-            Some(files) => verify_of(
-                alloc,
-                found.get_str("include"),
-                found.get_str("cert"),
-                files,
-            ),
+            Some(files) => {
+                let clean = is_given(found.get_str("clean"));
+                verify_of(
+                    alloc,
+                    found.get_str("include"),
+                    clean,
+                    found.get_str("cert"),
+                    files,
+                )
+            }
             None => Err(Usage::Refused),
         },
         Err(fault) => Err(fault),
@@ -219,13 +224,14 @@ fn new_derive(alloc: Global, include: Option<&str>, files: &[&str]) -> Result<Co
 fn verify_of(
     alloc: Global,
     include: Option<&str>,
+    clean: bool,
     cert: Option<&str>,
     files: &[&str],
 ) -> Result<Command, Usage>
-    ensures { Answers (IsVerifyOf (option_map (λ w. w.now) include.entry) (option_map (λ w. w.now) cert.entry) (map (λ w. w.now) files.now)) result }
+    ensures { Answers (IsVerifyOf (option_map (λ w. w.now) include.entry) clean (option_map (λ w. w.now) cert.entry) (map (λ w. w.now) files.now)) result }
 {
     match cert {
-        Some(cert) => verify_with(alloc, include, cert, files),
+        Some(cert) => verify_with(alloc, include, clean, cert, files),
         None => Err(Usage::Refused),
     }
 }
@@ -234,13 +240,14 @@ fn verify_of(
 fn verify_with(
     alloc: Global,
     include: Option<&str>,
+    clean: bool,
     cert: &str,
     files: &[&str],
 ) -> Result<Command, Usage>
-    ensures { Answers (IsVerifyOf (option_map (λ w. w.now) include.entry) (Some cert.now) (map (λ w. w.now) files.now)) result }
+    ensures { Answers (IsVerifyOf (option_map (λ w. w.now) include.entry) clean (Some cert.now) (map (λ w. w.now) files.now)) result }
 {
     if names_directories(include) && names_file(cert) && name_files(files) {
-        match new_verify(alloc, include, cert, files) {
+        match new_verify(alloc, include, clean, cert, files) {
             Ok(command) => Ok(command),
             Err(_) => Err(Usage::Memory),
         }
@@ -253,15 +260,21 @@ fn verify_with(
 fn new_verify(
     alloc: Global,
     include: Option<&str>,
+    clean: bool,
     cert: &str,
     files: &[&str],
 ) -> Result<Command, AllocError>
-    ensures { IfOk result (λ c. c ≡ Verify (directories_in (option_map (λ w. w.now) include.entry)) cert.now (map (λ w. w.now) files.now)) }
+    ensures { IfOk result (λ c. c ≡ Verify (directories_in (option_map (λ w. w.now) include.entry)) clean cert.now (map (λ w. w.now) files.now)) }
 {
     let dirs = directories(alloc, include)?;
     let cert = text(alloc, cert)?;
     let files = texts(alloc, files)?;
-    Ok(Command::Verify { dirs, cert, files })
+    Ok(Command::Verify {
+        dirs,
+        clean,
+        cert,
+        files,
+    })
 }
 
 /// `run` of these values of options and files.

@@ -10,7 +10,7 @@ struct Row {
     says: &'static str,
 }
 
-static ROWS: [Row; 31] = [
+static ROWS: [Row; 39] = [
     Row {
         line: "check a.c b.c",
         says: "check 0 false 2",
@@ -49,15 +49,47 @@ static ROWS: [Row; 31] = [
     },
     Row {
         line: "verify --cert a.p10 a.c",
-        says: "verify 0 a.p10 1",
+        says: "verify 0 false a.p10 1",
     },
     Row {
         line: "verify a.c --include=x:y b.c --cert=c=d",
-        says: "verify 2 c=d 2",
+        says: "verify 2 false c=d 2",
     },
     Row {
         line: "verify --cert c -- a.c",
-        says: "verify 0 c 1",
+        says: "verify 0 false c 1",
+    },
+    Row {
+        line: "verify --clean --cert c a.c",
+        says: "verify 0 true c 1",
+    },
+    Row {
+        line: "verify a.c --cert c b.c --clean",
+        says: "verify 0 true c 2",
+    },
+    Row {
+        line: "verify a.c --clean b.c --cert=c --",
+        says: "verify 0 true c 2",
+    },
+    Row {
+        line: "verify --clean= --cert c a.c",
+        says: "refused",
+    },
+    Row {
+        line: "verify --clean=true --cert c a.c",
+        says: "refused",
+    },
+    Row {
+        line: "verify --clean --cert c --clean a.c",
+        says: "refused",
+    },
+    Row {
+        line: "verify --cert --clean a.c",
+        says: "refused",
+    },
+    Row {
+        line: "run --clean --cert c a.c",
+        says: "refused",
     },
     Row {
         line: "run a.c",
@@ -152,13 +184,20 @@ fn said(alloc: Global, line: &str) -> Result<String, AllocError> {
             let (dirs, files) = (dirs.as_slice().len(), files.as_slice().len());
             format!(in alloc; "derive {dirs} {files}")
         }
-        Ok(Command::Verify { dirs, cert, files }) => {
+        Ok(
+            Command::Verify {
+                dirs,
+                clean,
+                cert,
+                files,
+            },
+        ) => {
             let (dirs, cert, files) = (
                 dirs.as_slice().len(),
                 cert.as_str(),
                 files.as_slice().len(),
             );
-            format!(in alloc; "verify {dirs} {cert} {files}")
+            format!(in alloc; "verify {dirs} {clean} {cert} {files}")
         }
         Ok(
             Command::Run {

@@ -1,5 +1,5 @@
 -- What the values of options and the files come to.
-use Rattle.std.specs.Prelude.{◌≡◌, ℕ, List, [], ◌∷◌, Bool, true, false, ◌&&◌, Option, Some, None, Result, Ok, Err}
+use Rattle.std.specs.Prelude.{◌≡◌, ℕ, List, [], ◌∷◌, Bool, true, false, ◌&&◌, codes, bytes_eq, Option, Some, None, Result, Ok, Err}
 use Rattle.std.specs.List.{list_all}
 use Rattle.p10_words.specs.declared.command.Command.{Command}
 use Rattle.p10_words.specs.declared.command.Command.TheVariants.{Check, Derive, Verify, Run, Generate}
@@ -10,6 +10,11 @@ use Rattle.p10_base.specs.Words.{Text}
 use Rattle.p10_words.specs.CommandLines.{directories_in, IsNumber, HasNumber, HasFormat}
 use Rattle.p10_words.specs.Commands.{HasBudget}
 use Rattle.p10_words.specs.private.Scanning.{is_name}
+
+-- whether a flag is given, by its value
+abbrev pub is_true : Option Text → Bool
+is_true None = false
+is_true (Some value) = bytes_eq value (codes "true")
 
 -- a value is a name, if there is one
 abbrev pub is_given_name : Option Text → Bool
@@ -39,14 +44,14 @@ pub record IsDeriveOf (include : Option Text) (files : List Text) (c : Command) 
   pub some : has_files files ≡ true
   pub is : c ≡ Derive (directories_in include) files
 
--- `verify` of these values and files
-pub record IsVerifyOf (include cert : Option Text) (files : List Text) (c : Command) : Type 0 where
+-- `verify` of these values and files, and whether `--clean` is given
+pub record IsVerifyOf (include : Option Text) (clean : Bool) (cert : Option Text) (files : List Text) (c : Command) : Type 0 where
   pub certificate : Text
   pub directories : has_directories include ≡ true
   pub given : cert ≡ Some certificate
   pub name : is_name certificate ≡ true
   pub some : has_files files ≡ true
-  pub is : c ≡ Verify (directories_in include) certificate files
+  pub is : c ≡ Verify (directories_in include) clean certificate files
 
 -- what bounds the steps, by the values of `--steps` and `--cert`
 pub record IsBudgetOf (steps cert : Option Text) (b : Budget) : Type 0 where

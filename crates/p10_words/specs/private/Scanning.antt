@@ -3,7 +3,7 @@ use Rattle.std.specs.Prelude.{◌==◌, List, [], ◌∷◌, Bool, false, not, �
 use Rattle.std.specs.List.{list_all, list_any}
 use Rattle.clap.specs.Lexer.{long_of}
 use Rattle.p10_base.specs.Words.{Text}
-use Rattle.p10_words.specs.CommandLines.{Given}
+use Rattle.p10_words.specs.CommandLines.{Given, is_flag}
 
 -- options and files, in their order
 pub record Split : Type 0 where
@@ -21,10 +21,10 @@ with_file word (Some s) = Some (record s { files = word ∷ s.files })
 abbrev pub is_among : List Text → Text → Bool
 is_among names name = list_any (λ n. bytes_eq n name) names
 
--- what a word that isn't `--` is: an option with its value, an option that waits for it, or else a file
+-- what a word that isn't `--` is: a flag, an option with its value, an option that waits for it, or else a file
 abbrev pub scan_long : Text → Option Text → Option Split → (Text → Option Split) → Option Split
-scan_long name (Some value) next waiting = with_option name value next
-scan_long name None next waiting = waiting name
+scan_long name (Some value) next waiting = if is_flag name then None else with_option name value next
+scan_long name None next waiting = if is_flag name then with_option name (codes "true") next else waiting name
 
 abbrev pub scan_word : List Text → Text → Option (Text × Option Text) → Option Split → (Text → Option Split) → Option Split
 scan_word names word None next waiting = with_file word next
