@@ -42,17 +42,33 @@ refusal_line g r = place_text g r.span then refused_part r.family r.number then 
 unfoldable pub depths_part : ℕ → ℕ → List ℕ
 depths_part calls bytes = labelled (codes " calls ") calls then labelled (codes " bytes ") bytes then codes "\n"
 
+-- the bounds of a program behind the text that says what is accepted: P turn K calls C bytes B
+unfoldable pub bounds_part : List ℕ → Bounds → List ℕ
+bounds_part label b = labelled label b.prefix then labelled (codes " turn ") b.turn then depths_part b.calls b.bytes
+
 -- the line of an accepted program: accepted: prefix P turn K calls C bytes B
 unfoldable pub accepted_line : Bounds → List ℕ
-accepted_line b = labelled (codes "accepted: prefix ") b.prefix then labelled (codes " turn ") b.turn then depths_part b.calls b.bytes
+accepted_line b = bounds_part (codes "accepted: prefix ") b
+
+-- the line of a program that is accepted with a clean certificate: accepted clean: prefix P turn K calls C bytes B
+unfoldable pub clean_line : Bounds → List ℕ
+clean_line b = bounds_part (codes "accepted clean: prefix ") b
 
 -- a place behind a blank, which ends a line
 unfoldable pub at_part : Gathered → Span → List ℕ
 at_part g at = codes " " then place_text g at then codes "\n"
 
+-- a condition that does not hold, by its number, behind the text that says of which kind it is, and its place
+unfoldable pub condition_part : List ℕ → Gathered → ℕ → Span → List ℕ
+condition_part label g condition at = labelled label condition then at_part g at
+
 -- the line of a condition of the certificate that does not hold: refused: KN FILE:LINE:COLUMN
 unfoldable pub failing_line : Gathered → ℕ → Span → List ℕ
-failing_line g condition at = labelled (codes "refused: K") condition then at_part g at
+failing_line g condition at = condition_part (codes "refused: K") g condition at
+
+-- the line of a condition of clean certificates that does not hold: refused: CN FILE:LINE:COLUMN
+unfoldable pub unclean_line : Gathered → ℕ → Span → List ℕ
+unclean_line g condition at = condition_part (codes "refused: C") g condition at
 
 -- the line of a passed limit: p10: limit MN
 unfoldable pub limit_line : Limit → List ℕ

@@ -1,7 +1,7 @@
 //! The lines in which `p10` tells what it found.
 //!
 //! Entry points, each of which writes one line to a sink, without memory: [`put_refusal`],
-//! [`put_accepted`], [`put_failing`] and [`put_limit`] tell what was found in the sources and the certificate;
+//! [`put_accepted`], [`put_clean`], [`put_failing`], [`put_unclean`] and [`put_limit`] tell what was found in the sources and the certificate;
 //! [`put_returned`], [`put_turns`], [`put_assertion_failed`], [`put_undefined`] and [`put_steps_spent`] how a run has ended;
 //! [`put_usage`], [`put_absent`], [`put_bad_certificate`], [`put_read_fault`] and [`put_out_of_memory`] tell
 //! why there is nothing to tell of them. [`put_violation`] tells a violation of a rule, [`put_violations`] one on each line,
@@ -14,7 +14,7 @@ ghost use Rattle.std.specs.Prelude.{◌≤◌, OnErr, OnOk};
 ghost use Rattle.std.specs.Io.KnownBytes.{Appends};
 ghost use Rattle.p10_world.specs.Faults.{Rose};
 ghost use Rattle.p10_base.specs.Codes.{IsCode};
-ghost use Rattle.p10_report.specs.Lines.{accepted_line, failing_line, limit_line, refusal_line};
+ghost use Rattle.p10_report.specs.Lines.{accepted_line, clean_line, failing_line, limit_line, refusal_line, unclean_line};
 ghost use Rattle.p10_report.specs.Stops.{StopsWithin};
 
 pub use endings::{put_assertion_failed, put_returned, put_steps_spent, put_turns, put_undefined};
@@ -22,7 +22,9 @@ pub use json_report::json;
 pub use messages::{put_absent, put_bad_certificate, put_out_of_memory, put_read_fault, put_usage};
 use p10_base::{Bounds, Limit, Refusal, Sources, Span};
 use p10_world::{Sink, SinkFault};
-use pieces::{put_at, put_bytes, put_depths, put_labelled, put_place, put_reason, put_refused};
+use pieces::{
+    put_bounds, put_bytes, put_condition, put_labelled, put_place, put_reason, put_refused,
+};
 pub use rows::{put_violation, put_violations};
 
 mod endings;
@@ -62,15 +64,32 @@ pub fn put_refusal<O: Sink>(out: &mut O, s: &Sources, r: &Refusal) -> Result<(),
 /// # Errors
 ///
 /// A fault only where the sink's count of faults rose; it then took a front of the line.
+#[tactic(auto, unfolding(crate::specs::Lines::accepted_line))]
 pub fn put_accepted<O: Sink>(out: &mut O, b: &Bounds) -> Result<(), SinkFault>
     ensures ok { OnOk result (Appends (O.taken out.old) (O.taken out.new) (accepted_line b.now)) }
     ensures stopped { OnErr result (StopsWithin (O.taken out.old) (O.taken out.new) (accepted_line b.now)) }
     ensures failed { OnErr result (Rose (O.faults out.old) (O.faults out.new)) }
     ensures count { O.faults out.old ≤ O.faults out.new }
 {
-    put_labelled(out, b"accepted: prefix ", u128::from(b.prefix))?;
-    put_labelled(out, b" turn ", u128::from(b.turn))?;
-    put_depths(out, b.calls, u128::from(b.bytes))
+    put_bounds(out, b"accepted: prefix ", b)
+}
+
+/// Writes the line of a program that is accepted with a clean certificate,
+/// `accepted clean: prefix P turn K calls C bytes B`: its bounds `b` in steps, calls and bytes.
+///
+/// The sink took the whole line at `Ok`.
+///
+/// # Errors
+///
+/// A fault only where the sink's count of faults rose; it then took a front of the line.
+#[tactic(auto, unfolding(crate::specs::Lines::clean_line))]
+pub fn put_clean<O: Sink>(out: &mut O, b: &Bounds) -> Result<(), SinkFault>
+    ensures ok { OnOk result (Appends (O.taken out.old) (O.taken out.new) (clean_line b.now)) }
+    ensures stopped { OnErr result (StopsWithin (O.taken out.old) (O.taken out.new) (clean_line b.now)) }
+    ensures failed { OnErr result (Rose (O.faults out.old) (O.faults out.new)) }
+    ensures count { O.faults out.old ≤ O.faults out.new }
+{
+    put_bounds(out, b"accepted clean: prefix ", b)
 }
 
 /// Writes the line of a condition of the certificate that does not hold,
@@ -81,6 +100,7 @@ pub fn put_accepted<O: Sink>(out: &mut O, b: &Bounds) -> Result<(), SinkFault>
 /// # Errors
 ///
 /// A fault only where the sink's count of faults rose; it then took a front of the line.
+#[tactic(auto, unfolding(crate::specs::Lines::failing_line))]
 pub fn put_failing<O: Sink>(
     out: &mut O,
     s: &Sources,
@@ -92,8 +112,30 @@ pub fn put_failing<O: Sink>(
     ensures failed { OnErr result (Rose (O.faults out.old) (O.faults out.new)) }
     ensures count { O.faults out.old ≤ O.faults out.new }
 {
-    put_labelled(out, b"refused: K", u128::from(condition))?;
-    put_at(out, s, at)
+    put_condition(out, b"refused: K", s, condition, at)
+}
+
+/// Writes the line of a condition of clean certificates that does not hold,
+/// `refused: CN FILE:LINE:COLUMN`, where `condition` is N, and `at` is its place in the sources `s`.
+///
+/// The sink took the whole line at `Ok`.
+///
+/// # Errors
+///
+/// A fault only where the sink's count of faults rose; it then took a front of the line.
+#[tactic(auto, unfolding(crate::specs::Lines::unclean_line))]
+pub fn put_unclean<O: Sink>(
+    out: &mut O,
+    s: &Sources,
+    condition: u8,
+    at: Span,
+) -> Result<(), SinkFault>
+    ensures ok { OnOk result (Appends (O.taken out.old) (O.taken out.new) (unclean_line s.now condition at)) }
+    ensures stopped { OnErr result (StopsWithin (O.taken out.old) (O.taken out.new) (unclean_line s.now condition at)) }
+    ensures failed { OnErr result (Rose (O.faults out.old) (O.faults out.new)) }
+    ensures count { O.faults out.old ≤ O.faults out.new }
+{
+    put_condition(out, b"refused: C", s, condition, at)
 }
 
 /// Writes the line of a passed limit, `p10: limit MN`, where N is the limit's number.

@@ -6,12 +6,12 @@ ghost use Rattle.p10_base.specs.Gathered.{name_of, text_of};
 ghost use Rattle.p10_base.specs.Places.{column_of, line_of};
 ghost use Rattle.p10_world.specs.Faults.{Rose};
 ghost use Rattle.p10_base.specs.Codes.{IsCode};
-ghost use Rattle.p10_report.specs.Lines.{at_part, depths_part, labelled, labelled_signed, place_text, reason_part, refused_part};
+ghost use Rattle.p10_report.specs.Lines.{at_part, bounds_part, condition_part, depths_part, labelled, labelled_signed, place_text, reason_part, refused_part};
 ghost use Rattle.p10_report.specs.Endings.{placed_part};
 ghost use Rattle.p10_report.specs.Stops.{StopsWithin};
 
 use itoa::Buffer;
-use p10_base::{Refusal, Sources, Span};
+use p10_base::{Bounds, Refusal, Sources, Span};
 use p10_world::{Sink, SinkFault};
 
 /// Writes bytes.
@@ -120,6 +120,35 @@ pub fn put_depths<O: Sink>(out: &mut O, calls: u64, bytes: u128) -> Result<(), S
     put_labelled(out, b" calls ", u128::from(calls))?;
     put_labelled(out, b" bytes ", bytes)?;
     put_bytes(out, b"\n")
+}
+
+/// Writes the bounds of a program behind the text that says what is accepted, and ends the line.
+pub fn put_bounds<O: Sink>(out: &mut O, label: &[u8], b: &Bounds) -> Result<(), SinkFault>
+    ensures ok { OnOk result (Appends (O.taken out.old) (O.taken out.new) (bounds_part label.now b.now)) }
+    ensures stopped { OnErr result (StopsWithin (O.taken out.old) (O.taken out.new) (bounds_part label.now b.now)) }
+    ensures failed { OnErr result (Rose (O.faults out.old) (O.faults out.new)) }
+    ensures count { O.faults out.old ≤ O.faults out.new }
+{
+    put_labelled(out, label, u128::from(b.prefix))?;
+    put_labelled(out, b" turn ", u128::from(b.turn))?;
+    put_depths(out, b.calls, u128::from(b.bytes))
+}
+
+/// Writes the number of a condition behind the text that says of which kind it is, and its place, and ends the line.
+pub fn put_condition<O: Sink>(
+    out: &mut O,
+    label: &[u8],
+    s: &Sources,
+    condition: u8,
+    at: Span,
+) -> Result<(), SinkFault>
+    ensures ok { OnOk result (Appends (O.taken out.old) (O.taken out.new) (condition_part label.now s.now condition at)) }
+    ensures stopped { OnErr result (StopsWithin (O.taken out.old) (O.taken out.new) (condition_part label.now s.now condition at)) }
+    ensures failed { OnErr result (Rose (O.faults out.old) (O.faults out.new)) }
+    ensures count { O.faults out.old ≤ O.faults out.new }
+{
+    put_labelled(out, label, u128::from(condition))?;
+    put_at(out, s, at)
 }
 
 /// Writes a place behind a blank, and ends the line.

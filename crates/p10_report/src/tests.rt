@@ -188,6 +188,11 @@ fn answers(rt: HostRuntime) -> Result<(), Fail> {
     put_accepted(&mut out, &bounds)?;
     assert!(rt; out.taken() == b"accepted: prefix 3 turn 0 calls 1 bytes 0\n".as_slice());
 
+    let bounds = Bounds { bytes: 4, ..bounds };
+    let mut out = MemSink::new(alloc, 100, None)?;
+    put_clean(&mut out, &bounds)?;
+    assert!(rt; out.taken() == b"accepted clean: prefix 3 turn 0 calls 1 bytes 4\n".as_slice());
+
     let mut out = MemSink::new(alloc, 100, Some(5))?;
     assert!(rt; put_accepted(&mut out, &bounds).is_err());
     assert!(rt; out.taken() == b"accep".as_slice());
@@ -200,7 +205,10 @@ fn answers(rt: HostRuntime) -> Result<(), Fail> {
     };
     let mut out = MemSink::new(alloc, 100, None)?;
     put_failing(&mut out, &sources, 11, at)?;
+    put_unclean(&mut out, &sources, 2, at)?;
     put_limit(&mut out, Limit { number: 5 })?;
-    assert!(rt; out.taken() == b"refused: K11 a.c:1:5\np10: limit M5\n".as_slice());
+    assert!(rt;
+        out.taken() == b"refused: K11 a.c:1:5\nrefused: C2 a.c:1:5\np10: limit M5\n".as_slice()
+    );
     Ok(())
 }
