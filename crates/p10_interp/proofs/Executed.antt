@@ -1,5 +1,5 @@
 -- Statements that are executed at once come to what the meaning says.
-use Rattle.std.proofs.Common.{◌≡◌, ℕ, suc, ◌<◌, ◌≤◌, true, List, sym, ◌∙◌, subst, ap, refl, ℤ, Some, Ok, slice_get, arith, ◌∷◌}
+use Rattle.std.proofs.Common.{◌≡◌, ℕ, suc, ◌<◌, ◌≤◌, true, List, slice_set, sym, ◌∙◌, subst, ap, refl, ℤ, Some, Ok, slice_get, arith, ◌∷◌}
 use Rattle.p10_base.specs.declared.at.At.{At}
 use Rattle.p10_base.specs.declared.span.Span.{Span}
 use Rattle.p10_int.specs.declared.operators.BinOp.{BinOp}
@@ -89,9 +89,9 @@ held_in standing cs f calls e d = e ∙ ap innermost_held d
 pub variable_executed : (p : PlainProgram) (place_stands : At) (own : PlainType) (v : PlainValue) (n : ℕ) (f : Open) (calls cs new : List Open) (w : State) (before after : ℕ) (x y : ℤ) (held : Held) (standing : List Held) → standing ≡ innermost_held cs → cs ≡ f ∷ calls → IsFrameVariable standing n → w.left ≡ suc before →
     ((s : Setting) → s.program ≡ p → Finds (evaluate s f.frame.held v) w.objects before (Int x) after) → 0 < after → y ≡ x → held ≡ holds (holding (Int y)) → new ≡ with_frame f (holding_at f.frame n held) ∷ calls → IsExecuted p (set (place place_stands own (variable n)) v) f calls w new (record w { left = after })
 variable_executed p place_stands own v n f calls cs new w before after x y held standing d e is paid h some same put now = record {
-  frame = holding_at f.frame n (holds (holding (Int y)));
+  held = slice_set f.frame.held n (holds (holding (Int y)));
   now = now ∙ ap (λ held. with_frame f (holding_at f.frame n held) ∷ calls) put;
-  run = λ m at few. variable_set (setting_in p m f) at place_stands own v n f.frame w before after is.cell x y (subst (λ held. slice_get held n ≡ Some (holds is.cell)) (held_in standing cs f calls d e) is.there) paid same some (h (setting_in p m f) refl);
+  run = λ m at opened few. variable_set (setting_in p m f) at place_stands own v n (record f.frame { opened = opened }) w before after is.cell x y (subst (λ held. slice_get held n ≡ Some (holds is.cell)) (held_in standing cs f calls d e) is.there) paid same some (h (setting_in p m f) refl);
 }
 
 -- a frame variable was updated
@@ -104,10 +104,10 @@ variable_updated_by p kind op t own place_stands v n f calls cs new w l1 l2 l3 l
     let i = cx some4 in
     let o = is_old (subst (λ l. 0 < l) i.0 some4) in
     record {
-      frame = holding_at f.frame n (holds (holding (Int last_now)));
+      held = slice_set f.frame.held n (holds (holding (Int last_now)));
       now = now ∙ ap (λ held. with_frame f (holding_at f.frame n held) ∷ calls) put;
-      run = λ m at few.
-          variable_updated (setting_in p m f) at place_stands own v n f.frame w kind op t l1 l4 l5 l8 old x y z last last_now (subst (λ held. slice_get held n ≡ Some (holds (holding (Int old)))) (held_in standing cs f calls d e) o.1) pay1 (pay2 ∙ ap suc (sym (i.0 ∙ o.0))) (ap (λ z. converted_to t (Int z)) (sym same_old) ∙ i.1.0) (h (setting_in p m f) refl) some5 (pay3 ∙ ap suc (sym (k.0 ∙ j.0))) (ap (λ x. operate op (integer_type t) x y) (sym same_x) ∙ (ap (λ y. operate op (integer_type t) x_now y) (sym same_y) ∙ j.1)) (ap (λ z. converted_to own (Int z)) (sym same_z) ∙ k.1.0) same_last;
+      run = λ m at opened few.
+          variable_updated (setting_in p m f) at place_stands own v n (record f.frame { opened = opened }) w kind op t l1 l4 l5 l8 old x y z last last_now (subst (λ held. slice_get held n ≡ Some (holds (holding (Int old)))) (held_in standing cs f calls d e) o.1) pay1 (pay2 ∙ ap suc (sym (i.0 ∙ o.0))) (ap (λ z. converted_to t (Int z)) (sym same_old) ∙ i.1.0) (h (setting_in p m f) refl) some5 (pay3 ∙ ap suc (sym (k.0 ∙ j.0))) (ap (λ x. operate op (integer_type t) x y) (sym same_x) ∙ (ap (λ y. operate op (integer_type t) x_now y) (sym same_y) ∙ j.1)) (ap (λ z. converted_to own (Int z)) (sym same_z) ∙ k.1.0) same_last;
     }
 
 -- a place in an object was assigned
@@ -115,9 +115,9 @@ pub element_executed : (p : PlainProgram) (q : PlainPlace) (v : PlainValue) (f :
     ((s : Setting) → s.program ≡ p → Finds (evaluate s f.frame.held v) w.objects middle (Int x) after) → 0 < after → y ≡ x → w.objects ≡ old.objects → w.opened ≡ old.opened → Writes old new (write_at old.objects pointer (holding (Int y))) true →
     IsExecuted p (set q v) f calls w cs (record w { objects = new.objects; opened = new.opened; left = after })
 element_executed p q v f calls cs w before middle after pointer x y old new e paid h some k more value_same same opened written = record {
-  frame = f.frame;
+  held = f.frame.held;
   now = e;
-  run = λ m at few. element_set (setting_in p m f) at q v f.frame w before middle after pointer x new.objects new.opened paid some more (h (setting_in p m f) refl) (k (setting_in p m f) refl) (ap (λ z. write_at w.objects pointer (holding (Int z))) (sym value_same) ∙ (ap (λ objects. write_at objects pointer (holding (Int y))) same ∙ written.0)) (written.1 ∙ sym opened);
+  run = λ m at owned few. element_set (setting_in p m f) at q v (record f.frame { opened = owned }) w before middle after pointer x new.objects new.opened paid some more (h (setting_in p m f) refl) (k (setting_in p m f) refl) (ap (λ z. write_at w.objects pointer (holding (Int z))) (sym value_same) ∙ (ap (λ objects. write_at objects pointer (holding (Int y))) same ∙ written.0)) (written.1 ∙ sym opened);
 }
 
 -- an update takes steps
@@ -134,10 +134,10 @@ updated_fewer op t own n standing left l1 l2 l3 l4 l5 l6 l7 l8 old x z last old_
 pub variable_called : (p : PlainProgram) (place_stands value_stands : At) (own t : PlainType) (name : Span) (g : ℕ) (arguments : PlainValues) (n : ℕ) (f : Open) (calls cs new : List Open) (w v u : State) (before after : ℕ) (depth : Depth) (z y : ℤ) (held : Held) (standing : List Held) → standing ≡ innermost_held cs → cs ≡ f ∷ calls → IsFrameVariable standing n → w.left ≡ suc before →
     IsValueOfCall p g arguments cs w.objects before depth z after → 0 < after → y ≡ z → held ≡ holds (holding (Int y)) → new ≡ with_frame f (holding_at f.frame n held) ∷ calls → u ≡ raised depth w → v ≡ record u { left = after } → IsExecuted p (set (place place_stands own (variable n)) (value value_stands t (call name g arguments))) f calls w new v
 variable_called p place_stands value_stands own t name g arguments n f calls cs new w v u before after depth z y held standing d e is paid h some same put now rises ends_in = record {
-  frame = holding_at f.frame n (holds (holding (Int y)));
+  held = slice_set f.frame.held n (holds (holding (Int y)));
   now = now ∙ ap (λ held. with_frame f (holding_at f.frame n held) ∷ calls) put;
-  run = λ m at few.
-      variable_set_to (setting_in p m f) at place_stands own (value value_stands t (call name g arguments)) n f.frame w (record (raised depth w) { left = after }) before is.cell z (subst (λ held. slice_get held n ≡ Some (holds is.cell)) (held_in standing cs f calls d e) is.there) paid (h value_stands t name m f calls w few (omega (arith, paid)) e some refl) ∙
-      (ap (λ z. goes (holding_at f.frame n (holds (holding (Int z)))) (record (raised depth w) { left = after })) (sym same) ∙
-      ap (λ w. goes (holding_at f.frame n (holds (holding (Int y)))) w) (ap (λ (w : State). record w { left = after }) (sym rises) ∙ sym ends_in));
+  run = λ m at opened few.
+      variable_set_to (setting_in p m f) at place_stands own (value value_stands t (call name g arguments)) n (record f.frame { opened = opened }) w (record (raised depth w) { left = after }) before is.cell z (subst (λ held. slice_get held n ≡ Some (holds is.cell)) (held_in standing cs f calls d e) is.there) paid (h value_stands t name m f calls w few (omega (arith, paid)) e some refl) ∙
+      (ap (λ z. goes (holding_at (record f.frame { opened = opened }) n (holds (holding (Int z)))) (record (raised depth w) { left = after })) (sym same) ∙
+      ap (λ w. goes (holding_at (record f.frame { opened = opened }) n (holds (holding (Int y)))) w) (ap (λ (w : State). record w { left = after }) (sym rises) ∙ sym ends_in));
 }

@@ -161,19 +161,3 @@ nothing_acts p t xs false old w idle nil is e h = (refl, refl)
 nothing_acts p t xs true old w idle nil is e h =
     subst (λ t. ActsOn p t old w true old w) (sym (e ∙ ap execute_statements (h refl)))
     (acts_there p (execute_statements no_statements) old old w w true (calls_in old.calls) (sym nil ∙ is) (λ f calls opens. acted_in p (execute_statements no_statements) old old (f ∷ calls) w w opens (ap (λ cs. gives (record { flow = normal; tasks = tasks_in old.tasks; operands = old.operands; calls = cs }) w) (sym opens))))
-
--- a piece of work that was done at once
-pub does_goes : (p : PlainProgram) (t : Task) (old new : Stacks) (w v : State) (done : Bool) → done ≡ true → Does p t old w done new v → Goes p (with_work t old) w (rig_of normal new) v
-does_goes p t old new w v done e h =
-    let d : IsDone p t old w new v = subst (λ b. Does p t old w b new v) e h in
-    record {
-      few = let l : v.left < w.left = d.paid in omega (arith, l);
-      light = λ m. absurd (let l : v.left < w.left = d.paid in omega (arith, l, m));
-      same = d.same;
-    }
-
--- a piece of work that wasn't done at once is on top again
-pub put_again : (p : PlainProgram) (t u : Task) (old mid new : Stacks) (w v : State) (done : Bool) → t ≡ u → done ≡ false → Does p t old w done mid v → rig_of normal new ≡ with_work t mid → Goes p (with_work u old) w (rig_of normal new) v
-put_again p t u old mid new w v done same e h put =
-    let k : (rig_of normal mid ≡ rig_of normal old) × (v ≡ w) = subst (λ b. Does p t old w b mid v) e h in
-    goes_nowhere p (with_work u old) (rig_of normal new) w v (put ∙ (ap (λ (r : Rig). record { flow = normal; tasks = t ∷ r.tasks; operands = r.operands; calls = r.calls }) k.0 ∙ ap (λ t. with_work t old) same)) k.1

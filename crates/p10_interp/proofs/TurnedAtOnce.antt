@@ -7,9 +7,8 @@ use Rattle.p10_core.specs.Types.{PlainType}
 use Rattle.p10_core.specs.Views.{plain_statement, plain_statements, plain_statement_form}
 use Rattle.p10_core.specs.Typed.{PlainValue, value, call, PlainValues, statement, PlainStatement, PlainStatementForm, more_statements, PlainStatements, PlainProgram}
 use Rattle.p10_meaning.specs.declared.pointers.Scalar.TheVariants.{Int}
-use Rattle.p10_meaning.specs.Scalars.{is_true}
 use Rattle.p10_meaning.specs.States.{State, gives, and_then}
-use Rattle.p10_meaning.specs.Values.{Setting, evaluate}
+use Rattle.p10_meaning.specs.Values.{evaluate}
 use Rattle.p10_meaning.specs.Statements.{normal, go_on, execute_from}
 use Rattle.p10_interp.specs.declared.work.Halt.{Halt}
 use Rattle.p10_interp.specs.declared.work.Flow.{Flow as Way}
@@ -17,7 +16,7 @@ use Rattle.p10_interp.specs.declared.stacks.Stacks.{Stacks}
 use Rattle.p10_interp.specs.declared.outside.Outside.{Outside}
 use Rattle.p10_interp.specs.private.Nothing.{is_nil}
 use Rattle.p10_interp.proofs.Turned.{tail_is}
-use Rattle.p10_interp.specs.private.Tasks.{Loop, Task, evaluate_value, execute_statement, execute_statements, test_loop, enter_turn, end_turn, Operand, evaluated, Open}
+use Rattle.p10_interp.specs.private.Tasks.{Loop, Task, evaluate_value, execute_statement, execute_statements, test_loop, enter_turn, end_turn, Operand, evaluated, Open, Rig}
 use Rattle.p10_interp.specs.private.Views.{flow_of, tasks_in}
 use Rattle.p10_interp.specs.private.OpenCalls.{calls_in}
 use Rattle.p10_interp.specs.private.Machines.{Around, state_of, rig_of, Moves}
@@ -25,7 +24,7 @@ use Rattle.p10_interp.specs.private.Resuming.{setting_in, after_done, resume, un
 use Rattle.p10_interp.specs.private.Acts.{goes_on, tested_by, next_act}
 use Rattle.p10_interp.specs.private.Weights.{weights}
 use Rattle.p10_interp.specs.private.Executing.{IsExecuted, Executes}
-use Rattle.p10_interp.specs.private.Turning.{rig_at, with_work, IsTurned, Turns, IsDone, Does}
+use Rattle.p10_interp.specs.private.Turning.{rig_at, with_work, IsTurned, Turns, IsDone, Does, IsTested}
 use Rattle.p10_interp.proofs.Right.{next_right}
 use Rattle.p10_interp.proofs.Advanced.{moved, stopped, IsLess, lighter}
 
@@ -52,7 +51,7 @@ pub statement_done : (p : PlainProgram) (n : ℕ) (at : At) (form : PlainStateme
     proceed p n (rig_at (execute_statement (statement at form) ∷ k) operands cs) w ≡ proceed p n (rig_at k operands new) v
 statement_done p n at form k operands cs f calls new w v few e h =
     ap (λ cs. proceed p n (rig_at (execute_statement (statement at form) ∷ k) operands cs) w) e ∙
-    (ap (λ done. after_done operands f calls done (λ operands calls w. resume p n k operands calls w) (λ flow operands calls w. unwind p n flow k operands calls w)) (h.run n at few) ∙
+    (ap (λ done. after_done operands f calls done (λ operands calls w. resume p n k operands calls w) (λ flow operands calls w. unwind p n flow k operands calls w)) (h.run n at f.frame.opened few) ∙
     ap (λ cs. resume p n k operands cs v) (sym h.now))
 
 -- the first of statements that was executed
@@ -60,7 +59,7 @@ pub first_done : (p : PlainProgram) (n : ℕ) (at : At) (form : PlainStatementFo
     proceed p n (rig_at (execute_statements (more_statements (statement at form) rest) ∷ k) operands cs) w ≡ proceed p n (rig_at tasks operands new) v
 first_done p n at form rest k tasks operands cs f calls new w v few e put h =
     ap (λ cs. proceed p n (rig_at (execute_statements (more_statements (statement at form) rest) ∷ k) operands cs) w) e ∙
-    (ap (λ done. after_done operands f calls (and_then done (λ done w. go_on done.flow done.frame w (λ frame w. execute_from (setting_in p n f) 0 rest frame w))) (λ operands calls w. resume p n k operands calls w) (λ flow operands calls w. unwind p n flow k operands calls w)) (h.run n at few) ∙
+    (ap (λ done. after_done operands f calls (and_then done (λ done w. go_on done.flow done.frame w (λ frame w. execute_from (setting_in p n f) 0 rest frame w))) (λ operands calls w. resume p n k operands calls w) (λ flow operands calls w. unwind p n flow k operands calls w)) (h.run n at f.frame.opened few) ∙
     (ap (λ cs. resume p n (execute_statements rest ∷ k) operands cs v) (sym h.now) ∙
     ap (λ tasks. resume p n tasks operands new v) (sym put)))
 
@@ -142,6 +141,11 @@ work_does p t other old new a b idle (Err halt) nil is e h = tt
 
 -- ## The test of a loop
 
+-- what the machine comes to is as before, and a step was taken
+pub record Leads (p : PlainProgram) (r : Rig) (w : State) (now : Rig) (v : State) : Type 0 where
+  pub paid : v.left < w.left
+  pub same : (n : ℕ) → w.left ≤ n → proceed p n r w ≡ proceed p n now v
+
 -- a test is a value before the turn
 tested : (p : PlainProgram) (n : ℕ) (l : Loop) (v : PlainValue) (k : List Task) (operands : List Operand) (f : Open) (calls : List Open) (w : State) → w.left ≤ n → l.tested ≡ Some v →
     proceed p n (rig_at (test_loop l ∷ k) operands (f ∷ calls)) w ≡ proceed p n (rig_at (evaluate_value v ∷ (enter_turn l ∷ k)) operands (f ∷ calls)) w
@@ -150,35 +154,29 @@ tested p n l v k operands f calls w few e =
     (ap (λ t. and_then (tested_by p l t k operands f calls w) (proceed p n)) e ∙
     sym (next_right p n normal (evaluate_value v) (enter_turn l ∷ k) operands (f ∷ calls) w few))
 
--- a test that was evaluated
-pub test_done : (p : PlainProgram) (n : ℕ) (l : Loop) (v : PlainValue) (k : List Task) (operands : List Operand) (f : Open) (calls : List Open) (w : State) (after : ℕ) (x : ℤ) → w.left ≤ n → after ≤ n → l.tested ≡ Some v →
-    ((s : Setting) → s.program ≡ p → evaluate s f.frame.held v w ≡ gives (Int x) (record w { left = after })) →
-    proceed p n (rig_at (test_loop l ∷ k) operands (f ∷ calls)) w ≡ proceed p n (rig_at (enter_turn l ∷ k) (evaluated (Some (Int x)) ∷ operands) (f ∷ calls)) (record w { left = after })
-test_done p n l v k operands f calls w after x few less e run =
-    tested p n l v k operands f calls w few e ∙
-    ap (λ o. and_then o (λ x w. resume p n (enter_turn l ∷ k) (evaluated (Some x) ∷ operands) (f ∷ calls) w)) (run (setting_in p n f) refl)
+module _ (p : PlainProgram) (l : Loop) (v : PlainValue) (b : Bool) (k : List Task) (operands : List Operand) (f : Open) (calls : List Open) (w u : State) (e : l.tested ≡ Some v) (h : IsTested p v f b w u) where
+  -- a test that was evaluated
+  test_done : (n : ℕ) → w.left ≤ n → proceed p n (rig_at (test_loop l ∷ k) operands (f ∷ calls)) w ≡ and_then (if b then goes_on (execute_statement l.body ∷ (end_turn l ∷ k)) operands (f ∷ calls) u else goes_on k operands (f ∷ calls) u) (proceed p n)
+  test_done n few =
+      let less : u.left < w.left = h.paid in
+      tested p n l v k operands f calls w few e ∙
+      (ap (λ o. and_then o (λ x w. resume p n (enter_turn l ∷ k) (evaluated (Some x) ∷ operands) (f ∷ calls) w)) (h.run (setting_in p n f) refl) ∙
+      (next_right p n normal (enter_turn l) k (evaluated (Some (Int h.number)) ∷ operands) (f ∷ calls) u (omega (arith, few, less)) ∙
+      ap (λ b. and_then (if b then goes_on (execute_statement l.body ∷ (end_turn l ∷ k)) operands (f ∷ calls) u else goes_on k operands (f ∷ calls) u) (proceed p n)) h.truth))
 
-module _ (p : PlainProgram) (n : ℕ) (l : Loop) (v : PlainValue) (k tasks : List Task) (operands : List Operand) (cs : List Open) (f : Open) (calls : List Open) (w : State) (after : ℕ) (x : ℤ) where
   -- the loop has ended
-  pub loop_ended : w.left ≤ n → after < w.left → cs ≡ f ∷ calls → l.tested ≡ Some v → is_true (Int x) ≡ false → ((s : Setting) → s.program ≡ p → evaluate s f.frame.held v w ≡ gives (Int x) (record w { left = after })) →
-      proceed p n (rig_at (test_loop l ∷ k) operands cs) w ≡ proceed p n (rig_at k operands cs) (record w { left = after })
-  loop_ended few less e t false_is run =
-      ap (λ cs. proceed p n (rig_at (test_loop l ∷ k) operands cs) w) e ∙
-      (test_done p n l v k operands f calls w after x few (omega (arith, few, less)) t run ∙
-      (next_right p n normal (enter_turn l) k (evaluated (Some (Int x)) ∷ operands) (f ∷ calls) (record w { left = after }) (omega (arith, few, less)) ∙
-      (ap (λ b. and_then (if b then goes_on (execute_statement l.body ∷ (end_turn l ∷ k)) operands (f ∷ calls) (record w { left = after }) else goes_on k operands (f ∷ calls) (record w { left = after })) (proceed p n)) false_is ∙
-      ap (λ cs. proceed p n (rig_at k operands cs) (record w { left = after })) (sym e))))
+  pub test_ends : b ≡ false → Leads p (rig_at (test_loop l ∷ k) operands (f ∷ calls)) w (rig_at k operands (f ∷ calls)) u
+  test_ends fails = record {
+    paid = h.paid;
+    same = λ n few. test_done n few ∙ ap (λ b. and_then (if b then goes_on (execute_statement l.body ∷ (end_turn l ∷ k)) operands (f ∷ calls) u else goes_on k operands (f ∷ calls) u) (proceed p n)) fails;
+  }
 
   -- a turn begins
-  pub turn_began : w.left ≤ n → after < w.left → cs ≡ f ∷ calls → l.tested ≡ Some v → is_true (Int x) ≡ true → tasks ≡ execute_statement l.body ∷ (end_turn l ∷ k) → ((s : Setting) → s.program ≡ p → evaluate s f.frame.held v w ≡ gives (Int x) (record w { left = after })) →
-      proceed p n (rig_at (test_loop l ∷ k) operands cs) w ≡ proceed p n (rig_at tasks operands cs) (record w { left = after })
-  turn_began few less e t true_is put run =
-      ap (λ cs. proceed p n (rig_at (test_loop l ∷ k) operands cs) w) e ∙
-      (test_done p n l v k operands f calls w after x few (omega (arith, few, less)) t run ∙
-      (next_right p n normal (enter_turn l) k (evaluated (Some (Int x)) ∷ operands) (f ∷ calls) (record w { left = after }) (omega (arith, few, less)) ∙
-      (ap (λ b. and_then (if b then goes_on (execute_statement l.body ∷ (end_turn l ∷ k)) operands (f ∷ calls) (record w { left = after }) else goes_on k operands (f ∷ calls) (record w { left = after })) (proceed p n)) true_is ∙
-      (ap (λ cs. proceed p n (rig_at (execute_statement l.body ∷ (end_turn l ∷ k)) operands cs) (record w { left = after })) (sym e) ∙
-      ap (λ tasks. proceed p n (rig_at tasks operands cs) (record w { left = after })) (sym put)))))
+  pub test_goes : b ≡ true → Leads p (rig_at (test_loop l ∷ k) operands (f ∷ calls)) w (rig_at (execute_statement l.body ∷ (end_turn l ∷ k)) operands (f ∷ calls)) u
+  test_goes holds = record {
+    paid = h.paid;
+    same = λ n few. test_done n few ∙ ap (λ b. and_then (if b then goes_on (execute_statement l.body ∷ (end_turn l ∷ k)) operands (f ∷ calls) u else goes_on k operands (f ∷ calls) u) (proceed p n)) holds;
+  }
 
 -- ## Turns
 

@@ -1,15 +1,15 @@
 //! Pieces of work that are done at once: those that come to numbers and change nothing but a variable or an element. Where one
 //! can't be, nothing is changed, and it is done by acts.
 
-ghost use Rattle.std.specs.Prelude.{◌≡◌, ◌∷◌, List, IfOk, IfErr, option_map};
+ghost use Rattle.std.specs.Prelude.{◌≡◌, ◌∷◌, List, IfOk, IfErr};
 ghost use Rattle.p10_base.specs.declared.at.At.{At};
 ghost use Rattle.p10_base.specs.declared.span.Span.{Span};
 ghost use Rattle.p10_core.specs.Types.{PlainType};
 ghost use Rattle.p10_core.specs.Typed.{value, call};
 ghost use Rattle.p10_core.specs.Views.{plain_program, plain_types, plain_value, plain_values, plain_statement, plain_statements};
 ghost use Rattle.p10_core.specs.WholePrograms.{AreWholeStructures};
-ghost use Rattle.p10_interp.specs.private.Tasks.{Open, Loop, evaluate_value, execute_statement, execute_statements, test_loop, end_turn};
-ghost use Rattle.p10_interp.specs.private.Views.{in_loop, statement_task, task_of, value_task};
+ghost use Rattle.p10_interp.specs.private.Tasks.{Open, evaluate_value, execute_statement, execute_statements};
+ghost use Rattle.p10_interp.specs.private.Views.{statement_task, task_of, value_task};
 ghost use Rattle.p10_interp.specs.private.OpenCalls.{calls_in};
 ghost use Rattle.p10_interp.specs.private.Machines.{Around, state_of};
 ghost use Rattle.p10_interp.specs.private.Turning.{Does};
@@ -20,9 +20,9 @@ use crate::entering::raise;
 use crate::outside::Outside;
 use crate::stacks::Stacks;
 use crate::statements_at_once::{execute_at_once, number_in_call};
-use crate::turns_at_once::{TURNS, test_at_once};
+use crate::turns_at_once::test_at_once;
 use crate::work::{Halt, Operand, StatementStep, ValueStep, Work};
-use p10_core::{Program, Stmt, StmtForm, Value, ValueForm};
+use p10_core::{Program, Stmt, Value, ValueForm};
 use p10_meaning::Scalar;
 
 /// Does a piece of work at once, if it can be: otherwise nothing is changed.
@@ -83,7 +83,7 @@ fn statement_at_once<'p>(
 {
     match step {
         StatementStep::Execute => execute_one_at_once(p, statement, stacks, outside),
-        StatementStep::TestLoop => test_at_once(p, statement, stacks, outside, TURNS),
+        StatementStep::TestLoop => test_at_once(p, statement, stacks, outside),
         _ => Ok(false),
     }
 }

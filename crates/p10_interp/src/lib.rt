@@ -68,6 +68,7 @@ mod statements;
 mod statements_at_once;
 mod states;
 mod steps;
+mod stopped;
 mod surroundings;
 mod tasks;
 mod trading;

@@ -1,34 +1,35 @@
 //! Statements that are executed at once, without work on the stack: assignments and updates with numbers. Where anything stands
 //! in the way nothing is changed, and the statement is executed by acts.
 
-ghost use Rattle.std.specs.Prelude.{◌≡◌, ◌∷◌, ◌<◌, ◌≤◌, List, map, IsTrue};
+ghost use Rattle.std.specs.Prelude.{◌≡◌, ◌∷◌, ◌<◌, ◌≤◌, List, map, IsTrue, IfSome};
 ghost use Rattle.p10_core.specs.Types.{PlainType, plain_type};
-ghost use Rattle.p10_core.specs.Typed.{value, call, place, variable, set, update};
+ghost use Rattle.p10_core.specs.Typed.{PlainValue, value, call, place, variable, index, set, update};
 ghost use Rattle.p10_core.specs.Views.{plain_program, plain_types, plain_value, plain_values, plain_place, plain_statement_form};
 ghost use Rattle.p10_core.specs.WholePrograms.{AreWholeStructures};
 ghost use Rattle.p10_base.specs.declared.at.At.{At};
 ghost use Rattle.p10_base.specs.declared.span.Span.{Span};
 ghost use Rattle.p10_meaning.specs.declared.pointers.Scalar.TheVariants.{Int};
 ghost use Rattle.p10_meaning.specs.Pointers.{holding};
-ghost use Rattle.p10_meaning.specs.Objects.{Object, reach, write_at};
+ghost use Rattle.p10_meaning.specs.Objects.{write_at};
 ghost use Rattle.p10_meaning.specs.Values.{Setting, Element, holds, evaluate, locate};
 ghost use Rattle.p10_interp.specs.private.Standing.{held_of};
 ghost use Rattle.p10_interp.specs.private.Tasks.{Open};
 ghost use Rattle.p10_interp.specs.private.OpenCalls.{calls_in};
 ghost use Rattle.p10_interp.specs.private.Machines.{Around, state_of};
-ghost use Rattle.p10_interp.specs.private.AtOnce.{Finds};
+ghost use Rattle.p10_interp.specs.private.AtOnce.{Finds, Starts};
 ghost use Rattle.p10_interp.specs.private.Executing.{Executes, IsFrameVariable, IsHeldNumber, Writes};
 
 use crate::base::Depth;
 use crate::calls::Calls;
 use crate::calls_at_once::{Caller, value_of_call};
-use crate::cells_at_once::holding_number;
+use crate::cells_at_once::{holding_number, pointer_from};
 use crate::entering::raise;
 use crate::held::Held;
 use crate::numbers_at_once::{apply_to_numbers, convert_number, pays};
 use crate::outside::Outside;
+use crate::places_at_once::start_of_array;
 use crate::surroundings::{DEPTH, Surroundings};
-use crate::values_at_once::{number_at_once, target_at_once};
+use crate::values_at_once::{number_at_once, place_at_once};
 use p10_core::{CType, Place, PlaceForm, Program, Stmt, StmtForm, UpdateKind, Value, ValueForm};
 use p10_int::BinOp;
 use p10_meaning::{Cell, Ptr, Scalar};
@@ -169,8 +170,72 @@ fn set_variable(
     true
 }
 
-/// A place in an object is assigned.
+/// A place in an object is assigned: of an element of an array that is an object as a whole, only that element is tested.
 fn set_element(
+    p: &Program<'_>,
+    place: &Place,
+    value: &Value,
+    calls: &Calls<'_>,
+    outside: &mut Outside,
+) -> bool
+    requires structures { AreWholeStructures (plain_types p.now.types) }
+    ensures done { (io : Around) (f : Open) (around : List Open) → calls_in calls.now ≡ f ∷ around → Executes (plain_program p.now) (set (plain_place place.now) (plain_value value.now)) result f around (state_of outside.old io) (calls_in calls.now) (state_of outside.new io) }
+    ensures fewer { IsTrue result → outside.new.left < outside.old.left }
+{
+    match &place.form {
+        PlaceForm::Index(array, number) => match start_in_call(p, array, calls, outside) {
+            Some(start) => set_from(p, start, (number, value), calls, outside),
+            None => set_by_pointer(p, place, value, calls, outside),
+        },
+        _ => set_by_pointer(p, place, value, calls, outside),
+    }
+}
+
+/// An element of the array whose first element this pointer points to is assigned (C99 6.5.2.1).
+#[inline(always)]
+fn set_from(
+    p: &Program<'_>,
+    start: Ptr,
+    parts: (&Value, &Value),
+    calls: &Calls<'_>,
+    outside: &mut Outside,
+) -> bool
+    requires structures { AreWholeStructures (plain_types p.now.types) }
+    ensures done { (array : PlainValue) (at : At) (own : PlainType) (io : Around) (f : Open) (around : List Open) → ((s : Setting) → s.program ≡ plain_program p.now → Starts s f.frame.held array start) → calls_in calls.now ≡ f ∷ around → Executes (plain_program p.now) (set (place at own (index array (plain_value parts.entry.0.now))) (plain_value parts.entry.1.now)) result f around (state_of outside.old io) (calls_in calls.now) (state_of outside.new io) }
+    ensures fewer { IsTrue result → outside.new.left < outside.old.left }
+{
+    let (number, value) = parts;
+    let mut left = outside.left;
+    if !pays(&mut left) {
+        return false;
+    }
+    if !pays(&mut left) {
+        return false;
+    }
+    if !pays(&mut left) {
+        return false;
+    }
+    let by = number_in_call(p, number, calls, outside, &mut left);
+    if left == 0 {
+        return false;
+    }
+    let x = number_in_call(p, value, calls, outside, &mut left);
+    if left == 0 {
+        return false;
+    }
+    let Some(there) = pointer_from(start, by) else {
+        return false;
+    };
+    if !write_number(&mut outside.store, there, x) {
+        return false;
+    }
+    outside.left = left;
+    true
+}
+
+/// A place in an object is assigned, by the pointer to it.
+#[inline(never)]
+fn set_by_pointer(
     p: &Program<'_>,
     place: &Place,
     value: &Value,
@@ -185,7 +250,7 @@ fn set_element(
     if !pays(&mut left) {
         return false;
     }
-    let pointer = target_in_call(p, place, calls, outside, &mut left);
+    let pointer = place_in_call(p, place, calls, outside, &mut left);
     if left == 0 {
         return false;
     }
@@ -320,8 +385,8 @@ pub fn number_in_call(
     number
 }
 
-/// The place in an object that a tree stands for in the innermost call, if its object is live.
-fn target_in_call(
+/// The place in an object that a tree stands for in the innermost call.
+fn place_in_call(
     p: &Program<'_>,
     place: &Place,
     calls: &Calls<'_>,
@@ -329,7 +394,7 @@ fn target_in_call(
     left: &mut u64,
 ) -> Ptr
     requires structures { AreWholeStructures (plain_types p.now.types) }
-    ensures found { (s : Setting) (f : Open) (around : List Open) → s.program ≡ plain_program p.now → calls_in calls.now ≡ f ∷ around → (object : Object) → reach outside.now.store.objects result ≡ Ok object → Finds (locate s f.frame.held (plain_place place.now)) outside.now.store.objects left.old (Element result) left.new }
+    ensures found { (s : Setting) (f : Open) (around : List Open) → s.program ≡ plain_program p.now → calls_in calls.now ≡ f ∷ around → Finds (locate s f.frame.held (plain_place place.now)) outside.now.store.objects left.old (Element result) left.new }
     ensures fewer { left.new ≤ left.old }
 {
     let before = *left;
@@ -338,14 +403,34 @@ fn target_in_call(
         held: calls.standing(),
         store: &outside.store,
     };
-    let pointer = target_at_once(&around, place, left, DEPTH);
+    let pointer = place_at_once(&around, place, left, DEPTH);
     if before < *left {
         *left = 0;
     }
     pointer
 }
 
+/// The pointer to the first element of an array that is an object as a whole, in the innermost call; whether it is live isn't tested yet.
+#[inline(always)]
+fn start_in_call(
+    p: &Program<'_>,
+    array: &Value,
+    calls: &Calls<'_>,
+    outside: &Outside,
+) -> Option<Ptr>
+    requires structures { AreWholeStructures (plain_types p.now.types) }
+    ensures { IfSome result (λ start. (s : Setting) (f : Open) (around : List Open) → s.program ≡ plain_program p.now → calls_in calls.now ≡ f ∷ around → Starts s f.frame.held (plain_value array.now) start) }
+{
+    let around = Surroundings {
+        p,
+        held: calls.standing(),
+        store: &outside.store,
+    };
+    start_of_array(&around, array)
+}
+
 /// A number is written at a pointer, if it can be.
+#[inline(always)]
 fn write_number(store: &mut Store, pointer: Ptr, number: i128) -> bool
     ensures { Writes store.old store.new (write_at store.old.objects pointer (holding (Int number))) result }
 {

@@ -1,7 +1,7 @@
 //! Turns of loops that are taken at once: the statements of the body and those of the third clause, one after the other, as long as
 //! each is executed at once. What is left of them becomes work on the stack.
 
-ghost use Rattle.std.specs.Prelude.{◌≡◌, ◌∷◌, List, OnOk, IfOk, IfErr, option_map};
+ghost use Rattle.std.specs.Prelude.{◌≡◌, ◌∷◌, ◌<◌, List, OnOk, IfOk, IfErr, IfSome, Some, None, option_map};
 ghost use Rattle.p10_base.specs.declared.at.At.{At};
 ghost use Rattle.p10_core.specs.Typed.{statement, block};
 ghost use Rattle.p10_core.specs.Views.{plain_program, plain_types, plain_value, plain_statement, plain_statements};
@@ -11,34 +11,26 @@ ghost use Rattle.p10_interp.specs.private.Tasks.{Open, Loop, execute_statement, 
 ghost use Rattle.p10_interp.specs.private.Views.{in_loop, tasks_in};
 ghost use Rattle.p10_interp.specs.private.OpenCalls.{calls_in};
 ghost use Rattle.p10_interp.specs.private.Machines.{Around, state_of, rig_of};
-ghost use Rattle.p10_interp.specs.private.Turning.{Does, Goes, IsRow, rig_at};
+ghost use Rattle.p10_interp.specs.private.Turning.{Does, Goes, IsRow, IsTested, AreTaken, left_by, block_by, rig_at};
 
 use crate::calls::Calls;
 use crate::held::Held;
-use crate::leaving::end_block;
 use crate::outside::Outside;
 use crate::scalars::is_true;
 use crate::stacks::Stacks;
 use crate::statements::is_nothing;
 use crate::statements_at_once::{execute_at_once, number_in_call};
+use crate::stopped::Stopped;
 use crate::work::{Halt, StatementStep, Work};
 use p10_core::{Program, Stmt, StmtForm, Value};
 use p10_meaning::Scalar;
 
-/// How many statements are executed in a row.
-const ROW: u32 = 64;
-
-/// How many turns of a loop are taken in a row.
-pub const TURNS: u32 = 64;
-
-/// The test of a loop, and where it is true, a turn of it, and so on for so many turns.
-#[cycle(turns)]
+/// The test of a loop, and where it is true, turns of it.
 pub fn test_at_once<'p>(
     p: &'p Program<'p>,
     statement: &'p Stmt,
     stacks: &mut Stacks<'p>,
     outside: &mut Outside,
-    turns: u32,
 ) -> Result<bool, Halt>
     requires structures { AreWholeStructures (plain_types p.now.types) }
     ensures ok { IfOk result (λ done. (io : Around) (f : Open) (calls : List Open) → calls_in stacks.old.calls ≡ f ∷ calls → Does (plain_program p.now) (in_loop (λ keyword l. test_loop l) (plain_statement statement.now)) stacks.old (state_of outside.old io) done stacks.new (state_of outside.new io)) }
@@ -52,23 +44,19 @@ pub fn test_at_once<'p>(
                 (tested, third.as_slice(), body),
                 stacks,
                 outside,
-                turns,
             )
         }
         _ => Ok(false),
     }
 }
 
-/// The test of a loop that comes to a number; where it is true, a turn is taken.
-#[cycle(turns)]
-#[inline(always)]
+/// The test of a loop that comes to a number; where it is true, turns are taken.
 fn test_by_number<'p>(
     p: &'p Program<'p>,
     statement: &'p Stmt,
     parts: (&'p Option<Value>, &'p [Stmt], &'p Stmt),
     stacks: &mut Stacks<'p>,
     outside: &mut Outside,
-    turns: u32,
 ) -> Result<bool, Halt>
     requires structures { AreWholeStructures (plain_types p.now.types) }
     ensures ok { IfOk result (λ done. (io : Around) (f : Open) (calls : List Open) (l : Loop) → l.tested ≡ option_map plain_value parts.entry.0.now → l.third ≡ plain_statements parts.entry.1.now → l.body ≡ plain_statement parts.entry.2.now → in_loop (λ keyword l. test_loop l) (plain_statement statement.now) ≡ test_loop l → in_loop (λ keyword l. end_turn l) (plain_statement statement.now) ≡ end_turn l → calls_in stacks.old.calls ≡ f ∷ calls → Does (plain_program p.now) (test_loop l) stacks.old (state_of outside.old io) done stacks.new (state_of outside.new io)) }
@@ -78,53 +66,120 @@ fn test_by_number<'p>(
     let Some(value) = tested else {
         return Ok(false);
     };
-    let mut left = outside.left;
-    let number = number_in_call(p, value, &stacks.calls, outside, &mut left);
-    if left == 0 {
-        return Ok(false);
+    match is_tested(p, value, &stacks.calls, outside) {
+        Some(true) => {
+            take_turn(p, statement, (value, third, body), stacks, outside)?;
+            Ok(true)
+        }
+        Some(false) => Ok(true),
+        None => Ok(false),
     }
-    if left >= outside.left {
-        return Ok(false);
-    }
-    outside.left = left;
-    if !is_true(Scalar::Int(number)) {
-        return Ok(true);
-    }
-    take_turn(p, statement, (body, third), stacks, outside, turns)?;
-    Ok(true)
 }
 
-/// Takes a turn of a loop after its test.
-#[cycle(turns)]
+/// Whether the test of a loop is true, if it comes to a number: otherwise nothing is changed.
 #[inline(always)]
+fn is_tested(
+    p: &Program<'_>,
+    tested: &Value,
+    calls: &Calls<'_>,
+    outside: &mut Outside,
+) -> Option<bool>
+    requires structures { AreWholeStructures (plain_types p.now.types) }
+    ensures found { IfSome result (λ holds. (io : Around) (f : Open) (around : List Open) → calls_in calls.now ≡ f ∷ around → IsTested (plain_program p.now) (plain_value tested.now) f holds (state_of outside.old io) (state_of outside.new io)) }
+    ensures fewer { IfSome result (λ holds. outside.new.left < outside.old.left) }
+    ensures unfound { result ≡ None → outside.new ≡ outside.old }
+{
+    let mut left = outside.left;
+    let number = number_in_call(p, tested, calls, outside, &mut left);
+    if left == 0 {
+        return None;
+    }
+    if left >= outside.left {
+        return None;
+    }
+    outside.left = left;
+    Some(is_true(Scalar::Int(number)))
+}
+
+/// Takes turns of a loop after its test.
 fn take_turn<'p>(
     p: &'p Program<'p>,
     statement: &'p Stmt,
-    parts: (&'p Stmt, &'p [Stmt]),
+    parts: (&'p Value, &'p [Stmt], &'p Stmt),
     stacks: &mut Stacks<'p>,
     outside: &mut Outside,
-    turns: u32,
 ) -> Result<(), Halt>
     requires structures { AreWholeStructures (plain_types p.now.types) }
-    ensures ok { OnOk result ((io : Around) (f : Open) (calls : List Open) (l : Loop) → l.body ≡ plain_statement parts.entry.0.now → l.third ≡ plain_statements parts.entry.1.now → in_loop (λ keyword l. test_loop l) (plain_statement statement.now) ≡ test_loop l → in_loop (λ keyword l. end_turn l) (plain_statement statement.now) ≡ end_turn l → calls_in stacks.old.calls ≡ f ∷ calls → Goes (plain_program p.now) (rig_at (execute_statement l.body ∷ (end_turn l ∷ tasks_in stacks.old.tasks)) stacks.old.operands (calls_in stacks.old.calls)) (state_of outside.old io) (rig_of normal stacks.new) (state_of outside.new io)) }
+    ensures ok { OnOk result ((io : Around) (f : Open) (calls : List Open) (l : Loop) → l.tested ≡ Some (plain_value parts.entry.0.now) → l.third ≡ plain_statements parts.entry.1.now → l.body ≡ plain_statement parts.entry.2.now → in_loop (λ keyword l. test_loop l) (plain_statement statement.now) ≡ test_loop l → in_loop (λ keyword l. end_turn l) (plain_statement statement.now) ≡ end_turn l → calls_in stacks.old.calls ≡ f ∷ calls → Goes (plain_program p.now) (rig_at (execute_statement l.body ∷ (end_turn l ∷ tasks_in stacks.old.tasks)) stacks.old.operands (calls_in stacks.old.calls)) (state_of outside.old io) (rig_of normal stacks.new) (state_of outside.new io)) }
     ensures err { IfErr result (λ e. e ≡ Halt.Memory) }
 {
-    let (body, third) = parts;
+    let (tested, third, body) = parts;
     match &body.form {
         StmtForm::Block(items) => {
-            take_block(
-                p,
-                statement,
-                (items.as_slice(), third),
-                stacks,
-                outside,
-                turns,
-            )?;
+            let parts = (tested, third, items.as_slice());
+            let stopped = take_turns(p, parts, &mut stacks.calls, &mut stacks.frame, outside);
+            leave_turn(statement, stopped, stacks)?;
             Ok(())
         }
         _ => {
             leave_body(statement, body, stacks)?;
             Ok(())
+        }
+    }
+}
+
+/// Takes turns of a loop, the body first, and says where they have stopped.
+fn take_turns<'p>(
+    p: &'p Program<'p>,
+    parts: (&'p Value, &'p [Stmt], &'p [Stmt]),
+    calls: &mut Calls<'_>,
+    frame: &mut Vec<Held>,
+    outside: &mut Outside,
+) -> Stopped<'p>
+    requires structures { AreWholeStructures (plain_types p.now.types) }
+    ensures { (at : At) (io : Around) (f : Open) (around : List Open) (l : Loop) → l.tested ≡ Some (plain_value parts.entry.0.now) → l.third ≡ plain_statements parts.entry.1.now → l.body ≡ statement at (block (plain_statements parts.entry.2.now)) → calls_in calls.old ≡ f ∷ around → AreTaken (plain_program p.now) l (left_by result l) (block_by result) f around (state_of outside.old io) (calls_in calls.new) (state_of outside.new io) }
+{
+    let (tested, third, items) = parts;
+    loop {
+        let before = outside.left;
+        let rest = execute_row(p, items, calls, frame, outside);
+        if !is_nothing(rest) {
+            return Stopped::InBody(rest);
+        }
+        let rest = execute_row(p, third, calls, frame, outside);
+        if !is_nothing(rest) {
+            return Stopped::InThird(rest);
+        }
+        if before < outside.left {
+            return Stopped::AtTest;
+        }
+        match is_tested(p, tested, calls, outside) {
+            Some(true) => {}
+            Some(false) => return Stopped::AtEnd,
+            None => return Stopped::AtTest,
+        }
+    }
+}
+
+/// What is left of turns becomes work.
+fn leave_turn<'p>(
+    statement: &'p Stmt,
+    stopped: Stopped<'p>,
+    stacks: &mut Stacks<'p>,
+) -> Result<(), Halt>
+    ensures ok { OnOk result ((f : Open) (around : List Open) (l : Loop) → in_loop (λ keyword l. test_loop l) (plain_statement statement.now) ≡ test_loop l → in_loop (λ keyword l. end_turn l) (plain_statement statement.now) ≡ end_turn l → calls_in stacks.old.calls ≡ f ∷ around → rig_of normal stacks.new ≡ rig_at (left_by stopped.entry l (tasks_in stacks.old.tasks)) stacks.old.operands (block_by stopped.entry f ∷ around)) }
+    ensures err { IfErr result (λ e. e ≡ Halt.Memory) }
+{
+    match stopped {
+        Stopped::AtTest => leave_test(statement, stacks),
+        Stopped::AtEnd => Ok(()),
+        Stopped::InBody(items) => {
+            stacks.calls.enter_block()?;
+            leave_items(statement, items, stacks)
+        }
+        Stopped::InThird(rest) => {
+            leave_test(statement, stacks)?;
+            stacks.tasks.push(Work::ExecuteStatements(rest))
         }
     }
 }
@@ -140,33 +195,6 @@ fn leave_body<'p>(statement: &'p Stmt, body: &'p Stmt, stacks: &mut Stacks<'p>) 
     stacks
         .tasks
         .push(Work::Statement(StatementStep::Execute, body))?;
-    Ok(())
-}
-
-/// The body is a block with these items.
-#[cycle(turns)]
-#[inline(always)]
-fn take_block<'p>(
-    p: &'p Program<'p>,
-    looping: &'p Stmt,
-    parts: (&'p [Stmt], &'p [Stmt]),
-    stacks: &mut Stacks<'p>,
-    outside: &mut Outside,
-    turns: u32,
-) -> Result<(), Halt>
-    requires structures { AreWholeStructures (plain_types p.now.types) }
-    ensures ok { OnOk result ((at : At) (io : Around) (f : Open) (calls : List Open) (l : Loop) → l.third ≡ plain_statements parts.entry.1.now → in_loop (λ keyword l. test_loop l) (plain_statement looping.now) ≡ test_loop l → in_loop (λ keyword l. end_turn l) (plain_statement looping.now) ≡ end_turn l → calls_in stacks.old.calls ≡ f ∷ calls → Goes (plain_program p.now) (rig_at (execute_statement (statement at (block (plain_statements parts.entry.0.now))) ∷ (end_turn l ∷ tasks_in stacks.old.tasks)) stacks.old.operands (calls_in stacks.old.calls)) (state_of outside.old io) (rig_of normal stacks.new) (state_of outside.new io)) }
-    ensures err { IfErr result (λ e. e ≡ Halt.Memory) }
-{
-    let (items, third) = parts;
-    stacks.calls.enter_block()?;
-    let rest = execute_row(p, items, ROW, &mut stacks.calls, &mut stacks.frame, outside);
-    if !is_nothing(rest) {
-        leave_items(looping, rest, stacks)?;
-        return Ok(());
-    }
-    end_block(stacks, outside);
-    take_third(p, looping, third, stacks, outside, turns)?;
     Ok(())
 }
 
@@ -187,59 +215,6 @@ fn leave_items<'p>(
     Ok(())
 }
 
-/// The body was executed: the third clause comes next, and then the test (C99 6.8.5.3p1).
-#[cycle(turns)]
-#[inline(always)]
-fn take_third<'p>(
-    p: &'p Program<'p>,
-    statement: &'p Stmt,
-    third: &'p [Stmt],
-    stacks: &mut Stacks<'p>,
-    outside: &mut Outside,
-    turns: u32,
-) -> Result<(), Halt>
-    requires structures { AreWholeStructures (plain_types p.now.types) }
-    ensures ok { OnOk result ((io : Around) (f : Open) (calls : List Open) (l : Loop) → l.third ≡ plain_statements third.now → in_loop (λ keyword l. test_loop l) (plain_statement statement.now) ≡ test_loop l → calls_in stacks.old.calls ≡ f ∷ calls → Goes (plain_program p.now) (rig_at (end_turn l ∷ tasks_in stacks.old.tasks) stacks.old.operands (calls_in stacks.old.calls)) (state_of outside.old io) (rig_of normal stacks.new) (state_of outside.new io)) }
-    ensures err { IfErr result (λ e. e ≡ Halt.Memory) }
-{
-    let rest = execute_row(p, third, ROW, &mut stacks.calls, &mut stacks.frame, outside);
-    if is_nothing(rest) {
-        test_again(p, statement, stacks, outside, turns)?;
-        return Ok(());
-    }
-    stacks
-        .tasks
-        .push(Work::Statement(StatementStep::TestLoop, statement))?;
-    stacks.tasks.push(Work::ExecuteStatements(rest))?;
-    Ok(())
-}
-
-/// The test of a loop after a turn: it is evaluated at once, or becomes work.
-#[cycle(turns)]
-#[inline(always)]
-fn test_again<'p>(
-    p: &'p Program<'p>,
-    statement: &'p Stmt,
-    stacks: &mut Stacks<'p>,
-    outside: &mut Outside,
-    turns: u32,
-) -> Result<(), Halt>
-    requires structures { AreWholeStructures (plain_types p.now.types) }
-    ensures ok { OnOk result ((io : Around) (f : Open) (calls : List Open) (l : Loop) → in_loop (λ keyword l. test_loop l) (plain_statement statement.now) ≡ test_loop l → calls_in stacks.old.calls ≡ f ∷ calls → Goes (plain_program p.now) (rig_at (test_loop l ∷ tasks_in stacks.old.tasks) stacks.old.operands (calls_in stacks.old.calls)) (state_of outside.old io) (rig_of normal stacks.new) (state_of outside.new io)) }
-    ensures err { IfErr result (λ e. e ≡ Halt.Memory) }
-{
-    if turns == 0 {
-        leave_test(statement, stacks)?;
-        return Ok(());
-    }
-    let done = test_at_once(p, statement, stacks, outside, turns - 1)?;
-    if done {
-        return Ok(());
-    }
-    leave_test(statement, stacks)?;
-    Ok(())
-}
-
 /// The test of a loop becomes work.
 fn leave_test<'p>(statement: &'p Stmt, stacks: &mut Stacks<'p>) -> Result<(), Halt>
     ensures ok { OnOk result (rig_of normal stacks.new ≡ rig_at (in_loop (λ keyword l. test_loop l) (plain_statement statement.now) ∷ tasks_in stacks.old.tasks) stacks.old.operands (calls_in stacks.old.calls)) }
@@ -255,24 +230,19 @@ fn leave_test<'p>(statement: &'p Stmt, stacks: &mut Stacks<'p>) -> Result<(), Ha
 pub fn execute_row<'p>(
     p: &'p Program<'p>,
     statements: &'p [Stmt],
-    most: u32,
     calls: &mut Calls<'_>,
     frame: &mut Vec<Held>,
     outside: &mut Outside,
 ) -> &'p [Stmt]
     requires structures { AreWholeStructures (plain_types p.now.types) }
-    ensures { (io : Around) (f : Open) (around : List Open) → calls_in calls.old ≡ f ∷ around → IsRow (plain_program p.now) (plain_statements statements.now) (plain_statements result.now) around (calls_in calls.old) (state_of outside.old io) (calls_in calls.new) (state_of outside.new io) }
+    ensures { (io : Around) (f : Open) (around : List Open) → calls_in calls.old ≡ f ∷ around → IsRow (plain_program p.now) (plain_statements statements.now) (plain_statements result.now) f around (state_of outside.old io) (calls_in calls.new) (state_of outside.new io) }
 {
-    if most == 0 {
-        return statements;
-    }
-    match statements {
-        [] => statements,
-        [first, rest @ ..] => {
-            if !execute_at_once(p, first, calls, frame, outside) {
-                return statements;
-            }
-            execute_row(p, rest, most - 1, calls, frame, outside)
+    let mut left = statements;
+    while let [first, rest @ ..] = left {
+        if !execute_at_once(p, first, calls, frame, outside) {
+            return left;
         }
+        left = rest;
     }
+    left
 }

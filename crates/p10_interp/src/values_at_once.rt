@@ -2,7 +2,7 @@
 //! pointers. Where anything stands in the way, or no step would be left after them, no step is left of those that were given:
 //! then nothing was found, and the tree is evaluated by acts.
 
-ghost use Rattle.std.specs.Prelude.{◌≡◌, Ok, Some, option_map};
+ghost use Rattle.std.specs.Prelude.{Some, option_map};
 ghost use Rattle.p10_base.specs.declared.at.At.{At};
 ghost use Rattle.p10_core.specs.Types.{PlainType, plain_type};
 ghost use Rattle.p10_core.specs.Typed.{PlainValue, place, unary, binary, logic, convert, cast, read, decay, index, member, dereference};
@@ -10,13 +10,10 @@ ghost use Rattle.p10_core.specs.Views.{plain_types, plain_value, plain_place};
 ghost use Rattle.p10_core.specs.WholePrograms.{AreWholeStructures};
 ghost use Rattle.p10_meaning.specs.declared.pointers.Scalar.{Scalar};
 ghost use Rattle.p10_meaning.specs.declared.pointers.Scalar.TheVariants.{Int, Pointer};
-ghost use Rattle.p10_meaning.specs.Objects.{Object, reach};
 ghost use Rattle.p10_meaning.specs.Values.{evaluate, locate, Element};
 ghost use Rattle.p10_interp.specs.private.AtOnce.{Settles, Performs, Locates, IsHolding, StartsArray, read_at_place};
 
-use crate::cells_at_once::{
-    cell_from, cell_in, number_in, pointer_from, pointer_in, variable_cell,
-};
+use crate::cells_at_once::{cell_from, cell_in, number_in, pointer_in, variable_cell};
 use crate::held::Held;
 use crate::numbers_at_once::{
     apply_to_number, apply_to_numbers, convert_number, is_decided, is_structure, pays, truth_of,
@@ -293,50 +290,6 @@ fn element_at_once<'a>(
         return None;
     }
     cell_in(around.store, pointer)
-}
-
-/// The place in an object that a tree stands for, if its object is live: of an element of an array that is an object as a whole that
-/// isn't tested.
-#[inline(always)]
-pub fn target_at_once(around: &Surroundings<'_>, place: &Place, left: &mut u64, depth: u32) -> Ptr
-    requires structures { AreWholeStructures (plain_types around.now.p.now.types) }
-    ensures { (object : Object) → reach around.now.store.now.objects result ≡ Ok object → Settles around.now (λ s held. locate s held (plain_place place.now)) left.old (Element result) left.new }
-{
-    match &place.form {
-        PlaceForm::Index(array, number) => match start_of_array(around, array) {
-            Some(start) => target_from(around, start, number, left, depth),
-            None => place_at_once(around, place, left, depth),
-        },
-        _ => place_at_once(around, place, left, depth),
-    }
-}
-
-/// An element of the array whose first element this pointer points to, if its object is live (C99 6.5.2.1).
-#[inline(always)]
-fn target_from(
-    around: &Surroundings<'_>,
-    start: Ptr,
-    number: &Value,
-    left: &mut u64,
-    depth: u32,
-) -> Ptr
-    requires structures { AreWholeStructures (plain_types around.now.p.now.types) }
-    ensures { (object : Object) → reach around.now.store.now.objects result ≡ Ok object → (array : PlainValue) (t : PlainType) → StartsArray around.now array start → Locates around.now t (index array (plain_value number.now)) left.old result left.new }
-{
-    if !pays(left) {
-        return Ptr::Null;
-    }
-    if !pays(left) {
-        return Ptr::Null;
-    }
-    let by = number_at_once(around, number, left, depth);
-    match pointer_from(start, by) {
-        Some(there) => there,
-        None => {
-            *left = 0;
-            Ptr::Null
-        }
-    }
 }
 
 /// The place in an object that a tree stands for.

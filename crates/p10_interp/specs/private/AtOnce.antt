@@ -66,8 +66,12 @@ abbrev pub LocatesObject : Surroundings → PlainPlace → ℕ → Type 0
 LocatesObject around q n = (s : Setting) → s.program ≡ plain_program around.p.now → (w : State) → locate s (map held_of around.held.now) q w ≡ gives (Element (first_of n (width s.program (place_type q)) 1)) w
 
 -- a value takes a step and is the pointer to the first element of an array, where the object of this one is live
+abbrev pub Starts : Setting → List Held → PlainValue → Ptr → Type 0
+Starts s held v start = (w : State) (object : Object) → reach w.objects start ≡ Ok object → evaluate s held v w ≡ step w (λ w. gives (Pointer start) w)
+
+-- the same of a tree in the innermost call of a program
 abbrev pub StartsArray : Surroundings → PlainValue → Ptr → Type 0
-StartsArray around v start = (s : Setting) → s.program ≡ plain_program around.p.now → (w : State) (object : Object) → reach w.objects start ≡ Ok object → evaluate s (map held_of around.held.now) v w ≡ step w (λ w. gives (Pointer start) w)
+StartsArray around v start = (s : Setting) → s.program ≡ plain_program around.p.now → Starts s (map held_of around.held.now) v start
 
 -- an object of static lifetime is there, and is no sensor
 abbrev pub IsNoSensor : Option PlainObject → Type 0

@@ -10,16 +10,20 @@ use Rattle.p10_meaning.specs.Objects.{Object}
 use Rattle.p10_meaning.specs.States.{State}
 use Rattle.p10_meaning.specs.Values.{Held, holds}
 use Rattle.p10_store.specs.Stores.{Held as Stored}
-use Rattle.p10_meaning.specs.Statements.{Frame, goes, execute_form}
+use Rattle.p10_meaning.specs.Statements.{goes, execute_form}
 use Rattle.p10_interp.specs.private.Tasks.{Open}
-use Rattle.p10_interp.specs.private.Operations.{with_frame}
 use Rattle.p10_interp.specs.private.Resuming.{setting_in}
 
--- a form of a statement was executed in the innermost call, wherever it stands: execution goes on with the next one
+-- other variables stand in an open call
+abbrev pub with_held : Open → List Held → Open
+with_held f held = record f { frame = record f.frame { held = held } }
+
+-- a form of a statement was executed in the innermost call, wherever it stands and whatever its block has opened: execution goes
+-- on with the next one
 pub record IsExecuted (p : PlainProgram) (form : PlainStatementForm) (f : Open) (calls : List Open) (w : State) (new : List Open) (v : State) : Type 0 where
-  pub frame : Frame
-  pub now : new ≡ with_frame f frame ∷ calls
-  pub run : (n : ℕ) (at : At) → w.left ≤ n → execute_form (setting_in p n f) at form f.frame w ≡ goes frame v
+  pub held : List Held
+  pub now : new ≡ with_held f held ∷ calls
+  pub run : (n : ℕ) (at : At) (opened : List ℕ) → w.left ≤ n → execute_form (setting_in p n f) at form (record f.frame { opened = opened }) w ≡ goes (record { held = held; opened = opened }) v
 
 -- a form of a statement was executed, or nothing has changed
 abbrev pub Executes : PlainProgram → PlainStatementForm → Bool → Open → List Open → State → List Open → State → Type 0

@@ -1,25 +1,16 @@
--- The cell holds what the value comes to.
-use Rattle.std.proofs.Common.{refl, arith, subst, to_z, of_z}
-use Rattle.std.specs.Int.{w128}
-use Rattle.std.proofs.lemmas.Int.{to_z-of_z}
-use Rattle.p10_core.specs.Views.{plain_program, plain_place, plain_value}
-use Rattle.p10_meaning.specs.declared.pointers.Scalar.TheVariants.{Int}
-use Rattle.p10_meaning.specs.Pointers.{holding}
-use Rattle.p10_meaning.specs.Objects.{write_at}
+-- The place is an element of an array that is an object as a whole.
+use Rattle.std.proofs.Common.{◌∙◌, ap, sym, subst}
+use Rattle.p10_core.specs.declared.typed.Value.{Value}
+use Rattle.p10_core.specs.Types.{plain_type}
+use Rattle.p10_core.specs.Typed.{place, index, set}
+use Rattle.p10_core.specs.Views.{plain_program, plain_value, plain_place_form}
 use Rattle.p10_interp.specs.private.OpenCalls.{calls_in}
 use Rattle.p10_interp.specs.private.Machines.{state_of}
-use Rattle.p10_interp.specs.private.Executing.{Writes}
-use Rattle.p10_interp.proofs.AtOnce.{paid}
-use Rattle.p10_interp.proofs.Executed.{element_executed}
-use Rattle.p10_interp.proofs.Starts.{write_reaches}
+use Rattle.p10_interp.specs.private.Executing.{Executes}
 use Rattle.p10_interp.proofs.statements_at_once.set_element.Goals as goal
 
-pub returns-clause-done : goal.returns-clause-done
-returns-clause-done c = λ io f around e.
-    let written = subst (λ b. Writes c.args.outside.now.store c.write_number.new.store (write_at c.args.outside.now.store.objects c.target_in_call-pointer.result (holding (Int (to_z w128 (of_z w128 c.number_in_call-x.result))))) b) c.if-not-write_number.false c.write_number.ensures in
-    let live = write_reaches c.args.outside.now.store.objects c.target_in_call-pointer.result (holding (Int (to_z w128 (of_z w128 c.number_in_call-x.result)))) c.write_number.new.store.objects written.0 in
-    element_executed (plain_program c.args.p.now) (plain_place c.args.place.now) (plain_value c.args.value.now) f around (calls_in c.args.calls.now) (state_of c.args.outside.now io) c.pays.new.left c.target_in_call-pointer.new.left c.number_in_call-x.new.left c.target_in_call-pointer.result c.number_in_call-x.result (to_z w128 (of_z w128 c.number_in_call-x.result)) c.args.outside.now.store c.write_number.new.store
-    e (paid _ _ _ c.pays.ensures c.if-not-pays.false) (λ s same. c.target_in_call-pointer.ensures.found s f around same e live.0 live.1) (omega arith) (λ s same. c.number_in_call-x.ensures.found s f around same e) (omega arith) (to_z-of_z w128 c.number_in_call-x.result (record { sfits = c.number_in_call-x.type_inv })) refl refl written
-
-pub returns-clause-fewer : goal.returns-clause-fewer
-returns-clause-fewer c = λ t. omega (arith, paid _ _ _ c.pays.ensures c.if-not-pays.false, c.target_in_call-pointer.ensures.fewer, c.number_in_call-x.ensures.fewer)
+pub returns-in-Some-clause-done : goal.returns-in-Some-clause-done
+returns-in-Some-clause-done c = λ io f around e.
+    subst (λ form. Executes (plain_program c.args.p.now) (set (place c.args.place.now.at (plain_type c.args.place.now.ty) form) (plain_value c.args.value.now)) c.set_from.result f around (state_of c.args.outside.now io) (calls_in c.args.calls.now) (state_of c.set_from.new.outside io))
+    (sym (ap plain_place_form c.in-Index.is ∙ (ap (λ (a : Value). index (plain_value a) (plain_value c.in-Index.number.value)) (sym c.deref.ensures) ∙ ap (λ (b : Value). index (plain_value c.deref.result.now) (plain_value b)) (sym c.deref-in-Some.ensures))))
+    (c.set_from.ensures.done (plain_value c.deref.result.now) c.args.place.now.at (plain_type c.args.place.now.ty) io f around (λ s same. c.in-Some.ensures s f around same e) e)
