@@ -150,6 +150,7 @@ fn take_turns<'p>(
         if !is_nothing(rest) {
             return Stopped::InThird(rest);
         }
+        // Steps are only paid, so this never comes; it shows that no turn leaves more of them than there were.
         if before < outside.left {
             return Stopped::AtTest;
         }
