@@ -10,7 +10,7 @@ use Rattle.p10_base.specs.Words.{Text}
 use Rattle.p10_words.specs.CommandLines.{value_of}
 use Rattle.p10_words.specs.Commands.{check_options, derive_options, verify_options, run_options, IsRestOf}
 use Rattle.p10_words.specs.private.Parsing.{file_id, some_list, Matched, IsParse}
-use Rattle.p10_words.specs.private.Deciding.{is_true, has_files, IsCheckOf, IsDeriveOf, IsVerifyOf, IsRunOf, IsGenerateOf, Answers}
+use Rattle.p10_words.specs.private.Deciding.{is_given, has_files, IsCheckOf, IsDeriveOf, IsVerifyOf, IsRunOf, IsGenerateOf, Answers}
 use Rattle.p10_words.proofs.Named.{Known, known, flag_value}
 use Rattle.p10_words.proofs.Deciding.{check_is, check_from, no_check, derive_is, derive_from, no_derive, verify_is, verify_from, no_verify, run_is, run_from, no_run, generate_is, generate_from, no_generate}
 
@@ -73,19 +73,19 @@ derive_lost words Refused n = λ c v. no_derive words c n v
 derive_lost words Memory n = tt
 
 -- ---- `verify`
-flag_given : (o : Option Text) → ((v : Text) → o ≡ Some v → bytes_eq v (codes "true") ≡ true) → is_true (Some (unwrap_or o (codes "false"))) ≡ is_some o
+flag_given : (o : Option Text) → ((v : Text) → o ≡ Some v → bytes_eq v (codes "true") ≡ true) → is_given (Some (unwrap_or o (codes "false"))) ≡ is_some o
 flag_given None f = refl
 flag_given (Some v) f = f v refl
 
 pub verify_done : (words : List Text) (m : ArgMatches) (include : Option Text) (clean : Bool) (flag cert : Option Text) (files : List Text) (r : Result Command Usage) → Matched verify_options words m
-    → include ≡ first_value (found_of m) (codes "include") → clean ≡ is_true flag → flag ≡ first_value (found_of m) (codes "clean") → cert ≡ first_value (found_of m) (codes "cert") → Some files ≡ option_map raw_values (matched_of (found_of m) file_id)
+    → include ≡ first_value (found_of m) (codes "include") → clean ≡ is_given flag → flag ≡ first_value (found_of m) (codes "clean") → cert ≡ first_value (found_of m) (codes "cert") → Some files ≡ option_map raw_values (matched_of (found_of m) file_id)
     → Answers (IsVerifyOf include clean cert files) r → Answers (λ c. IsRestOf c (codes "verify") words) r
 unfolding Known
 verify_done words m include clean flag cert files r h i t g j k a =
     let s = h.split in
     let read = (known verify_options words).0 s h.scanned in
     let given : clean ≡ is_some (value_of s.options (codes "clean")) =
-    t ∙ ap is_true (g ∙ h.reads.flags (codes "clean") refl refl) ∙ flag_given (value_of s.options (codes "clean")) (λ v e. flag_value verify_options s.options (codes "clean") v read refl e) in
+    t ∙ ap is_given (g ∙ h.reads.flags (codes "clean") refl refl) ∙ flag_given (value_of s.options (codes "clean")) (λ v e. flag_value verify_options s.options (codes "clean") v read refl e) in
     let includes = i ∙ h.reads.options (codes "include") refl refl in
     let certs = j ∙ h.reads.options (codes "cert") refl refl in
     let files_are = sym (some_files s.files files (sym (k ∙ h.reads.files))) in

@@ -4,7 +4,7 @@ ghost use Rattle.std.specs.Prelude.{◌≡◌, ◌++◌, ℕ, Bool, map, IfOk, O
 ghost use Rattle.std.specs.List.{list_all};
 ghost use Rattle.p10_words.specs.CommandLines.{cut, directories_in, HasFormat, HasNumber, IsNumber};
 ghost use Rattle.p10_words.specs.private.Scanning.{is_name};
-ghost use Rattle.p10_words.specs.private.Deciding.{is_true, has_directories, has_files};
+ghost use Rattle.p10_words.specs.private.Deciding.{is_given, has_directories, has_files};
 
 use p10_base::{ListBuf, TextBuf};
 use std::alloc::{AllocError, Global};
@@ -151,7 +151,7 @@ fn checked(value: &str, number: u64) -> Option<u64>
 
 /// Whether a flag is given, by its value: `clap` makes it `true` then, and else `false`.
 pub fn is_given(value: Option<&str>) -> bool
-    ensures { result ≡ is_true (option_map (λ w. w.now) value.entry) }
+    ensures { result ≡ is_given (option_map (λ w. w.now) value.entry) }
 {
     match value {
         Some(value) => value == "true",

@@ -12,9 +12,9 @@ use Rattle.p10_words.specs.Commands.{HasBudget}
 use Rattle.p10_words.specs.private.Scanning.{is_name}
 
 -- whether a flag is given, by its value
-abbrev pub is_true : Option Text → Bool
-is_true None = false
-is_true (Some value) = bytes_eq value (codes "true")
+abbrev pub is_given : Option Text → Bool
+is_given None = false
+is_given (Some value) = bytes_eq value (codes "true")
 
 -- a value is a name, if there is one
 abbrev pub is_given_name : Option Text → Bool
