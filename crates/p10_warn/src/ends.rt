@@ -2,14 +2,15 @@
 
 ghost use Rattle.std.specs.Prelude.{◌≡◌, option_map};
 ghost use Rattle.p10_core.specs.Views.{plain_value, plain_statement, plain_statements};
-ghost use Rattle.p10_core.specs.WholePrograms.{is_true_test};
+ghost use Rattle.p10_core.specs.WholePrograms.{gives_other_than_zero, is_true_test};
 ghost use Rattle.p10_warn.specs.Ends.{has_break, have_break, is_endless, reaches_end, reach_end};
 
+use p10_base::At;
 use p10_core::{Stmt, StmtForm, Value, fold, inconstant_part};
 
 /// Whether the end of each of the statements can be reached.
 #[cycle(ends)]
-pub(crate) fn reach_end(all: &[Stmt]) -> bool
+pub fn reach_end(all: &[Stmt]) -> bool
     ensures { result ≡ reach_end (plain_statements all.now) }
 {
     for statement in all {
@@ -100,10 +101,6 @@ fn is_true_test(value: &Value) -> bool
     value.ty.is_integer()
         && (inconstant_part(value).is_none() && gives_other_than_zero(fold(value)))
 }
-
-ghost use Rattle.p10_core.specs.WholePrograms.{gives_other_than_zero};
-
-use p10_base::At;
 
 /// Whether a constant gives a number other than 0.
 fn gives_other_than_zero(found: Result<i128, At>) -> bool

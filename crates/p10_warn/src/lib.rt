@@ -1,6 +1,7 @@
 //! Holzmann's rule 10 on typed programs: what a compiler warns of with all warnings on.
 //!
 //! Entry point: [`warnings`], the violations of rows 10.1 to 10.8 by a typed program, in order, each once (`specs/Violations.antt`).
+//! [`reach_end`] is what row 10.8 asks of a body, for the crates that ask it too.
 //!
 //! ```text
 //! static int count(unsigned limit) { int n = 3; return n < limit; }
@@ -34,4 +35,5 @@ mod rules;
 mod scopes;
 mod unused;
 
+pub use ends::reach_end;
 pub use rules::warnings;
