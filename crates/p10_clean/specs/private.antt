@@ -1,0 +1,5 @@
+-- What only the clauses of private functions cite.
+pub mod Code
+pub mod Walking
+pub mod Assigning
+pub mod Telling
