@@ -1,5 +1,6 @@
 -- What an answer rests on: gathered sources, and what they and the certificate come to.
-use Rattle.std.proofs.Common.{◌≡◌, ℕ, inl, inr, List, subst, arith, Option, Result, Err}
+use Rattle.std.proofs.Common.{◌≡◌, ℕ, ◌+◌, ◌≤◌, zero, suc, min, inl, inr, List, [], ◌∷◌, length, length-take, take, ap, sym, ◌∙◌, refl, subst, arith, Option, Result, Err, true}
+use Rattle.p10_base.specs.declared.report.Bounds.{Bounds}
 use Rattle.p10_base.specs.Gathered.{Gathered}
 use Rattle.p10_base.specs.Words.{Text}
 use Rattle.p10_world.specs.Faults.{Rose}
@@ -14,13 +15,16 @@ use Rattle.p10_command.specs.declared.trouble.Trouble.TheVariants.{Read, Memory}
 use Rattle.p10_command.specs.Gathering.{AreGathered}
 use Rattle.p10_command.proofs.Causes.{has_cause}
 use Rattle.p10_command.proofs.Sources.{all_gathered, not_gathered}
-use Rattle.p10_judge.specs.Loading.{IsLoaded}
+use Rattle.p10_core.specs.Typed.{PlainProgram}
+use Rattle.p10_clean.specs.declared.flaw.Clean.{Clean as Cleanness}
+use Rattle.p10_clean.specs.declared.flaw.Clean.TheVariants.{Yes, No}
+use Rattle.p10_judge.specs.Loading.{IsLoaded, certificate_limit}
 use Rattle.p10_judge.proofs.Files.{given_is_held, judged}
 use Rattle.p10_verify_command.specs.declared.answer.Answer.{Answer}
-use Rattle.p10_verify_command.specs.declared.answer.Answer.TheVariants.{Ungathered, AbsentCertificate, Unread, Judged, Trouble}
+use Rattle.p10_verify_command.specs.declared.answer.Answer.TheVariants.{Ungathered, AbsentCertificate, Unread, Judged, Unclean, Clean, Trouble}
 use Rattle.p10_verify_command.specs.Names.{Names}
-use Rattle.p10_verify_command.specs.Answers.{setting_of}
-use Rattle.p10_verify_command.specs.private.Deciding.{Answered, AreWeighed, Decides}
+use Rattle.p10_verify_command.specs.Answers.{IsAcceptedAs, HasCleanness, setting_of}
+use Rattle.p10_verify_command.specs.private.Deciding.{Answered, AreWeighed, Decides, IsAnswerFor}
 
 -- ## The answers
 
@@ -33,20 +37,46 @@ decides_ungathered held names roots directories found u g same_roots same_direct
     let stopped = not_gathered held roots names.sources directories names.directories found u g same_roots same_directories same is in
     record { is_right = stopped.0; can_be_told = stopped.1 }
 
-weighed_by : (held : Option (List Named)) (names : Names) (g : Gathered) (bytes : List ℕ) (answer : Answer) → Gathers (setting_of held names) g → IsLoaded held names.certificate bytes → AreWeighed g bytes answer → Decides held names g answer
+-- first bytes that are within the limit are all
+take_all : (n : ℕ) (xs : List ℕ) → length xs ≤ n → take n xs ≡ xs
+take_all zero [] short = refl
+take_all zero (x ∷ xs) short = absurd (omega (arith, short))
+take_all (suc n) [] short = refl
+take_all (suc n) (x ∷ xs) short = ap (λ ys. x ∷ ys) (take_all n xs (omega (arith, short)))
+
+all_of : (limit : ℕ) (whole bytes : List ℕ) → bytes ≡ take (limit + 1) whole → length bytes ≤ limit → bytes ≡ whole
+all_of limit whole bytes front short =
+    let size : length bytes ≡ min (limit + 1) (length whole) = ap length front ∙ length-take (limit + 1) whole in
+    front ∙ take_all (limit + 1) whole (omega (arith, size, short))
+
+tried : (held : Option (List Named)) (names : Names) (g : Gathered) (bytes : List ℕ) (p : PlainProgram) (answer : Answer) (bounds : Bounds) (said : Cleanness) → Gathers (setting_of held names) g → IsLoaded held names.certificate bytes →
+    IsAnswerFor g p bytes names.clean answer → names.clean ≡ true → IsAcceptedAs p bytes bounds said → HasCleanness held names g bounds said
+tried held names g bytes p answer bounds said gathers loaded w asked accepted = record {
+  asked = asked;
+  program = p;
+  has = record { gathers = gathers; reading = w.reading; read = w.read; whole = w.whole };
+  bytes = loaded.whole;
+  given = loaded.given;
+  accepted = subst (λ (b : List ℕ). IsAcceptedAs p b bounds said) (all_of certificate_limit loaded.whole bytes loaded.front accepted.claimed.short) accepted;
+}
+
+weighed_by : (held : Option (List Named)) (names : Names) (g : Gathered) (bytes : List ℕ) (answer : Answer) → Gathers (setting_of held names) g → IsLoaded held names.certificate bytes → AreWeighed g bytes names.clean answer → Decides held names g answer
 weighed_by held names g bytes (Unread u) gathers loaded unread =
     record { is_right = (gathers, given_is_held held names.certificate loaded.whole loaded.given, unread.0); can_be_told = unread.1 }
 weighed_by held names g bytes (Judged j) gathers loaded (p, w) =
-    record { is_right = (p, record { gathers = gathers; reading = w.reading; read = w.read; whole = w.whole }, judged held names.certificate bytes p j loaded w.weighed); can_be_told = tt }
-weighed_by held names g bytes (Ungathered u) gathers loaded none = absurd none
-weighed_by held names g bytes AbsentCertificate gathers loaded none = absurd none
-weighed_by held names g bytes (Trouble trouble) gathers loaded none = absurd none
+    record { is_right = (p, record { gathers = gathers; reading = w.reading; read = w.read; whole = w.whole }, judged held names.certificate bytes p j loaded w.is.0, w.is.1); can_be_told = tt }
+weighed_by held names g bytes (Unclean c at) gathers loaded (p, w) =
+    record { is_right = (w.is.1, tried held names g bytes p (Unclean c at) w.is.1 (No c at) gathers loaded w w.is.0 w.is.2); can_be_told = tt }
+weighed_by held names g bytes (Clean bounds) gathers loaded (p, w) = record { is_right = tried held names g bytes p (Clean bounds) bounds Yes gathers loaded w w.is.0 w.is.1; can_be_told = tt }
+weighed_by held names g bytes (Ungathered u) gathers loaded (p, w) = absurd w.is
+weighed_by held names g bytes AbsentCertificate gathers loaded (p, w) = absurd w.is
+weighed_by held names g bytes (Trouble trouble) gathers loaded (p, w) = absurd w.is
 
 -- the sources and a certificate that was loaded come to this
 pub decides_weighed : (held later : Option (List Named)) (names : Names) (g : Gathered) (bytes read : List ℕ) (answer : Answer) → Gathers (setting_of held names) g → later ≡ held → IsLoaded later names.certificate bytes → read ≡ bytes →
-    AreWeighed g read answer → Decides held names g answer
+    AreWeighed g read names.clean answer → Decides held names g answer
 decides_weighed held later names g bytes read answer gathers unchanged loaded same weighed =
-    weighed_by held names g bytes answer gathers (subst (λ (h : Option (List Named)). IsLoaded h names.certificate bytes) unchanged loaded) (subst (λ (b : List ℕ). AreWeighed g b answer) same weighed)
+    weighed_by held names g bytes answer gathers (subst (λ (h : Option (List Named)). IsLoaded h names.certificate bytes) unchanged loaded) (subst (λ (b : List ℕ). AreWeighed g b names.clean answer) same weighed)
 
 no_fault : Rose 0 0 → ⊥
 no_fault (inl more) = absurd (omega (arith, more))
@@ -58,6 +88,8 @@ seen_later held before after names g (Ungathered u) decides = record { is_right 
 seen_later held before after names g AbsentCertificate decides = record { is_right = decides.is_right; can_be_told = decides.can_be_told }
 seen_later held before after names g (Unread u) decides = record { is_right = decides.is_right; can_be_told = decides.can_be_told }
 seen_later held before after names g (Judged j) decides = record { is_right = decides.is_right; can_be_told = decides.can_be_told }
+seen_later held before after names g (Unclean c at) decides = record { is_right = decides.is_right; can_be_told = decides.can_be_told }
+seen_later held before after names g (Clean bounds) decides = record { is_right = decides.is_right; can_be_told = decides.can_be_told }
 seen_later held before after names g (Trouble Read) decides = absurd (no_fault decides.is_right)
 seen_later held before after names g (Trouble Memory) decides = record { is_right = tt; can_be_told = tt }
 

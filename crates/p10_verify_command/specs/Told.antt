@@ -1,6 +1,7 @@
 -- What is said for an answer: the status of the program, and the texts on its two outputs.
 use Rattle.std.specs.Prelude.{ℕ, ◌≡◌, List, []}
 use Rattle.p10_base.specs.Gathered.{Gathered}
+use Rattle.p10_report.specs.Lines.{clean_line, unclean_line}
 use Rattle.p10_report.specs.Messages.{absent_line}
 use Rattle.p10_command.specs.Saying.{Saying, ungathered_line, ungathered_status, unread_line, unread_status, trouble_line, trouble_status}
 use Rattle.p10_command.specs.Seen.{Seen}
@@ -8,7 +9,7 @@ use Rattle.p10_judge.specs.declared.judgement.Judgement.{Judgement}
 use Rattle.p10_judge.specs.declared.judgement.Judgement.TheVariants.{TooLong, BadCertificate, Failing, Accepted}
 use Rattle.p10_judge.specs.Saying.{judgement_line, judgement_status}
 use Rattle.p10_verify_command.specs.declared.answer.Answer.{Answer}
-use Rattle.p10_verify_command.specs.declared.answer.Answer.TheVariants.{Ungathered, AbsentCertificate, Unread, Judged, Trouble}
+use Rattle.p10_verify_command.specs.declared.answer.Answer.TheVariants.{Ungathered, AbsentCertificate, Unread, Judged, Unclean, Clean, Trouble}
 use Rattle.p10_verify_command.specs.Names.{Names}
 use Rattle.p10_verify_command.specs.Answers.{IsRight}
 
@@ -18,6 +19,8 @@ status_of (Ungathered why) = ungathered_status why
 status_of AbsentCertificate = 9
 status_of (Unread why) = unread_status why
 status_of (Judged judgement) = judgement_status judgement
+status_of (Unclean c at) = 1
+status_of (Clean bounds) = 0
 status_of (Trouble trouble) = trouble_status trouble
 
 -- the line of a verdict, on the output; its place lies in these sources
@@ -37,6 +40,8 @@ fault_text sources (Accepted bounds) = []
 -- the text on the output, where the sources are these
 abbrev pub out_text : Gathered → Answer → List ℕ
 out_text sources (Judged judgement) = verdict_text sources judgement
+out_text sources (Unclean c at) = unclean_line sources c at
+out_text sources (Clean bounds) = clean_line bounds
 out_text sources answer = []
 
 -- the text on the error output, where the words name these files
@@ -45,6 +50,8 @@ err_text names sources (Ungathered why) = ungathered_line names.sources sources 
 err_text names sources AbsentCertificate = absent_line names.certificate
 err_text names sources (Unread why) = unread_line sources why
 err_text names sources (Judged judgement) = fault_text sources judgement
+err_text names sources (Unclean c at) = []
+err_text names sources (Clean bounds) = []
 err_text names sources (Trouble trouble) = trouble_line trouble
 
 -- what is said for an answer, where the words name these files and these sources were gathered

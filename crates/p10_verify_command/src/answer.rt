@@ -2,6 +2,7 @@
 
 ghost use Rattle.std.specs.Prelude.{◌≡◌};
 
+use p10_base::{Bounds, Span};
 use p10_command::{Trouble, Ungathered, Unread};
 use p10_judge::Judgement;
 
@@ -14,8 +15,12 @@ pub enum Answer {
     AbsentCertificate,
     /// The sources are no program.
     Unread(Unread),
-    /// What the certificate comes to for their program.
+    /// What the certificate comes to for their program, where it isn't accepted or need not be clean.
     Judged(Judgement),
+    /// The certificate is accepted, and this is the first condition of clean ones that doesn't hold; it is reported at this place.
+    Unclean(u8, Span),
+    /// The certificate is accepted and clean, and these are the bounds of every run.
+    Clean(Bounds),
     /// A read failed, or memory is wanting.
     Trouble(Trouble),
 }
@@ -32,6 +37,8 @@ impl Answer {
             Answer::AbsentCertificate => 9,
             Answer::Unread(why) => why.status(),
             Answer::Judged(judgement) => judgement.status(),
+            Answer::Unclean(..) => 1,
+            Answer::Clean(_) => 0,
             Answer::Trouble(trouble) => trouble.status(),
         }
     }

@@ -14,19 +14,21 @@ use p10_base::{ListBuf, Sources, TextBuf};
 use p10_world::{Files, Sink};
 use std::alloc::Global;
 
-/// `verify [--include DIRECTORIES] --cert CERTIFICATE SOURCE..`
+/// `verify [--include DIRECTORIES] [--clean] --cert CERTIFICATE SOURCE..`
 #[derive(Drop)]
 pub struct VerifyCommand {
     /// The directories in which included files are looked for, in their order.
     pub directories: ListBuf<TextBuf>,
+    /// Whether the certificate has to be clean, too.
+    pub clean: bool,
     /// The name of the certificate's file.
     pub certificate: TextBuf,
     /// The names of the source files.
     pub sources: ListBuf<TextBuf>,
 }
 
-/// Obeys the command: tells on `out` whether the certificate bounds every run of the sources' program, and all else on `err`.
-/// Gives the status with which the program exits.
+/// Obeys the command: tells on `out` whether the certificate bounds every run of the sources' program, and whether it is clean, where
+/// it has to be; all else is told on `err`. Gives the status with which the program exits.
 ///
 /// The statuses: 0 accepted, 1 a condition doesn't hold, 3 the sources are refused, 4 no certificate, 5 a read failed, 6 a
 /// write failed, 7 out of memory, 8 a limit is passed, 9 a file is absent.

@@ -2,10 +2,13 @@
 //!
 //!     verify --cert a.p10 a.c        accepted: prefix 3 turn 0 calls 1 bytes 0
 //!                                    refused: K11 a.c:1:5
+//!     verify --clean --cert b.p10 b.c
+//!                                    accepted clean: prefix 141 turn 0 calls 1 bytes 5
+//!                                    refused: C1 b.c:5:9
 //!
 //! Entry point: [`verify`]. The sources are gathered, the certificate is loaded, the sources are read as a program, and the
 //! certificate is judged for it; the first of these that gives no program, no certificate or no bounds is
-//! what is told. Invariant: the status and both texts are those of a right answer, and where the files are told at most one
+//! what is told. With `--clean`, an accepted certificate is read once more, and its claims are tried for that. Invariant: the status and both texts are those of a right answer, and where the files are told at most one
 //! is right, but for faults and want of memory. Which words are this command is left to the crate above.
 #![tactic(auto)]
 

@@ -12,7 +12,7 @@ use crate::command::VerifyCommand;
 use p10_base::Sources;
 use p10_command::{put_trouble, put_ungathered, put_unread};
 use p10_judge::{Judgement, put_judgement};
-use p10_report::put_absent;
+use p10_report::{put_absent, put_clean, put_unclean};
 use p10_world::{Sink, SinkFault};
 
 /// Writes both texts of an answer.
@@ -38,6 +38,8 @@ pub fn tell<O: Sink, E: Sink>(
         Answer::AbsentCertificate => put_absent(err, command.certificate.as_str()),
         Answer::Unread(why) => put_unread(err, sources, why),
         Answer::Judged(judgement) => tell_judgement(judgement, sources, out, err),
+        Answer::Unclean(condition, at) => put_unclean(out, sources, *condition, *at),
+        Answer::Clean(bounds) => put_clean(out, bounds),
         Answer::Trouble(trouble) => put_trouble(err, *trouble),
     }
 }

@@ -1,5 +1,5 @@
 -- What is known of an answer and the gathered sources while it is decided.
-use Rattle.std.specs.Prelude.{List, Option, ℕ}
+use Rattle.std.specs.Prelude.{◌≡◌, List, Option, ℕ, Bool, true}
 use Rattle.p10_base.specs.Gathered.{Gathered}
 use Rattle.p10_world.specs.Files.{Named}
 use Rattle.p10_core.specs.Typed.{PlainProgram}
@@ -8,12 +8,14 @@ use Rattle.p10_front.specs.Readings.{PlainReading, AreReadAs}
 use Rattle.p10_command.specs.Gathering as gathering
 use Rattle.p10_command.specs.Reading.{AreUnread, HasCode}
 use Rattle.p10_command.specs.Seen.{Seen}
-use Rattle.p10_judge.specs.declared.judgement.Judgement.{Judgement}
+use Rattle.p10_clean.specs.declared.flaw.Clean.{Clean as Cleanness}
+use Rattle.p10_clean.specs.declared.flaw.Clean.TheVariants.{Yes, No}
+use Rattle.p10_base.specs.declared.report.Bounds.{Bounds}
 use Rattle.p10_judge.specs.Judging.{IsWeighed}
 use Rattle.p10_verify_command.specs.declared.answer.Answer.{Answer}
-use Rattle.p10_verify_command.specs.declared.answer.Answer.TheVariants.{Ungathered, Unread, Judged}
+use Rattle.p10_verify_command.specs.declared.answer.Answer.TheVariants.{Ungathered, Unread, Judged, Unclean, Clean}
 use Rattle.p10_verify_command.specs.Names.{Names}
-use Rattle.p10_verify_command.specs.Answers.{IsRight}
+use Rattle.p10_verify_command.specs.Answers.{IsEnough, IsAcceptedAs, IsRight}
 
 -- files that are seen without a fault
 abbrev pub unfailing : Option (List Named) → Seen
@@ -34,15 +36,26 @@ pub record Answered (seen : Seen) (names : Names) (sources : Gathered) (answer :
 abbrev pub Decides : Option (List Named) → Names → Gathered → Answer → Type 0
 Decides held names sources answer = Answered (unfailing held) names sources answer
 
--- gathered sources are read as this whole program, for which the bytes of a certificate come to a judgement
-pub record IsWeighedFor (g : Gathered) (p : PlainProgram) (bytes : List ℕ) (judgement : Judgement) : Type 0 where
+-- the answer by what is said of an accepted certificate
+abbrev pub cleaned : Bounds → Cleanness → Answer
+cleaned bounds Yes = Clean bounds
+cleaned bounds (No c at) = Unclean c at
+
+-- what the bytes of a certificate come to for a program, where it has to be clean or need not
+abbrev pub ComesTo : PlainProgram → List ℕ → Bool → Answer → Type 0
+ComesTo p bytes clean (Judged judgement) = IsWeighed p bytes judgement × IsEnough clean judgement
+ComesTo p bytes clean (Unclean c at) = (clean ≡ true) × (bounds : Bounds) × IsAcceptedAs p bytes bounds (No c at)
+ComesTo p bytes clean (Clean bounds) = (clean ≡ true) × IsAcceptedAs p bytes bounds Yes
+ComesTo p bytes clean answer = ⊥
+
+-- gathered sources are read as this whole program, for which the bytes of a certificate come to an answer
+pub record IsAnswerFor (g : Gathered) (p : PlainProgram) (bytes : List ℕ) (clean : Bool) (answer : Answer) : Type 0 where
   pub reading : PlainReading
   pub read : AreReadAs g reading p
   pub whole : IsWholeProgram p
-  pub weighed : IsWeighed p bytes judgement
+  pub is : ComesTo p bytes clean answer
 
 -- what gathered sources and the bytes of a certificate come to
-abbrev pub AreWeighed : Gathered → List ℕ → Answer → Type 0
-AreWeighed g bytes (Unread why) = AreUnread g why × HasCode why
-AreWeighed g bytes (Judged judgement) = (p : PlainProgram) × IsWeighedFor g p bytes judgement
-AreWeighed g bytes answer = ⊥
+abbrev pub AreWeighed : Gathered → List ℕ → Bool → Answer → Type 0
+AreWeighed g bytes clean (Unread why) = AreUnread g why × HasCode why
+AreWeighed g bytes clean answer = (p : PlainProgram) × IsAnswerFor g p bytes clean answer

@@ -2,4 +2,4 @@ use Rattle.p10_verify_command.proofs.Weighing.{of_reading}
 use Rattle.p10_verify_command.proofs.decide.weigh_reading.Goals as goal
 
 pub returns : goal.returns
-returns c = of_reading c.args.reading.now.program c.in-Some.program c.args.certificate.now c.weigh.result c.in-Some.is c.weigh.ensures
+returns c = of_reading c.args.reading.now.program c.in-Some.program c.args.certificate.now c.args.clean c.weigh_program.result c.in-Some.is c.weigh_program.ensures

@@ -1,10 +1,10 @@
 use Rattle.p10_verify_command.proofs.Weighing.{program_weighed, whole_program}
 use Rattle.p10_verify_command.proofs.decide.weigh_sources.Goals as goal
 
-pub weigh_reading-judgement-requires : goal.weigh_reading-judgement-requires
-weigh_reading-judgement-requires c = whole_program c.args.sources.now c.in_ok-reading.field-0 c.in-Program.reading c.in-Program.is c.in_ok-reading.ensures
+pub weigh_reading-answer-requires : goal.weigh_reading-answer-requires
+weigh_reading-answer-requires c = whole_program c.args.sources.now c.in_ok-reading.field-0 c.in-Program.reading c.in-Program.is c.in_ok-reading.ensures
 
-pub returns-in_ok-judgement-in-Program : goal.returns-in_ok-judgement-in-Program
-returns-in_ok-judgement-in-Program c =
-    program_weighed c.args.sources.now c.in_ok-reading.field-0 c.in-Program.reading c.args.certificate.now c.in_ok-judgement-in-Program.field-0 c.in-Program.is c.in_ok-reading.ensures
-    c.in_ok-judgement-in-Program.ensures
+pub returns-in_ok-answer-in-Program : goal.returns-in_ok-answer-in-Program
+returns-in_ok-answer-in-Program c =
+    program_weighed c.args.sources.now c.in_ok-reading.field-0 c.in-Program.reading c.args.certificate.now c.args.clean c.in_ok-answer-in-Program.field-0 c.in-Program.is c.in_ok-reading.ensures
+    c.in_ok-answer-in-Program.ensures
