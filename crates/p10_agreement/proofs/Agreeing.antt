@@ -54,7 +54,7 @@ right accepting command files later g p c certificate gathers is_certificate der
       given = have.given;
       weighed = weighed accepting p gathers.whole c is_certificate derived;
     } in
-    record { sources = g; answer = Judged (Accepted c.total); is_right = (p, program, judged); said = refl }
+    record { sources = g; answer = Judged (Accepted c.total); is_right = (p, program, judged, refl); said = refl }
 
 pub derived_are_verified : ReadingsArePrograms → DerivedCertificatesOfFilesHaveText → DerivedCertificatesAreAccepted → VerifySaysOneThing → DerivedCertificatesAreVerified
 derived_are_verified reading naming accepting one command files g p c gathers derived =

@@ -1,5 +1,5 @@
 -- On what `derive` and `verify` agree.
-use Rattle.std.specs.Prelude.{ℕ, ◌≡◌, ◌≢◌, List, [], Some, IsSome}
+use Rattle.std.specs.Prelude.{ℕ, ◌≡◌, ◌≢◌, false, List, [], Some, IsSome}
 use Rattle.p10_base.specs.declared.report.Bounds.{Bounds}
 use Rattle.p10_base.specs.Gathered.{Gathered}
 use Rattle.p10_base.specs.Words.{Text}
@@ -56,9 +56,9 @@ pub record IsVerified (names : Names) (files : List Named) (bounds : Bounds) : T
   pub right : (before after : ℕ) → verify.SaysRight names (seen_files files before after) (acceptance bounds)
   pub only : (before after : ℕ) (saying : Saying) → verify.SaysRight names (seen_files files before after) saying → saying.status ≢ 5 → saying.status ≢ 7 → saying ≡ acceptance bounds
 
--- the names of the command `verify` for the sources of a command `derive`, with this certificate
+-- the names of the command `verify` for the sources of a command `derive`, with this certificate, which need not be clean
 abbrev pub with_certificate : DeriveCommand → Text → Names
-with_certificate command certificate = record { directories = command.directories; certificate = certificate; sources = command.sources }
+with_certificate command certificate = record { directories = command.directories; clean = false; certificate = certificate; sources = command.sources }
 
 -- the later files hold this text under the name of the certificate, and for the sources all that the earlier ones hold
 pub record HaveCertificate (names : Names) (text : List ℕ) (files later : List Named) : Type 0 where
