@@ -3,7 +3,7 @@ use Rattle.std.proofs.Common.{ℕ, ◌≤◌, ◌^◌, List, length, ap, arith, 
 use Rattle.p10_base.specs.Words.{Text}
 use Rattle.p10_words.specs.declared.command.Command.{Command}
 use Rattle.p10_words.specs.declared.command.Command.TheVariants as command
-use Rattle.p10_words.specs.CommandLines.{Given, Splits, HasNumber, no_words, file, option, option_joined, ended}
+use Rattle.p10_words.specs.CommandLines.{Given, Splits, HasNumber, no_words, file, option, option_joined, flag, ended}
 use Rattle.p10_words.specs.Commands.{IsCommandLine}
 use Rattle.p10_top.specs.Commands.{IsNoRun, IsNoRunLine, sources_of, turns_asked}
 
@@ -12,8 +12,9 @@ use Rattle.p10_top.specs.Commands.{IsNoRun, IsNoRunLine, sources_of, turns_asked
 few_files : (names words : List Text) (options : List Given) (files : List Text) → Splits names words options files → length files ≤ length words
 few_files names words options files no_words = omega arith
 few_files names words options files (file {word = word} {words = rest} {options = given} {files = others} n s) = omega (arith, few_files names rest given others s)
-few_files names words options files (option {name = name} {value = value} {words = rest} {options = others} {files = kept} a n s) = omega (arith, few_files names rest others kept s)
-few_files names words options files (option_joined {name = name} {value = value} {words = rest} {options = others} {files = kept} a n s) = omega (arith, few_files names rest others kept s)
+few_files names words options files (option {name = name} {value = value} {words = rest} {options = others} {files = kept} a g n s) = omega (arith, few_files names rest others kept s)
+few_files names words options files (option_joined {name = name} {value = value} {words = rest} {options = others} {files = kept} a g n s) = omega (arith, few_files names rest others kept s)
+few_files names words options files (flag {name = name} {words = rest} {options = others} {files = kept} a g s) = omega (arith, few_files names rest others kept s)
 few_files names words options files (ended {words = rest} n) = omega arith
 
 -- a command has no more sources than a command line words
@@ -24,7 +25,7 @@ few_sources words (command.Check directories json sources) is =
 few_sources words (command.Derive directories sources) is =
     let derive = is.rest.1 in
     omega (arith, few_files _ is.words derive.options sources derive.split.splits, ap length is.begins, is.few)
-few_sources words (command.Verify directories certificate sources) is =
+few_sources words (command.Verify directories clean certificate sources) is =
     let verify = is.rest.1 in
     omega (arith, few_files _ is.words verify.options sources verify.split.splits, ap length is.begins, is.few)
 few_sources words (command.Run directories budget turns deny sources) is =
@@ -40,7 +41,7 @@ number_is_small (Some text) standard n small is = is.small
 pub few_turns : (words : List Text) (c : Command) → IsCommandLine words c → turns_asked c ≤ 10 ^ 18
 few_turns words (command.Check directories json sources) is = omega arith
 few_turns words (command.Derive directories sources) is = omega arith
-few_turns words (command.Verify directories certificate sources) is = omega arith
+few_turns words (command.Verify directories clean certificate sources) is = omega arith
 few_turns words (command.Run directories budget turns deny sources) is = number_is_small _ 1 turns (omega arith) is.rest.1.has_turns
 few_turns words (command.Generate functions) is = omega arith
 
@@ -48,6 +49,6 @@ few_turns words (command.Generate functions) is = omega arith
 pub no_run : (words : List Text) (c : Command) → IsCommandLine words c → IsNoRunLine words → IsNoRun c
 no_run words (command.Check directories json sources) is none = tt
 no_run words (command.Derive directories sources) is none = tt
-no_run words (command.Verify directories certificate sources) is none = tt
+no_run words (command.Verify directories clean certificate sources) is none = tt
 no_run words (command.Run directories budget turns deny sources) is none = none (record { directories = directories; budget = budget; turns = turns; deny = deny; sources = sources }) is
 no_run words (command.Generate functions) is none = tt

@@ -23,8 +23,8 @@ one_for only found one shown once (command.Check directories json sources) files
     only (record { directories = directories; json = json; sources = sources }) (told files before after) files some other refl says says' five seven five' seven'
 one_for only found one shown once (command.Derive directories sources) files before after input bytes some other left says says' five seven five' seven' =
     found (record { directories = directories; sources = sources }) (told files before after) files some other refl says says' five seven five' seven'
-one_for only found one shown once (command.Verify directories certificate sources) files before after input bytes some other left says says' five seven five' seven' =
-    one (record { directories = directories; certificate = certificate; sources = sources }) files before after some other says says' five seven five' seven'
+one_for only found one shown once (command.Verify directories clean certificate sources) files before after input bytes some other left says says' five seven five' seven' =
+    one (record { directories = directories; clean = clean; certificate = certificate; sources = sources }) files before after some other says says' five seven five' seven'
 one_for only found one shown once (command.Run directories budget turns deny sources) files before after input bytes some other left says says' five seven five' seven' =
     once (record { directories = directories; budget = budget; turns = turns; deny = deny; sources = sources }) (told files before after) input files bytes some other refl left says says' five seven five' seven'
 one_for only found one shown once (command.Generate functions) files before after input bytes some other left says says' five seven five' seven' = shown functions some other says says' seven seven'

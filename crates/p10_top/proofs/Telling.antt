@@ -1,5 +1,5 @@
 -- What may be said, and what a status of 0 promises.
-use Rattle.std.proofs.Common.{◌≡◌, ◌≢◌, ℕ, List, [], refl, sym, ◌∙◌, ap, subst, arith, Option, Some, None, IfSome, Result, Err}
+use Rattle.std.proofs.Common.{◌≡◌, ◌≢◌, ℕ, Bool, true, false, List, [], refl, sym, ◌∙◌, ap, subst, arith, Option, Some, None, IfSome, Result, Err}
 use Rattle.std.specs.Io.KnownBytes.{Appends}
 use Rattle.std.proofs.KnownBytes.{Appends-nil}
 use Rattle.p10_base.specs.Gathered.{Gathered}
@@ -14,11 +14,15 @@ use Rattle.p10_pass.specs.Passing as passing
 use Rattle.p10_check.specs.declared.verdict.Verdict.TheVariants as verdicts
 use Rattle.p10_check.specs.Conditions.{verdict_by}
 use Rattle.p10_soundness.specs.Laws.{CertificatesAcceptedByRangesBoundRuns}
+use Rattle.p10_clean.specs.declared.flaw.Clean.TheVariants.{Yes}
+use Rattle.p10_clean.specs.Clean.{cleanness}
+use Rattle.p10_clean_soundness.specs.Laws.{CleanCertificatesAcceptedByRangesExcludeUndefined, RunsAreDefined}
 use Rattle.p10_report.specs.Stops.{StopsWithin}
 use Rattle.p10_report.proofs.Stopping.{TakesFront-stop}
 use Rattle.p10_command.specs.declared.trouble.Trouble.TheVariants.{Read, Memory}
 use Rattle.p10_command.specs.declared.gathering.Ungathered.TheVariants as gathering
 use Rattle.p10_command.specs.declared.reading.Unread.TheVariants as reading
+use Rattle.p10_command.specs.Programs.{HasProgram}
 use Rattle.p10_command.specs.Saying.{Saying}
 use Rattle.p10_command.specs.Seen.{Seen, SeenInput}
 use Rattle.p10_command.specs.Told.{Told, Stopped}
@@ -29,15 +33,16 @@ use Rattle.p10_words.specs.declared.command.Usage.TheVariants as usage
 use Rattle.p10_words.specs.Commands.{IsCommandLine}
 use Rattle.p10_words.proofs.OneCommand.{one_command}
 use Rattle.p10_judge.specs.declared.judgement.Judgement.TheVariants as judgement
-use Rattle.p10_judge.specs.Judging.{HasVerdict}
+use Rattle.p10_judge.specs.Judging.{HasVerdict, IsClaimed}
+use Rattle.p10_judge.specs.Loading.{Gives}
 use Rattle.p10_check_command.specs.declared.command.CheckCommand.{CheckCommand}
 use Rattle.p10_derive_command.specs.declared.command.DeriveCommand.{DeriveCommand}
 use Rattle.p10_run_command.specs.declared.command.RunCommand.{RunCommand}
 use Rattle.p10_verify_command.specs.declared.command.VerifyCommand.{VerifyCommand}
 use Rattle.p10_verify_command.specs.declared.answer.Answer.{Answer}
-use Rattle.p10_verify_command.specs.declared.answer.Answer.TheVariants.{Ungathered, AbsentCertificate, Unread, Judged, Trouble}
+use Rattle.p10_verify_command.specs.declared.answer.Answer.TheVariants.{Ungathered, AbsentCertificate, Unread, Judged, Unclean, Clean, Trouble}
 use Rattle.p10_verify_command.specs.Names.{Names}
-use Rattle.p10_verify_command.specs.Answers.{IsRight}
+use Rattle.p10_verify_command.specs.Answers.{IsRight, setting_of}
 use Rattle.p10_verify_command.specs.Told.{SaysRight, status_of}
 use Rattle.p10_top.specs.Headline.{BoundsRuns, Verified}
 use Rattle.p10_top.specs.Told.{MaySay, SaysFor, for_none, for_command, for_any}
@@ -59,7 +64,7 @@ abbrev pub of_derive : DeriveCommand → Command
 of_derive derive = command.Derive derive.directories derive.sources
 
 abbrev pub of_verify : VerifyCommand → Command
-of_verify verify = command.Verify verify.directories verify.certificate verify.sources
+of_verify verify = command.Verify verify.directories verify.clean verify.certificate verify.sources
 
 abbrev pub of_run : RunCommand → Command
 of_run run = command.Run run.directories run.budget run.turns run.deny run.sources
@@ -119,45 +124,60 @@ bounds_are total bounds (Some e) is = absurd (cc)
 stays_within : CertificatesAcceptedByRangesBoundRuns → (p : PlainProgram) → IsWholeProgram p → (c : Claims) (bounds : Bounds) → HasVerdict p c (verdicts.Accepted bounds) → Within p c.total
 stays_within law p whole c bounds v = subst (λ (b : Bounds). Within p b) (bounds_are c.total bounds v.first v.is) (law p whole c bounds v)
 
-accepted : CertificatesAcceptedByRangesBoundRuns → (files : List Named) (before after : ℕ) (names : Names) (g : Gathered) (answer : Answer) → status_of answer ≡ 0 → IsRight (record { held = Some files; faults_before = before; faults_after = after }) names g answer → BoundsRuns names files
-accepted law files before after names g (Judged (judgement.Accepted bounds)) zero (p, has, judged) = record {
+not_both : {A : Type 0} (b : Bool) → b ≡ false → b ≡ true → A
+not_both b off on = absurd (cc (off, on))
+
+stays_defined : CleanCertificatesAcceptedByRangesExcludeUndefined → (p : PlainProgram) → IsWholeProgram p → (c : Claims) (bounds : Bounds) → HasVerdict p c (verdicts.Accepted bounds) → Yes ≡ cleanness p c → RunsAreDefined p c.total
+stays_defined law p whole c bounds v is_clean = subst (λ (b : Bounds). RunsAreDefined p b) (bounds_are c.total bounds v.first v.is) (law p whole c bounds v (sym is_clean))
+
+-- a certificate that is accepted for the program of the sources bounds every run
+bounds_runs : CertificatesAcceptedByRangesBoundRuns → (files : List Named) (names : Names) (g : Gathered) (p : PlainProgram) (bytes : List ℕ) (bounds : Bounds) → HasProgram (setting_of (Some files) names) g p → Gives (Some files) names.certificate bytes
+    → (claimed : IsClaimed p bytes (verdicts.Accepted bounds)) → (names.clean ≡ true → RunsAreDefined p claimed.claims.total) → BoundsRuns names files
+bounds_runs law files names g p bytes bounds has given claimed defined = record {
   sources = g;
   gathers = has.gathers;
   reading = has.reading;
   program = p;
   read = has.read;
   whole = has.whole;
-  claims = judged.weighed.claims;
-  certificate_given = judged.given ∙ ap Some judged.weighed.text_is;
-  is_certificate = judged.weighed.is_certificate;
-  within = stays_within law p has.whole judged.weighed.claims bounds judged.weighed.has;
+  claims = claimed.claims;
+  certificate_given = given ∙ ap Some claimed.text_is;
+  is_certificate = claimed.is_certificate;
+  within = stays_within law p has.whole claimed.claims bounds claimed.has;
+  defined = defined;
 }
-accepted law files before after names g (Judged (judgement.Failing k at)) zero right = absurd (omega (arith, zero))
-accepted law files before after names g (Judged judgement.TooLong) zero right = absurd (omega (arith, zero))
-accepted law files before after names g (Judged (judgement.BadCertificate line)) zero right = absurd (omega (arith, zero))
-accepted law files before after names g (Ungathered (gathering.AbsentRoot place)) zero right = absurd (omega (arith, zero))
-accepted law files before after names g (Ungathered (gathering.Refused refusal)) zero right = absurd (omega (arith, zero))
-accepted law files before after names g (Ungathered (gathering.Over limit)) zero right = absurd (omega (arith, zero))
-accepted law files before after names g AbsentCertificate zero right = absurd (omega (arith, zero))
-accepted law files before after names g (Unread (reading.Refused refusal)) zero right = absurd (omega (arith, zero))
-accepted law files before after names g (Unread (reading.Over limit)) zero right = absurd (omega (arith, zero))
-accepted law files before after names g (Trouble Read) zero right = absurd (omega (arith, zero))
-accepted law files before after names g (Trouble Memory) zero right = absurd (omega (arith, zero))
 
-says_zero : CertificatesAcceptedByRangesBoundRuns → (files : List Named) (before after : ℕ) (names : Names) (saying : Saying) → SaysRight names (record { held = Some files; faults_before = before; faults_after = after }) saying → saying.status ≡ 0 → BoundsRuns names files
-says_zero law files before after names saying says zero = accepted law files before after names says.sources says.answer (ap (λ (s : Saying). s.status) (sym says.said) ∙ zero) says.is_right
+accepted : CertificatesAcceptedByRangesBoundRuns → CleanCertificatesAcceptedByRangesExcludeUndefined → (files : List Named) (before after : ℕ) (names : Names) (g : Gathered) (answer : Answer) → status_of answer ≡ 0 → IsRight (record { held = Some files; faults_before = before; faults_after = after }) names g answer → BoundsRuns names files
+accepted law clean files before after names g (Judged (judgement.Accepted bounds)) zero (p, has, judged, enough) = bounds_runs law files names g p judged.bytes bounds has judged.given judged.weighed (λ asked. not_both names.clean enough asked)
+accepted law clean files before after names g (Clean bounds) zero tried = bounds_runs law files names g tried.program tried.bytes bounds tried.has tried.given tried.accepted.claimed
+    (λ asked. stays_defined clean tried.program tried.has.whole tried.accepted.claimed.claims bounds tried.accepted.claimed.has tried.accepted.is)
+accepted law clean files before after names g (Unclean c at) zero right = absurd (omega (arith, zero))
+accepted law clean files before after names g (Judged (judgement.Failing k at)) zero right = absurd (omega (arith, zero))
+accepted law clean files before after names g (Judged judgement.TooLong) zero right = absurd (omega (arith, zero))
+accepted law clean files before after names g (Judged (judgement.BadCertificate line)) zero right = absurd (omega (arith, zero))
+accepted law clean files before after names g (Ungathered (gathering.AbsentRoot place)) zero right = absurd (omega (arith, zero))
+accepted law clean files before after names g (Ungathered (gathering.Refused refusal)) zero right = absurd (omega (arith, zero))
+accepted law clean files before after names g (Ungathered (gathering.Over limit)) zero right = absurd (omega (arith, zero))
+accepted law clean files before after names g AbsentCertificate zero right = absurd (omega (arith, zero))
+accepted law clean files before after names g (Unread (reading.Refused refusal)) zero right = absurd (omega (arith, zero))
+accepted law clean files before after names g (Unread (reading.Over limit)) zero right = absurd (omega (arith, zero))
+accepted law clean files before after names g (Trouble Read) zero right = absurd (omega (arith, zero))
+accepted law clean files before after names g (Trouble Memory) zero right = absurd (omega (arith, zero))
+
+says_zero : CertificatesAcceptedByRangesBoundRuns → CleanCertificatesAcceptedByRangesExcludeUndefined → (files : List Named) (before after : ℕ) (names : Names) (saying : Saying) → SaysRight names (record { held = Some files; faults_before = before; faults_after = after }) saying → saying.status ≡ 0 → BoundsRuns names files
+says_zero law clean files before after names saying says zero = accepted law clean files before after names says.sources says.answer (ap (λ (s : Saying). s.status) (sym says.said) ∙ zero) says.is_right
 
 -- what is said with status 0 to `verify` is that its certificate is accepted
-by_line : CertificatesAcceptedByRangesBoundRuns → (words : List Text) (files : List Named) (before after : ℕ) (input : SeenInput) (saying : Saying) → MaySay words (record { held = Some files; faults_before = before; faults_after = after }) input saying → saying.status ≡ 0 → Verified words files
-by_line law words files before after input saying (for_none none said) zero names is = absurd (none (command.Verify names.directories names.certificate names.sources) is)
-by_line law words files before after input saying (for_command c line says) zero names is =
-    says_zero law files before after names saying
-    (subst (λ (d : Command). SaysFor d (record { held = Some files; faults_before = before; faults_after = after }) input saying) (one_command words c (command.Verify names.directories names.certificate names.sources) line is) says) zero
-by_line law words files before after input saying (for_any said) zero names is = absurd (omega (arith, ap (λ (s : Saying). s.status) said, zero))
+by_line : CertificatesAcceptedByRangesBoundRuns → CleanCertificatesAcceptedByRangesExcludeUndefined → (words : List Text) (files : List Named) (before after : ℕ) (input : SeenInput) (saying : Saying) → MaySay words (record { held = Some files; faults_before = before; faults_after = after }) input saying → saying.status ≡ 0 → Verified words files
+by_line law clean words files before after input saying (for_none none said) zero names is = absurd (none (command.Verify names.directories names.clean names.certificate names.sources) is)
+by_line law clean words files before after input saying (for_command c line says) zero names is =
+    says_zero law clean files before after names saying
+    (subst (λ (d : Command). SaysFor d (record { held = Some files; faults_before = before; faults_after = after }) input saying) (one_command words c (command.Verify names.directories names.clean names.certificate names.sources) line is) says) zero
+by_line law clean words files before after input saying (for_any said) zero names is = absurd (omega (arith, ap (λ (s : Saying). s.status) said, zero))
 
-pub verified : CertificatesAcceptedByRangesBoundRuns → (held : Option (List Named)) (before after : ℕ) (words : List Text) (input : SeenInput) (out_old out_new err_old err_new : Option (List ℕ)) (status : ℕ) → (status ≢ 6 → Told (MaySay words (record { held = held; faults_before = before; faults_after = after }) input) out_old out_new err_old err_new status) →
+pub verified : CertificatesAcceptedByRangesBoundRuns → CleanCertificatesAcceptedByRangesExcludeUndefined → (held : Option (List Named)) (before after : ℕ) (words : List Text) (input : SeenInput) (out_old out_new err_old err_new : Option (List ℕ)) (status : ℕ) → (status ≢ 6 → Told (MaySay words (record { held = held; faults_before = before; faults_after = after }) input) out_old out_new err_old err_new status) →
     status ≡ 0 → IfSome held (Verified words)
-verified law None before after words input out_old out_new err_old err_new status told zero = tt
-verified law (Some files) before after words input out_old out_new err_old err_new status told zero =
+verified law clean None before after words input out_old out_new err_old err_new status told zero = tt
+verified law clean (Some files) before after words input out_old out_new err_old err_new status told zero =
     let t = told (λ six. omega (arith, zero, six)) in
-    by_line law words files before after input t.saying t.may (sym t.status_is ∙ zero)
+    by_line law clean words files before after input t.saying t.may (sym t.status_is ∙ zero)

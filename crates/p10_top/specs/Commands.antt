@@ -15,7 +15,7 @@ IsDeriveLine words directories sources = IsCommandLine words (Derive directories
 
 -- the words are the command `verify` with these names
 abbrev pub IsVerifyLine : List Text → Names → Type 0
-IsVerifyLine words names = IsCommandLine words (Verify names.directories names.certificate names.sources)
+IsVerifyLine words names = IsCommandLine words (Verify names.directories names.clean names.certificate names.sources)
 
 -- the words are no `run`
 abbrev pub IsNoRunLine : List Text → Type 0
@@ -36,7 +36,7 @@ IsNoCommand words = (command : Command) → IsCommandLine words command → ⊥
 abbrev pub sources_of : Command → List Text
 sources_of (Check directories json sources) = sources
 sources_of (Derive directories sources) = sources
-sources_of (Verify directories certificate sources) = sources
+sources_of (Verify directories clean certificate sources) = sources
 sources_of (Run directories budget turns deny sources) = sources
 sources_of (Generate functions) = []
 
@@ -44,7 +44,7 @@ sources_of (Generate functions) = []
 abbrev pub turns_asked : Command → ℕ
 turns_asked (Check directories json sources) = 0
 turns_asked (Derive directories sources) = 0
-turns_asked (Verify directories certificate sources) = 0
+turns_asked (Verify directories clean certificate sources) = 0
 turns_asked (Run directories budget turns deny sources) = turns
 turns_asked (Generate functions) = 0
 
@@ -52,6 +52,6 @@ turns_asked (Generate functions) = 0
 abbrev pub IsNoRun : Command → Type 0
 IsNoRun (Check directories json sources) = Unit {0}
 IsNoRun (Derive directories sources) = Unit {0}
-IsNoRun (Verify directories certificate sources) = Unit {0}
+IsNoRun (Verify directories clean certificate sources) = Unit {0}
 IsNoRun (Run directories budget turns deny sources) = ⊥
 IsNoRun (Generate functions) = Unit {0}

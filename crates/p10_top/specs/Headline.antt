@@ -1,5 +1,5 @@
 -- What a verified certificate promises, and one that is derived.
-use Rattle.std.specs.Prelude.{ℕ, ◌≡◌, List, Option, Some}
+use Rattle.std.specs.Prelude.{ℕ, ◌≡◌, true, List, Option, Some}
 use Rattle.std.specs.Io.KnownBytes.{Appends}
 use Rattle.p10_base.specs.Gathered.{Gathered}
 use Rattle.p10_base.specs.Words.{Text}
@@ -16,6 +16,7 @@ use Rattle.p10_finder.specs.Answers.{Certified, IsDerived}
 use Rattle.p10_expand.specs.Gathering.{Gathers}
 use Rattle.p10_expand.specs.Setting.{setting}
 use Rattle.p10_front.specs.Readings.{PlainReading, AreReadAs}
+use Rattle.p10_clean_soundness.specs.Laws.{RunsAreDefined}
 use Rattle.p10_verify_command.specs.Names.{Names}
 use Rattle.p10_verify_command.specs.Answers.{setting_of}
 use Rattle.p10_agreement.specs.Laws.{AreVerified}
@@ -23,7 +24,8 @@ use Rattle.p10_top.specs.Commands.{IsDeriveLine, IsVerifyLine}
 
 -- The sources are read as a program, the certificate's bytes are the text of its claims, and from every input each call of `main`, or
 -- each turn of the task loop and the part before it, returns, fails an assertion or stops at a named undefined operation within the
--- claimed steps; no chain of calls passes the claimed depth, and nothing is allocated or freed after the marked end of initialisation.
+-- claimed steps; no chain of calls passes the claimed depth, and nothing is allocated or freed after the marked end of initialisation. With
+-- `--clean` none stops at an undefined operation.
 pub record BoundsRuns (names : Names) (files : List Named) : Type 0 where
   pub sources : Gathered
   pub gathers : Gathers (setting_of (Some files) names) sources
@@ -35,8 +37,9 @@ pub record BoundsRuns (names : Names) (files : List Named) : Type 0 where
   pub certificate_given : file_of names.certificate files ≡ Some (certificate_text claims)
   pub is_certificate : IsCertificate claims
   pub within : Within program claims.total
+  pub defined : names.clean ≡ true → RunsAreDefined program claims.total
 
--- if the words are `verify` with sources, directories of included files and a certificate, then that certificate bounds every run
+-- if the words are `verify` with sources, directories of included files and a certificate, then that certificate bounds every run, and with `--clean` excludes every undefined operation
 abbrev pub Verified : List Text → List Named → Type 0
 Verified words files = (names : Names) → IsVerifyLine words names → BoundsRuns names files
 

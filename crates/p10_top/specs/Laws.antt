@@ -1,5 +1,5 @@
 -- What holds of the answers.
-use Rattle.std.specs.Prelude.{ℕ, ◌≡◌, ◌≢◌, List, Some}
+use Rattle.std.specs.Prelude.{ℕ, ◌≡◌, ◌≢◌, false, List, Some}
 use Rattle.p10_base.specs.Words.{Text}
 use Rattle.p10_world.specs.Files.{Named}
 use Rattle.p10_command.specs.Saying.{Saying}
@@ -21,10 +21,10 @@ SaysOneThing =
 
 -- Where a text may be said on the output with status 0 to a command line `derive`, and later files hold it under the name of a certificate, and
 -- for the sources all that the earlier ones hold, only with status 0 may be answered to a command line `verify` with that certificate and
--- the same directories and sources, but for a read fault and out of memory.
+-- the same directories and sources, without `--clean`, but for a read fault and out of memory.
 abbrev pub VerifyAcceptsWhatDeriveWrites : Type 0
 VerifyAcceptsWhatDeriveWrites =
-    (derive verify : List Text) (names : Names) → IsDeriveLine derive names.directories names.sources → IsVerifyLine verify names
+    (derive verify : List Text) (names : Names) → IsDeriveLine derive names.directories names.sources → IsVerifyLine verify names → names.clean ≡ false
     → (files later : List Named) (before after before_later after_later : ℕ) (input input_later : SeenInput) (written said : Saying)
     → MaySay derive (record { held = Some files; faults_before = before; faults_after = after }) input written → written.status ≡ 0
     → HaveCertificate names written.out files later

@@ -26,7 +26,7 @@ memory_saying = record { status = 7; out = []; err = out_of_memory_line }
 abbrev pub SaysFor : Command → Seen → SeenInput → Saying → Type 0
 SaysFor (Check directories json sources) seen input saying = check.SaysRight (record { directories = directories; json = json; sources = sources }) seen saying
 SaysFor (Derive directories sources) seen input saying = derive.SaysRight (record { directories = directories; sources = sources }) seen saying
-SaysFor (Verify directories certificate sources) seen input saying = verify.SaysRight (record { directories = directories; certificate = certificate; sources = sources }) seen saying
+SaysFor (Verify directories clean certificate sources) seen input saying = verify.SaysRight (record { directories = directories; clean = clean; certificate = certificate; sources = sources }) seen saying
 SaysFor (Run directories budget turns deny sources) seen input saying = run.SaysRight (record { directories = directories; budget = budget; turns = turns; deny = deny; sources = sources }) seen input saying
 SaysFor (Generate functions) seen input saying = gen.SaysRight functions saying
 

@@ -37,13 +37,15 @@ pub fn derive_command(directories: ListBuf<TextBuf>, sources: ListBuf<TextBuf>) 
 /// `verify` of these sources.
 pub fn verify_command(
     directories: ListBuf<TextBuf>,
+    clean: bool,
     certificate: TextBuf,
     sources: ListBuf<TextBuf>,
 ) -> VerifyCommand
-    ensures { result ≡ record { directories = directories; certificate = certificate; sources = sources } }
+    ensures { result ≡ record { directories = directories; clean = clean; certificate = certificate; sources = sources } }
 {
     VerifyCommand {
         directories,
+        clean,
         certificate,
         sources,
     }

@@ -20,6 +20,7 @@ use commands::{check_command, derive_command, run_command, verify_command};
 use p10_acceptance::laws::derived_certificates_are_accepted;
 use p10_agreement::laws::derived_certificates_are_verified;
 use p10_check_command::check;
+use p10_clean_soundness::laws::clean_certificates_exclude_undefined_operations;
 use p10_derive_command::derive;
 use p10_gen_command::generate;
 use p10_report::{put_out_of_memory, put_usage};
@@ -45,8 +46,8 @@ mod tests;
 /// `derive [--include DIRECTORIES] SOURCE..` tells on `out` the certificate that is derived of the sources' program; the violations for
 /// which there is none, and all else, are told on `err`. Nothing is read of `input`.
 ///
-/// `verify [--include DIRECTORIES] --cert CERTIFICATE SOURCE..` tells on `out` whether the certificate bounds every run of the
-/// sources' program; all else is told on `err`. Nothing is read of `input` by this command either.
+/// `verify [--include DIRECTORIES] [--clean] --cert CERTIFICATE SOURCE..` tells on `out` whether the certificate bounds every run of the
+/// sources' program, and with `--clean` whether it is clean, too; all else is told on `err`. Nothing is read of `input` by this command either.
 ///
 /// `run [--include DIRECTORIES] [--steps N | --cert CERTIFICATE] [--turns N] [--deny N] SOURCE..` runs the sources' program on `input` and
 /// `out`, and tells on `err` how it has ended, or why there is none. With a certificate it runs only where that is accepted, and by its steps.
@@ -65,7 +66,7 @@ pub fn p10_main<F: Files, I: Source, O: Sink, E: Sink>(
     out: &mut O,
     err: &mut E,
 ) -> u8
-    // An accepted certificate bounds every run of the sources' program.
+    // An accepted certificate bounds every run of the sources' program; one that is accepted as clean excludes every undefined operation.
     ensures headline { result ≡ 0 → IfSome (F.held files.old) (Verified (map string_bytes words.now)) }
 
     // A run by a certificate never ends for want of steps.
@@ -93,6 +94,7 @@ pub fn p10_main<F: Files, I: Source, O: Sink, E: Sink>(
 {
     // The laws that the headline, and the clauses on derivation and on steps, rest on.
     accepted_certificates_bound_every_run();
+    clean_certificates_exclude_undefined_operations();
     derived_certificates_are_accepted();
     derived_certificates_are_verified();
     certificates_leave_steps();
@@ -137,9 +139,13 @@ fn obey<F: Files, I: Source, O: Sink, E: Sink>(
         } => derive(alloc, &derive_command(dirs, sources), files, out, err),
         Command::Verify {
             dirs,
+            clean,
             cert,
             files: sources,
-        } => verify(alloc, &verify_command(dirs, cert, sources), files, out, err),
+        } => {
+            let command = verify_command(dirs, clean, cert, sources);
+            verify(alloc, &command, files, out, err)
+        }
         Command::Run {
             dirs,
             budget,

@@ -11,6 +11,8 @@ use std::test::Fail;
 
 const VERIFY: [&str; 4] = ["verify", "--cert", "a.p10", "a.c"];
 
+const CLEAN: [&str; 5] = ["verify", "--clean", "--cert", "a.p10", "a.c"];
+
 const CHECK: [&str; 2] = ["check", "a.c"];
 
 const DERIVE: [&str; 2] = ["derive", "a.c"];
@@ -34,6 +36,10 @@ const USAGE: &str = "p10: usage: p10 (check|derive|verify|run|gen) [options] FIL
 const ACCEPTED: &str = "accepted: prefix 3 turn 0 calls 1 bytes 0\n";
 
 const UNASSERTED: &str = "a.c:1:5: rule 5.1: fewer than two assertions per function\n";
+
+const ACCEPTED_CLEAN: &str = "accepted clean: prefix 3 turn 0 calls 1 bytes 0\n";
+
+const UNCLEAN: &str = "refused: C2 a.c:1:25\n";
 
 const TOO_FEW_STEPS: &str = "refused: K11 a.c:1:5\n";
 
@@ -67,6 +73,19 @@ const ONE_MORE: Held = (
     Some(CERTIFICATE),
 );
 
+/// It takes five steps, and no state reaches its return.
+const QUOTIENT: Held = (
+    Some("int main(void) { return 1 / 0; }\n"),
+    Some(
+        "p10cert 1
+func main rank 0 steps 5 calls 1 bytes 0 alloc 0
+result 0 0
+total prefix 5 turn 0 calls 1 bytes 0
+end
+",
+    ),
+);
+
 const OPEN: Held = (Some("int main(void) { return 0; } /*"), None);
 
 const WORD: Held = (Some("int"), None);
@@ -93,10 +112,14 @@ type Row = (
     &'static str,
 );
 
-static ROWS: [Row; 22] = [
+static ROWS: [Row; 25] = [
     (&["verify", "a.c"], BOTH, &[], 0, 2, USAGE),
     (&VERIFY, BOTH, &[3], 2, 0, ACCEPTED),
     (&VERIFY, ONE_MORE, &[], 2, 1, TOO_FEW_STEPS),
+    // That it has to be clean asks for no other file.
+    (&CLEAN, BOTH, &[3], 2, 0, ACCEPTED_CLEAN),
+    (&CLEAN, QUOTIENT, &[3], 2, 1, UNCLEAN),
+    (&CLEAN, ONE_MORE, &[3], 2, 1, TOO_FEW_STEPS),
     // What the source's words are is told before the certificate is asked for.
     (&VERIFY, OPEN, &[2], 1, 3, NO_END),
     // The second read asks for `no.h`.

@@ -16,10 +16,10 @@ pub returns-in-Derive-clause-stopped : goal.returns-in-Derive-clause-stopped
 returns-in-Derive-clause-stopped g c = λ six. stopped_of c.args.command (of_derive c.derive_command.result) _ _ _ _ _ _ (c.in-Derive.is ∙ ap of_derive (sym c.derive_command.ensures)) (c.derive.ensures.stopped six)
 
 pub returns-in-Verify-clause-told : goal.returns-in-Verify-clause-told
-returns-in-Verify-clause-told g c = λ six. told_of c.args.command (of_verify c.verify_command.result) _ _ _ _ _ _ _ (c.in-Verify.is ∙ ap of_verify (sym c.verify_command.ensures)) (c.verify.ensures.told six)
+returns-in-Verify-clause-told g c = λ six. told_of c.args.command (of_verify c.verify_command-command.result) _ _ _ _ _ _ _ (c.in-Verify.is ∙ ap of_verify (sym c.verify_command-command.ensures)) (c.verify.ensures.told six)
 
 pub returns-in-Verify-clause-stopped : goal.returns-in-Verify-clause-stopped
-returns-in-Verify-clause-stopped g c = λ six. stopped_of c.args.command (of_verify c.verify_command.result) _ _ _ _ _ _ (c.in-Verify.is ∙ ap of_verify (sym c.verify_command.ensures)) (c.verify.ensures.stopped six)
+returns-in-Verify-clause-stopped g c = λ six. stopped_of c.args.command (of_verify c.verify_command-command.result) _ _ _ _ _ _ (c.in-Verify.is ∙ ap of_verify (sym c.verify_command-command.ensures)) (c.verify.ensures.stopped six)
 
 pub returns-in-Run-clause-told : goal.returns-in-Run-clause-told
 returns-in-Run-clause-told g c = λ six. told_of c.args.command (of_run c.run_command-command.result) _ _ _ _ _ _ _ (c.in-Run.is ∙ ap of_run (sym c.run_command-command.ensures)) (c.run.ensures.told six)

@@ -14,7 +14,7 @@ pub returns-in-Ok-clause-input : goal.returns-in-Ok-clause-input
 returns-in-Ok-clause-input g c = λ none. c.obey.ensures.input (no_run _ c.in-Ok.command c.in-Ok.ensures.found none)
 
 pub returns-in-Ok-clause-headline : goal.returns-in-Ok-clause-headline
-returns-in-Ok-clause-headline g c = verified c.accepted_certificates_bound_every_run.ensures.ranges _ _ _ _ _ _ _ _ _ _ (λ six. told_command _ c.in-Ok.command _ _ _ _ _ _ _ c.in-Ok.ensures.found (c.obey.ensures.told six))
+returns-in-Ok-clause-headline g c = verified c.accepted_certificates_bound_every_run.ensures.ranges c.clean_certificates_exclude_undefined_operations.ensures.ranges _ _ _ _ _ _ _ _ _ _ (λ six. told_command _ c.in-Ok.command _ _ _ _ _ _ _ c.in-Ok.ensures.found (c.obey.ensures.told six))
 
 pub returns-in-Ok-clause-derived : goal.returns-in-Ok-clause-derived
 returns-in-Ok-clause-derived g c =
