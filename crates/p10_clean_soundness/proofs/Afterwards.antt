@@ -30,8 +30,8 @@ use Rattle.p10_execution.proofs.Giving.{holds_both}
 use Rattle.p10_execution.proofs.Parts.{Given, place_given, read_given, Valued, valued}
 use Rattle.p10_clean.specs.Settings.{Settings}
 use Rattle.p10_clean.specs.Values.{read_flaws, flaws_in_value, flaws_in_place}
-use Rattle.p10_clean_soundness.specs.Stays.{Stays}
-use Rattle.p10_clean_soundness.specs.Objects.{LeavesClean, IsReached}
+use Rattle.p10_clean_soundness.specs.private.Stays.{Stays}
+use Rattle.p10_clean_soundness.specs.private.Objects.{LeavesClean, IsReached}
 use Rattle.p10_clean_soundness.proofs.Reaching.{Stand, ValuesClean, stand_after}
 use Rattle.p10_clean_soundness.proofs.Staying.{stays_weaker, stays_with}
 

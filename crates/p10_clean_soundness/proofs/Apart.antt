@@ -7,7 +7,7 @@ use Rattle.p10_core.specs.WholePrograms.{is_among, numbers_from, declared_in, de
 use Rattle.p10_meaning.proofs.SoundStatements.{scope_after, scope_after_all}
 use Rattle.p10_execution.specs.Scoping.{AreOnce}
 use Rattle.p10_execution.proofs.Numbers.{among_left, among_right, once_apart}
-use Rattle.p10_clean_soundness.specs.Setting.{AreApart}
+use Rattle.p10_clean_soundness.specs.private.Setting.{AreApart}
 
 -- ## Parts
 

@@ -43,10 +43,10 @@ use Rattle.p10_evaluation.proofs.Failing.{in_decay, in_index}
 use Rattle.p10_clean.specs.Settings.{Settings, is_set}
 use Rattle.p10_clean.specs.Literals.{lies_in_literal, points_in_literal}
 use Rattle.p10_clean.specs.Values.{is_frame, read_flaws, element_count, index_lies}
-use Rattle.p10_clean_soundness.specs.Stays.{Stays, HasValue}
-use Rattle.p10_clean_soundness.specs.Setting.{IsFilled, StandsFor}
-use Rattle.p10_clean_soundness.specs.Objects.{Survives, LeavesClean, IsReached}
-use Rattle.p10_clean_soundness.specs.Standing.{StandsClean}
+use Rattle.p10_clean_soundness.specs.private.Stays.{Stays, HasValue}
+use Rattle.p10_clean_soundness.specs.private.Setting.{IsFilled, StandsFor}
+use Rattle.p10_clean_soundness.specs.private.Objects.{Survives, LeavesClean, IsReached}
+use Rattle.p10_clean_soundness.specs.private.Standing.{StandsClean}
 use Rattle.p10_clean_soundness.proofs.Staying.{stays_step, stays_then, stays_or, stays_with, stays_weaker, stays_holds}
 use Rattle.p10_clean_soundness.proofs.Closing.{leaves_same, leaves_then}
 use Rattle.p10_clean_soundness.proofs.Writing.{read_ok}

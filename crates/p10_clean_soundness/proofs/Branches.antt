@@ -30,9 +30,9 @@ use Rattle.p10_execution.proofs.TopDeclarations.{declares_here}
 use Rattle.p10_clean.specs.Settings.{Settings, Ways, ways_of}
 use Rattle.p10_clean.specs.Values.{flaws_in_value}
 use Rattle.p10_clean.specs.Statements.{flaws_in_statement, flaws_in_statements}
-use Rattle.p10_clean_soundness.specs.Stays.{Stays}
-use Rattle.p10_clean_soundness.specs.Setting.{AreApart}
-use Rattle.p10_clean_soundness.specs.Objects.{AreLive, LeavesClean}
+use Rattle.p10_clean_soundness.specs.private.Stays.{Stays}
+use Rattle.p10_clean_soundness.specs.private.Setting.{AreApart}
+use Rattle.p10_clean_soundness.specs.private.Objects.{AreLive, LeavesClean}
 use Rattle.p10_clean_soundness.proofs.Apart.{apart_left, apart_right, apart_after, scope_grows}
 use Rattle.p10_clean_soundness.proofs.Closing.{leaves_same, leaves_then, OpensNew}
 use Rattle.p10_clean_soundness.proofs.Moving.{opens_then, NewLive}

@@ -38,9 +38,9 @@ use Rattle.p10_execution.proofs.Unchanged.{Stays as StaysSame}
 use Rattle.p10_clean.specs.Settings.{Settings, ways_of}
 use Rattle.p10_clean.specs.Values.{flaws_in_maybe}
 use Rattle.p10_clean.specs.Statements.{flaws_in_statement, flaws_in_statements, next_turn, next_settings}
-use Rattle.p10_clean_soundness.specs.Stays.{Stays}
-use Rattle.p10_clean_soundness.specs.Setting.{AreApart}
-use Rattle.p10_clean_soundness.specs.Objects.{LeavesClean}
+use Rattle.p10_clean_soundness.specs.private.Stays.{Stays}
+use Rattle.p10_clean_soundness.specs.private.Setting.{AreApart}
+use Rattle.p10_clean_soundness.specs.private.Objects.{LeavesClean}
 use Rattle.p10_clean_soundness.proofs.Closing.{leaves_then, OpensNew, IsSound}
 use Rattle.p10_clean_soundness.proofs.LoopTurns.{loop_stays}
 use Rattle.p10_clean_soundness.proofs.Moving.{opens_then}

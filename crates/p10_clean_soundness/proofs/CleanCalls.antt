@@ -26,9 +26,9 @@ use Rattle.p10_soundness.proofs.Beginning.{body_before, entered_in_frame}
 use Rattle.p10_soundness.proofs.Entering.{EntersAsDescribed, calls_enter}
 use Rattle.p10_clean.specs.Settings.{set_at_entry, ways_of_all}
 use Rattle.p10_clean.specs.Statements.{flaws_in_statements}
-use Rattle.p10_clean_soundness.specs.Stays.{Stays, HasValue}
-use Rattle.p10_clean_soundness.specs.Objects.{Settled, Survives, LeavesClean}
-use Rattle.p10_clean_soundness.specs.Standing.{StandsClean, CallsStayClean}
+use Rattle.p10_clean_soundness.specs.private.Stays.{Stays, HasValue}
+use Rattle.p10_clean_soundness.specs.private.Objects.{Settled, Survives, LeavesClean}
+use Rattle.p10_clean_soundness.specs.private.Standing.{StandsClean, CallsStayClean}
 use Rattle.p10_clean_soundness.proofs.Apart.{body_apart}
 use Rattle.p10_clean_soundness.proofs.CleanFunctions.{IsCleanFunction}
 use Rattle.p10_clean_soundness.proofs.CleanStatements.{statement_clean, statements_clean}

@@ -35,9 +35,9 @@ use Rattle.p10_execution.proofs.Turning.{ended}
 use Rattle.p10_clean.specs.declared.flaw.Flaw.{Flaw}
 use Rattle.p10_clean.specs.Settings.{Settings, Ways, ways_of, ways_of_all}
 use Rattle.p10_clean.specs.Statements.{flaws_in_statement, flaws_in_statements, round_flaws}
-use Rattle.p10_clean_soundness.specs.Stays.{Stays}
-use Rattle.p10_clean_soundness.specs.Setting.{AreApart}
-use Rattle.p10_clean_soundness.specs.Objects.{LeavesClean}
+use Rattle.p10_clean_soundness.specs.private.Stays.{Stays}
+use Rattle.p10_clean_soundness.specs.private.Setting.{AreApart}
+use Rattle.p10_clean_soundness.specs.private.Objects.{LeavesClean}
 use Rattle.p10_clean_soundness.proofs.Apart.{apart_left}
 use Rattle.p10_clean_soundness.proofs.ClaimedLoops.{third_whole, body_whole, TurnOf, LoopLeft, AtLoop, Holds, while_clean, do_clean}
 use Rattle.p10_clean_soundness.proofs.Closing.{OpensNew, IsSound, block_clean}

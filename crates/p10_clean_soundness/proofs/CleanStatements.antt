@@ -26,9 +26,9 @@ use Rattle.p10_execution.proofs.ScopedEnds.{nothing, MaybeScoped, before_right}
 use Rattle.p10_execution.proofs.TopDeclarations.{declares_here}
 use Rattle.p10_clean.specs.Settings.{Settings, ways_of, ways_of_all}
 use Rattle.p10_clean.specs.Statements.{flaws_in_statements, flaws_from}
-use Rattle.p10_clean_soundness.specs.Stays.{Stays}
-use Rattle.p10_clean_soundness.specs.Setting.{AreApart}
-use Rattle.p10_clean_soundness.specs.Objects.{LeavesClean}
+use Rattle.p10_clean_soundness.specs.private.Stays.{Stays}
+use Rattle.p10_clean_soundness.specs.private.Setting.{AreApart}
+use Rattle.p10_clean_soundness.specs.private.Objects.{LeavesClean}
 use Rattle.p10_clean_soundness.proofs.Afterwards.{PlacesClean, DiscardsClean, ReadsClean}
 use Rattle.p10_clean_soundness.proofs.Apart.{apart_right, apart_after_all}
 use Rattle.p10_clean_soundness.proofs.Branches.{if_then_clean, if_else_clean, none_clean, more_clean}

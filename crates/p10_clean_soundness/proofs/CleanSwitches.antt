@@ -33,9 +33,9 @@ use Rattle.p10_execution.proofs.Switching.{IsEntry, entry_is}
 use Rattle.p10_clean.specs.Settings.{Settings, Ways, ways_of, case_settings}
 use Rattle.p10_clean.specs.Values.{flaws_in_value}
 use Rattle.p10_clean.specs.Statements.{flaws_in_statement, flaws_from}
-use Rattle.p10_clean_soundness.specs.Stays.{Stays}
-use Rattle.p10_clean_soundness.specs.Setting.{AreApart}
-use Rattle.p10_clean_soundness.specs.Objects.{LeavesClean}
+use Rattle.p10_clean_soundness.specs.private.Stays.{Stays}
+use Rattle.p10_clean_soundness.specs.private.Setting.{AreApart}
+use Rattle.p10_clean_soundness.specs.private.Objects.{LeavesClean}
 use Rattle.p10_clean_soundness.proofs.Apart.{apart_left, apart_right}
 use Rattle.p10_clean_soundness.proofs.Closing.{leaves_same, leaves_then, OpensNew, IsSound, block_clean}
 use Rattle.p10_clean_soundness.proofs.Moving.{opens_then}

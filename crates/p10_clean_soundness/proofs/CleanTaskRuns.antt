@@ -28,7 +28,7 @@ use Rattle.p10_task.proofs.Passes.{manner_is}
 use Rattle.p10_task.proofs.WholeRuns.{stay_as_claimed}
 use Rattle.p10_clean.specs.Settings.{set_at_entry}
 use Rattle.p10_clean.specs.Statements.{flaws_in_statements}
-use Rattle.p10_clean_soundness.specs.Stays.{IsDefinedEnd, Stays}
+use Rattle.p10_clean_soundness.specs.private.Stays.{IsDefinedEnd, Stays}
 use Rattle.p10_clean_soundness.proofs.CleanTasks.{loops, result, item, claim, known, AtTask, before_clean, turn_clean}
 use Rattle.p10_clean_soundness.proofs.OpeningStates.{opening_settled}
 use Rattle.p10_clean_soundness.proofs.Reaching.{GoesClean, AllClean, ValuesClean}

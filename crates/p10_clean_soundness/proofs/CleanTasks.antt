@@ -38,9 +38,9 @@ use Rattle.p10_clean.specs.declared.flaw.Flaw.{Flaw}
 use Rattle.p10_clean.specs.Settings.{Settings, set_at_entry, Ways, ways_of, ways_of_all}
 use Rattle.p10_clean.specs.Values.{flaws_in_maybe}
 use Rattle.p10_clean.specs.Statements.{flaws_in_statement, flaws_in_statements, round_flaws}
-use Rattle.p10_clean_soundness.specs.Stays.{Stays}
-use Rattle.p10_clean_soundness.specs.Setting.{SetUp, AreApart}
-use Rattle.p10_clean_soundness.specs.Objects.{Settled, AreLive, LeavesClean}
+use Rattle.p10_clean_soundness.specs.private.Stays.{Stays}
+use Rattle.p10_clean_soundness.specs.private.Setting.{SetUp, AreApart}
+use Rattle.p10_clean_soundness.specs.private.Objects.{Settled, AreLive, LeavesClean}
 use Rattle.p10_clean_soundness.proofs.Apart.{scope_grows, body_apart}
 use Rattle.p10_clean_soundness.proofs.EntryFrames.{EntersFunction, function_entered}
 use Rattle.p10_clean_soundness.proofs.PrefixItems.{whole_before, apart_before, before_items, none_before, flaws_before, ItemAt, item_at}

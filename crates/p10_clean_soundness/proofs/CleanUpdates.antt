@@ -34,8 +34,8 @@ use Rattle.p10_clean.specs.Settings.{Settings}
 use Rattle.p10_clean.specs.Literals.{lies_in_literal}
 use Rattle.p10_clean.specs.Values.{read_flaws, flaws_in_value, flaws_in_place}
 use Rattle.p10_clean.specs.Statements.{target_flaws, update_flaws, flaws_in_statement}
-use Rattle.p10_clean_soundness.specs.Stays.{Stays}
-use Rattle.p10_clean_soundness.specs.Objects.{LeavesClean}
+use Rattle.p10_clean_soundness.specs.private.Stays.{Stays}
+use Rattle.p10_clean_soundness.specs.private.Objects.{LeavesClean}
 use Rattle.p10_clean_soundness.proofs.Afterwards.{At, PlacesClean, ReadsClean, PlaceAt, place_next, ValueAt, value_at, read_next}
 use Rattle.p10_clean_soundness.proofs.Closing.{leaves_then}
 use Rattle.p10_clean_soundness.proofs.Flawless.{no_flaw}

@@ -6,8 +6,8 @@ use Rattle.p10_cert.specs.Claims.{Value, Loop, Claims}
 use Rattle.p10_meaning.specs.Calling.{Depth, setting_of, call_at}
 use Rattle.p10_meaning.specs.Values.{discard}
 use Rattle.p10_evaluation.specs.Claimed.{ResultsLie}
-use Rattle.p10_clean_soundness.specs.Objects.{LeavesClean}
-use Rattle.p10_clean_soundness.specs.Standing.{CallsStayClean}
+use Rattle.p10_clean_soundness.specs.private.Objects.{LeavesClean}
+use Rattle.p10_clean_soundness.specs.private.Standing.{CallsStayClean}
 use Rattle.p10_clean_soundness.proofs.Reaching.{ValuesClean}
 use Rattle.p10_clean_soundness.proofs.Afterwards.{PlacesClean, DiscardsClean, ReadsClean}
 use Rattle.p10_clean_soundness.proofs.Staying.{stays_weaker}

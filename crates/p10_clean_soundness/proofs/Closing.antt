@@ -12,8 +12,8 @@ use Rattle.p10_meaning.specs.Sound.{Kind, AllObjects, Sound}
 use Rattle.p10_meaning.specs.Apart.{ClosesOne}
 use Rattle.p10_meaning.proofs.Fitting.{closed_fits, sound_with}
 use Rattle.p10_meaning.proofs.StayApart.{closes_one}
-use Rattle.p10_clean_soundness.specs.Stays.{Stays}
-use Rattle.p10_clean_soundness.specs.Objects.{IsLive, Settled, Survives, Survive, LeavesClean}
+use Rattle.p10_clean_soundness.specs.private.Stays.{Stays}
+use Rattle.p10_clean_soundness.specs.private.Objects.{IsLive, Settled, Survives, Survive, LeavesClean}
 use Rattle.p10_clean_soundness.proofs.Staying.{stays_then}
 use Rattle.p10_clean_soundness.proofs.Frames.{out_of_both}
 

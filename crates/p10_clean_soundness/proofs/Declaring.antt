@@ -34,8 +34,8 @@ use Rattle.p10_execution.proofs.Ends.{nothing_left, nothing_right, calls_none}
 use Rattle.p10_clean.specs.Settings.{Settings, marked_as}
 use Rattle.p10_clean.specs.Values.{flaw_if}
 use Rattle.p10_clean.specs.Statements.{lacks_value, flaws_in_initializer, declaration_flaws}
-use Rattle.p10_clean_soundness.specs.Stays.{Stays}
-use Rattle.p10_clean_soundness.specs.Objects.{IsLive, LeavesClean}
+use Rattle.p10_clean_soundness.specs.private.Stays.{Stays}
+use Rattle.p10_clean_soundness.specs.private.Objects.{IsLive, LeavesClean}
 use Rattle.p10_clean_soundness.proofs.Staying.{stays_step, stays_then, stays_weaker, stays_with}
 use Rattle.p10_clean_soundness.proofs.Afterwards.{PlacesClean}
 use Rattle.p10_clean_soundness.proofs.Apart.{not_in_scope}

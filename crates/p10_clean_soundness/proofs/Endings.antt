@@ -27,7 +27,7 @@ use Rattle.p10_meaning.proofs.SoundCalls.{few_variables, calls_keep}
 use Rattle.p10_sums.specs.Keeping.{HoldsOf}
 use Rattle.p10_warn.specs.Ends.{has_break, has_break_form, have_break, is_endless, reaches_end, reaches_end_form, reach_end}
 use Rattle.p10_evaluation.proofs.Rules.{holds_step, holds_last, holds_any, holds_map, holds_or, holds_if}
-use Rattle.p10_clean_soundness.specs.Stays.{HasValue}
+use Rattle.p10_clean_soundness.specs.private.Stays.{HasValue}
 use Rattle.p10_clean_soundness.proofs.Constants.{true_test}
 
 -- ## Flows

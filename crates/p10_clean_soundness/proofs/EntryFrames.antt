@@ -24,8 +24,8 @@ use Rattle.p10_meaning.proofs.SoundStatements.{AreFew}
 use Rattle.p10_meaning.proofs.SoundCalls.{few_variables}
 use Rattle.p10_pass.specs.Marks.{is_marked}
 use Rattle.p10_clean.specs.Settings.{set_at_entry, parameter_marks}
-use Rattle.p10_clean_soundness.specs.Setting.{IsFilled, StandsFor, SetUp}
-use Rattle.p10_clean_soundness.specs.Objects.{IsLive, Settled, AreLive, LeavesClean}
+use Rattle.p10_clean_soundness.specs.private.Setting.{IsFilled, StandsFor, SetUp}
+use Rattle.p10_clean_soundness.specs.private.Objects.{IsLive, Settled, AreLive, LeavesClean}
 use Rattle.p10_clean_soundness.proofs.Apart.{below_from}
 use Rattle.p10_clean_soundness.proofs.Closing.{leaves_same, leaves_then, live_on, OpensNew}
 use Rattle.p10_clean_soundness.proofs.SettingUp.{holding_filled}

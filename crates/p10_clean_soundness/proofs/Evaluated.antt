@@ -25,9 +25,9 @@ use Rattle.p10_execution.specs.Standing.{StandsSoundly}
 use Rattle.p10_execution.proofs.Parts.{Given, Valued, ready_step, valued, place_given}
 use Rattle.p10_clean.specs.Settings.{Settings}
 use Rattle.p10_clean.specs.Values.{flaws_in_value, flaws_in_values, flaws_in_place}
-use Rattle.p10_clean_soundness.specs.Stays.{Stays, HasValue}
-use Rattle.p10_clean_soundness.specs.Objects.{LeavesClean, IsReached}
-use Rattle.p10_clean_soundness.specs.Standing.{StandsClean}
+use Rattle.p10_clean_soundness.specs.private.Stays.{Stays, HasValue}
+use Rattle.p10_clean_soundness.specs.private.Objects.{LeavesClean, IsReached}
+use Rattle.p10_clean_soundness.specs.private.Standing.{StandsClean}
 use Rattle.p10_clean_soundness.proofs.Staying.{stays_then, stays_weaker, stays_with}
 use Rattle.p10_clean_soundness.proofs.Closing.{live_on}
 

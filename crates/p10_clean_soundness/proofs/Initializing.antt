@@ -33,8 +33,8 @@ use Rattle.p10_execution.proofs.Ends.{nothing_left, nothing_right, calls_none, f
 use Rattle.p10_execution.proofs.Parts.{Given, place_given}
 use Rattle.p10_clean.specs.Settings.{Settings}
 use Rattle.p10_clean.specs.Statements.{lacks_value, written_flaws, goes_past, flaws_in_items, flaws_in_initializer}
-use Rattle.p10_clean_soundness.specs.Stays.{Stays}
-use Rattle.p10_clean_soundness.specs.Objects.{Survives, LeavesClean, IsReached}
+use Rattle.p10_clean_soundness.specs.private.Stays.{Stays}
+use Rattle.p10_clean_soundness.specs.private.Objects.{Survives, LeavesClean, IsReached}
 use Rattle.p10_clean_soundness.proofs.Staying.{stays_step, stays_then, stays_or, stays_weaker, stays_with}
 use Rattle.p10_clean_soundness.proofs.Afterwards.{IsFrameTarget, PlacesClean}
 use Rattle.p10_clean_soundness.proofs.Closing.{leaves_same, leaves_then}

@@ -5,7 +5,7 @@ use Rattle.p10_core.specs.declared.statements.LoopKeyword.TheVariants.{While, Do
 use Rattle.p10_meaning.specs.States.{State, Progress}
 use Rattle.p10_meaning.specs.Statements.{Frame, Flow, normal, broken, continued, returned, Done, next_turn, turns, loop_by}
 use Rattle.p10_execution.proofs.Turning.{Rounded, Decided, Begins}
-use Rattle.p10_clean_soundness.specs.Stays.{Stays}
+use Rattle.p10_clean_soundness.specs.private.Stays.{Stays}
 use Rattle.p10_clean_soundness.proofs.Staying.{stays_then, stays_if}
 
 module _ (Tested Entered : Frame → State → Type 0) (Out : Done → State → Type 0) (test : Frame → State → Progress Bool) (round : Frame → State → Progress Done)

@@ -19,8 +19,8 @@ use Rattle.p10_pass.specs.Marks.{is_marked}
 use Rattle.p10_execution.specs.Standing.{AreInFrame, StandsSoundly}
 use Rattle.p10_execution.proofs.Giving.{holds_weaker}
 use Rattle.p10_execution.proofs.TopDeclarations.{declares_here}
-use Rattle.p10_clean_soundness.specs.Setting.{StandsFor, SetUp, AreApart}
-use Rattle.p10_clean_soundness.specs.Objects.{IsLive, AreLive, Survive}
+use Rattle.p10_clean_soundness.specs.private.Setting.{StandsFor, SetUp, AreApart}
+use Rattle.p10_clean_soundness.specs.private.Objects.{IsLive, AreLive, Survive}
 use Rattle.p10_clean_soundness.proofs.Closing.{live_on, OpensNew}
 use Rattle.p10_clean_soundness.proofs.Frames.{object_stays, Fine, Opened, OpenedOne, statement_opened, declare_opened}
 

@@ -20,8 +20,8 @@ use Rattle.p10_meaning.proofs.Fitting.{IsFound, FoundIs, find_is}
 use Rattle.p10_meaning.proofs.StayApart.{opens_one}
 use Rattle.p10_meaning.proofs.SoundParts.{single_fits}
 use Rattle.p10_execution.proofs.Numbers.{or_false}
-use Rattle.p10_clean_soundness.specs.Setting.{IsFilled}
-use Rattle.p10_clean_soundness.specs.Objects.{IsLive, Settled, Survive}
+use Rattle.p10_clean_soundness.specs.private.Setting.{IsFilled}
+use Rattle.p10_clean_soundness.specs.private.Objects.{IsLive, Settled, Survive}
 use Rattle.p10_clean_soundness.proofs.Closing.{live_on, started_on}
 use Rattle.p10_clean_soundness.proofs.Moving.{not_opened}
 use Rattle.p10_clean_soundness.proofs.Writing.{IsShapedAs, IsFilledAt, part_at, HasParts, MayWrite}

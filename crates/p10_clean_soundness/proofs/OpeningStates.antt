@@ -17,8 +17,8 @@ use Rattle.p10_meaning.specs.Objects.{declared, literal as literal_origin, Objec
 use Rattle.p10_meaning.specs.Scalars.{zero_of, zero_cells}
 use Rattle.p10_meaning.specs.Values.{scalars}
 use Rattle.p10_meaning.specs.Opening.{static_objects, literal_objects, listed_cells, initial_cells, opening}
-use Rattle.p10_clean_soundness.specs.Setting.{IsFilled}
-use Rattle.p10_clean_soundness.specs.Objects.{IsLive, Settled}
+use Rattle.p10_clean_soundness.specs.private.Setting.{IsFilled}
+use Rattle.p10_clean_soundness.specs.private.Objects.{IsLive, Settled}
 use Rattle.p10_clean_soundness.proofs.SettingUp.{holding_filled}
 
 -- ## Cells

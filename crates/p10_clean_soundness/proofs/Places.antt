@@ -26,10 +26,10 @@ use Rattle.p10_evaluation.specs.Claimed.{ResultsLie}
 use Rattle.p10_evaluation.proofs.Failing.{in_member}
 use Rattle.p10_clean.specs.Settings.{Settings, is_set}
 use Rattle.p10_clean.specs.Literals.{lies_in_literal}
-use Rattle.p10_clean_soundness.specs.Stays.{Stays}
-use Rattle.p10_clean_soundness.specs.Setting.{StandsFor, SetUp}
-use Rattle.p10_clean_soundness.specs.Objects.{IsLive, ReachesElement}
-use Rattle.p10_clean_soundness.specs.Standing.{StandsClean}
+use Rattle.p10_clean_soundness.specs.private.Stays.{Stays}
+use Rattle.p10_clean_soundness.specs.private.Setting.{StandsFor, SetUp}
+use Rattle.p10_clean_soundness.specs.private.Objects.{IsLive, ReachesElement}
+use Rattle.p10_clean_soundness.specs.private.Standing.{StandsClean}
 use Rattle.p10_clean_soundness.proofs.Staying.{stays_step, stays_then, stays_or}
 use Rattle.p10_clean_soundness.proofs.Closing.{leaves_same}
 use Rattle.p10_clean_soundness.proofs.ScalarTypes.{scalar_alike, integer_scalar}

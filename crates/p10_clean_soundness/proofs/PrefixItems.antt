@@ -21,7 +21,7 @@ use Rattle.p10_execution.proofs.TopDeclarations.{declares_here}
 use Rattle.p10_task.specs.Coming.{items_before}
 use Rattle.p10_clean.specs.Settings.{Settings, ways_of, ways_of_all}
 use Rattle.p10_clean.specs.Statements.{flaws_in_statement, flaws_in_statements}
-use Rattle.p10_clean_soundness.specs.Setting.{AreApart}
+use Rattle.p10_clean_soundness.specs.private.Setting.{AreApart}
 use Rattle.p10_clean_soundness.proofs.Apart.{apart_left, apart_after}
 
 -- ## Lists

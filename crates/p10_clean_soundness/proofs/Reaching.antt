@@ -28,10 +28,10 @@ use Rattle.p10_execution.proofs.Looping.{Went}
 use Rattle.p10_clean.specs.Settings.{Settings, Ways, ways_of, ways_of_all}
 use Rattle.p10_clean.specs.Values.{flaws_in_value}
 use Rattle.p10_clean.specs.Statements.{flaws_in_statement, flaws_in_statements}
-use Rattle.p10_clean_soundness.specs.Stays.{Stays}
-use Rattle.p10_clean_soundness.specs.Setting.{SetsAs, AreApart}
-use Rattle.p10_clean_soundness.specs.Objects.{Settled, AreLive, LeavesClean}
-use Rattle.p10_clean_soundness.specs.Standing.{StandsClean}
+use Rattle.p10_clean_soundness.specs.private.Stays.{Stays}
+use Rattle.p10_clean_soundness.specs.private.Setting.{SetsAs, AreApart}
+use Rattle.p10_clean_soundness.specs.private.Objects.{Settled, AreLive, LeavesClean}
+use Rattle.p10_clean_soundness.specs.private.Standing.{StandsClean}
 use Rattle.p10_clean_soundness.proofs.Apart.{scope_grows}
 use Rattle.p10_clean_soundness.proofs.Closing.{live_on, OpensNew}
 use Rattle.p10_clean_soundness.proofs.Moving.{opens_new, NewLive, ObjectsStay, objects_stay, live_after}

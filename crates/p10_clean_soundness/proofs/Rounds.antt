@@ -25,9 +25,9 @@ use Rattle.p10_execution.proofs.ScopedEnds.{nothing, MaybeScoped, before_scoped,
 use Rattle.p10_clean.specs.Settings.{Settings, ways_of, ways_of_all}
 use Rattle.p10_clean.specs.Values.{flaws_in_maybe}
 use Rattle.p10_clean.specs.Statements.{flaws_in_statement, flaws_in_statements, next_turn, next_settings}
-use Rattle.p10_clean_soundness.specs.Stays.{Stays}
-use Rattle.p10_clean_soundness.specs.Setting.{AreApart}
-use Rattle.p10_clean_soundness.specs.Objects.{LeavesClean}
+use Rattle.p10_clean_soundness.specs.private.Stays.{Stays}
+use Rattle.p10_clean_soundness.specs.private.Setting.{AreApart}
+use Rattle.p10_clean_soundness.specs.private.Objects.{LeavesClean}
 use Rattle.p10_clean_soundness.proofs.Apart.{apart_nothing, scope_grows, scope_grows_all}
 use Rattle.p10_clean_soundness.proofs.Closing.{leaves_same, leaves_then, OpensNew}
 use Rattle.p10_clean_soundness.proofs.Moving.{opens_then}

@@ -11,7 +11,7 @@ use Rattle.p10_meaning.specs.Statements.{Frame, Flow, normal, broken, continued,
 use Rattle.p10_sums.specs.Keeping.{HoldsOf}
 use Rattle.p10_execution.proofs.Giving.{holds_then, holds_after, holds_if, holds_weaker}
 use Rattle.p10_clean.specs.Settings.{Settings, on_both, Ways, goes_on, then_ways, either_ways, after_loop, after_switch, case_settings}
-use Rattle.p10_clean_soundness.specs.Setting.{SetUp, SetsAs}
+use Rattle.p10_clean_soundness.specs.private.Setting.{SetUp, SetsAs}
 use Rattle.p10_clean_soundness.proofs.SettingUp.{set_left, set_right, less_scope, HasRoom}
 
 -- ## One part after another

@@ -4,7 +4,7 @@ use Rattle.p10_core.specs.Typed.{PlainStatement, PlainStatements, PlainVariable}
 use Rattle.p10_core.specs.WholePrograms.{declared_in, declared_of}
 use Rattle.p10_meaning.specs.Values.{Held}
 use Rattle.p10_clean.specs.Settings.{Settings, on_both, Ways, ways_of, ways_of_all}
-use Rattle.p10_clean_soundness.specs.Setting.{SetUp, AreApart}
+use Rattle.p10_clean_soundness.specs.private.Setting.{SetUp, AreApart}
 use Rattle.p10_clean_soundness.proofs.SettingsNowhere.{none_leaves, none_leaves_all}
 use Rattle.p10_clean_soundness.proofs.SettingsKept.{statements_keep, head_keeps}
 use Rattle.p10_clean_soundness.proofs.SettingUp.{carried}

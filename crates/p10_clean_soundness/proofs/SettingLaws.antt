@@ -15,7 +15,7 @@ use Rattle.p10_execution.specs.Scoping.{AreOnce}
 use Rattle.p10_execution.proofs.Giving.{holds_weaker}
 use Rattle.p10_execution.proofs.Frames.{held_there}
 use Rattle.p10_clean.specs.Settings.{Settings, ways_of, ways_of_all}
-use Rattle.p10_clean_soundness.specs.Setting.{SetUp, SetsAs, AreApart}
+use Rattle.p10_clean_soundness.specs.private.Setting.{SetUp, SetsAs, AreApart}
 use Rattle.p10_clean_soundness.proofs.SettingUp.{HasRoom}
 use Rattle.p10_clean_soundness.proofs.SettingFlows.{Sets}
 use Rattle.p10_clean_soundness.proofs.SettingStatements.{IsOf, statement_sets, statements_set}

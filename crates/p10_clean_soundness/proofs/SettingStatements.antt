@@ -23,7 +23,7 @@ use Rattle.p10_execution.proofs.Storing.{Points, locate_points}
 use Rattle.p10_execution.proofs.ScopedEnds.{third_expressions, third_declares}
 use Rattle.p10_execution.proofs.Switching.{IsEntry, entry_is, no_entry}
 use Rattle.p10_clean.specs.Settings.{Settings, marked_as, on_both, Ways, goes_on, then_ways, either_ways, target_set, sets, after_loop, after_switch, case_settings, ways_of, ways_of_all, ways_of_switch, ways_from}
-use Rattle.p10_clean_soundness.specs.Setting.{SetUp, SetsAs, AreApart}
+use Rattle.p10_clean_soundness.specs.private.Setting.{SetUp, SetsAs, AreApart}
 use Rattle.p10_clean_soundness.proofs.Apart.{apart_left, apart_right, apart_nothing, apart_after, apart_after_all, scope_grows, scope_grows_all}
 use Rattle.p10_clean_soundness.proofs.SettingsNowhere.{none_leaves_all}
 use Rattle.p10_clean_soundness.proofs.SettingsKept.{statements_keep}

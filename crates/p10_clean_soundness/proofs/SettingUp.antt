@@ -12,7 +12,7 @@ use Rattle.p10_meaning.specs.Values.{Held, holds, stands, absent}
 use Rattle.p10_absx.proofs.Entries.{get_other}
 use Rattle.p10_execution.proofs.Frames.{set_here}
 use Rattle.p10_clean.specs.Settings.{Settings, is_set, marked_as, on_both}
-use Rattle.p10_clean_soundness.specs.Setting.{IsFilled, StandsFor, SetUp}
+use Rattle.p10_clean_soundness.specs.private.Setting.{IsFilled, StandsFor, SetUp}
 use Rattle.p10_clean_soundness.proofs.SettingsOrder.{IsBelow, below_set, both_left, both_right, other_set, unset_there, set_more}
 
 -- a cell that holds a scalar is filled

@@ -20,7 +20,7 @@ use Rattle.p10_sums.specs.Keeping.{HoldsOf}
 use Rattle.p10_execution.proofs.Giving.{holds_step, holds_after, holds_or, holds_weaker, holds_if}
 use Rattle.p10_execution.proofs.Storing.{Points}
 use Rattle.p10_clean.specs.Settings.{Settings, marked_as, goes_on, target_set, sets}
-use Rattle.p10_clean_soundness.specs.Setting.{SetUp}
+use Rattle.p10_clean_soundness.specs.private.Setting.{SetUp}
 use Rattle.p10_clean_soundness.proofs.SettingUp.{holding_filled, written, written_again, marked_object, HasRoom, room_set, declared_unset, declared_set, declared_object}
 use Rattle.p10_clean_soundness.proofs.SettingFlows.{Sets}
 

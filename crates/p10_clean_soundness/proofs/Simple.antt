@@ -32,8 +32,8 @@ use Rattle.p10_clean.specs.Settings.{Settings}
 use Rattle.p10_clean.specs.Literals.{lies_in_literal}
 use Rattle.p10_clean.specs.Values.{flaws_in_value, flaws_in_place}
 use Rattle.p10_clean.specs.Statements.{target_flaws, flaws_in_statement}
-use Rattle.p10_clean_soundness.specs.Stays.{Stays}
-use Rattle.p10_clean_soundness.specs.Objects.{LeavesClean}
+use Rattle.p10_clean_soundness.specs.private.Stays.{Stays}
+use Rattle.p10_clean_soundness.specs.private.Objects.{LeavesClean}
 use Rattle.p10_clean_soundness.proofs.Afterwards.{IsFrameTarget, PlacesClean, DiscardsClean, PlaceAt, place_next, ValueAt, value_at}
 use Rattle.p10_clean_soundness.proofs.Closing.{leaves_same, leaves_then}
 use Rattle.p10_clean_soundness.proofs.Flawless.{no_flaw}

@@ -4,7 +4,7 @@ use Rattle.p10_base.specs.declared.span.Span.{Span}
 use Rattle.p10_int.specs.declared.operators.Stop.{Stop}
 use Rattle.p10_meaning.specs.States.{State, Progress, gives, ends, step_at, step, and_then, or_undefined}
 use Rattle.p10_sums.specs.Keeping.{HoldsOf}
-use Rattle.p10_clean_soundness.specs.Stays.{Stays}
+use Rattle.p10_clean_soundness.specs.private.Stays.{Stays}
 
 stays_step_at : {A : Type 0} (P : A → State → Type 0) (m : ℕ) (w : State) (go : State → Progress A) → m ≡ w.left → ((left : ℕ) → suc left ≡ w.left → Stays P (go (record w { left = left }))) → Stays P (step_at m w go)
 stays_step_at P zero w go e h = tt

@@ -36,9 +36,9 @@ use Rattle.p10_evaluation.proofs.Failing.{in_read, in_address, in_convert, in_ca
 use Rattle.p10_evaluation.proofs.WholeFunctions.{values_make_covered}
 use Rattle.p10_clean.specs.Settings.{Settings}
 use Rattle.p10_clean.specs.Values.{read_flaws, unary_flaws, is_memory_call, flaws_in_value, flaws_in_values, flaws_in_place}
-use Rattle.p10_clean_soundness.specs.Stays.{Stays, HasValue}
-use Rattle.p10_clean_soundness.specs.Objects.{LeavesClean}
-use Rattle.p10_clean_soundness.specs.Standing.{StandsClean, CallsStayClean}
+use Rattle.p10_clean_soundness.specs.private.Stays.{Stays, HasValue}
+use Rattle.p10_clean_soundness.specs.private.Objects.{LeavesClean}
+use Rattle.p10_clean_soundness.specs.private.Standing.{StandsClean, CallsStayClean}
 use Rattle.p10_clean_soundness.proofs.Staying.{stays_step, stays_then, stays_or, stays_if, stays_weaker, stays_with}
 use Rattle.p10_clean_soundness.proofs.Closing.{leaves_same, leaves_then}
 use Rattle.p10_clean_soundness.proofs.Flawless.{InBinary, in_read as clean_read, in_unary as clean_unary, in_binary as clean_binary, in_logic as clean_logic, InConditional as CleanConditional, in_conditional as clean_conditional, in_built_in as clean_built_in, in_values as clean_values}

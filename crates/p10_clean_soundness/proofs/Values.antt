@@ -25,8 +25,8 @@ use Rattle.p10_pass.specs.Passing.{Manner, manner_in}
 use Rattle.p10_evaluation.specs.Claimed.{ResultsLie}
 use Rattle.p10_clean.specs.Settings.{Settings}
 use Rattle.p10_clean.specs.Values.{is_memory_call}
-use Rattle.p10_clean_soundness.specs.Objects.{LeavesClean}
-use Rattle.p10_clean_soundness.specs.Standing.{StandsClean, CallsStayClean}
+use Rattle.p10_clean_soundness.specs.private.Objects.{LeavesClean}
+use Rattle.p10_clean_soundness.specs.private.Standing.{StandsClean, CallsStayClean}
 use Rattle.p10_clean_soundness.proofs.Flawless.{in_built_in as clean_built_in}
 use Rattle.p10_clean_soundness.proofs.ScalarRows.{plain_scalar, binary_takes, conditional_takes, TakesScalar, takes_integer, takes_pointer, unary_takes}
 use Rattle.p10_clean_soundness.proofs.Places.{variable_place, global_place, literal_place, member_place}

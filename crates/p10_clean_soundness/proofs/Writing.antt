@@ -13,8 +13,8 @@ use Rattle.p10_meaning.specs.declared.pointers.Cell.{Cell}
 use Rattle.p10_meaning.specs.Pointers.{window_in}
 use Rattle.p10_meaning.specs.Objects.{Object, declared, find, put, cell_at, write_at, inner}
 use Rattle.p10_meaning.specs.States.{State}
-use Rattle.p10_clean_soundness.specs.Setting.{IsFilled}
-use Rattle.p10_clean_soundness.specs.Objects.{Settled, Survive, LeavesClean}
+use Rattle.p10_clean_soundness.specs.private.Setting.{IsFilled}
+use Rattle.p10_clean_soundness.specs.private.Objects.{Settled, Survive, LeavesClean}
 use Rattle.p10_clean_soundness.proofs.Closing.{live_on, started_on}
 
 -- ## Lists of cells

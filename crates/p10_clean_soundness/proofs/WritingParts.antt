@@ -15,9 +15,9 @@ use Rattle.p10_meaning.specs.Objects.{Object, on_ok, put, cell_at, write_at}
 use Rattle.p10_meaning.specs.States.{State}
 use Rattle.p10_meaning.specs.Statements.{Frame, part_of, write_part, copy_scalars, listed_scalar, fill}
 use Rattle.p10_meaning.proofs.LaidOut.{all_at}
-use Rattle.p10_clean_soundness.specs.Stays.{Stays}
-use Rattle.p10_clean_soundness.specs.Setting.{IsFilled}
-use Rattle.p10_clean_soundness.specs.Objects.{Settled}
+use Rattle.p10_clean_soundness.specs.private.Stays.{Stays}
+use Rattle.p10_clean_soundness.specs.private.Setting.{IsFilled}
+use Rattle.p10_clean_soundness.specs.private.Objects.{Settled}
 use Rattle.p10_clean_soundness.proofs.Staying.{stays_step, stays_or, stays_weaker}
 use Rattle.p10_clean_soundness.proofs.SettingUp.{holding_filled}
 use Rattle.p10_clean_soundness.proofs.Writing.{got_below, IsFilledAt, Writes, writes_same, writes_then, put_writes, put_here, HasParts, MayWrite, part_at, parts_kept, may_write_kept, write_ok, read_ok, inner_ok}

@@ -19,8 +19,8 @@ use Rattle.p10_meaning.proofs.Geometry.{IsLaidOut}
 use Rattle.p10_meaning.proofs.Fitting.{bare_unqualified}
 use Rattle.p10_meaning.proofs.SoundParts.{TargetFits}
 use Rattle.p10_clean.specs.Literals.{lies_in_literal}
-use Rattle.p10_clean_soundness.specs.Stays.{Stays}
-use Rattle.p10_clean_soundness.specs.Objects.{Settled, Survives, Survive, LeavesClean, ReachesElement, IsReached}
+use Rattle.p10_clean_soundness.specs.private.Stays.{Stays}
+use Rattle.p10_clean_soundness.specs.private.Objects.{Settled, Survives, Survive, LeavesClean, ReachesElement, IsReached}
 use Rattle.p10_clean_soundness.proofs.Staying.{stays_or, stays_weaker}
 use Rattle.p10_clean_soundness.proofs.Closing.{leaves_same}
 use Rattle.p10_clean_soundness.proofs.SettingUp.{holding_filled}

@@ -1,7 +1,4 @@
--- The definitions that the contracts of this crate cite, each on those above it.
+-- The definitions that the contracts of this crate cite, and in `private` those that only its lemmas do.
 pub mod Operators
-pub mod Stays
-pub mod Setting
-pub mod Objects
-pub mod Standing
 pub mod Laws
+pub mod private

@@ -10,9 +10,9 @@ use Rattle.p10_meaning.specs.Statements.{Frame}
 use Rattle.p10_clean.specs.Settings.{Settings}
 use Rattle.p10_evaluation.specs.Claimed.{IsCoveredCall}
 use Rattle.p10_execution.specs.Standing.{StandsSoundly}
-use Rattle.p10_clean_soundness.specs.Stays.{Stays, HasValue}
-use Rattle.p10_clean_soundness.specs.Setting.{SetUp}
-use Rattle.p10_clean_soundness.specs.Objects.{Settled, AreLive, LeavesClean}
+use Rattle.p10_clean_soundness.specs.private.Stays.{Stays, HasValue}
+use Rattle.p10_clean_soundness.specs.private.Setting.{SetUp}
+use Rattle.p10_clean_soundness.specs.private.Objects.{Settled, AreLive, LeavesClean}
 
 -- a sound state and a frame with some variables in scope, of which some are set, while the objects with some numbers are being initialised
 pub record StandsClean (p : PlainProgram) (variables : List PlainVariable) (n : ℕ) (scope opening : List ℕ) (settings : Settings) (frame : Frame) (w : State) : Type 0 where

@@ -10,7 +10,7 @@ use Rattle.p10_meaning.specs.States.{State}
 use Rattle.p10_meaning.specs.Values.{Held, stands, Target, Variable, Sensor, Element}
 use Rattle.p10_meaning.specs.Variables.{is_variable_place}
 use Rattle.p10_clean.specs.Literals.{lies_in_literal}
-use Rattle.p10_clean_soundness.specs.Setting.{IsFilled}
+use Rattle.p10_clean_soundness.specs.private.Setting.{IsFilled}
 
 -- the object with a number is live, comes from where it is said, and isn't among those that are being initialised
 pub record IsLive (origin : Origin) (opening : List ℕ) (objects : List Object) (number : ℕ) : Type 0 where
