@@ -1,0 +1,8 @@
+-- The definitions that the contracts of this crate cite, each on those above it.
+pub mod Operations
+pub mod Walking
+pub mod Soundness
+pub mod Turns
+pub mod Ranges
+pub mod Laws
+pub mod SmallWalks
