@@ -22,7 +22,8 @@ use Rattle.p10_evaluation.specs.Claimed.{ResultLies, ArgumentsLie, IsCoveredCall
 use Rattle.p10_evaluation.specs.Laws.{IsDescribed}
 use Rattle.p10_execution.specs.Standing.{AreInFrame}
 use Rattle.p10_soundness.proofs.Entering.{EntersAsDescribed, CallsEnterAsDescribed}
-use Rattle.p10_soundness.proofs.Mapping.{statements_mapped}
+use Rattle.p10_soundness.specs.Calls.{BodyIsCovered, KeepsClaims}
+use Rattle.p10_soundness.proofs.Mapping.{after_step, statements_mapped}
 use Rattle.p10_soundness.proofs.Beginning.{entered_in_frame}
 
 -- ## Bodies
@@ -71,18 +72,20 @@ module _ (p : PlainProgram) (whole : IsWholeProgram p) (c : Claims) (costs : Cal
     entered_so : (m : ℕ) → m ≤ n → EntersAsDescribed p c n g f [] ks (start_at m)
     entered_so m b = enters p whole c n g f there inside xs (record w { left = m }) ks sound fit lie b []
 
-    body_after : (l : ℕ) → w.left ≡ l →
-        AfterStepAt l w (λ w. let start : Entered = entered f.variables xs (raised inside w) in
-        StatementsKeep (counting_of p c.funcs g f) (setting_of p n (call_at n p) inside f) (CallKeeps (setting_of p n (call_at n p) inside f) c.funcs inside) 0 f.body start.frame start.state)
-    body_after zero e = tt
-    body_after (suc m) e =
+    covered_after : (l : ℕ) → w.left ≡ l →
+        AfterStepAt l w (λ w. let start : Entered = entered f.variables xs (raised inside w) in StatementsKeep (counting_of p c.funcs g f) (setting_of p n (call_at n p) inside f) (IsCoveredCall p (Some c) n) 0 f.body start.frame start.state)
+    covered_after zero e = tt
+    covered_after (suc m) e =
         let d : EntersAsDescribed p c n g f [] ks (start_at m) = entered_so m (fewer n m w.left few e) in
-        statements_mapped (setting_of p n (call_at n p) inside f) (IsCoveredCall p (Some c) n) (CallKeeps (setting_of p n (call_at n p) inside f) c.funcs inside) (λ g xs w j. keep inside g xs w j f)
-        (counting_of p c.funcs g f) 0 f.body (start_at m).frame (start_at m).state
-        (body.keeps n inside (return inside) [] (start_at m).frame d.kinds (start_at m).state d.described (entered_in_frame f.variables xs (raised inside (record w { left = m }))))
+        body.keeps n inside (return inside) [] (start_at m).frame d.kinds (start_at m).state d.described (entered_in_frame f.variables xs (raised inside (record w { left = m })))
+
+    pub body_covered : BodyIsCovered p c n depth g f xs w
+    body_covered = record { after = covered_after w.left refl }
 
     pub body_keeps : BodyKeeps p c.funcs n depth g f xs w
-    body_keeps = record { after = body_after w.left refl }
+    body_keeps = after_step w _ _
+        (λ v h. statements_mapped (setting_of p n (call_at n p) inside f) (IsCoveredCall p (Some c) n) (CallKeeps (setting_of p n (call_at n p) inside f) c.funcs inside) (λ g xs w j. keep inside g xs w j f)
+        (counting_of p c.funcs g f) 0 f.body (entered f.variables xs (raised inside v)).frame (entered f.variables xs (raised inside v)).state h) body_covered
 
     returns_after : (l : ℕ) → w.left ≡ l → OnGives (λ x w. ResultLies (call_claimed (Some c) g (integer_of f.result)) x) (step_at l w (λ w. enter_call p n (call_at n p) depth (Some f) xs w))
     returns_after zero e = record { given = tt }
@@ -108,3 +111,15 @@ module _ (p : PlainProgram) (whole : IsWholeProgram p) (c : Claims) (costs : Cal
           subst (λ o. OnGives (λ x w. ResultLies (call_claimed (Some c) g (integer_of i.callee.result)) x) (step_at w.left w (λ w. enter_call p n (call_at n p) depth o xs w))) (sym i.there)
           (body_returns n (covered_keep n) (covered_return n) depth g i.callee i.there (safe g i.callee i.there i.other).body xs w i.kinds i.sound i.fit i.lie i.few);
     }
+
+  covered_inside : (n : ℕ) (depth : Depth) (g : ℕ) (xs : List Scalar) (w : State) → (i : IsCoveredCall p (Some c) n g xs w) → (m : ℕ) → n ≡ suc m → BodyIsCovered p c m depth g i.callee xs w
+  covered_inside n depth g xs w i m e =
+      body_covered m (covered_keep m) (covered_return m) depth g i.callee i.there (safe g i.callee i.there i.other).body xs w i.kinds i.sound i.fit i.lie (subst (λ n. w.left ≤ n) e i.few)
+
+  -- each covered call keeps what is claimed of its function, and so do the calls below it
+  pub covered_claims : (n : ℕ) (depth : Depth) (g : ℕ) (xs : List Scalar) (w : State) → (i : IsCoveredCall p (Some c) n g xs w) → KeepsClaims p c n depth g xs w i
+  covered_claims n depth g xs w i = record {
+    takes = λ caller. covered_keep n depth g xs w i caller;
+    result = (covered_return n depth).lies g xs w i;
+    inside = λ m e. covered_inside n depth g xs w i m e;
+  }

@@ -25,6 +25,7 @@ use Rattle.p10_task.specs.Covering.{RunIsCovered}
 use Rattle.p10_task.proofs.WholeRuns.{run_covered}
 use Rattle.p10_allocation.proofs.Runs.{nothing_is_allocated_late}
 use Rattle.p10_execution.specs.Bounding.{loop_trees, AreCounted}
+use Rattle.p10_soundness.specs.Calls.{AcceptedCertificatesBoundCalls, BoundsCalls}
 use Rattle.p10_soundness.specs.Laws.{AcceptedCertificatesBoundRuns, CertificatesAcceptedByRangesBoundRuns}
 use Rattle.p10_soundness.proofs.Accepted.{FunctionMeets, MeetsConditions, accepted_meets}
 use Rattle.p10_soundness.proofs.Bodies.{Stood, stood_parts, none_fails, all_stood, kept, body_safe}
@@ -32,7 +33,7 @@ use Rattle.p10_soundness.proofs.Entering.{calls_enter}
 use Rattle.p10_soundness.proofs.Fitting.{loops_fit}
 use Rattle.p10_soundness.proofs.MainLoops.{AreMainLoops, main_loops}
 use Rattle.p10_soundness.proofs.Calls.{BodyIsSafe}
-use Rattle.p10_soundness.proofs.Within.{stays_within}
+use Rattle.p10_soundness.proofs.Within.{bounds_calls, stays_within}
 
 module _ (stands : Standing) (p : PlainProgram) (whole : IsWholeProgram p) (lawful : IsLawful p stands) (c : Claims) (meets : MeetsConditions stands p c) where
   fit : (k : ℕ) (f : PlainFunction) → slice_get p.functions k ≡ Some f → fits_loops f (task_loop_number p k f) (loop_sites f) (loops_claimed (slice_get c.funcs k)) ≡ true
@@ -56,6 +57,9 @@ module _ (stands : Standing) (p : PlainProgram) (whole : IsWholeProgram p) (lawf
   meeting_bounds : Within p c.total
   meeting_bounds = stays_within stands p whole c claims_kept first_parts_take turns_take calls_enter meets (λ world prefix turn n. nothing_is_allocated_late p whole meets.nothing_late world prefix turn n) bodies opening_sound tasks
 
+  meeting_bounds_calls : BoundsCalls p whole c
+  meeting_bounds_calls = bounds_calls stands p whole c claims_kept first_parts_take turns_take calls_enter meets (λ world prefix turn n. nothing_is_allocated_late p whole meets.nothing_late world prefix turn n) bodies opening_sound tasks
+
 pub accepted_bound : AcceptedCertificatesBoundRuns
 accepted_bound p whole stands lawful c b verdict =
     let h : (b ≡ c.total) × Holds stands p c = accepted_hold stands p c b verdict in
@@ -63,3 +67,6 @@ accepted_bound p whole stands lawful c b verdict =
 
 pub accepted_by_ranges_bound : CertificatesAcceptedByRangesBoundRuns
 accepted_by_ranges_bound p whole c b verdict = accepted_bound p whole (stands_by_ranges p) (ranges_lawful p whole) c b verdict
+
+pub accepted_bound_calls : AcceptedCertificatesBoundCalls
+accepted_bound_calls p whole stands lawful c b verdict = meeting_bounds_calls stands p whole lawful c (accepted_meets stands p whole c (accepted_hold stands p c b verdict).1)

@@ -33,7 +33,8 @@ use Rattle.p10_task.specs.Covering.{TurnIsCovered, RunIsCovered}
 use Rattle.p10_soundness.proofs.Entering.{CallsEnterAsDescribed}
 use Rattle.p10_soundness.proofs.Accepted.{FunctionMeets, MeetsConditions}
 use Rattle.p10_soundness.proofs.Mapping.{on_gives, after_step, test_mapped, statement_mapped, statements_mapped}
-use Rattle.p10_soundness.proofs.Calls.{BodyIsSafe, CalleeIsSafe, body_keeps, covered_keep, covered_return}
+use Rattle.p10_soundness.specs.Calls.{BodyIsCovered, BoundsCalls}
+use Rattle.p10_soundness.proofs.Calls.{BodyIsSafe, CalleeIsSafe, body_covered, body_keeps, covered_claims, covered_keep, covered_return}
 use Rattle.p10_soundness.proofs.Runs.{stays, RunStays, call_stays, run_stays}
 
 -- ## Tests
@@ -268,4 +269,20 @@ module _ (stands : Standing) (p : PlainProgram) (whole : IsWholeProgram p) (c : 
         let r : RunStays C B (run_of p world c.total.prefix c.total.turn n) =
         subst (λ o. RunStays C B (run_main p c.total.prefix c.total.turn n o p.task (opening p world c.total.prefix))) (sym whole.main.there) (within_so world w n p.task refl) in
         record { steps = r.steps; calls = r.calls; bytes = r.bytes; after = quiet world c.total.prefix c.total.turn n };
+  }
+
+  -- ## Calls
+
+  main_covered : (world : World) → IsWorld world → p.task ≡ None → (n : ℕ) → BodyIsCovered p c n no_depth p.main f [] (opening p world (suc n))
+  main_covered world i none n =
+      body_covered p whole c costs enters safe n (λ depth g xs w j. keep n depth g xs w j) (λ depth. result n depth) no_depth p.main f whole.main.there (bodies p.main f whole.main.there (main_task p ∙ none)) [] (opening p world (suc n)) (opening_kinds p)
+      (opens p whole world i (suc n)) (no_scalars (opening_kinds p)) (no_claims (claims_on (slice_get c.funcs p.main))) (least (suc n))
+
+  pub bounds_calls : BoundsCalls p whole c
+  bounds_calls = record {
+    main = λ world i. record {
+      body = λ none n. main_covered world i none n;
+      task = λ j task has prefix turn. tasks f j task has world i prefix turn (λ n. result n (deeper f no_depth));
+    };
+    calls = λ n depth g xs w covered. covered_claims p whole c costs enters safe n depth g xs w covered;
   }

@@ -1,5 +1,6 @@
 //! What holds of accepted certificates: each law is the contract of a function without a body.
 
+ghost use Rattle.p10_soundness.specs.Calls.{AcceptedCertificatesBoundCalls};
 ghost use Rattle.p10_soundness.specs.Laws.{AcceptedCertificatesBoundRuns, CertificatesAcceptedByRangesBoundRuns};
 
 /// A certificate that is accepted for a whole program bounds every run: in every world, with the budgets of its total and for each
@@ -8,4 +9,10 @@ ghost use Rattle.p10_soundness.specs.Laws.{AcceptedCertificatesBoundRuns, Certif
 pub fn accepted_certificates_bound_every_run()
     ensures lawful { AcceptedCertificatesBoundRuns }
     ensures ranges { CertificatesAcceptedByRangesBoundRuns }
+{}
+
+/// Under a certificate that is accepted for a whole program each call that a run makes takes at most the steps, depths and
+/// allocation that are claimed of its function, and what it gives lies in the claimed range.
+pub fn accepted_certificates_bound_every_call()
+    ensures { AcceptedCertificatesBoundCalls }
 {}
