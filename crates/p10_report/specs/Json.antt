@@ -1,5 +1,5 @@
 -- A report as JSON (RFC 8259).
-use Rattle.std.specs.Prelude.{ℕ, List, codes, map, Option, Some, None}
+use Rattle.std.specs.Prelude.{List, codes, map, Option, Some, None}
 use Rattle.p10_base.specs.declared.report.Refusal.{Refusal}
 use Rattle.p10_base.specs.declared.report.Violation.{Violation}
 use Rattle.p10_base.specs.Codes.{IsCode, code_text}

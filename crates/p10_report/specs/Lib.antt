@@ -6,3 +6,4 @@ pub mod Endings
 pub mod Violations
 pub mod Json
 pub mod Laws
+pub mod private

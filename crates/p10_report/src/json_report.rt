@@ -10,6 +10,7 @@ ghost use Rattle.p10_report.specs.Json.{json_text, refusal_data, refusal_text, v
 ghost use Rattle.p10_report.specs.Lines.{place_text};
 ghost use Rattle.p10_report.specs.Violations.{row_number};
 
+use crate::counting::Counted;
 use crate::pieces::{file_name, line_col};
 use crate::rows;
 use itoa::Buffer;
@@ -67,21 +68,30 @@ fn violation_values(
     ensures { IfOk result (λ values. map view values.items ≡ map (violation_data s.now) violations.now) }
 {
     let mut values = Vec::new(alloc);
+    let mut counted = Counted::beginning(0);
     for violation in violations {
-        values.push(violation_value(alloc, s, violation)?)?;
+        counted = counted.next(s, violation.span);
+        let place = (counted.line, counted.column);
+        values.push(violation_value(alloc, s, violation, place)?)?;
     }
     Ok(values)
 }
 
-/// A violation.
-fn violation_value(alloc: Global, s: &Sources, violation: &Violation) -> Result<Value, AllocError>
+/// A violation, from the line and the column of its place.
+fn violation_value(
+    alloc: Global,
+    s: &Sources,
+    violation: &Violation,
+    place: (u64, u64),
+) -> Result<Value, AllocError>
+    requires line { place.0 ≡ line_of (text_of s.now violation.now.span.file) violation.now.span.start }
+    requires column { place.1 ≡ column_of (text_of s.now violation.now.span.file) violation.now.span.start }
     ensures { IfOk result (λ value. view value ≡ violation_data s.now violation.now) }
 {
-    let (line, column) = line_col(s, violation.span);
     let file = file_name(s, violation.span.file);
     let rule = row_string(alloc, violation.sub)?;
     let text = rows::text(violation.sub);
-    violation_object(alloc, file, (line, column), rule, text)
+    violation_object(alloc, file, place, rule, text)
 }
 
 /// A violation in this file, at this line and column, of a row with this text.

@@ -27,14 +27,13 @@ use pieces::{
 };
 pub use rows::{put_violation, put_violations};
 
+mod counting;
 mod endings;
 mod json_report;
 pub mod laws;
 mod messages;
 mod pieces;
 mod rows;
-#[cfg(test)]
-mod tests;
 
 /// Writes the line of a refused source, `FILE:LINE:COLUMN: refused CODE: TEXT`, with the place of the refusal `r` in the
 /// sources `s`. Its code is X1 to X6, D1 to D8, G1, or S0 to S30.

@@ -54,7 +54,24 @@ pub fn put_place<O: Sink>(out: &mut O, s: &Sources, at: Span) -> Result<(), Sink
     ensures failed { OnErr result (Rose (O.faults out.old) (O.faults out.new)) }
     ensures count { O.faults out.old ≤ O.faults out.new }
 {
-    let (line, column) = line_col(s, at);
+    put_counted(out, s, at, line_col(s, at))
+}
+
+/// Writes a place as [`put_place`] does, from its line and column.
+pub fn put_counted<O: Sink>(
+    out: &mut O,
+    s: &Sources,
+    at: Span,
+    place: (u64, u64),
+) -> Result<(), SinkFault>
+    requires line { place.0 ≡ line_of (text_of s.now at.file) at.start }
+    requires column { place.1 ≡ column_of (text_of s.now at.file) at.start }
+    ensures ok { OnOk result (Appends (O.taken out.old) (O.taken out.new) (place_text s.now at)) }
+    ensures stopped { OnErr result (StopsWithin (O.taken out.old) (O.taken out.new) (place_text s.now at)) }
+    ensures failed { OnErr result (Rose (O.faults out.old) (O.faults out.new)) }
+    ensures count { O.faults out.old ≤ O.faults out.new }
+{
+    let (line, column) = place;
     put_bytes(out, file_name(s, at.file).as_bytes())?;
     put_labelled(out, b":", u128::from(line))?;
     put_labelled(out, b":", u128::from(column))

@@ -2,11 +2,14 @@
 
 ghost use Rattle.std.specs.Prelude.{◌≡◌, ◌≤◌, map, OnErr, OnOk};
 ghost use Rattle.std.specs.Io.KnownBytes.{Appends};
+ghost use Rattle.p10_base.specs.Gathered.{text_of};
+ghost use Rattle.p10_base.specs.Places.{column_of, line_of};
 ghost use Rattle.p10_world.specs.Faults.{Rose};
 ghost use Rattle.p10_report.specs.Stops.{StopsWithin};
 ghost use Rattle.p10_report.specs.Violations.{row_number, row_text, row_text_part, row_with_text, text_among, violated_part, violation_line, violation_lines};
 
-use crate::pieces::{put_bytes, put_labelled, put_place};
+use crate::counting::Counted;
+use crate::pieces::{line_col, put_bytes, put_counted, put_labelled};
 use itoa::Buffer;
 use p10_base::{Sources, Sub, Violation};
 use p10_world::{Sink, SinkFault};
@@ -28,11 +31,29 @@ pub fn put_violation<O: Sink>(out: &mut O, s: &Sources, v: &Violation) -> Result
     ensures failed { OnErr result (Rose (O.faults out.old) (O.faults out.new)) }
     ensures count { O.faults out.old ≤ O.faults out.new }
 {
-    put_place(out, s, v.span)?;
+    put_counted_violation(out, s, v, line_col(s, v.span))
+}
+
+/// Writes the line of a violation as [`put_violation`] does, from the line and the column of its place.
+fn put_counted_violation<O: Sink>(
+    out: &mut O,
+    s: &Sources,
+    v: &Violation,
+    place: (u64, u64),
+) -> Result<(), SinkFault>
+    requires line { place.0 ≡ line_of (text_of s.now v.now.span.file) v.now.span.start }
+    requires column { place.1 ≡ column_of (text_of s.now v.now.span.file) v.now.span.start }
+    ensures ok { OnOk result (Appends (O.taken out.old) (O.taken out.new) (violation_line s.now v.now)) }
+    ensures stopped { OnErr result (StopsWithin (O.taken out.old) (O.taken out.new) (violation_line s.now v.now)) }
+    ensures failed { OnErr result (Rose (O.faults out.old) (O.faults out.new)) }
+    ensures count { O.faults out.old ≤ O.faults out.new }
+{
+    put_counted(out, s, v.span, place)?;
     put_violated(out, v.sub)
 }
 
-/// Writes the lines of violations in their order, as [`put_violation`] writes each.
+/// Writes the lines of violations in their order, as [`put_violation`] writes each. Lines and columns are counted on from one violation
+/// to the next, so sorted violations take one walk over each file.
 ///
 /// The sink took all lines whole at `Ok`.
 ///
@@ -49,9 +70,11 @@ pub fn put_violations<O: Sink>(
     ensures failed { OnErr result (Rose (O.faults out.old) (O.faults out.new)) }
     ensures count { O.faults out.old ≤ O.faults out.new }
 {
+    let mut counted = Counted::beginning(0);
     let mut rest = violations;
     while let Some((violation, others)) = rest.split_first() {
-        put_violation(out, s, violation)?;
+        counted = counted.next(s, violation.span);
+        put_counted_violation(out, s, violation, (counted.line, counted.column))?;
         rest = others;
     }
     Ok(())

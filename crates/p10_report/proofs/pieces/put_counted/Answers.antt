@@ -1,7 +1,7 @@
 use Rattle.std.proofs.Common.{arith}
 use Rattle.p10_report.specs.Lines.{place_text}
 use Rattle.p10_report.proofs.Stopping.{stops}
-use Rattle.p10_report.proofs.pieces.put_place.Goals as goal
+use Rattle.p10_report.proofs.pieces.put_counted.Goals as goal
 
 pub returns-in_err-put_bytes-clause-stopped : goal.returns-in_err-put_bytes-clause-stopped
 unfolding place_text

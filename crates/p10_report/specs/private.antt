@@ -1,0 +1,2 @@
+-- Definitions that the contracts of private functions alone cite.
+pub mod Counted
