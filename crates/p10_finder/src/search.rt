@@ -74,14 +74,13 @@ pub(crate) fn known_after_statement(
     s: &Search<'_, '_>,
     found: &LoopsFound,
     x: &Stmt,
-    env: &Option<Env>,
+    env: Option<Env>,
 ) -> Result<Option<Env>, AllocError>
-    ensures { IfOk result (λ after. values_in after ≡ after_statement (search_by s.now) (loops_by found.now) (plain_statement x.now) (values_in env.now)) }
+    ensures { IfOk result (λ after. values_in after ≡ after_statement (search_by s.now) (loops_by found.now) (plain_statement x.now) (values_in env)) }
 {
     match env {
         Some(env) => {
-            let copy = env.copy(alloc)?;
-            let left = pass_statement(alloc, &found.manner(s), x, copy)?;
+            let left = pass_statement(alloc, &found.manner(s), x, env)?;
             Ok(left.normal)
         }
         None => Ok(None),

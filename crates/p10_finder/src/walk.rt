@@ -81,7 +81,8 @@ fn step(
     ensures now { OnOk result (values_in now.new ≡ after_statement (search_by s.now) (loops_by found.new) (plain_statement x.now) (values_in now.old)) }
 {
     loops_in(alloc, s, x, now, found)?;
-    let after = known_after_statement(alloc, s, found, x, now)?;
+    let before = now.take();
+    let after = known_after_statement(alloc, s, found, x, before)?;
     *now = after;
     Ok(())
 }
