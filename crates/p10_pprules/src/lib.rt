@@ -20,6 +20,3 @@ mod rules;
 mod unit;
 
 pub use rules::pp_rules;
-
-#[cfg(test)]
-mod tests;

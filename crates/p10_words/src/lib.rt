@@ -19,8 +19,6 @@ mod command;
 pub mod laws;
 mod parse;
 mod read;
-#[cfg(test)]
-mod tests;
 mod values;
 
 pub use command::{Budget, Command, Usage};
