@@ -1,5 +1,5 @@
-//! What every layer of `p10` speaks of: places in files, words, violations, refusals, limits and
-//! bounds, and the gathered source files.
+//! What every layer of `p10` speaks of: places in files, words, violations, refusals, limits,
+//! bounds and digests, and the gathered source files.
 //!
 //! Entry points: [`Sources`], the files of a program with their names, words, roots and include links; [`Word`], which
 //! definitions see as a `PlainWord`, without where its text lies in memory; [`Refusal`] and [`Limit`], with a name for
@@ -13,6 +13,7 @@
 mod at;
 mod buffers;
 mod codes;
+mod digest;
 mod name_list;
 mod report;
 mod sources;
@@ -22,6 +23,7 @@ mod word;
 pub use at::At;
 pub use buffers::{ListBuf, TextBuf};
 pub use codes::{DirectiveCode, SubsetCode, WordCode};
+pub use digest::{Digest, Digests};
 pub use name_list::NameList;
 pub use report::{Bounds, Family, Limit, Refusal, Sub, Violation};
 pub use sources::Sources;

@@ -1,15 +1,16 @@
 -- What is built from the lines of a function is the function.
-use Rattle.std.proofs.Common.{◌≡◌, ℕ, List, [], ◌∷◌, ◌++◌, map, Option, Some, None, Result, Ok, Err, IfOk, option_map, refl, sym, ap, ◌∙◌, append_assoc, append-nil}
+use Rattle.std.proofs.Common.{◌≡◌, ℕ, Bool, false, List, [], ◌∷◌, ◌++◌, map, Option, Some, None, Result, Ok, Err, IfOk, option_map, refl, sym, ap, ◌∙◌, append_assoc, append-nil}
 use Rattle.std.proofs.lemmas.Option.{some_pair_parts, none-some}
 use Rattle.std.specs.List.{AllByRecursion, flat_map}
 use Rattle.p10_cert.specs.Claims.{Value, Var, Loop, Func}
 use Rattle.p10_cert.specs.Lines.{Line, FuncLine, ParamLine, ResultLine, VarLine, text_of, IsLine}
-use Rattle.p10_cert.specs.Certificate.{loop_head, loop_lines, func_head, func_lines, func_text, IsFunc}
+use Rattle.p10_cert.specs.Certificate.{loop_head, loop_lines, func_head}
+use Rattle.p10_cert.specs.Statements.{Entry, digest_lines, inner_lines, entry_lines, entry_text, IsEntry}
 use Rattle.p10_cert.specs.private.Reading.{line_at}
 use Rattle.p10_cert.specs.private.Building.{Part, bare_loop, with_var, closed, build, build_all, finish, no_part}
-use Rattle.p10_cert.proofs.LineAgain.{line_again}
+use Rattle.p10_cert.proofs.LineAgain.{is_body, line_again}
 use Rattle.p10_cert.proofs.LineTexts.{no_line}
-use Rattle.p10_cert.proofs.Runs.{func_good}
+use Rattle.p10_cert.proofs.Runs.{all_append, entry_good}
 
 -- ---- lines after lines
 
@@ -55,45 +56,78 @@ loops_built p (l ∷ loops) =
     last : (p : Part) (before : List Loop) (l : Loop) (loops : List Loop) → with_loops (finish (with_last p before l)) ((before ++ l ∷ []) ++ loops) ≡ with_loops (finish p) (before ++ (l ∷ loops))
     last p before l loops = ap (with_loops (finish p)) (append_assoc before (l ∷ []) loops)
 
+-- a digest is no part of what is claimed
+digest_built : (p : Part) (digest : Option (List ℕ)) → build_all p (digest_lines digest) ≡ p
+digest_built p None = refl
+digest_built p (Some d) = refl
+
 -- what is built from the lines of a function
-pub built : (f : Func) → finish (build_all no_part (func_lines f)) ≡ f
+pub built : (e : Entry) → finish (build_all no_part (entry_lines e)) ≡ e.func
 unfolding with_params with_loops
-built f =
+built e =
+    let f : Func = e.func in
     let start : Part = build no_part (FuncLine (func_head f)) in
     let rest : List Line = ResultLine f.result ∷ flat_map loop_lines f.loops in
     let read : Part = build (with_params start f.params) (ResultLine f.result) in
-    ap finish (build_all-append start (map ParamLine f.params) rest) ∙ ap (λ q. finish (build_all q rest)) (params_built start f.params) ∙ loops_built read f.loops
+    ap finish (build_all-append start (digest_lines e.digest) (inner_lines f) ∙ ap (λ q. build_all q (inner_lines f)) (digest_built start e.digest) ∙ build_all-append start (map ParamLine f.params) rest)
+    ∙ ap (λ q. finish (build_all q rest)) (params_built start f.params) ∙ loops_built read f.loops
 
 -- ---- line by line
+
+-- lines that are none of a section
+abbrev pub IsPlainLine : Line → Type 0
+IsPlainLine l = is_body l ≡ false
 
 -- what is left of the lines of a function, and what it will come to
 pub record IsLeft (p whole : Part) (text : List ℕ) : Type 0 where
   pub lines : List Line
   pub good : AllByRecursion IsLine lines
+  pub plain : AllByRecursion IsPlainLine lines
   pub parts : text ≡ text_of lines
   pub comes : build_all p lines ≡ whole
 
-pub left_first : (f : Func) (text : List ℕ) (p : Part) → IsFunc f → text ≡ func_text f → p ≡ no_part → IsLeft p (build_all no_part (func_lines f)) text
-unfolding func_text
-left_first f text p good parts start = record { lines = func_lines f; good = func_good f good; parts = parts; comes = ap (λ p. build_all p (func_lines f)) start }
+pub entry_plain : (e : Entry) → AllByRecursion IsPlainLine (entry_lines e)
+entry_plain e =
+    let f : Func = e.func in
+    (refl, all_append IsPlainLine (digest_lines e.digest) (inner_lines f) (digest_plain e.digest) (all_append IsPlainLine (map ParamLine f.params) (ResultLine f.result ∷ flat_map loop_lines f.loops) (params_plain f.params) (refl, loops_plain f.loops)))
+  where
+    digest_plain : (digest : Option (List ℕ)) → AllByRecursion IsPlainLine (digest_lines digest)
+    digest_plain None = tt
+    digest_plain (Some d) = (refl, tt)
+
+    params_plain : (params : List Value) → AllByRecursion IsPlainLine (map ParamLine params)
+    params_plain [] = tt
+    params_plain (v ∷ params) = (refl, params_plain params)
+
+    vars_plain : (vars : List Var) → AllByRecursion IsPlainLine (map VarLine vars)
+    vars_plain [] = tt
+    vars_plain (v ∷ vars) = (refl, vars_plain vars)
+
+    loops_plain : (loops : List Loop) → AllByRecursion IsPlainLine (flat_map loop_lines loops)
+    loops_plain [] = tt
+    loops_plain (l ∷ loops) = (refl, all_append IsPlainLine (map VarLine l.vars) (flat_map loop_lines loops) (vars_plain l.vars) (loops_plain loops))
+
+pub left_first : (e : Entry) (sealed : Bool) (text : List ℕ) (p : Part) → IsEntry sealed e → text ≡ entry_text e → p ≡ no_part → IsLeft p (build_all no_part (entry_lines e)) text
+unfolding entry_text
+left_first e sealed text p good parts start = record { lines = entry_lines e; good = entry_good sealed e good; plain = entry_plain e; parts = parts; comes = ap (λ p. build_all p (entry_lines e)) start }
 
 pub left_more : (p q whole : Part) (text after : List ℕ) (line : Line) → Some (line, after) ≡ line_at text → q ≡ build p line → IsLeft p whole text → IsLeft q whole after
 unfolding text_of
-left_more p q whole text after line e is left = more left.lines left.good left.parts left.comes
+left_more p q whole text after line e is left = more left.lines left.good left.plain left.parts left.comes
   where
-    more : (lines : List Line) → AllByRecursion IsLine lines → text ≡ text_of lines → build_all p lines ≡ whole → IsLeft q whole after
-    more [] good parts comes = absurd (none-some _ (sym no_line ∙ ap line_at (sym parts) ∙ sym e))
-    more (l ∷ lines) good parts comes =
-        let same = some_pair_parts line l after (text_of lines) (e ∙ ap line_at parts ∙ line_again l (text_of lines) good.0) in
-        record { lines = lines; good = good.1; parts = same.1; comes = ap (λ p. build_all p lines) (is ∙ ap (build p) same.0) ∙ comes }
+    more : (lines : List Line) → AllByRecursion IsLine lines → AllByRecursion IsPlainLine lines → text ≡ text_of lines → build_all p lines ≡ whole → IsLeft q whole after
+    more [] good plain parts comes = absurd (none-some _ (sym no_line ∙ ap line_at (sym parts) ∙ sym e))
+    more (l ∷ lines) good plain parts comes =
+        let same = some_pair_parts line l after (text_of lines) (e ∙ ap line_at parts ∙ line_again l (text_of lines) good.0 plain.0) in
+        record { lines = lines; good = good.1; plain = plain.1; parts = same.1; comes = ap (λ p. build_all p lines) (is ∙ ap (build p) same.0) ∙ comes }
 
 pub left_none : (p whole : Part) (text : List ℕ) → None ≡ line_at text → IsLeft p whole text → p ≡ whole
 unfolding text_of
-left_none p whole text e left = none left.lines left.good left.parts left.comes
+left_none p whole text e left = none left.lines left.good left.plain left.parts left.comes
   where
-    none : (lines : List Line) → AllByRecursion IsLine lines → text ≡ text_of lines → build_all p lines ≡ whole → p ≡ whole
-    none [] good parts comes = comes
-    none (l ∷ lines) good parts comes = absurd (none-some _ (e ∙ ap line_at parts ∙ line_again l (text_of lines) good.0))
+    none : (lines : List Line) → AllByRecursion IsLine lines → AllByRecursion IsPlainLine lines → text ≡ text_of lines → build_all p lines ≡ whole → p ≡ whole
+    none [] good plain parts comes = comes
+    none (l ∷ lines) good plain parts comes = absurd (none-some _ (e ∙ ap line_at parts ∙ line_again l (text_of lines) good.0 plain.0))
 
 -- ---- small facts
 

@@ -7,10 +7,12 @@ use Rattle.p10_base.specs.declared.report.Bounds.{Bounds}
 use Rattle.p10_cert.specs.declared.claims.Rank.{Rank}
 use Rattle.p10_cert.specs.declared.claims.Rank.TheVariants.{Up, Down, One, Task}
 use Rattle.p10_cert.specs.Claims.{Value, Number, Address, Nothing, Var}
-use Rattle.p10_cert.specs.Lines.{FuncHead, Line, FirstLine, FuncLine, ParamLine, ResultLine, LoopLine, VarLine, TotalLine, LastLine, ◌then◌, flag_number, ends_then, value_then, loop_then, line_then, greatest_count, is_name_byte, IsFuncHead, IsParam, IsResult, IsRank, IsVar, IsTotal, IsLine}
-use Rattle.p10_cert.specs.private.Reading.{or_else, after_front, after_run, greatest_index, is_there, param_at, result_at, func_at, loop_at, task_at, var_at, total_at, after_first, after_total, inner_at, outer_at, line_at}
+use Rattle.p10_cert.specs.Lines.{FuncHead, Line, FirstLine, FuncLine, ParamLine, ResultLine, LoopLine, VarLine, TotalLine, LastLine, SealedLine, ◌then◌, flag_number, ends_then, value_then, loop_then, line_then, greatest_count, is_name_byte, IsFuncHead, IsParam, IsResult, IsRank, IsVar, IsTotal, IsLine}
+use Rattle.p10_cert.specs.private.Reading.{or_else, after_front, after_run, greatest_index, is_there, param_at, result_at, func_at, loop_at, task_at, var_at, total_at, after_first, after_total, function_digest_at, outside_at, section_at, body_at, sealed_at, inner_at, outer_at, line_at}
 use Rattle.p10_cert.proofs.Steps.{then_some, bind_is, choice_some, after_front_takes, after_front_again}
 use Rattle.p10_cert.proofs.NumberLaws.{number_takes, number_again, labelled_takes, labelled_again, name_takes, name_again}
+use Rattle.p10_cert.proofs.HexLaws.{digest_takes}
+use Rattle.p10_cert.proofs.SectionLaws.{start_takes, body_takes}
 use Rattle.p10_cert.proofs.ValueLaws.{ends_takes, ends_again, value_takes, value_again, rank_then, IsEnding, rank_takes, rank_again}
 
 -- what a reader took: the text of a line after its first words, of a line that may be
@@ -247,6 +249,34 @@ total_again b rest fits =
     (bind_is _ (b.bytes, t3) _ _ (labelled_again (codes " bytes ") greatest_count b.bytes t3 fits.bytes.small (omega arith) refl)
     (bind_is _ rest _ _ (after_front_again (codes "\n") rest) refl))))
 
+-- ---- digests and sections
+
+function_digest_takes : (text : List ℕ) (r : Line × List ℕ) → function_digest_at text ≡ Some r → Took (codes "digest ") text r
+unfolding function_digest_at line_then
+function_digest_takes text r e =
+    then_some _ _ _ e (λ digest e0 f0.
+    let p0 = digest_takes text digest e0 in
+    subst (Took (codes "digest ") text) (same_Some _ _ f0) (ap (λ t. codes "digest " ++ t) p0.0, p0.1))
+
+outside_takes : (text : List ℕ) (r : Line × List ℕ) → outside_at text ≡ Some r → Took (codes "outside ") text r
+unfolding outside_at line_then
+outside_takes text r e =
+    then_some _ _ _ e (λ digest e0 f0.
+    let p0 = digest_takes text digest e0 in
+    subst (Took (codes "outside ") text) (same_Some _ _ f0) (ap (λ t. codes "outside " ++ t) p0.0, p0.1))
+
+section_takes : (text : List ℕ) (r : Line × List ℕ) → section_at text ≡ Some r → Took (codes "section ") text r
+unfolding section_at line_then
+section_takes text r e =
+    then_some _ _ _ e (λ start e0 f0.
+    let p0 = start_takes text start e0 in
+    subst (Took (codes "section ") text) (same_Some _ _ f0) (ap (λ t. codes "section " ++ t) p0.0, p0.1))
+
+pub body_line_takes : (text : List ℕ) (r : Line × List ℕ) → body_at text ≡ Some r → (text ≡ line_then r.0 r.1) × IsLine r.0
+unfolding body_at line_then
+body_line_takes text r e =
+    then_some _ _ _ e (λ bytes e0 f0. let P : Line × List ℕ → Type 0 = λ r. (text ≡ line_then r.0 r.1) × IsLine r.0 in subst P (same_Some _ _ f0) (body_takes text bytes e0))
+
 -- ---- lines
 
 -- what a reader took after the first words, or else another
@@ -275,14 +305,27 @@ last_took : (rest : List ℕ) → Took (codes "end\n") rest (LastLine, rest)
 unfolding line_then
 last_took rest = (refl, tt)
 
+sealed_took : (rest : List ℕ) → Took (codes "p10cert 2\n") rest (SealedLine, rest)
+unfolding line_then
+sealed_took rest = (refl, tt)
+
+sealed_takes : (text : List ℕ) (r : Line × List ℕ) → sealed_at text ≡ Some r → Took [] text r
+unfolding sealed_at
+sealed_takes text r e =
+    word_takes (codes "p10cert 2\n") text (λ rest. Some (SealedLine, rest)) _ r e (λ rest f. subst (Took (codes "p10cert 2\n") rest) (same_Some _ _ f) (sealed_took rest)) (λ e1.
+    word_takes (codes "digest ") text function_digest_at _ r e1 (λ rest f. function_digest_takes rest r f) (λ e2.
+    word_takes (codes "outside ") text outside_at _ r e2 (λ rest f. outside_takes rest r f) (λ e3.
+    word_takes (codes "section ") text section_at None r e3 (λ rest f. section_takes rest r f) (λ e4.
+    absurd (none-some r e4)))))
+
 outer_takes : (text : List ℕ) (r : Line × List ℕ) → outer_at text ≡ Some r → Took [] text r
 unfolding outer_at after_first after_total
 outer_takes text r e =
     word_takes (codes "func ") text func_at _ r e (λ rest f. func_takes rest r f) (λ e1.
     word_takes (codes "p10cert 1\n") text (λ rest. Some (FirstLine, rest)) _ r e1 (λ rest f. subst (Took (codes "p10cert 1\n") rest) (same_Some _ _ f) (first_took rest)) (λ e2.
     word_takes (codes "total prefix ") text total_at _ r e2 (λ rest f. total_takes rest r f) (λ e3.
-    word_takes (codes "end\n") text (λ rest. Some (LastLine, rest)) None r e3 (λ rest f. subst (Took (codes "end\n") rest) (same_Some _ _ f) (last_took rest)) (λ e4.
-    absurd (none-some r e4)))))
+    word_takes (codes "end\n") text (λ rest. Some (LastLine, rest)) _ r e3 (λ rest f. subst (Took (codes "end\n") rest) (same_Some _ _ f) (last_took rest)) (λ e4.
+    sealed_takes text r e4))))
 
 -- a line that is read: the text begins with its one text, and it may be a line
 pub line_takes : (text : List ℕ) (r : Line × List ℕ) → line_at text ≡ Some r → (text ≡ line_then r.0 r.1) × IsLine r.0

@@ -1,23 +1,24 @@
 -- The texts of lines: what stands after them, and that each is one line.
-use Rattle.std.proofs.Common.{◌≡◌, ◌≢◌, ℕ, zero, suc, ◌<◌, ◌≤◌, Bool, true, false, not, ◌==◌, List, [], ◌∷◌, ◌++◌, length, ℤ, pos, negsuc, codes, decimal, None, refl, sym, ap, ◌∙◌, arith, append_assoc, length-append}
+use Rattle.std.proofs.Common.{◌≡◌, ◌≢◌, ℕ, zero, suc, ◌+◌, ◌/◌, ◌%◌, ◌<◌, ◌≤◌, Bool, true, false, not, cond, nat_lt, ◌==◌, List, [], ◌∷◌, ◌++◌, length, ℤ, pos, negsuc, codes, decimal, None, refl, sym, ap, ◌∙◌, arith, append_assoc, length-append}
 use Rattle.std.proofs.lemmas.Bool.Decides.{nat_tests}
 use Rattle.std.proofs.lemmas.Int.{ints}
 use Rattle.std.proofs.lemmas.Option.{none-some, some_pair_parts}
 use Rattle.std.specs.Char.{is_ascii_digit}
-use Rattle.std.specs.Fmt.{signed_decimal}
+use Rattle.std.specs.Fmt.{signed_decimal, digit_glyph}
 use Rattle.std.specs.List.{list_all}
 use Rattle.p10_range.specs.Ranges.{Interval}
 use Rattle.p10_cert.specs.declared.claims.Rank.{Rank}
 use Rattle.p10_cert.specs.declared.claims.Rank.TheVariants.{Up, Down, One, Task}
 use Rattle.p10_cert.specs.Claims.{Value, Number, Address, Nothing}
-use Rattle.p10_cert.specs.Lines.{Line, FirstLine, FuncLine, ParamLine, ResultLine, LoopLine, VarLine, TotalLine, LastLine, ends_then, value_then, loop_then, line_then, text_of, flag_number, greatest_size, IsEnd, AreEnds, is_name_byte, is_name, IsRank, IsResult, IsLine}
+use Rattle.p10_cert.specs.Lines.{Line, FirstLine, FuncLine, ParamLine, ResultLine, LoopLine, VarLine, TotalLine, LastLine, SealedLine, DigestLine, OutsideLine, SectionLine, BodyLine, hex_text, ends_then, value_then, loop_then, line_then, text_of, flag_number, greatest_size, IsEnd, AreEnds, is_name_byte, is_name, is_section_byte, is_body_byte, IsRank, IsResult, IsLine}
 use Rattle.p10_cert.specs.WrongLines.{first_lines}
-use Rattle.p10_cert.specs.private.Reading.{after_front, after_first, after_total, inner_at, outer_at, line_at}
+use Rattle.p10_cert.specs.private.Reading.{after_front, after_first, after_total, body_at, sealed_at, inner_at, outer_at, line_at}
 use Rattle.p10_cert.proofs.Steps.{both_true}
 use Rattle.p10_cert.proofs.Numerals.{numeral_of_again}
 use Rattle.p10_cert.proofs.NumberLaws.{name_in_bytes}
 use Rattle.p10_cert.proofs.LineLaws.{flag_small, param_is_value}
-use Rattle.p10_cert.proofs.LineAgain.{line_again}
+use Rattle.p10_cert.proofs.LineAgain.{is_body, line_again, body_line_again}
+use Rattle.p10_cert.proofs.SectionLaws.{name_in_bytes as section_name_in_bytes}
 
 -- ---- what stands after a line
 
@@ -45,6 +46,11 @@ line_then-append (LoopLine l) a b = loop_then-append l.depth l.rank l.turns (cod
 line_then-append (VarLine v) a b = simp append_assoc
 line_then-append (TotalLine t) a b = simp append_assoc
 line_then-append LastLine a b = refl
+line_then-append SealedLine a b = refl
+line_then-append (DigestLine d) a b = simp append_assoc
+line_then-append (OutsideLine d) a b = simp append_assoc
+line_then-append (SectionLine s) a b = simp append_assoc
+line_then-append (BodyLine bytes) a b = simp append_assoc
 
 pub text_then : (l : Line) (lines : List Line) (rest : List ℕ) → text_of (l ∷ lines) ++ rest ≡ line_then l (text_of lines ++ rest)
 unfolding text_of
@@ -62,11 +68,24 @@ text_of-append (l ∷ xs) ys = ap (line_then l) (text_of-append xs ys) ∙ sym (
 -- ---- a line has bytes
 
 pub no_line : line_at [] ≡ None
-unfolding line_at inner_at outer_at after_first after_total after_front
+unfolding line_at inner_at outer_at after_first after_total sealed_at after_front
 no_line = refl
 
 pub line_then-some : (l : Line) (rest : List ℕ) → IsLine l → line_then l rest ≢ []
-line_then-some l rest good e = none-some _ (sym no_line ∙ ap line_at (sym e) ∙ line_again l rest good)
+unfolding line_then
+line_then-some l rest good e = by_kind (is_body l) refl
+  where
+    ends_some : (bytes rest : List ℕ) → bytes ++ (10 ∷ rest) ≡ [] → ⊥
+    ends_some [] rest e = absurd cc
+    ends_some (x ∷ xs) rest e = absurd cc
+
+    body_some : (l : Line) (rest : List ℕ) → line_then l rest ≡ [] → is_body l ≡ true → ⊥
+    body_some (BodyLine bytes) rest e body = ends_some bytes rest e
+    body_some l rest e body = absurd cc
+
+    by_kind : (b : Bool) → is_body l ≡ b → ⊥
+    by_kind true body = body_some l rest e body
+    by_kind false plain = none-some _ (sym no_line ∙ ap line_at (sym e) ∙ line_again l rest good plain)
 
 -- a text of one line more is longer
 pub line_then-longer : (l : Line) (rest : List ℕ) → IsLine l → length rest < length (line_then l rest)
@@ -76,10 +95,13 @@ line_then-longer l rest good = longer (line_then l []) (line_then l rest) rest (
     longer [] ys rest e some = absurd (some refl)
     longer (x ∷ xs) ys rest e some = omega (arith, ap length e, length-append (x ∷ xs) rest)
 
--- two lines in front of texts are the same where they give one text
-pub line_then-injective : (l m : Line) (a b : List ℕ) → IsLine l → IsLine m → line_then l a ≡ line_then m b → (l ≡ m) × (a ≡ b)
-line_then-injective l m a b left right e =
-    some_pair_parts l m a b (sym (line_again l a left) ∙ ap line_at e ∙ line_again m b right)
+-- two lines in front of texts are the same where they give one text, and both are of a section or none is
+pub line_then-injective : (l m : Line) (a b : List ℕ) → is_body l ≡ is_body m → IsLine l → IsLine m → line_then l a ≡ line_then m b → (l ≡ m) × (a ≡ b)
+line_then-injective l m a b alike left right e = by_kind (is_body l) refl (sym alike)
+  where
+    by_kind : (k : Bool) → is_body l ≡ k → is_body m ≡ is_body l → (l ≡ m) × (a ≡ b)
+    by_kind true body same = some_pair_parts l m a b (sym (body_line_again l a left body) ∙ ap body_at e ∙ body_line_again m b right (same ∙ body))
+    by_kind false plain same = some_pair_parts l m a b (sym (line_again l a left plain) ∙ ap line_at e ∙ line_again m b right (same ∙ plain))
 
 -- ---- bytes without LF
 
@@ -109,6 +131,26 @@ signed_in_line (negsuc n) fits = decimal_in_line (suc n) (omega (arith, ints))
 name_in_line : (name : List ℕ) → is_name name ≡ true → is_in_line name ≡ true
 unfolding is_name_byte
 name_in_line name named = in_line is_name_byte name refl (name_in_bytes name named)
+
+section_name_in_line : (name : List ℕ) → list_all is_section_byte name ≡ true → is_in_line name ≡ true
+unfolding is_section_byte
+section_name_in_line name all = in_line is_section_byte name refl all
+
+body_in_line : (bytes : List ℕ) → list_all is_body_byte bytes ≡ true → is_in_line bytes ≡ true
+unfolding is_body_byte
+body_in_line bytes all = in_line is_body_byte bytes refl all
+
+-- a hexadecimal digit is no LF
+glyph_in_line : (n : ℕ) → (digit_glyph false n == 10) ≡ false
+glyph_in_line n = by_size n (nat_lt n 10) refl
+  where
+    by_size : (n : ℕ) (b : Bool) → nat_lt n 10 ≡ b → (cond b (48 + n) (87 + n) == 10) ≡ false
+    by_size n true e = grind (arith, nat_tests)
+    by_size n false e = grind (arith, nat_tests)
+
+hex_in_line : (bytes : List ℕ) → is_in_line (hex_text bytes) ≡ true
+hex_in_line [] = refl
+hex_in_line (x ∷ bytes) = rw (glyph_in_line (x / 16), glyph_in_line (x % 16)) (hex_in_line bytes)
 
 -- ---- the first lines of a text that begins with a line
 
@@ -207,6 +249,15 @@ line_first (TotalLine b) text n good =
     (lines_part (decimal b.bytes) _ _ n (decimal_in_line b.bytes (omega (arith, good.bytes.small)))
     (lines_end text n))))))))
 line_first LastLine text n good = lines_part (codes "end") _ _ n refl (lines_end text n)
+line_first SealedLine text n good = lines_part (codes "p10cert 2") _ _ n refl (lines_end text n)
+line_first (DigestLine d) text n good = lines_part (codes "digest ") _ _ n refl (lines_part (hex_text d) _ _ n (hex_in_line d) (lines_end text n))
+line_first (OutsideLine d) text n good = lines_part (codes "outside ") _ _ n refl (lines_part (hex_text d) _ _ n (hex_in_line d) (lines_end text n))
+line_first (SectionLine s) text n good =
+    lines_part (codes "section ") _ _ n refl
+    (lines_part s.name _ _ n (section_name_in_line s.name (section_name_in_bytes s.name good.name))
+    (lines_part (codes " ") _ _ n refl
+    (lines_part (decimal s.count) _ _ n (decimal_in_line s.count (omega (arith, good.count.small))) (lines_end text n))))
+line_first (BodyLine bytes) text n good = lines_part bytes _ _ n (body_in_line bytes good.visible) (lines_end text n)
 
 -- ---- the first lines of any text
 

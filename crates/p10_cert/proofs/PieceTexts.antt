@@ -99,7 +99,7 @@ vars_text (v ∷ vars) = ap (λ t. text_of (VarLine (var_of v) ∷ []) ++ t) (va
 pub loop_text : (l : LoopClaim) → text_of (loop_lines (loop_of l)) ≡ text_of (LoopLine (loop_head (loop_of l)) ∷ []) ++ flat_map (λ v. text_of (VarLine (var_of v) ∷ [])) l.inv
 loop_text l = text_of-append (LoopLine (loop_head (loop_of l)) ∷ []) (map VarLine (map var_of l.inv)) ∙ ap (λ t. text_of (LoopLine (loop_head (loop_of l)) ∷ []) ++ t) (sym (vars_text l.inv))
 
-params_text : (params : List ValueClaim) → flat_map (λ v. text_of (ParamLine (value_of v) ∷ [])) params ≡ text_of (map ParamLine (map value_of params))
+pub params_text : (params : List ValueClaim) → flat_map (λ v. text_of (ParamLine (value_of v) ∷ [])) params ≡ text_of (map ParamLine (map value_of params))
 unfolding text_of
 params_text [] = none
   where
@@ -107,7 +107,7 @@ params_text [] = none
     none = refl
 params_text (v ∷ params) = ap (λ t. text_of (ParamLine (value_of v) ∷ []) ++ t) (params_text params) ∙ sym (text_of-append (ParamLine (value_of v) ∷ []) (map ParamLine (map value_of params)))
 
-loops_text : (loops : List LoopClaim) → flat_map (λ l. text_of (loop_lines (loop_of l))) loops ≡ text_of (flat_map loop_lines (map loop_of loops))
+pub loops_text : (loops : List LoopClaim) → flat_map (λ l. text_of (loop_lines (loop_of l))) loops ≡ text_of (flat_map loop_lines (map loop_of loops))
 unfolding text_of
 loops_text [] = none
   where

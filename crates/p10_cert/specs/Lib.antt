@@ -2,6 +2,8 @@
 pub mod Claims
 pub mod Lines
 pub mod Certificate
+pub mod Statements
+pub mod Sealed
 pub mod WrongLines
 pub mod Reading
 pub mod Records

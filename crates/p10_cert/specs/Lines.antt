@@ -1,8 +1,8 @@
 -- The lines of a certificate's text: what each says, what it may say, and its bytes.
-use Rattle.std.specs.Prelude.{◌≡◌, ℕ, ◌^◌, ◌<◌, ◌≤◌, Bool, true, false, ◌&&◌, ◌||◌, ◌==◌, List, [], ◌∷◌, ◌++◌, ℤ, pos, neg_ℤ, ◌≤ℤ◌, codes, decimal}
-use Rattle.std.specs.Char.{is_ascii_alphabetic, is_ascii_alphanumeric}
-use Rattle.std.specs.Fmt.{signed_decimal}
-use Rattle.std.specs.List.{list_all}
+use Rattle.std.specs.Prelude.{◌≡◌, ℕ, ◌^◌, ◌/◌, ◌%◌, ◌<◌, ◌≤◌, nat_le, Bool, true, false, ◌&&◌, ◌||◌, ◌==◌, List, [], ◌∷◌, ◌++◌, length, ℤ, pos, neg_ℤ, ◌≤ℤ◌, codes, decimal}
+use Rattle.std.specs.Char.{is_ascii_alphabetic, is_ascii_alphanumeric, is_ascii_digit, is_ascii_lowercase}
+use Rattle.std.specs.Fmt.{signed_decimal, digit_glyph}
+use Rattle.std.specs.List.{list_all, AllByRecursion}
 use Rattle.p10_base.specs.declared.report.Bounds.{Bounds}
 use Rattle.p10_cert.specs.declared.claims.Rank.{Rank}
 use Rattle.p10_cert.specs.declared.claims.Rank.TheVariants.{Up, Down, One, Task}
@@ -24,7 +24,12 @@ pub record LoopHead : Type 0 where
   pub rank : Rank
   pub turns : ℕ
 
--- a line of a certificate's text
+-- what the first line of a section says: its name, and how many lines follow
+pub record SectionHead : Type 0 where
+  pub name : List ℕ
+  pub count : ℕ
+
+-- a line of a certificate's text; digests, the first line that is called sealed, sections and their lines are of version 2
 pub data Line : Type 0 where
   FirstLine : Line
   FuncLine : FuncHead → Line
@@ -34,6 +39,11 @@ pub data Line : Type 0 where
   VarLine : Var → Line
   TotalLine : Bounds → Line
   LastLine : Line
+  SealedLine : Line
+  DigestLine : List ℕ → Line
+  OutsideLine : List ℕ → Line
+  SectionLine : SectionHead → Line
+  BodyLine : List ℕ → Line
 
 -- ## the bytes of a line
 
@@ -66,6 +76,11 @@ loop_then depth (Down var bound) turns rest =
 loop_then depth One turns rest = codes "loop " then decimal depth then codes " one turns " then decimal turns then rest
 loop_then depth Task turns rest = codes "task steps " then decimal turns then rest
 
+-- bytes, each as two digits of 0 to 9 and a to f, the high one first
+abbrev pub hex_text : List ℕ → List ℕ
+hex_text [] = []
+hex_text (byte ∷ bytes) = digit_glyph false (byte / 16) ∷ digit_glyph false (byte % 16) ∷ hex_text bytes
+
 -- a line of a text with its LF, and what stands after it
 unfoldable pub line_then : Line → List ℕ → List ℕ
 line_then FirstLine rest = codes "p10cert 1\n" then rest
@@ -80,6 +95,11 @@ line_then (TotalLine b) rest =
     codes "total prefix " then decimal b.prefix then codes " turn " then decimal b.turn then codes " calls " then decimal b.calls
     then codes " bytes " then decimal b.bytes then codes "\n" then rest
 line_then LastLine rest = codes "end\n" then rest
+line_then SealedLine rest = codes "p10cert 2\n" then rest
+line_then (DigestLine digest) rest = codes "digest " then hex_text digest then codes "\n" then rest
+line_then (OutsideLine digest) rest = codes "outside " then hex_text digest then codes "\n" then rest
+line_then (SectionLine s) rest = codes "section " then s.name then codes " " then decimal s.count then codes "\n" then rest
+line_then (BodyLine bytes) rest = bytes then codes "\n" then rest
 
 -- the text of lines
 unfoldable pub text_of : List Line → List ℕ
@@ -127,6 +147,36 @@ is_name_byte byte = is_ascii_alphanumeric byte || byte == 95
 abbrev pub is_name : List ℕ → Bool
 is_name [] = false
 is_name (first ∷ others) = is_nondigit first && list_all is_name_byte others
+
+-- a lower-case letter, a digit or `_`: what names of sections are made of
+unfoldable pub is_section_byte : ℕ → Bool
+is_section_byte byte = (is_ascii_lowercase byte || is_ascii_digit byte) || byte == 95
+
+-- the name of a section
+abbrev pub is_section_name : List ℕ → Bool
+is_section_name name = nat_le 1 (length name) && (nat_le (length name) 32 && list_all is_section_byte name)
+
+-- a byte of a section's lines: a blank, or a visible character of ASCII
+unfoldable pub is_body_byte : ℕ → Bool
+is_body_byte byte = nat_le 32 byte && nat_le byte 126
+
+-- a byte
+pub record IsByte (n : ℕ) : Type 0 where
+  pub small : n < 256
+
+-- a SHA-256 digest
+pub record IsDigest (digest : List ℕ) : Type 0 where
+  pub size : length digest ≡ 32
+  pub bytes : AllByRecursion IsByte digest
+
+-- what the first line of a section may say
+pub record IsSectionHead (s : SectionHead) : Type 0 where
+  pub name : is_section_name s.name ≡ true
+  pub count : IsIndex s.count
+
+-- what a line of a section may say
+pub record IsBody (bytes : List ℕ) : Type 0 where
+  pub visible : list_all is_body_byte bytes ≡ true
 
 -- what the first line of a function may say
 pub record IsFuncHead (f : FuncHead) : Type 0 where
@@ -188,3 +238,8 @@ IsLine (LoopLine l) = IsLoopHead l
 IsLine (VarLine v) = IsVar v
 IsLine (TotalLine b) = IsTotal b
 IsLine LastLine = Unit {0}
+IsLine SealedLine = Unit {0}
+IsLine (DigestLine digest) = IsDigest digest
+IsLine (OutsideLine digest) = IsDigest digest
+IsLine (SectionLine s) = IsSectionHead s
+IsLine (BodyLine bytes) = IsBody bytes

@@ -1,9 +1,13 @@
 -- What only the contracts of private functions and the view of `Records` cite.
 pub mod Reading
 pub mod Plain
+pub mod States
 pub mod Steps
+pub mod Sections
 pub mod Places
 pub mod Found
 pub mod Building
 pub mod Partials
 pub mod Pieces
+pub mod Seals
+pub mod Whole

@@ -6,12 +6,14 @@
 ghost use Rattle.std.specs.Prelude.{◌≡◌, option_copied, option_map};
 ghost use Rattle.p10_range.specs.Ranges.{interval_of};
 ghost use Rattle.p10_cert.specs.Claims.{value_of};
-ghost use Rattle.p10_cert.specs.private.Reading.{after_first, after_total, line_at, inner_at, outer_at, func_at, value_at, ends_at, param_at, result_at, bound_at, rank_at, loop_at, task_at, var_at, total_at};
+ghost use Rattle.p10_cert.specs.private.Plain.{plain_section};
+ghost use Rattle.p10_cert.specs.private.Reading.{after_first, after_total, line_at, inner_at, outer_at, sealed_at, func_at, value_at, ends_at, param_at, result_at, bound_at, rank_at, loop_at, task_at, var_at, total_at, function_digest_at, outside_at, section_start_at, section_at, body_text_at, body_at};
 
-use crate::bytes::{after, name};
+use crate::bytes::{after, after_body_bytes, name, section_name};
 use crate::claims::{Rank, ValueClaim, VarRange};
+use crate::hex::digest;
 use crate::numbers::{GREATEST_COUNT, GREATEST_INDEX, labelled, number, signed};
-use p10_base::Bounds;
+use p10_base::{Bounds, Digest};
 use p10_range::Range;
 
 /// A line of a certificate.
@@ -33,6 +35,16 @@ pub(crate) enum Row<'c> {
     Total(Bounds),
     /// The last line of the text.
     Last,
+    /// The first line of a text of version 2.
+    Sealed,
+    /// The digest of a function's words.
+    Digest(Digest),
+    /// The digest of the words outside bodies.
+    Outside(Digest),
+    /// The first line of a section.
+    Section(SectionStart<'c>),
+    /// A line of a section.
+    Body(&'c [u8]),
 }
 
 /// What the first line of a function says.
@@ -54,10 +66,17 @@ pub(crate) struct LoopStart {
     pub(crate) turns: u64,
 }
 
+/// What the first line of a section says.
+#[derive(Clone, Copy)]
+pub(crate) struct SectionStart<'c> {
+    pub(crate) name: &'c [u8],
+    pub(crate) count: u32,
+}
+
 impl<'c> Row<'c> {
     ghost use Rattle.p10_cert.specs.private.Plain.{plain_line};
 
-    /// The line that the text begins with, and what stands after it.
+    /// The line that the text begins with, which is none of a section, and what stands after it.
     #[tactic(auto, unfolding(crate::specs::private::Reading::line_at))]
     pub(crate) fn read(text: &'c [u8]) -> Option<(Row<'c>, &'c [u8])>
         ensures { option_map (λ x. (plain_line x.0, x.1.now)) result ≡ line_at text.now }
@@ -108,7 +127,63 @@ impl<'c> Row<'c> {
         if let Some(rest) = after(text, b"end\n") {
             return Some((Row::Last, rest));
         }
+        Row::sealed(text)
+    }
+
+    /// A line of version 2 alone, but those of a section.
+    #[tactic(auto, unfolding(crate::specs::private::Reading::sealed_at))]
+    fn sealed(text: &'c [u8]) -> Option<(Row<'c>, &'c [u8])>
+        ensures { option_map (λ x. (plain_line x.0, x.1.now)) result ≡ sealed_at text.now }
+    {
+        if let Some(rest) = after(text, b"p10cert 2\n") {
+            return Some((Row::Sealed, rest));
+        }
+        if let Some(rest) = after(text, b"digest ") {
+            return Row::digest(rest);
+        }
+        if let Some(rest) = after(text, b"outside ") {
+            return Row::outside(rest);
+        }
+        if let Some(rest) = after(text, b"section ") {
+            return Row::section(rest);
+        }
         None
+    }
+
+    /// The digest of a function's words, after the first word of its line.
+    #[tactic(auto, unfolding(crate::specs::private::Reading::function_digest_at))]
+    fn digest(text: &'c [u8]) -> Option<(Row<'c>, &'c [u8])>
+        ensures { option_map (λ x. (plain_line x.0, x.1.now)) result ≡ function_digest_at text.now }
+    {
+        let (found, rest) = digest(text)?;
+        Some((Row::Digest(found), rest))
+    }
+
+    /// The digest of the words outside bodies, after the first word of its line.
+    #[tactic(auto, unfolding(crate::specs::private::Reading::outside_at))]
+    fn outside(text: &'c [u8]) -> Option<(Row<'c>, &'c [u8])>
+        ensures { option_map (λ x. (plain_line x.0, x.1.now)) result ≡ outside_at text.now }
+    {
+        let (found, rest) = digest(text)?;
+        Some((Row::Outside(found), rest))
+    }
+
+    /// The first line of a section, after its first word.
+    #[tactic(auto, unfolding(crate::specs::private::Reading::section_at))]
+    fn section(text: &'c [u8]) -> Option<(Row<'c>, &'c [u8])>
+        ensures { option_map (λ x. (plain_line x.0, x.1.now)) result ≡ section_at text.now }
+    {
+        let (start, rest) = section_start(text)?;
+        Some((Row::Section(start), rest))
+    }
+
+    /// A line of a section.
+    #[tactic(auto, unfolding(crate::specs::private::Reading::body_at))]
+    pub(crate) fn body(text: &'c [u8]) -> Option<(Row<'c>, &'c [u8])>
+        ensures { option_map (λ x. (plain_line x.0, x.1.now)) result ≡ body_at text.now }
+    {
+        let (bytes, rest) = body_text(text)?;
+        Some((Row::Body(bytes), rest))
     }
 
     /// The first line of a function, after its first word.
@@ -294,4 +369,29 @@ fn bound(text: &[u8]) -> Option<(u32, i128, &[u8])>
     let (var, rest) = number(text, GREATEST_INDEX)?;
     let (bound, rest) = signed(after(rest, b" ")?)?;
     Some((var as u32, bound, rest))
+}
+
+/// What the first line of a section says, after its first word.
+#[tactic(auto, unfolding(crate::specs::private::Reading::section_start_at))]
+pub(crate) fn section_start(text: &[u8]) -> Option<(SectionStart<'_>, &[u8])>
+    ensures { option_map (λ x. (plain_section x.0, x.1.now)) result ≡ section_start_at text.now }
+{
+    let (name, rest) = section_name(text)?;
+    let (count, rest) = labelled(rest, b" ", GREATEST_INDEX)?;
+    let rest = after(rest, b"\n")?;
+    let start = SectionStart {
+        name,
+        count: count as u32,
+    };
+    Some((start, rest))
+}
+
+/// What a line of a section says.
+#[tactic(auto, unfolding(crate::specs::private::Reading::body_text_at))]
+pub(crate) fn body_text(text: &[u8]) -> Option<(&[u8], &[u8])>
+    ensures { option_map (λ x. (x.0.now, x.1.now)) result ≡ body_text_at text.now }
+{
+    let left = after_body_bytes(text);
+    let rest = after(left, b"\n")?;
+    Some((&text[..text.len() - left.len()], rest))
 }

@@ -3,9 +3,10 @@
 ghost use Rattle.std.specs.Prelude.{◌≡◌};
 ghost use Rattle.p10_cert.specs.Lines.{flag_number};
 
+use crate::hex::hex;
 use crate::writing::Text;
 use itoa::Buffer;
-use p10_base::ListBuf;
+use p10_base::{Digest, ListBuf};
 use p10_world::{Sink, SinkFault};
 
 /// A piece of a line.
@@ -23,6 +24,8 @@ pub(crate) enum Piece<'t> {
     Flag(bool),
     /// A number in decimal, with its sign.
     Signed(&'t i128),
+    /// A digest, two hexadecimal digits a byte.
+    Digest(&'t Digest),
 }
 
 impl Text for Piece<'_> {
@@ -38,6 +41,7 @@ impl Text for Piece<'_> {
             Piece::Index(number) => out.put(Buffer::new().format(*number).as_bytes()),
             Piece::Flag(flag) => out.put(Buffer::new().format(flag_number(*flag)).as_bytes()),
             Piece::Signed(number) => out.put(Buffer::new().format(**number).as_bytes()),
+            Piece::Digest(digest) => out.put(hex(&digest.0).as_slice()),
         }
     }
 }

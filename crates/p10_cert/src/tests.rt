@@ -2,7 +2,7 @@
 //! as long as a certificate may be.
 
 use super::*;
-use p10_base::Limit;
+use p10_base::{Digest, Limit};
 use p10_world::MemSink;
 use std::alloc::{AllocError, Global};
 use std::test::Fail;
@@ -99,6 +99,120 @@ fn texts_are_read_and_written(rt: HostRuntime) -> Result<(), Fail> {
             Err(fault) => assert!(rt; fault == CertFault::Line(line), "{row:?}"),
         }
     }
+    Ok(())
+}
+
+/// The same of version 2, with two digits of the number.
+static SEALED_ROWS: [&'static str; 48] = [
+    "00p10cert 2\nfunc main rank 0 steps 3 calls 1 bytes 0 alloc 0\ndigest 0123456789abcdef0123456789abcdef0123456789abcdef0123456789abcdef\nresult 0 0\noutside ffffffffffffffffffffffffffffffffffffffffffffffffffffffffffffffff\ntotal prefix 3 turn 0 calls 1 bytes 0\nend\n",
+    "00p10cert 2\noutside ffffffffffffffffffffffffffffffffffffffffffffffffffffffffffffffff\ntotal prefix 3 turn 0 calls 1 bytes 0\nend\n",
+    "00p10cert 2\nfunc main rank 0 steps 3 calls 1 bytes 0 alloc 0\ndigest 0123456789abcdef0123456789abcdef0123456789abcdef0123456789abcdef\nresult 0 0\noutside ffffffffffffffffffffffffffffffffffffffffffffffffffffffffffffffff\ntotal prefix 3 turn 0 calls 1 bytes 0\nsection x 0\nend\n",
+    "00p10cert 2\nfunc main rank 0 steps 3 calls 1 bytes 0 alloc 0\ndigest 0123456789abcdef0123456789abcdef0123456789abcdef0123456789abcdef\nresult 0 0\noutside ffffffffffffffffffffffffffffffffffffffffffffffffffffffffffffffff\ntotal prefix 3 turn 0 calls 1 bytes 0\nsection x 2\nend\n\nsection y_1 1\n ~func\nend\n",
+    "00p10cert 2\nfunc f rank 0 steps 3 calls 1 bytes 0 alloc 0\ndigest 0123456789abcdef0123456789abcdef0123456789abcdef0123456789abcdef\nparam *\nresult void\nfunc main rank 0 steps 3 calls 1 bytes 0 alloc 0\ndigest 0123456789abcdef0123456789abcdef0123456789abcdef0123456789abcdef\nresult 0 0\nloop 0 one turns 1\nvar 0 0 0\noutside ffffffffffffffffffffffffffffffffffffffffffffffffffffffffffffffff\ntotal prefix 3 turn 0 calls 1 bytes 0\nsection aaaaaaaaaaaaaaaaaaaaaaaaaaaaaaaa 1\nx\nend\n",
+    "10p10cert 2\nfunc main rank 0 steps 3 calls 1 bytes 0 alloc 0\ndigest 0123456789abcdef0123456789abcdef0123456789abcdef0123456789abcdef\nresult 0 0\noutside ffffffffffffffffffffffffffffffffffffffffffffffffffffffffffffffff\ntotal prefix 3 turn 0 calls 1 bytes 0\nsection x 2\none\nend\n",
+    "01p10cert 3\nfunc main rank 0 steps 3 calls 1 bytes 0 alloc 0\ndigest 0123456789abcdef0123456789abcdef0123456789abcdef0123456789abcdef\nresult 0 0\noutside ffffffffffffffffffffffffffffffffffffffffffffffffffffffffffffffff\ntotal prefix 3 turn 0 calls 1 bytes 0\nend\n",
+    "01p10cert 1\nfunc main rank 0 steps 3 calls 1 bytes 0 alloc 0\nresult 0 0\ntotal prefix 3 turn 0 calls 1 bytes 0\nend\n",
+    "01",
+    "01p10cert 2",
+    "02p10cert 2\n",
+    "03p10cert 2\nfunc main rank 0 steps 3 calls 1 bytes 0 alloc 0\nresult 0 0\noutside ffffffffffffffffffffffffffffffffffffffffffffffffffffffffffffffff\ntotal prefix 3 turn 0 calls 1 bytes 0\nend\n",
+    "03p10cert 2\nfunc main rank 0 steps 3 calls 1 bytes 0 alloc 0\ndigest 0123456789ABCDEF0123456789ABCDEF0123456789ABCDEF0123456789ABCDEF\nresult 0 0\noutside ffffffffffffffffffffffffffffffffffffffffffffffffffffffffffffffff\ntotal prefix 3 turn 0 calls 1 bytes 0\nend\n",
+    "03p10cert 2\nfunc main rank 0 steps 3 calls 1 bytes 0 alloc 0\ndigest 123456789abcdef0123456789abcdef0123456789abcdef0123456789abcdef\nresult 0 0\noutside ffffffffffffffffffffffffffffffffffffffffffffffffffffffffffffffff\ntotal prefix 3 turn 0 calls 1 bytes 0\nend\n",
+    "03p10cert 2\nfunc main rank 0 steps 3 calls 1 bytes 0 alloc 0\ndigest 0123456789abcdef0123456789abcdef0123456789abcdef0123456789abcdef0\nresult 0 0\noutside ffffffffffffffffffffffffffffffffffffffffffffffffffffffffffffffff\ntotal prefix 3 turn 0 calls 1 bytes 0\nend\n",
+    "03p10cert 2\nfunc main rank 0 steps 3 calls 1 bytes 0 alloc 0\ndigest 0123456789abcdef0123456789abcdef0123456789abcdef0123456789abcdeg\nresult 0 0\noutside ffffffffffffffffffffffffffffffffffffffffffffffffffffffffffffffff\ntotal prefix 3 turn 0 calls 1 bytes 0\nend\n",
+    "03p10cert 2\nfunc main rank 0 steps 3 calls 1 bytes 0 alloc 0\ndigest  123456789abcdef0123456789abcdef0123456789abcdef0123456789abcdef\nresult 0 0\noutside ffffffffffffffffffffffffffffffffffffffffffffffffffffffffffffffff\ntotal prefix 3 turn 0 calls 1 bytes 0\nend\n",
+    "04p10cert 2\nfunc main rank 0 steps 3 calls 1 bytes 0 alloc 0\ndigest 0123456789abcdef0123456789abcdef0123456789abcdef0123456789abcdef\ndigest 0123456789abcdef0123456789abcdef0123456789abcdef0123456789abcdef\nresult 0 0\noutside ffffffffffffffffffffffffffffffffffffffffffffffffffffffffffffffff\ntotal prefix 3 turn 0 calls 1 bytes 0\nend\n",
+    "05p10cert 2\nfunc main rank 0 steps 3 calls 1 bytes 0 alloc 0\ndigest 0123456789abcdef0123456789abcdef0123456789abcdef0123456789abcdef\nresult 0 0\ndigest 0123456789abcdef0123456789abcdef0123456789abcdef0123456789abcdef\noutside ffffffffffffffffffffffffffffffffffffffffffffffffffffffffffffffff\ntotal prefix 3 turn 0 calls 1 bytes 0\nend\n",
+    "05p10cert 2\nfunc main rank 0 steps 3 calls 1 bytes 0 alloc 0\ndigest 0123456789abcdef0123456789abcdef0123456789abcdef0123456789abcdef\nresult 0 0\ntotal prefix 3 turn 0 calls 1 bytes 0\nend\n",
+    "05p10cert 2\nfunc main rank 0 steps 3 calls 1 bytes 0 alloc 0\ndigest 0123456789abcdef0123456789abcdef0123456789abcdef0123456789abcdef\nresult 0 0\noutside FFFFFFFFFFFFFFFFFFFFFFFFFFFFFFFFFFFFFFFFFFFFFFFFFFFFFFFFFFFFFFFF\ntotal prefix 3 turn 0 calls 1 bytes 0\nend\n",
+    "05p10cert 2\nfunc main rank 0 steps 3 calls 1 bytes 0 alloc 0\ndigest 0123456789abcdef0123456789abcdef0123456789abcdef0123456789abcdef\nresult 0 0\noutside fffffffffffffffffffffffffffffffffffffffffffffffffffffffffffffff\ntotal prefix 3 turn 0 calls 1 bytes 0\nend\n",
+    "06p10cert 2\nfunc main rank 0 steps 3 calls 1 bytes 0 alloc 0\ndigest 0123456789abcdef0123456789abcdef0123456789abcdef0123456789abcdef\nresult 0 0\noutside ffffffffffffffffffffffffffffffffffffffffffffffffffffffffffffffff\noutside ffffffffffffffffffffffffffffffffffffffffffffffffffffffffffffffff\ntotal prefix 3 turn 0 calls 1 bytes 0\nend\n",
+    "06p10cert 2\nfunc main rank 0 steps 3 calls 1 bytes 0 alloc 0\ndigest 0123456789abcdef0123456789abcdef0123456789abcdef0123456789abcdef\nresult 0 0\noutside ffffffffffffffffffffffffffffffffffffffffffffffffffffffffffffffff\nend\n",
+    "06p10cert 2\nfunc main rank 0 steps 3 calls 1 bytes 0 alloc 0\ndigest 0123456789abcdef0123456789abcdef0123456789abcdef0123456789abcdef\nresult 0 0\noutside ffffffffffffffffffffffffffffffffffffffffffffffffffffffffffffffff\nfunc main rank 0 steps 3 calls 1 bytes 0 alloc 0\ndigest 0123456789abcdef0123456789abcdef0123456789abcdef0123456789abcdef\nresult 0 0\ntotal prefix 3 turn 0 calls 1 bytes 0\nend\n",
+    "07p10cert 2\nfunc main rank 0 steps 3 calls 1 bytes 0 alloc 0\ndigest 0123456789abcdef0123456789abcdef0123456789abcdef0123456789abcdef\nresult 0 0\noutside ffffffffffffffffffffffffffffffffffffffffffffffffffffffffffffffff\ntotal prefix 3 turn 0 calls 1 bytes 0\ntotal prefix 3 turn 0 calls 1 bytes 0\nend\n",
+    "07p10cert 2\nfunc main rank 0 steps 3 calls 1 bytes 0 alloc 0\ndigest 0123456789abcdef0123456789abcdef0123456789abcdef0123456789abcdef\nresult 0 0\noutside ffffffffffffffffffffffffffffffffffffffffffffffffffffffffffffffff\ntotal prefix 3 turn 0 calls 1 bytes 0\n",
+    "07p10cert 2\nfunc main rank 0 steps 3 calls 1 bytes 0 alloc 0\ndigest 0123456789abcdef0123456789abcdef0123456789abcdef0123456789abcdef\nresult 0 0\noutside ffffffffffffffffffffffffffffffffffffffffffffffffffffffffffffffff\ntotal prefix 3 turn 0 calls 1 bytes 0\nend",
+    "08p10cert 2\nfunc main rank 0 steps 3 calls 1 bytes 0 alloc 0\ndigest 0123456789abcdef0123456789abcdef0123456789abcdef0123456789abcdef\nresult 0 0\noutside ffffffffffffffffffffffffffffffffffffffffffffffffffffffffffffffff\ntotal prefix 3 turn 0 calls 1 bytes 0\nend\nend\n",
+    "07p10cert 2\nfunc main rank 0 steps 3 calls 1 bytes 0 alloc 0\ndigest 0123456789abcdef0123456789abcdef0123456789abcdef0123456789abcdef\nresult 0 0\noutside ffffffffffffffffffffffffffffffffffffffffffffffffffffffffffffffff\ntotal prefix 3 turn 0 calls 1 bytes 0\nsection  0\nend\n",
+    "07p10cert 2\nfunc main rank 0 steps 3 calls 1 bytes 0 alloc 0\ndigest 0123456789abcdef0123456789abcdef0123456789abcdef0123456789abcdef\nresult 0 0\noutside ffffffffffffffffffffffffffffffffffffffffffffffffffffffffffffffff\ntotal prefix 3 turn 0 calls 1 bytes 0\nsection X 0\nend\n",
+    "07p10cert 2\nfunc main rank 0 steps 3 calls 1 bytes 0 alloc 0\ndigest 0123456789abcdef0123456789abcdef0123456789abcdef0123456789abcdef\nresult 0 0\noutside ffffffffffffffffffffffffffffffffffffffffffffffffffffffffffffffff\ntotal prefix 3 turn 0 calls 1 bytes 0\nsection a-b 0\nend\n",
+    "07p10cert 2\nfunc main rank 0 steps 3 calls 1 bytes 0 alloc 0\ndigest 0123456789abcdef0123456789abcdef0123456789abcdef0123456789abcdef\nresult 0 0\noutside ffffffffffffffffffffffffffffffffffffffffffffffffffffffffffffffff\ntotal prefix 3 turn 0 calls 1 bytes 0\nsection aaaaaaaaaaaaaaaaaaaaaaaaaaaaaaaaa 0\nend\n",
+    "07p10cert 2\nfunc main rank 0 steps 3 calls 1 bytes 0 alloc 0\ndigest 0123456789abcdef0123456789abcdef0123456789abcdef0123456789abcdef\nresult 0 0\noutside ffffffffffffffffffffffffffffffffffffffffffffffffffffffffffffffff\ntotal prefix 3 turn 0 calls 1 bytes 0\nsection x 01\nx\nend\n",
+    "07p10cert 2\nfunc main rank 0 steps 3 calls 1 bytes 0 alloc 0\ndigest 0123456789abcdef0123456789abcdef0123456789abcdef0123456789abcdef\nresult 0 0\noutside ffffffffffffffffffffffffffffffffffffffffffffffffffffffffffffffff\ntotal prefix 3 turn 0 calls 1 bytes 0\nsection x -1\nend\n",
+    "07p10cert 2\nfunc main rank 0 steps 3 calls 1 bytes 0 alloc 0\ndigest 0123456789abcdef0123456789abcdef0123456789abcdef0123456789abcdef\nresult 0 0\noutside ffffffffffffffffffffffffffffffffffffffffffffffffffffffffffffffff\ntotal prefix 3 turn 0 calls 1 bytes 0\nsection x 4294967296\nend\n",
+    "07p10cert 2\nfunc main rank 0 steps 3 calls 1 bytes 0 alloc 0\ndigest 0123456789abcdef0123456789abcdef0123456789abcdef0123456789abcdef\nresult 0 0\noutside ffffffffffffffffffffffffffffffffffffffffffffffffffffffffffffffff\ntotal prefix 3 turn 0 calls 1 bytes 0\nsection x\nend\n",
+    "09p10cert 2\nfunc main rank 0 steps 3 calls 1 bytes 0 alloc 0\ndigest 0123456789abcdef0123456789abcdef0123456789abcdef0123456789abcdef\nresult 0 0\noutside ffffffffffffffffffffffffffffffffffffffffffffffffffffffffffffffff\ntotal prefix 3 turn 0 calls 1 bytes 0\nsection x 4294967295\nend\n",
+    "08p10cert 2\nfunc main rank 0 steps 3 calls 1 bytes 0 alloc 0\ndigest 0123456789abcdef0123456789abcdef0123456789abcdef0123456789abcdef\nresult 0 0\noutside ffffffffffffffffffffffffffffffffffffffffffffffffffffffffffffffff\ntotal prefix 3 turn 0 calls 1 bytes 0\nsection x 0\nsection x 0\nend\n",
+    "08p10cert 2\nfunc main rank 0 steps 3 calls 1 bytes 0 alloc 0\ndigest 0123456789abcdef0123456789abcdef0123456789abcdef0123456789abcdef\nresult 0 0\noutside ffffffffffffffffffffffffffffffffffffffffffffffffffffffffffffffff\ntotal prefix 3 turn 0 calls 1 bytes 0\nsection x 0\nsection w 0\nend\n",
+    "08p10cert 2\nfunc main rank 0 steps 3 calls 1 bytes 0 alloc 0\ndigest 0123456789abcdef0123456789abcdef0123456789abcdef0123456789abcdef\nresult 0 0\noutside ffffffffffffffffffffffffffffffffffffffffffffffffffffffffffffffff\ntotal prefix 3 turn 0 calls 1 bytes 0\nsection xy 0\nsection x 0\nend\n",
+    "08p10cert 2\nfunc main rank 0 steps 3 calls 1 bytes 0 alloc 0\ndigest 0123456789abcdef0123456789abcdef0123456789abcdef0123456789abcdef\nresult 0 0\noutside ffffffffffffffffffffffffffffffffffffffffffffffffffffffffffffffff\ntotal prefix 3 turn 0 calls 1 bytes 0\nsection x 1\na\u{7f}b\nend\n",
+    "08p10cert 2\nfunc main rank 0 steps 3 calls 1 bytes 0 alloc 0\ndigest 0123456789abcdef0123456789abcdef0123456789abcdef0123456789abcdef\nresult 0 0\noutside ffffffffffffffffffffffffffffffffffffffffffffffffffffffffffffffff\ntotal prefix 3 turn 0 calls 1 bytes 0\nsection x 1\na\tb\nend\n",
+    "08p10cert 2\nfunc main rank 0 steps 3 calls 1 bytes 0 alloc 0\ndigest 0123456789abcdef0123456789abcdef0123456789abcdef0123456789abcdef\nresult 0 0\noutside ffffffffffffffffffffffffffffffffffffffffffffffffffffffffffffffff\ntotal prefix 3 turn 0 calls 1 bytes 0\nsection x 1\n\u{e9}\nend\n",
+    "08p10cert 2\nfunc main rank 0 steps 3 calls 1 bytes 0 alloc 0\ndigest 0123456789abcdef0123456789abcdef0123456789abcdef0123456789abcdef\nresult 0 0\noutside ffffffffffffffffffffffffffffffffffffffffffffffffffffffffffffffff\ntotal prefix 3 turn 0 calls 1 bytes 0\nsection x 1\nlast",
+    "09p10cert 2\nfunc main rank 0 steps 3 calls 1 bytes 0 alloc 0\ndigest 0123456789abcdef0123456789abcdef0123456789abcdef0123456789abcdef\nresult 0 0\noutside ffffffffffffffffffffffffffffffffffffffffffffffffffffffffffffffff\ntotal prefix 3 turn 0 calls 1 bytes 0\nsection x 1\nlast\nmore\nend\n",
+    "04p10cert 2\nfunc main rank 0 steps 3 calls 1 bytes 0 alloc 0\ndigest 0123456789abcdef0123456789abcdef0123456789abcdef0123456789abcdef\nparam void\nresult 0 0\noutside ffffffffffffffffffffffffffffffffffffffffffffffffffffffffffffffff\ntotal prefix 3 turn 0 calls 1 bytes 0\nend\n",
+    "02p10cert 2\ndigest 0123456789abcdef0123456789abcdef0123456789abcdef0123456789abcdef\nfunc main rank 0 steps 3 calls 1 bytes 0 alloc 0\nresult 0 0\noutside ffffffffffffffffffffffffffffffffffffffffffffffffffffffffffffffff\ntotal prefix 3 turn 0 calls 1 bytes 0\nend\n",
+];
+
+#[test]
+fn sealed_texts_are_read_and_written(rt: HostRuntime) -> Result<(), Fail> {
+    for row in &SEALED_ROWS {
+        let bytes = row.as_bytes();
+        let [tens, ones, text @ ..] = bytes else {
+            continue;
+        };
+        let line = u64::from(tens.saturating_sub(b'0')) * 10 + u64::from(ones.saturating_sub(b'0'));
+        match read2(rt.alloc(), text) {
+            Ok(cert) => {
+                let mut out = MemSink::new(rt.alloc(), 2000, None)?;
+                assert!(rt; write2(&cert, &mut out).is_ok());
+                assert!(rt; out.taken() == text);
+                assert_eq!(rt; line, 0);
+            }
+            Err(fault) => assert!(rt; fault == CertFault::Line(line), "{row:?}"),
+        }
+    }
+    Ok(())
+}
+
+/// A certificate of version 2 with a section.
+static SEALED: &'static str =
+    "p10cert 2\nfunc main rank 0 steps 3 calls 1 bytes 0 alloc 0\ndigest 0123456789abcdef0123456789abcdef0123456789abcdef0123456789abcdef\nresult 0 0\noutside ffffffffffffffffffffffffffffffffffffffffffffffffffffffffffffffff\ntotal prefix 3 turn 0 calls 1 bytes 0\nsection x 2\nend\nmore\nend\n";
+
+#[test]
+fn records_have_digests_and_sections(rt: HostRuntime) -> Result<(), Fail> {
+    let bytes = SEALED.as_bytes();
+    assert!(rt; version(bytes) == Some(2));
+    assert!(rt; version(b"p10cert 1\n") == Some(1));
+    assert!(rt; version(b"p10cert 1").is_none());
+    assert!(rt; version(b"p10cert 3\n").is_none());
+    let mut records = records(bytes);
+    assert!(rt; records.sections(rt.alloc())?.is_none());
+    let record = match records.next() {
+        Ok(Some(record)) => record,
+        _ => return Err(Fail::new("no record")),
+    };
+    assert_eq!(rt; record.line, 2);
+    let mut digest = Digest([0; 32]);
+    for i in 0..32 {
+        digest.0[i] = (i % 8) as u8 * 34 + 1;
+    }
+    assert!(rt; record.digest() == Some(digest));
+    assert!(rt; records.next() == Ok(None));
+    assert!(rt; records.next() == Ok(None));
+    let sections = match records.sections(rt.alloc())? {
+        Some(sections) => sections,
+        None => return Err(Fail::new("no sections")),
+    };
+    let [section] = sections.as_slice() else {
+        return Err(Fail::new("not one section"));
+    };
+    assert!(rt; section.name.as_slice() == b"x".as_slice());
+    let [first, second] = section.lines.as_slice() else {
+        return Err(Fail::new("not two lines"));
+    };
+    assert!(rt; first.as_slice() == b"end".as_slice());
+    assert!(rt; second.as_slice() == b"more".as_slice());
     Ok(())
 }
 

@@ -93,7 +93,7 @@ impl Text for VarRange {
 }
 
 /// Writes the first line of a function.
-fn put_head<O: Sink>(out: &mut O, func: &FuncClaim) -> Result<(), SinkFault>
+pub(crate) fn put_head<O: Sink>(out: &mut O, func: &FuncClaim) -> Result<(), SinkFault>
     ensures ok { OnOk result (Appends (O.taken out.old) (O.taken out.new) (text_of (FuncLine (func_head (func_of func.now)) ∷ []))) }
     ensures front { OnErr result (TakesFront (O.taken out.old) (O.taken out.new) (text_of (FuncLine (func_head (func_of func.now)) ∷ []))) }
     ensures failed { OnErr result (Rose (O.faults out.old) (O.faults out.new)) }
@@ -120,7 +120,7 @@ fn put_head<O: Sink>(out: &mut O, func: &FuncClaim) -> Result<(), SinkFault>
 }
 
 /// Writes the line of a result.
-fn put_result<O: Sink>(out: &mut O, value: &ValueClaim) -> Result<(), SinkFault>
+pub(crate) fn put_result<O: Sink>(out: &mut O, value: &ValueClaim) -> Result<(), SinkFault>
     ensures ok { OnOk result (Appends (O.taken out.old) (O.taken out.new) (text_of (ResultLine (value_of value.now) ∷ []))) }
     ensures front { OnErr result (TakesFront (O.taken out.old) (O.taken out.new) (text_of (ResultLine (value_of value.now) ∷ []))) }
     ensures failed { OnErr result (Rose (O.faults out.old) (O.faults out.new)) }

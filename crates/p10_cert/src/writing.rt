@@ -14,7 +14,7 @@ use crate::pieces::Piece;
 use p10_base::Bounds;
 use p10_world::{Sink, SinkFault};
 
-/// Writes the text of a certificate. It takes no memory.
+/// Writes the text of a certificate of version 1. It takes no memory.
 ///
 /// # Errors
 ///
@@ -33,7 +33,7 @@ pub fn write<O: Sink>(cert: &Cert, out: &mut O) -> Result<(), SinkFault>
 }
 
 /// Writes the line of the whole program.
-fn put_total<O: Sink>(out: &mut O, total: &Bounds) -> Result<(), SinkFault>
+pub(crate) fn put_total<O: Sink>(out: &mut O, total: &Bounds) -> Result<(), SinkFault>
     ensures ok { OnOk result (Appends (O.taken out.old) (O.taken out.new) (text_of (TotalLine total.now ∷ []))) }
     ensures front { OnErr result (TakesFront (O.taken out.old) (O.taken out.new) (text_of (TotalLine total.now ∷ []))) }
     ensures failed { OnErr result (Rose (O.faults out.old) (O.faults out.new)) }

@@ -6,7 +6,7 @@ use Rattle.std.proofs.lemmas.List.{length-append}
 use Rattle.p10_cert.specs.declared.claims.Rank.{Rank}
 use Rattle.p10_cert.specs.declared.claims.Rank.TheVariants.{Up, Down, One, Task}
 use Rattle.p10_cert.specs.Claims.{Loop, Func, Claims}
-use Rattle.p10_cert.specs.Lines.{Line, FirstLine, FuncLine, ParamLine, ResultLine, LoopLine, VarLine, TotalLine, LastLine, line_then, text_of}
+use Rattle.p10_cert.specs.Lines.{Line, FirstLine, FuncLine, ParamLine, ResultLine, LoopLine, VarLine, TotalLine, LastLine, SealedLine, DigestLine, OutsideLine, SectionLine, BodyLine, line_then, text_of}
 use Rattle.p10_cert.specs.Certificate.{loop_lines, func_lines, claims_lines, certificate_text, NestFrom}
 use Rattle.p10_cert.proofs.LineTexts.{line_then-append}
 
@@ -28,6 +28,15 @@ line_has_bytes (LoopLine l) e = by_rank l.rank e
 line_has_bytes (VarLine v) e = absurd cc
 line_has_bytes (TotalLine b) e = absurd cc
 line_has_bytes LastLine e = absurd cc
+line_has_bytes SealedLine e = absurd cc
+line_has_bytes (DigestLine d) e = absurd cc
+line_has_bytes (OutsideLine d) e = absurd cc
+line_has_bytes (SectionLine s) e = absurd cc
+line_has_bytes (BodyLine b) e = ends b e
+  where
+    ends : (b : List ℕ) → line_then (BodyLine b) [] ≡ [] → ⊥
+    ends [] e = absurd cc
+    ends (x ∷ xs) e = absurd cc
 
 longer : (xs ys rest : List ℕ) → xs ++ rest ≡ ys → (xs ≡ [] → ⊥) → length rest < length ys
 longer [] ys rest e some = absurd (some refl)

@@ -1,12 +1,13 @@
 -- Places between the lines of a text, and what stands between two of them.
 use Rattle.std.specs.Prelude.{◌≡◌, ◌≢◌, ℕ, zero, suc, ◌+◌, ◌≤◌, Bool, true, false, if◌then◌else◌, List, [], ◌∷◌, ◌++◌, length, Option, Some, None}
 use Rattle.std.specs.List.{AllByRecursion}
-use Rattle.p10_base.specs.declared.report.Bounds.{Bounds}
-use Rattle.p10_cert.specs.declared.state.Next.{Next}
-use Rattle.p10_cert.specs.declared.state.Next.TheVariants as next
-use Rattle.p10_cert.specs.Claims.{Value, Var, Loop, Func, Address}
-use Rattle.p10_cert.specs.Lines.{FuncHead, Line, FirstLine, FuncLine, ParamLine, ResultLine, LoopLine, VarLine, TotalLine, LastLine, text_of, IsLine}
-use Rattle.p10_cert.specs.private.Reading.{◌>>=◌, or_else, line_at}
+use Rattle.p10_cert.specs.declared.state.Seen.{Seen}
+use Rattle.p10_cert.specs.Claims.{Value, Var, Loop, Address}
+use Rattle.p10_cert.specs.Lines.{FuncHead, Line, FirstLine, FuncLine, ParamLine, ResultLine, LoopLine, VarLine, TotalLine, LastLine, SealedLine, DigestLine, OutsideLine, SectionLine, BodyLine, text_of, IsLine}
+use Rattle.p10_cert.specs.Statements.{Entry, Ending, first_line, ending_lines}
+use Rattle.p10_cert.specs.private.Reading.{◌>>=◌, or_else}
+use Rattle.p10_cert.specs.private.States.{Next}
+use Rattle.p10_cert.specs.private.States as next
 use Rattle.p10_cert.specs.private.Steps.{run, step_at}
 
 -- lines that stand in a text, each where it may come
@@ -25,16 +26,40 @@ IsInner (LoopLine l) = Unit {0}
 IsInner (VarLine v) = Unit {0}
 IsInner (TotalLine b) = ⊥
 IsInner LastLine = ⊥
+IsInner SealedLine = ⊥
+IsInner (DigestLine d) = Unit {0}
+IsInner (OutsideLine d) = ⊥
+IsInner (SectionLine s) = ⊥
+IsInner (BodyLine b) = ⊥
 
 -- whether a loop may come next
 abbrev pub is_loop : Next → Bool
-is_loop (next.Loop main tasked deepest least) = true
+is_loop (next.Loop main seen deepest least) = true
 is_loop _ = false
 
 -- whether a parameter may come next
 abbrev pub is_param : Next → Bool
-is_param (next.Param main tasked) = true
+is_param (next.Param main seen) = true
 is_param _ = false
+
+-- whether a function's digest has to come next, or a parameter may
+abbrev pub is_begun : Next → Bool
+is_begun (next.Digest main seen) = true
+is_begun (next.Param main seen) = true
+is_begun _ = false
+
+-- whether the bounds came before
+abbrev pub is_past : Next → Bool
+is_past (next.Section since left) = true
+is_past next.Last = true
+is_past next.Over = true
+is_past _ = false
+
+-- whether the bounds came before, and no line of a section has to come
+abbrev pub is_closing : Next → Bool
+is_closing (next.Section since zero) = true
+is_closing next.Last = true
+is_closing _ = false
 
 -- the next line of a function whose loops may come next, where it is one of the function's
 unfoldable pub further_at : Next → List ℕ → Option (Line × Next × List ℕ)
@@ -50,9 +75,9 @@ after_lines zero here text = Some (here, text)
 after_lines (suc count) here text = step_at here text >>= λ (line, after, rest). after_lines count after rest
 
 -- so many lines of a text
-unfoldable pub lines_in : ℕ → List ℕ → List Line
-lines_in zero text = []
-lines_in (suc count) text = or_else (line_at text) (λ (line, rest). line ∷ lines_in count rest) []
+unfoldable pub lines_in : ℕ → Next → List ℕ → List Line
+lines_in zero here text = []
+lines_in (suc count) here text = or_else (step_at here text) (λ (line, after, rest). line ∷ lines_in count after rest) []
 
 -- ## the functions of lines
 
@@ -62,42 +87,51 @@ pub record Gathered : Type 0 where
   pub loops : List Loop
   pub result : Value
   pub params : List Value
-  pub funcs : List Func
+  pub digest : Option (List ℕ)
+  pub entries : List Entry
 
 -- no lines
 abbrev pub nothing : Gathered
-nothing = record { vars = []; loops = []; result = Address; params = []; funcs = [] }
+nothing = record { vars = []; loops = []; result = Address; params = []; digest = None; entries = [] }
 
 -- a line before others
 abbrev pub gather_line : Line → Gathered → Gathered
 gather_line (FuncLine h) g = record nothing {
-  funcs = record {
-    name = h.name;
-    rank = h.rank;
-    steps = h.steps;
-    calls = h.calls;
-    bytes = h.bytes;
-    alloc = h.alloc;
-    params = g.params;
-    result = g.result;
-    loops = g.loops;
-  } ∷ g.funcs;
+  entries = record {
+    func = record {
+      name = h.name;
+      rank = h.rank;
+      steps = h.steps;
+      calls = h.calls;
+      bytes = h.bytes;
+      alloc = h.alloc;
+      params = g.params;
+      result = g.result;
+      loops = g.loops;
+    };
+    digest = g.digest;
+  } ∷ g.entries;
 }
 gather_line (ParamLine v) g = record g { params = v ∷ g.params }
 gather_line (ResultLine v) g = record g { result = v; params = [] }
 gather_line (LoopLine h) g = record g { loops = record { depth = h.depth; rank = h.rank; turns = h.turns; vars = g.vars } ∷ g.loops; vars = [] }
 gather_line (VarLine v) g = record g { vars = v ∷ g.vars }
+gather_line (DigestLine d) g = record g { digest = Some d }
 gather_line FirstLine g = g
+gather_line SealedLine g = g
 gather_line (TotalLine b) g = nothing
 gather_line LastLine g = nothing
+gather_line (OutsideLine d) g = nothing
+gather_line (SectionLine s) g = nothing
+gather_line (BodyLine b) g = nothing
 
 unfoldable pub gather : List Line → Gathered
 gather [] = nothing
 gather (line ∷ lines) = gather_line line (gather lines)
 
 -- the functions among the first lines of a text
-unfoldable pub funcs_in : ℕ → List ℕ → List Func
-funcs_in count text = (gather (lines_in count text)).funcs
+unfoldable pub entries_in : ℕ → List ℕ → List Entry
+entries_in count text = (gather (lines_in count next.First text)).entries
 
 -- ## what is found at a place
 
@@ -112,6 +146,12 @@ abbrev pub Goes : Option (Line × Next × List ℕ) → Place → Option Place �
 Goes found from None = found ≡ None
 Goes found from (Some to) = ((line : Line) × (found ≡ Some (line, to.here, to.rest))) × (to.lines ≡ from.lines + 1)
 
+-- lines that lead from one place to another
+pub record Follows (from to : Place) : Type 0 where
+  pub lines : List Line
+  pub reads : Reads from.here from.rest lines to.here to.rest
+  pub number : to.lines ≡ from.lines + length lines
+
 -- lines of a function that lead from one place to another
 pub record Leads (from to : Place) : Type 0 where
   pub inner : List Line
@@ -119,23 +159,24 @@ pub record Leads (from to : Place) : Type 0 where
   pub all : AllByRecursion IsInner inner
   pub number : to.lines ≡ from.lines + length inner
 
--- a place between two functions, where a task was seen or not
-abbrev pub IsBetween : Bool → Next → Type 0
-IsBetween tasked (next.Func seen) = seen ≡ tasked
-IsBetween tasked (next.Loop main seen deepest least) = seen ≡ tasked
-IsBetween tasked _ = ⊥
+-- a place between two functions, where this was seen
+abbrev pub IsBetween : Seen → Next → Type 0
+IsBetween seen (next.Func here) = here ≡ seen
+IsBetween seen (next.Loop main here deepest least) = here ≡ seen
+IsBetween seen _ = ⊥
 
 -- the first line of the text, at the beginning
-abbrev pub opening : Next → List Line
-opening next.First = FirstLine ∷ []
-opening _ = []
+abbrev pub opening : Bool → Next → List Line
+opening sealed next.First = first_line sealed ∷ []
+opening sealed _ = []
 
 -- a place, and the place after the first line of the text, if it was the beginning
 pub record Opens (from to : Place) : Type 0 where
-  pub reads : Reads from.here from.rest (opening from.here) to.here to.rest
-  pub number : to.lines ≡ from.lines + length (opening from.here)
-  pub tasked : Bool
-  pub between : IsBetween tasked to.here
+  pub sealed : Bool
+  pub reads : Reads from.here from.rest (opening sealed from.here) to.here to.rest
+  pub number : to.lines ≡ from.lines + length (opening sealed from.here)
+  pub seen : Seen
+  pub between : IsBetween seen to.here
   pub stops : further_at to.here to.rest ≡ None
 
 -- the next function: its text, the number of its first line, and the place after it
@@ -151,8 +192,8 @@ pub record HasFunction (from : Place) (part : List ℕ) (line : ℕ) (to : Place
   pub number : to.lines ≡ from.lines + length (FuncLine head ∷ inner)
 
 -- the end of the text
-pub record HasEnd (from : Place) (total : Bounds) : Type 0 where
-  pub reads : Reads from.here from.rest (TotalLine total ∷ LastLine ∷ []) next.Over []
+pub record HasEnd (from : Place) (ending : Ending) : Type 0 where
+  pub reads : Reads from.here from.rest (ending_lines ending) next.Over []
 
 -- how many of these lines tell a result
 abbrev pub results : List Line → ℕ
@@ -176,8 +217,8 @@ pub record FindsWrong (from : Place) (line : ℕ) : Type 0 where
 -- whether a function may begin, or nothing was read
 abbrev pub is_start : Next → Bool
 is_start next.First = true
-is_start (next.Func tasked) = true
-is_start (next.Loop main tasked deepest least) = true
+is_start (next.Func seen) = true
+is_start (next.Loop main seen deepest least) = true
 is_start _ = false
 
 -- a place of a text after so many lines, where no further line of a function comes next

@@ -1,11 +1,11 @@
 -- How a line is read, on lists of bytes: each reader gives a value and what stands after it.
-use Rattle.std.specs.Prelude.{ℕ, ◌+◌, ◌-◌, ◌*◌, Bool, true, false, ◌==◌, nat_le, if◌then◌else◌, List, [], ◌∷◌, length, take, drop, fold, decimal, ℤ, pos, neg_ℤ, int_le, codes, bytes_eq, Option, Some, None, option_and_then}
+use Rattle.std.specs.Prelude.{ℕ, ◌+◌, ◌-◌, ◌*◌, ◌%◌, Bool, true, false, ◌==◌, nat_le, nat_lt, if◌then◌else◌, List, [], ◌∷◌, length, take, drop, fold, decimal, ℤ, pos, neg_ℤ, int_le, codes, bytes_eq, Option, Some, None, option_and_then}
 use Rattle.std.specs.Char.{is_ascii_digit}
 use Rattle.p10_cert.specs.declared.claims.Rank.{Rank}
 use Rattle.p10_cert.specs.declared.claims.Rank.TheVariants.{Up, Down, One, Task}
 use Rattle.p10_range.specs.Ranges.{Interval}
 use Rattle.p10_cert.specs.Claims.{Value, Number, Address, Nothing}
-use Rattle.p10_cert.specs.Lines.{Line, FirstLine, FuncLine, ParamLine, ResultLine, LoopLine, VarLine, TotalLine, LastLine, greatest_count, greatest_size, is_name_byte, is_name}
+use Rattle.p10_cert.specs.Lines.{SectionHead, Line, FirstLine, FuncLine, ParamLine, ResultLine, LoopLine, VarLine, TotalLine, LastLine, SealedLine, DigestLine, OutsideLine, SectionLine, BodyLine, hex_text, greatest_count, greatest_size, is_name_byte, is_name, is_section_byte, is_section_name, is_body_byte}
 
 -- the second, of what the first gives
 infixl 10 ◌>>=◌
@@ -172,6 +172,74 @@ total_at text =
     after_front (codes "\n") text >>= λ text.
     Some (TotalLine (record { prefix = prefix; turn = turn; calls = calls; bytes = bytes }), text)
 
+-- ## digests and sections
+
+-- the number of a hexadecimal digit, and some number below 16 of another byte
+abbrev pub nibble : ℕ → ℕ
+nibble byte = (if nat_le 97 byte then byte - 87 else byte - 48) % 16
+
+-- the bytes that these digits spell, two digits a byte
+abbrev pub spelled : List ℕ → List ℕ
+spelled (high ∷ low ∷ digits) = (16 * nibble high + nibble low) ∷ spelled digits
+spelled _ = []
+
+-- the digest whose text these digits are
+unfoldable pub digest_of : List ℕ → Option (List ℕ)
+digest_of digits =
+    if length digits == 64 then (if bytes_eq (hex_text (spelled digits)) digits then Some (spelled digits) else None) else None
+
+-- a digest, at the end of its line
+unfoldable pub digest_at : List ℕ → Option (List ℕ × List ℕ)
+digest_at text =
+    if nat_lt (length text) 64 then None else (
+    digest_of (take 64 text) >>= λ digest.
+    after_front (codes "\n") (drop 64 text) >>= λ text.
+    Some (digest, text))
+
+unfoldable pub function_digest_at : List ℕ → Option (Line × List ℕ)
+function_digest_at text = digest_at text >>= λ (digest, text). Some (DigestLine digest, text)
+
+unfoldable pub outside_at : List ℕ → Option (Line × List ℕ)
+outside_at text = digest_at text >>= λ (digest, text). Some (OutsideLine digest, text)
+
+-- the name of a section
+unfoldable pub section_name_at : List ℕ → Option (List ℕ × List ℕ)
+section_name_at text =
+    if is_section_name (front_of text (after_run is_section_byte text))
+    then Some (front_of text (after_run is_section_byte text), after_run is_section_byte text)
+    else None
+
+-- what the first line of a section says, after its first word
+unfoldable pub section_start_at : List ℕ → Option (SectionHead × List ℕ)
+section_start_at text =
+    section_name_at text >>= λ (name, text).
+    labelled_at (codes " ") greatest_index text >>= λ (count, text).
+    after_front (codes "\n") text >>= λ text.
+    Some (record { name = name; count = count }, text)
+
+unfoldable pub section_at : List ℕ → Option (Line × List ℕ)
+section_at text = section_start_at text >>= λ (head, text). Some (SectionLine head, text)
+
+-- what a line of a section says
+unfoldable pub body_text_at : List ℕ → Option (List ℕ × List ℕ)
+body_text_at text =
+    after_front (codes "\n") (after_run is_body_byte text) >>= λ rest.
+    Some (front_of text (after_run is_body_byte text), rest)
+
+-- a line of a section
+unfoldable pub body_at : List ℕ → Option (Line × List ℕ)
+body_at text = body_text_at text >>= λ (bytes, rest). Some (BodyLine bytes, rest)
+
+-- a line of version 2 alone, but those of a section
+unfoldable pub sealed_at : List ℕ → Option (Line × List ℕ)
+sealed_at text =
+    or_else (after_front (codes "p10cert 2\n") text) (λ text. Some (SealedLine, text)) (
+    or_else (after_front (codes "digest ") text) function_digest_at (
+    or_else (after_front (codes "outside ") text) outside_at (
+    or_else (after_front (codes "section ") text) section_at None)))
+
+-- ## each line
+
 -- a line of a function but its first
 unfoldable pub inner_at : List ℕ → Option (Line × List ℕ)
 inner_at text =
@@ -195,8 +263,8 @@ outer_at text =
     or_else (after_front (codes "func ") text) func_at (
     or_else (after_first text) (λ text. Some (FirstLine, text)) (
     or_else (after_total text) total_at (
-    or_else (after_front (codes "end\n") text) (λ text. Some (LastLine, text)) None)))
+    or_else (after_front (codes "end\n") text) (λ text. Some (LastLine, text)) (sealed_at text))))
 
--- a line
+-- a line, but one of a section
 unfoldable pub line_at : List ℕ → Option (Line × List ℕ)
 line_at text = or_else (inner_at text) Some (outer_at text)

@@ -1,12 +1,13 @@
 use Rattle.std.proofs.Common.{◌≡◌, ◌≤◌, ◌+◌, true, length}
 use Rattle.p10_cert.specs.private.Places.{Leads, is_loop}
 use Rattle.p10_cert.specs.private.Found.{place_of}
+use Rattle.p10_cert.specs.private.States.{next_of}
 use Rattle.p10_cert.proofs.cursor.Cursor.after_loops.Given as goal
 
 abbrev pub invariant-loop-after : goal.invariant-loop-after
 invariant-loop-after l = record {
   leads : Leads (place_of l.fn.self) (place_of l.place);
-  stays : is_loop l.place.next ≡ true;
+  stays : is_loop (next_of l.place.next) ≡ true;
   few : l.place.lines + length l.place.rest.now ≤ l.fn.self.lines + length l.fn.self.rest.now;
 }
 

@@ -1,5 +1,6 @@
 use Rattle.std.proofs.Common.{arith}
 use Rattle.p10_cert.specs.private.Found.{place_of}
+use Rattle.p10_cert.specs.private.States.{next_of}
 use Rattle.p10_cert.proofs.Further.{leads_none, leads_parameter, goes_shorter_parameter}
 use Rattle.p10_cert.proofs.cursor.Cursor.after_parameters.Goals as goal
 
@@ -10,7 +11,7 @@ pub parameter-requires : goal.parameter-requires
 parameter-requires c = omega (arith, c.loop-after.invariant.few, c.requires.few)
 
 pub loop-after-smaller : goal.loop-after-smaller
-loop-after-smaller c = goes_shorter_parameter c.loop-after.place.next c.loop-after.place.rest.now (place_of c.loop-after.place) (place_of c.in-Some.after) c.in-Some.ensures.goes
+loop-after-smaller c = goes_shorter_parameter (next_of c.loop-after.place.next) c.loop-after.place.rest.now (place_of c.loop-after.place) (place_of c.in-Some.after) c.in-Some.ensures.goes
 
 pub loop-after-preserved : goal.loop-after-preserved
 loop-after-preserved c =

@@ -1,0 +1,96 @@
+//! Digests as text: two hexadecimal digits a byte, with lower-case letters.
+
+ghost use Rattle.std.specs.Prelude.{◌≡◌, ◌<◌, false, length, option_map};
+ghost use Rattle.std.specs.Fmt.{digit_glyph};
+ghost use Rattle.p10_cert.specs.Lines.{hex_text};
+ghost use Rattle.p10_cert.specs.Sealed.{bytes_of};
+ghost use Rattle.p10_cert.specs.private.Reading.{digest_at, digest_of, nibble, spelled};
+
+use crate::bytes::after;
+use p10_base::Digest;
+
+/// The digest that the text begins with, at the end of its line, and what stands after the line.
+#[tactic(auto, unfolding(crate::specs::private::Reading::digest_at))]
+pub(crate) fn digest(text: &[u8]) -> Option<(Digest, &[u8])>
+    ensures { option_map (λ x. (bytes_of x.0, x.1.now)) result ≡ digest_at text.now }
+{
+    if text.len() < 64 {
+        return None;
+    }
+    let (front, back) = text.split_at(64);
+    let digest = digest_of(front)?;
+    let rest = after(back, b"\n")?;
+    Some((digest, rest))
+}
+
+/// The digest whose text these digits are.
+#[tactic(auto, unfolding(crate::specs::private::Reading::digest_of))]
+fn digest_of(digits: &[u8]) -> Option<Digest>
+    ensures { option_map bytes_of result ≡ digest_of digits.now }
+{
+    if digits.len() != 64 {
+        return None;
+    }
+    // each digest is written in one way, so no other spelling of it passes
+    let bytes = spelled(digits);
+    if hex(&bytes).as_slice() == digits {
+        Some(Digest(bytes))
+    } else {
+        None
+    }
+}
+
+/// The bytes that these digits spell, two digits a byte.
+fn spelled(digits: &[u8]) -> [u8; 32]
+    requires { length digits.now ≡ 64 }
+    ensures { result ≡ spelled digits.now }
+{
+    let mut bytes = [0u8; 32];
+    let mut count = 0;
+    let mut rest = digits;
+    while let [high, low, others @ ..] = rest {
+        bytes[count] = 16 * nibble(*high) + nibble(*low);
+        count += 1;
+        rest = others;
+    }
+    bytes
+}
+
+/// The number of a hexadecimal digit, and some number below 16 of another byte.
+fn nibble(byte: u8) -> u8
+    ensures exact { result ≡ nibble byte }
+    ensures small { result < 16 }
+{
+    let digit = if 97 <= byte {
+        byte - 87
+    } else {
+        byte.saturating_sub(48)
+    };
+    digit % 16
+}
+
+/// The text of a digest's bytes.
+pub(crate) fn hex(bytes: &[u8; 32]) -> [u8; 64]
+    ensures { result ≡ hex_text bytes.now }
+{
+    let mut text = [0u8; 64];
+    for i in 0..32 {
+        let high = hex_digit(bytes[i] / 16);
+        let low = hex_digit(bytes[i] % 16);
+        text[2 * i] = high;
+        text[2 * i + 1] = low;
+    }
+    text
+}
+
+/// The digit of a number below 16.
+fn hex_digit(number: u8) -> u8
+    requires { number < 16 }
+    ensures { result ≡ digit_glyph false number }
+{
+    if number < 10 {
+        b'0' + number
+    } else {
+        b'a' - 10 + number
+    }
+}
