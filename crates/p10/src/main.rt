@@ -20,7 +20,7 @@ use std::rt::Env;
 /// which is no command.
 ///
 /// # Errors
-/// Memory is wanting.
+/// Out of memory.
 fn command_line(rt: &(impl Env + AllocGlobal)) -> Result<Vec<String>, AllocError> {
     let mut words = Vec::new(rt.alloc());
     let arguments = match env::args(rt) {
@@ -39,7 +39,7 @@ fn command_line(rt: &(impl Env + AllocGlobal)) -> Result<Vec<String>, AllocError
     Ok(words)
 }
 
-/// Tells on `err` that memory is wanting, and gives the status: 7, or 6 where that couldn't be written.
+/// Reports on `err` that memory is out, and gives the status: 7, or 6 where that couldn't be written.
 fn tell_out_of_memory<E: Sink>(err: &mut E) -> u8
     ensures either { (result ≡ 7) ⊎ (result ≡ 6) }
     ensures told { result ≡ 7 → Appends (E.taken err.old) (E.taken err.new) out_of_memory_line }

@@ -31,7 +31,7 @@ pub data Assessed : Type 0 where
   a_scalar : Bool → Side → Assessed
   a_test : Option Environment → Option Environment → Assessed
 
--- the value of a test: 1 where its contrary leaves no state, 0 where itself leaves none, nothing where neither leaves one
+-- the value of a test: 1 where its contrary leaves no state, 0 where the test itself leaves none, nothing where neither leaves one
 abbrev pub tested_abstract : Bool → Bool → Option Abstract
 tested_abstract true true = Some (only_range (from_to (pos 0) (pos 1)))
 tested_abstract true false = Some (only_range (from_to (pos 1) (pos 1)))

@@ -7,7 +7,7 @@ use Rattle.p10_absx.specs.Trails.{Branching, branched, with_values}
 abbrev pub unbranched : Environment → Branching
 unbranched env = record { values = env; outer = [] }
 
--- a branch is opened where a state is left, and there what is known of it is known; where none is left, none is opened
+-- where a state is left, a branch is opened with what is then known; where none is left, none is opened
 abbrev pub Enters : Bool → Option Environment → Branching → Branching → Type 0
 Enters true known before after = (known ≡ Some after.values) × (after ≡ with_values (branched before) after.values)
 Enters false known before after = (known ≡ None) × (after ≡ before)

@@ -63,7 +63,7 @@ pub record DescribesVariable (variables : List PlainVariable) (head held : List 
 pub record Describes (variables : List PlainVariable) (env : Environment) (head held : List Held) : Type 0 where
   pub each : (n : ℕ) (a : Abstract) → known env n ≡ Some a → DescribesVariable variables head held n a
 
--- the same of an environment that may be one that no state reaches
+-- the same for an environment that may be one that no state reaches
 abbrev pub MaybeDescribes : List PlainVariable → Option Environment → List Held → List Held → Type 0
 MaybeDescribes variables None head held = ⊥
 MaybeDescribes variables (Some env) head held = Describes variables env head held

@@ -34,7 +34,7 @@ entries_from n parameters claims (v ∷ vs) = entry_for n parameters claims v �
 abbrev pub entry_of_function : Option Func → PlainFunction → Environment
 entry_of_function claim f = entries_from 0 f.parameters (claims_on claim) f.variables
 
--- the same of a function that may be lacking
+-- the same for a function that may be lacking
 abbrev pub entry_of : Option Func → Option PlainFunction → Environment
 entry_of claim None = []
 entry_of claim (Some f) = entry_of_function claim f

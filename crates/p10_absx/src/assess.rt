@@ -283,8 +283,12 @@ impl Env {
         }
     }
 
-    /// The value of an integer: `None` where every evaluation ends. Where no certificate is given, a call has all values of
-    /// its type.
+    /// The value of the integer `v`: `None` where every evaluation ends. Where there is no certificate `c`, a call has all values of
+    /// its type. The environment stays as it is.
+    ///
+    /// # Errors
+    ///
+    /// Out of memory.
     pub fn eval(
         &self,
         alloc: Global,
@@ -299,7 +303,7 @@ impl Env {
         Ok(found.value())
     }
 
-    /// Assumes that a scalar is true or false, and tells whether a state is left. Where none is, and out of memory, nothing is
+    /// Assumes that a scalar is true or false, and answers whether a state is left. Where none is, and out of memory, nothing is
     /// said of what is known then.
     pub fn assume(
         &mut self,

@@ -37,7 +37,7 @@ impl Env {
         Ok(found.value())
     }
 
-    /// Opens a branch in which a scalar is true or false, and tells whether a state is left: where none is, no branch is
+    /// Opens a branch in which a scalar is true or false, and answers whether a state is left: where none is, no branch is
     /// opened. Out of memory nothing is said of what is known then.
     pub fn enter_where(
         &mut self,
@@ -77,7 +77,11 @@ impl Env {
         self.take_back();
     }
 
-    /// Another environment, in which a scalar is true or false; `None` where no state is left.
+    /// Another environment, in which the scalar `v` is true or false, as `truth` says; `None` where no state is left.
+    ///
+    /// # Errors
+    ///
+    /// Out of memory.
     pub fn assumed(
         &self,
         alloc: Global,

@@ -76,7 +76,12 @@ fn entries_of(
 }
 
 impl Env {
-    /// The environment at the entry of a function by its number: its integer frame parameters lie in their claimed ranges.
+    /// The environment at the entry of function `f`, a number: its integer frame parameters lie in the ranges that `c` claims of them. A
+    /// function that isn't there has no variables.
+    ///
+    /// # Errors
+    ///
+    /// Out of memory.
     pub fn entry(alloc: Global, p: &Program<'_>, c: &Cert, f: u32) -> Result<Env, AllocError>
         ensures { IfOk result (λ env. env ≡ record { values = entry_at (plain_program p.now) (claims_of c.now) f; outer = [] }) }
     {
@@ -86,8 +91,11 @@ impl Env {
         }
     }
 
-    /// The environment at the entry of a function of which nothing is claimed: each integer frame parameter has any value of its
-    /// type.
+    /// The environment at the entry of a function of which nothing is claimed: each integer frame parameter has any value of its type.
+    ///
+    /// # Errors
+    ///
+    /// Out of memory.
     pub fn start(alloc: Global, function: &Func<'_>) -> Result<Env, AllocError>
         ensures { IfOk result (λ env. env ≡ record { values = entry_of_function None (plain_function function.now); outer = [] }) }
     {

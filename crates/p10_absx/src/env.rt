@@ -97,6 +97,10 @@ impl Env {
     }
 
     /// An equal environment, without a branch.
+    ///
+    /// # Errors
+    ///
+    /// Out of memory.
     pub fn copy(&self, alloc: Global) -> Result<Env, AllocError>
         ensures { IfOk result (λ env. env ≡ record { values = self.now.values; outer = [] }) }
     {
@@ -110,7 +114,11 @@ impl Env {
         Ok(Env::of_entries(alloc, entries))
     }
 
-    /// The hull of two environments: a variable is in scope where it is in both.
+    /// The hull of two environments: a variable is in scope where it is in both. It has no branch.
+    ///
+    /// # Errors
+    ///
+    /// Out of memory.
     pub fn hull_with(&self, alloc: Global, other: &Env) -> Result<Env, AllocError>
         ensures { IfOk result (λ env. env ≡ unbranched (hull_environment self.now.values other.now.values)) }
     {

@@ -93,7 +93,7 @@ fn near(about: u32, by: Range) -> Option<(u32, Range)>
     if is_near(by) { Some((about, by)) } else { None }
 }
 
-/// The same of an offset that may be lacking.
+/// The same for an offset that may be lacking.
 fn maybe_moved(r: Range, offset: Option<(u32, Range)>) -> Option<(u32, Range)>
     ensures { option_map offset_of result ≡ option_and_then (moved_by_of (interval_of r)) (option_map offset_of offset) }
 {

@@ -66,7 +66,7 @@ fn widen(alloc: Global, env: &Env, changes: &[Change]) -> Result<Vec<Change>, Al
     Ok(all)
 }
 
-/// The same of one change.
+/// The same for one change.
 fn widen_one(env: &Env, change: &Change) -> Change
     ensures { replaced_of result ≡ widened_one env.now.values (replaced_of change.now) }
 {

@@ -71,7 +71,7 @@ module _ (variables : List PlainVariable) where
     pub fair : Fair env
     pub lies : (n : ℕ) → LiesIn (known env n) (known wide n)
 
-  -- the same of environments that may be lacking: where no state comes, everything is known
+  -- the same for environments that may be lacking: where no state comes, everything is known
   abbrev pub MaybeNarrower : Option Environment → Option Environment → Type 0
   MaybeNarrower None o = Unit {0}
   MaybeNarrower (Some env) None = ⊥

@@ -64,7 +64,7 @@ hull_under (Some a) (Some b) None h k = absurd h
 hull_under (Some a) (Some b) (Some c) h k = hull_within a.range b.range c.range h k
 
 module _ (n : ℕ) where
-  -- the same of an environment that may be lacking
+  -- the same for an environment that may be lacking
   abbrev pub MaybeUnder : Option Environment → Option Abstract → Type 0
   MaybeUnder None a = Unit {0}
   MaybeUnder (Some e) a = Under (known e n) a

@@ -50,8 +50,8 @@ seen_files files before after = record { held = Some files; faults_before = befo
 abbrev pub acceptance : Bounds → Saying
 acceptance bounds = record { status = 0; out = accepted_line bounds; err = [] }
 
--- it is right to say to `verify` with these names that the certificate is accepted with these bounds, and nothing else is, but for a read
--- fault and out of memory
+-- it is right to say to `verify` with these names that the certificate is accepted with these bounds, and nothing else is, unless a
+-- read fails or memory runs out
 pub record IsVerified (names : Names) (files : List Named) (bounds : Bounds) : Type 0 where
   pub right : (before after : ℕ) → verify.SaysRight names (seen_files files before after) (acceptance bounds)
   pub only : (before after : ℕ) (saying : Saying) → verify.SaysRight names (seen_files files before after) saying → saying.status ≢ 5 → saying.status ≢ 7 → saying ≡ acceptance bounds

@@ -20,7 +20,7 @@ pub fn only_candidates_are_looked_for()
 {}
 
 /// The claims of a certificate that is derived of sources have a text, and while the sources stay as they were, that it is accepted is the one
-/// right answer to `verify` with a file of this text, but for read faults and out of memory. So it is with what `derive` writes: with
+/// right answer to `verify` with a file of this text, unless a read fails or memory runs out. So it is with what `derive` writes: with
 /// status 0 the text on its output is such a one.
 pub fn derived_certificates_are_verified()
     ensures certificates { DerivedCertificatesAreVerified }

@@ -8,9 +8,9 @@
 //! ```
 //!
 //! has ended with status 0, `p10 verify --cert a.p10 a.c` ends with status 0 too, unless a read or a write fails or memory is out, as long as
-//! `a.p10` holds just these bytes, and at each name at which `a.c` and what it includes are looked for there is what there was.
+//! `a.p10` holds exactly these bytes, and at each name at which `a.c` and what it includes are looked for there is what there was.
 //! Invariant: files count only where gathering looks for them. That a derived certificate has a text and is accepted is left to the crates
-//! below (`p10_names`, `p10_acceptance`), and what is told to a command line to `p10_top`.
+//! below (`p10_names`, `p10_acceptance`), and what is answered to a command line to `p10_top`.
 #![tactic(auto)]
 
 pub mod laws;

@@ -164,7 +164,7 @@ module _ (p : PlainProgram) (number : ℕ) where
   spared r h n f e i =
       none-some f (sym (ap (λ b. if b then None else option_map seen_function (slice_get r.program.functions n)) (eq-eqb n r.program.main (i ∙ sym (ap (λ (q : PlainProgram). q.main) h.program_is)))) ∙ e)
 
-  -- in `main` there are so few marks
+  -- in `main` none of these marks is `init_done`
   abbrev Unmarked : List MarkKind → Type 0
   Unmarked ks = number ≡ p.main → dones ks ≡ 0
 

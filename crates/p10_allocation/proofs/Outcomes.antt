@@ -74,7 +74,7 @@ abbrev pub LeavesBy : {A : Type 0} → (Bool → ℕ → Type 0) → Progress A 
 LeavesBy P (gives a w) = P w.marked w.after_mark
 LeavesBy P (ends end w) = P w.marked w.after_mark
 
--- the same as a record, by which the piece is told
+-- the same as a record, from which the piece is known
 pub record Leaves {A : Type 0} (P : Bool → ℕ → Type 0) (o : Progress A) : Type 0 where
   pub state : LeavesBy P o
 

@@ -37,13 +37,13 @@ IsQuietForm p (call name f arguments) = AllocatesOrFrees p f → ⊥
 IsQuietForm p (built_in name f arguments) = is_of_memory f ≡ true → ⊥
 IsQuietForm p form = Unit {0}
 
--- the same of a node
+-- the same for a node
 abbrev pub IsQuiet : PlainProgram → PlainNode → Type 0
 IsQuiet p (a_statement x) = Unit {0}
 IsQuiet p (a_value (value at t form)) = IsQuietForm p form
 IsQuiet p (a_place q) = Unit {0}
 
--- each node of a list is so that is so where it is contained in it
+-- what holds for each node that a list contains holds for each of its nodes
 each_of : (N : PlainNode → Type 0) (ns : List PlainNode) → ((n : PlainNode) → Contains ns n → N n) → Each N ns
 each_of N [] h = tt
 each_of N (n ∷ ns) h = (h n (here n ns), each_of N ns (λ m c. h m (there n ns m c)))

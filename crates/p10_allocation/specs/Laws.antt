@@ -29,7 +29,7 @@ abbrev pub NothingIsAllocatedLate : Type 0
 NothingIsAllocatedLate =
     (p : PlainProgram) → IsWholeProgram p → AreLateAllocations p [] → (world : World) (prefix turn n : ℕ) → (run_of p world prefix turn n).after ≡ 0
 
--- the same of a whole program in which row 3.1 is violated nowhere
+-- the same for a whole program in which row 3.1 is violated nowhere
 abbrev pub KeptRuleAllocatesNothingLate : Type 0
 KeptRuleAllocatesNothingLate =
     (p : PlainProgram) → IsWholeProgram p → ((span : Span) → ViolatesFlow p allocation_row span → ⊥) → (world : World) (prefix turn n : ℕ) → (run_of p world prefix turn n).after ≡ 0

@@ -32,7 +32,7 @@ abbrev pub allocating_by_calls : PlainProgram
 allocating_by_calls = record (program_of (allocator ∷ []) []
     (calls_first ∷ does (mark InitDone) ∷ does (mark TaskLoop) ∷ loop_of For None (block_of (calls_first ∷ [])) ∷ [])) { mark = Some 1; task = Some 3 }
 
--- `void f(void) { #pragma p10 init_done }` and `f(); int *p = malloc(sizeof(int)); ;` where the mark is told to be the last item
+-- `void f(void) { #pragma p10 init_done }` and `f(); int *p = malloc(sizeof(int)); ;` where the last item is given as the mark
 abbrev pub marking_elsewhere : PlainProgram
 marking_elsewhere = record (program_of (function_of 0 (void false) [] (does (mark InitDone) ∷ []) ∷ []) (frame_variable ints 8 ∷ [])
     (calls_first ∷ allocates ∷ does empty ∷ [])) { mark = Some 2 }

@@ -53,7 +53,7 @@ target_of-append_other name angle other [] apart = ap (λ t. link_target (cond t
 target_of-append_other name angle other (link ∷ links) apart =
     front_same (is_link_of name angle link) link _ _ (target_of-append_other name angle other links apart)
 
--- where every link leads to one of so many files, so does the one that is found
+-- where every link leads to one of `count` files, so does the one that is found
 pub target_of-below : (name : List ℕ) (angle : Bool) (count : ℕ) (links : List Link) → All (λ link. link.to < count) links →
     IfSome (target_of name angle links) (λ file. file < count)
 target_of-below name angle count [] all = tt

@@ -93,7 +93,7 @@ abbrev pub with_link : Gathered → ℕ → Text → Bool → ℕ → Gathered
 with_link g from name angle to =
     record g { files = slice_set g.files from (add_link (file_of g from) (record { name = name; angle = angle; to = to })) }
 
--- every link of a file leads to one of so many files
+-- every link of a file leads to one of the first `count` files
 abbrev pub LinksBelow : ℕ → SourceFile → Type 0
 LinksBelow count file = All (λ link. link.to < count) file.links
 

@@ -29,7 +29,7 @@ pub enum DirectiveCode {
     BadDirective = 1,
     /// D2: a conditional isn't opened or isn't closed.
     UnbalancedConditional = 2,
-    /// D3: a condition has no truth.
+    /// D3: a condition is no expression, is too deep, or has no value.
     BadCondition = 3,
     /// D4: a definition of a macro has a form that isn't allowed.
     BadDefinition = 4,
@@ -56,7 +56,7 @@ pub enum SubsetCode {
     FixedTarget = 3,
     /// S4: a value doesn't fit the type of its target.
     TypesDiffer = 4,
-    /// S5: a call has another number of arguments than its function parameters.
+    /// S5: a call has another number of arguments than its function has parameters.
     WrongArguments = 5,
     /// S6: what is called isn't a function's name.
     BadCallee = 6,

@@ -32,7 +32,7 @@ impl<'s> NameList<'s> {
         }
     }
 
-    /// Puts a name after the others, unless it is there, and tells its place, counted from 0. Out of memory,
+    /// Puts a name after the others, unless it is there, and gives its place, counted from 0. Out of memory,
     /// nothing is put.
     pub fn add(&mut self, name: &'s [u8]) -> Result<usize, AllocError>
         ensures ok { OnOk result (self.new ≡ with_name self.old name.now) }

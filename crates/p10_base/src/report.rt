@@ -1,4 +1,4 @@
-//! What a check reports: violations of rules, refusals of sources, passed limits, and bounds.
+//! What a check reports: violations of rules, refusals of sources, exceeded limits, and bounds.
 
 ghost use Rattle.std.proofs.Common.{rules};
 ghost use Rattle.std.specs.Cmp.{partial_order_from_own_ties};
@@ -74,7 +74,7 @@ pub struct Refusal {
     pub span: Span,
 }
 
-/// A limit that was passed: `Limit::FILE_BYTES`, whose number is 1, is printed `M1`.
+/// A limit that was exceeded: `Limit::FILE_BYTES`, whose number is 1, is printed `M1`.
 ///
 /// The greatest count that a limit allows is the constant of its name with `MOST_` before it, as
 /// [`Limit::MOST_FILE_BYTES`]. [`Limit::OBJECT_BYTES`] has two.

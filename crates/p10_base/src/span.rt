@@ -1,6 +1,6 @@
 //! Places in source files.
 
-/// A run of bytes of one file, from byte `start` up to and without byte `end`.
+/// A run of bytes of one file, from byte `start` up to but not including byte `end`.
 #[derive(Clone, Copy, Debug, PartialEq, Eq, PartialOrd, Ord)]
 pub struct Span {
     /// The number of the file among the gathered files.

@@ -4,7 +4,7 @@ use Rattle.std.specs.List.{filter}
 use Rattle.p10_core.specs.Typed.{PlainFunction, PlainProgram}
 use Rattle.p10_calls.specs.CallSites.{calls_by}
 
--- the numbers of the functions that a function calls: of so many functions. In a whole program no call names another number
+-- the numbers of the functions that a function calls, without those from `count` on. In a whole program no call names such a number
 abbrev pub callees_of : ℕ → PlainFunction → List ℕ
 callees_of count f = filter (λ n. nat_lt n count) (map (λ c. c.function) (calls_by f))
 

@@ -15,7 +15,7 @@ pub struct Order {
 pub enum CallFault {
     /// Some calls lie on cycles of calls. It has the spans of the names of all of them, in the order of the functions and of the text.
     Cycle(ListBuf<Span>),
-    /// It is out of memory.
+    /// Out of memory.
     Memory,
 }
 

@@ -13,8 +13,8 @@ use p10_core::Program;
 use p10_graph::Graph;
 use std::alloc::{AllocError, Global};
 
-/// The graph in which an edge leads from each function to each that it calls, a node for each function in order. It fails only out of
-/// memory, as which 2^32 functions count too.
+/// The graph in which an edge leads from each function to each that it calls, a node for each function in order. It fails only where
+/// memory runs out; 2^32 functions count as that, too.
 pub fn call_graph(alloc: Global, program: &Program<'_>) -> Result<Graph, AllocError>
     ensures count { IfOk result (λ graph. length graph ≡ length program.now.functions) }
     ensures edges { IfOk result (λ graph. (u v : ℕ) → Edge graph u v ↔ Edge (call_graph (plain_program program.now)) u v) }
@@ -23,11 +23,11 @@ pub fn call_graph(alloc: Global, program: &Program<'_>) -> Result<Graph, AllocEr
     graph_of(alloc, sites.as_slice(), program.functions.as_slice().len())
 }
 
-/// The graph of these calls, over so many functions.
+/// The graph of these calls, over `count` functions.
 pub(crate) fn graph_of(alloc: Global, sites: &[CallSite], count: usize) -> Result<Graph, AllocError>
     ensures { IfOk result (HasEdgesOf sites.now count) }
 {
-    // A graph counts its nodes in 32 bits. So many functions never fit memory, and are told as out of it.
+    // A graph counts its nodes in 32 bits. That many functions never fit memory, and are answered as out of memory.
     if count > u32::MAX as usize {
         return Err(AllocError);
     }
@@ -35,7 +35,7 @@ pub(crate) fn graph_of(alloc: Global, sites: &[CallSite], count: usize) -> Resul
     Graph::of(alloc, count as u32, edges.as_slice())
 }
 
-/// The edges of calls, over so many functions.
+/// The edges of calls, over `count` functions.
 fn edges_of(alloc: Global, sites: &[CallSite], count: u32) -> Result<Vec<(u32, u32)>, AllocError>
     ensures value { IfOk result (λ edges. edges.items ≡ filter_map (edge_of count) sites.now) }
     ensures held { IfOk result (λ edges. All (λ edge. (edge.0 < count) × (edge.1 < count)) edges.items) }
@@ -57,7 +57,7 @@ fn push_edge(site: &CallSite, count: u32, edges: &mut Vec<(u32, u32)>) -> Result
     Ok(())
 }
 
-/// The edge of a call, if it names two of so many functions.
+/// The edge of a call, if it names two of `count` functions.
 fn edge_of(site: &CallSite, count: u32) -> Option<(u32, u32)>
     ensures { result ≡ edge_of count site.now }
 {

@@ -12,7 +12,7 @@ use p10_core::Program;
 use p10_graph::components;
 use std::alloc::{AllocError, Global};
 
-/// The calls of a program that lie on cycles of calls, in the order of its functions and of the text. It fails only out of memory.
+/// The calls of a program that lie on cycles of calls, in the order of its functions and of the text. It fails only where memory runs out.
 pub fn recursive_calls(alloc: Global, program: &Program<'_>) -> Result<Vec<CallSite>, AllocError>
     ensures { IfOk result (λ calls. AreRecursiveCalls (plain_program program.now) calls.items) }
 {

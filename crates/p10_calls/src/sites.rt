@@ -16,8 +16,8 @@ pub struct CallSite {
     pub call: FunctionUse,
 }
 
-/// The calls of a program, in the order of its functions and of the text. It fails only out of memory, as which 2^32 functions count
-/// too.
+/// The calls of a program, in the order of its functions and of the text. It fails only where memory runs out; 2^32 functions count
+/// as that, too.
 pub fn call_sites(alloc: Global, program: &Program<'_>) -> Result<Vec<CallSite>, AllocError>
     ensures { IfOk result (λ sites. sites.items ≡ call_sites (plain_program program.now)) }
 {

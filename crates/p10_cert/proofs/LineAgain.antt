@@ -9,7 +9,7 @@ use Rattle.p10_cert.proofs.HexLaws.{digest_again}
 use Rattle.p10_cert.proofs.SectionLaws.{start_again, body_again}
 use Rattle.p10_cert.proofs.LineLaws.{func_then, param_again, result_again, func_again, loop_again, task_again, var_again, total_again}
 
--- ---- the first words of a line tell which it is
+-- ---- the first words of a line say which line it is
 
 in_var : (rest : List ℕ) → inner_at (codes "var " ++ rest) ≡ var_at rest
 unfolding inner_at after_front

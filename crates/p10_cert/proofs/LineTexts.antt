@@ -95,7 +95,7 @@ line_then-longer l rest good = longer (line_then l []) (line_then l rest) rest (
     longer [] ys rest e some = absurd (some refl)
     longer (x ∷ xs) ys rest e some = omega (arith, ap length e, length-append (x ∷ xs) rest)
 
--- two lines in front of texts are the same where they give one text, and both are of a section or none is
+-- two lines before texts are the same where they give one text, and both are of a section or none is
 pub line_then-injective : (l m : Line) (a b : List ℕ) → is_body l ≡ is_body m → IsLine l → IsLine m → line_then l a ≡ line_then m b → (l ≡ m) × (a ≡ b)
 line_then-injective l m a b alike left right e = by_kind (is_body l) refl (sym alike)
   where
@@ -287,7 +287,7 @@ no_first (x ∷ xs) e = a_line x xs (x == 10) refl e
     a_line x xs true e none = absurd (let h = rw e at none in cc)
     a_line x xs false e none = absurd (let h = rw e at none in cc)
 
--- fewer of the first lines are the same of the first lines and of the text
+-- the first `few` lines of a text's first lines are the first `few` of the text, where these are no more
 fewer : (x : ℕ) (xs : List ℕ) (few many : ℕ) → few ≤ suc many → (b : Bool) → (x == 10) ≡ b
     → ((few : ℕ) → few ≤ many → first_lines (first_lines xs many) few ≡ first_lines xs few)
     → ((few : ℕ) → few ≤ suc many → first_lines (first_lines xs (suc many)) few ≡ first_lines xs few)

@@ -10,7 +10,7 @@ use Rattle.p10_cert.specs.private.Reading.{most_digits, value_of_digits, numeral
 use Rattle.p10_cert.specs.Lines.{greatest_size}
 use Rattle.p10_cert.proofs.Steps.{if_some}
 
--- digits and their value, as std's lemmas want them
+-- digits and their value, as std's lemmas need them
 own_digits : IsNumeralModel (λ ds. list_all is_ascii_digit ds ≡ true) value_of_digits
 own_digits = numerals_by_fold _ (search rules) (λ n ds. fold (λ value byte. 10 * value + (byte - 48)) n ds) (search rules)
 

@@ -74,7 +74,7 @@ front_of-append front rest =
     let size : length (front ++ rest) - length rest ≡ length front = omega (arith, length-append front rest) in
     rw size (take-append_seam front rest)
 
--- the front of a run, and that it passes
+-- the bytes of a run, and that they pass the test
 pub run_front : (test : ℕ → Bool) (text : List ℕ) → (text ≡ front_of text (after_run test text) ++ after_run test text) × (list_all test (front_of text (after_run test text)) ≡ true)
 run_front test text = run_front_is (run_parts test text)
   where

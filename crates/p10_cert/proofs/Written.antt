@@ -6,12 +6,12 @@ use Rattle.std.specs.List.{flat_map}
 use Rattle.std.proofs.KnownBytes.{Appends-trans}
 use Rattle.p10_world.specs.Sink.{TakesFront}
 
--- an error says the same of each error
+-- what holds anyway holds where there is an error
 pub on_err : {T E : Type 0} (r : Result T E) (P : Type 0) → P → OnErr r P
 on_err (Ok x) P p = tt
 on_err (Err e) P p = p
 
--- the first text was taken, and of the second the front
+-- the first text was taken, and a prefix of the second
 pub front_after : (old middle new : Option (List ℕ)) (first second rest whole : List ℕ) → Appends old middle first → TakesFront middle new second → whole ≡ first ++ (second ++ rest) → TakesFront old new whole
 front_after old middle new first second rest whole all part e = record {
   front = first ++ part.front;
@@ -20,7 +20,7 @@ front_after old middle new first second rest whole all part e = record {
   taken = Appends-trans old middle new first part.front all part.taken;
 }
 
--- the front of the first text was taken
+-- a prefix of the first text was taken
 pub front_before : (old new : Option (List ℕ)) (first rest whole : List ℕ) → TakesFront old new first → whole ≡ first ++ rest → TakesFront old new whole
 front_before old new first rest whole part e = record {
   front = part.front;
@@ -35,7 +35,7 @@ flat_map_at f [] i x within is = absurd (omega (arith, within))
 flat_map_at f (y ∷ ys) zero x within is = ap (λ y. f y ++ flat_map f ys) (sym is)
 flat_map_at f (y ∷ ys) (suc i) x within is = ap (λ t. f y ++ t) (flat_map_at f ys i x (omega (arith, within)) is) ∙ sym (append_assoc (f y) (flat_map f (take i ys)) (f x ++ flat_map f (drop (suc i) ys)))
 
--- the first text was taken, and then the second, or its front
+-- the first text was taken, and then the second, or a prefix of it
 pub then_ok : {T E : Type 0} (r : Result T E) (old middle new : Option (List ℕ)) (first second whole : List ℕ) → Appends old middle first → whole ≡ first ++ second → OnOk r (Appends middle new second) → OnOk r (Appends old new whole)
 then_ok (Ok x) old middle new first second whole all e p = subst (Appends old new) (sym e) (Appends-trans old middle new first second all p)
 then_ok (Err x) old middle new first second whole all e p = tt

@@ -12,11 +12,11 @@ use Rattle.p10_cert.specs.Sealed.{statement_of}
 use Rattle.p10_cert.specs.Statements.{Entry, Statement, IsEntry, entry_text, IsStatement, statement_text, is_there, plain_statement}
 use Rattle.p10_cert.specs.WrongLines.{IsFirstWrongLine, IsFirstWrongSealed, IsFirstWrong}
 
--- the text of a certificate of version 1 tells its claims
+-- the text of a certificate of version 1 determines its claims
 abbrev pub TextTellsClaims : Type 0
 TextTellsClaims = (b c : Claims) → IsCertificate b → IsCertificate c → certificate_text b ≡ certificate_text c → b ≡ c
 
--- the text of a certificate tells what it says, and its version
+-- the text of a certificate determines what it says, and its version
 abbrev pub TextTellsStatement : Type 0
 TextTellsStatement = (s t : Statement) → IsStatement s → IsStatement t → statement_text s ≡ statement_text t → s ≡ t
 
@@ -24,11 +24,11 @@ TextTellsStatement = (s t : Statement) → IsStatement s → IsStatement t → s
 abbrev pub ClaimsAreStatement : Type 0
 ClaimsAreStatement = (c : Claims) → (IsCertificate c → IsStatement (plain_statement c)) × (IsStatement (plain_statement c) → IsCertificate c) × (statement_text (plain_statement c) ≡ certificate_text c)
 
--- the text of a function tells what is said of it
+-- the text of a function determines what is said of it
 abbrev pub TextTellsFunction : Type 0
 TextTellsFunction = (sealed : Bool) (e g : Entry) → IsEntry sealed e → IsEntry sealed g → entry_text e ≡ entry_text g → e ≡ g
 
--- what is read of the text of a certificate that isn't too long is the certificate, but for want of memory
+-- what is read of the text of a certificate that isn't too long is the certificate, unless memory runs out
 abbrev pub ReadsWhatIsWritten : Type 0
 ReadsWhatIsWritten = (c : Claims) (result : Result Cert CertFault) → IsCertificate c → Fits (certificate_text c) → ReadsAs (certificate_text c) result
     → IfOk result (λ d. claims_of d ≡ c) × IfErr result (λ e. e ≡ Memory)

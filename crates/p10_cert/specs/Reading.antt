@@ -16,7 +16,7 @@ pub record Fits (text : List ℕ) : Type 0 where
   pub short : length text ≤ MOST_CERTIFICATE_BYTES
 
 -- What is read of a text: the certificate whose text it is; or, where it is too long, the limit; or else the first line
--- that no certificate has. Of want of memory nothing is said but that the text isn't too long. Here a certificate is
+-- that no certificate has. Of running out of memory nothing is said but that the text isn't too long. Here a certificate is
 -- one of version 1.
 abbrev pub ReadsAs : List ℕ → Result Cert CertFault → Type 0
 ReadsAs text (Ok c) = Fits text × (text ≡ certificate_text (claims_of c)) × IsCertificate (claims_of c)

@@ -48,8 +48,8 @@ pub enum ValueClaim {
 
 /// What is claimed of one loop.
 ///
-/// The loops of a function stand in one list, in text order, and each tells its own depth: so loops that are
-/// nested ever so deep are read, kept and let go without recursion.
+/// The loops of a function stand in one list, in text order, and each has its own depth: so loops that are nested to any
+/// depth are read, kept and let go without recursion.
 #[derive(Debug, Drop)]
 pub struct LoopClaim {
     /// How many loops of the function the loop stands in.

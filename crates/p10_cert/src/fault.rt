@@ -8,7 +8,7 @@ pub enum CertFault {
     /// The first line that no certificate has after the lines before it, counted from 1. A line without LF is
     /// refused at its own number, and a text that ends early at the line after its last.
     Line(u64),
-    /// A limit that was passed: M10, the bytes of a certificate.
+    /// A limit that was exceeded: M10, the bytes of a certificate.
     Over(Limit),
     /// Out of memory.
     Memory,

@@ -1,6 +1,6 @@
 //! The lines of a certificate, one by one: what each says, whatever stands before it.
 //!
-//! A line's first words tell which it is. Each reader takes what stands after these, and gives what the
+//! A line's first words say which line it is. Each reader takes what stands after these, and gives what the
 //! line says and what stands after its LF, or nothing where this is no line of a certificate.
 
 ghost use Rattle.std.specs.Prelude.{◌≡◌, option_copied, option_map};

@@ -29,7 +29,7 @@ abbrev pub unranked : ℕ → (Weakness → Bool) → List Weakness → List Spa
 unranked k stands [] = []
 unranked k stands (w ∷ rest) = (if stands w then [] else places_of k w.fails) ++ unranked k stands rest
 
--- the same of the loops of the function with a number, with what evidence stands for
+-- the same for the loops of the function with a number, with what evidence stands for
 abbrev pub unranked_loops : Standing → Claims → ℕ → ℕ → List Weakness → List Span
 unranked_loops stands c n k weak = unranked k (λ w. stands n w.at w.entry (loop_claimed (loops_claimed (slice_get c.funcs n)) w.at)) weak
 

@@ -95,7 +95,7 @@ pub record CallsChecked : Type 0 where
   pub few_bytes : calling_with (on_f 5 ints_range ints_range ∷ on_main 1 9 2 3 ints_range ∷ []) calling_total ≡ at 12 2
   pub low_prefix : calling_with (on_f 5 ints_range ints_range ∷ on_main 1 9 2 4 ints_range ∷ []) (record calling_total { prefix = 8 }) ≡ at 14 2
   pub low_depth : calling_with (on_f 5 ints_range ints_range ∷ on_main 1 9 2 4 ints_range ∷ []) (record calling_total { calls = 1 }) ≡ at 14 2
-  -- a sum over the greatest that is allowed is above every claim; one that is just allowed isn't
+  -- a sum over the greatest that is allowed is above every claim; one that is the greatest allowed isn't
   pub over : calling_with (on_f (MOST_SUM - 3) ints_range ints_range ∷ on_main 1 (MOST_SUM + 1) 2 4 ints_range ∷ []) (record calling_total { prefix = MOST_SUM + 1 }) ≡ at 11 2
   pub greatest : calling_with (on_f (MOST_SUM - 4) ints_range ints_range ∷ on_main 1 MOST_SUM 2 4 ints_range ∷ []) (record calling_total { prefix = MOST_SUM }) ≡ None
 
@@ -122,7 +122,7 @@ variable_line v r = record { var = v; ends = r }
 abbrev pub sums_of_twos : Interval
 sums_of_twos = from_to (neg_ℤ (pos (2 ^ 31 - 2))) (pos (2 ^ 31 - 1))
 
--- the first condition that fails of a claim on the loop, with so many steps
+-- the first condition that fails of a claim on the loop, where its function and the total claim these steps
 abbrev pub counting_with : Standing → ℕ → Loop → Option Failing
 counting_with stands steps claim =
     first_failure stands counting_twos (record {
@@ -166,7 +166,7 @@ turning_on more = record (main_of [] []) {
   task = Some 1;
 }
 
--- the first condition that fails, where so many steps are claimed of a turn, and of one in the total
+-- the first condition that fails, where this many steps are claimed of a turn, and of a turn in the total
 abbrev pub turning_with : List PlainStatement → ℕ → ℕ → Option Failing
 turning_with more turn total =
     first_failure none_stands (turning_on more) (record {

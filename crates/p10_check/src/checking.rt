@@ -27,7 +27,7 @@ use std::alloc::{AllocError, Global};
 ///
 /// # Errors
 ///
-/// It is out of memory, as which 2^32 functions count too.
+/// Out of memory; 2^32 functions count as that, too.
 pub fn check<E: Evidence>(
     alloc: Global,
     program: &Program<'_>,

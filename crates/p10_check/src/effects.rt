@@ -44,7 +44,7 @@ pub(crate) fn push_effects(
     Ok(())
 }
 
-/// The same of the function with a number.
+/// The same for the function with a number.
 fn push_effects_of(
     program: &Program<'_>,
     certificate: &Cert,

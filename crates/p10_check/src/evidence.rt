@@ -21,7 +21,7 @@ pub trait Evidence {
     ///
     /// # Errors
     ///
-    /// It is out of memory.
+    /// Out of memory.
     fn stands(
         &self,
         alloc: Global,

@@ -26,7 +26,7 @@ use std::alloc::{AllocError, Global};
 ///
 /// # Errors
 ///
-/// It is out of memory.
+/// Out of memory.
 pub fn check_one<E: Evidence>(
     alloc: Global,
     program: &Program<'_>,
@@ -80,7 +80,7 @@ fn push_passed<E: Evidence>(
     Ok(())
 }
 
-/// The same by what the pass over the function tells.
+/// The same by what the pass over the function finds.
 fn push_found<E: Evidence>(
     alloc: Global,
     judged: &Judged<'_, '_>,

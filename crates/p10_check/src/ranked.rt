@@ -100,7 +100,7 @@ pub(crate) fn push_unranked(
     Ok(())
 }
 
-/// The same of one loop.
+/// The same for one loop.
 fn push_unless(
     stands: bool,
     k: u8,

@@ -30,7 +30,7 @@ pub(crate) fn push_rising(
     Ok(())
 }
 
-/// The same of some calls.
+/// The same for some calls.
 fn push_among(
     functions: &[FuncClaim],
     sites: &[CallSite],

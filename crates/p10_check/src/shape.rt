@@ -24,7 +24,7 @@ use std::alloc::{AllocError, Global};
 ///
 /// # Errors
 ///
-/// It is out of memory, as which 2^32 functions count too.
+/// Out of memory; 2^32 functions count as that, too.
 pub fn check_shape(
     alloc: Global,
     program: &Program<'_>,

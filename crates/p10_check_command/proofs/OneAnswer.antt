@@ -1,4 +1,4 @@
--- Where files are told, one thing is right to say, but for a read fault and out of memory.
+-- Where files are told, one thing is right to say, unless a read fails or memory runs out.
 use Rattle.std.proofs.Common.{◌≡◌, ◌≢◌, List, refl, sym, ap, subst, ◌∙◌, Some, IsSome, Result, Ok, Err}
 use Rattle.p10_base.specs.declared.report.Limit.{Limit}
 use Rattle.p10_base.specs.Gathered.{Gathered, nothing_gathered}

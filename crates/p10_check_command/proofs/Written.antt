@@ -13,7 +13,7 @@ use Rattle.p10_report.specs.Stops.{StopsWithin}
 use Rattle.p10_report.proofs.Stopping.{TakesFront-stop}
 use Rattle.p10_check_command.specs.Texts.{refusal_lines}
 
--- an error says the same of each error
+-- what holds anyway holds where there is an error
 pub on_err : {T E : Type 0} (r : Result T E) (P : Type 0) → P → OnErr r P
 on_err (Ok x) P p = tt
 on_err (Err e) P p = p

@@ -24,7 +24,7 @@ setting_of seen check = setting seen.held check.sources check.directories
 abbrev pub report_saying : CheckCommand → Gathered → Report → Saying
 report_saying check g report = record { status = report_status report; out = report_text check.json g report; err = [] }
 
--- what is said where the sources aren't gathered: a refusal is reported, and all else is told on the error output
+-- what is said where the sources aren't gathered: a refusal is reported on the output, and all else on the error output
 abbrev pub gathering_saying : CheckCommand → Gathered → Ungathered → Saying
 gathering_saying check g (Refused refusal) = report_saying check g (refused_report refusal)
 gathering_saying check g (AbsentRoot place) = ungathered_saying check.sources g (AbsentRoot place)
@@ -34,7 +34,7 @@ gathering_saying check g (Over limit) = ungathered_saying check.sources g (Over 
 pub data SaysRight (check : CheckCommand) (seen : Seen) (saying : Saying) : Type 0 where
   -- the sources aren't gathered
   ungathered : (g : Gathered) (why : Ungathered) → AreUngathered (setting_of seen check) g why → saying ≡ gathering_saying check g why → SaysRight check seen saying
-  -- the sources are gathered, but pass a limit before a refusal
+  -- the sources are gathered, but exceed a limit before a refusal
   passed : (g : Gathered) (limit : Limit) → Gathers (setting_of seen check) g → Reads g (Err limit) → saying ≡ limit_saying limit → SaysRight check seen saying
   -- the sources are gathered, and this is their report
   reported : (g : Gathered) (report : Report) → Gathers (setting_of seen check) g → IsReport g report → saying ≡ report_saying check g report → SaysRight check seen saying

@@ -11,6 +11,6 @@ use Rattle.p10_check_command.specs.Reports.{IsReport}
 abbrev pub OneReport : Type 0
 OneReport = (g : Gathered) (this that : Report) → IsReport g this → IsReport g that → this ≡ that
 
--- only one thing is right to say to a command
+-- where files are told, only one thing is right to say to a command, unless a read fails or memory runs out
 abbrev pub CheckSaysOneThing : Type 0
 CheckSaysOneThing = (check : CheckCommand) → OneIsRight (SaysRight check)

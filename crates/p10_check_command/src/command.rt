@@ -7,7 +7,7 @@ use p10_base::{ListBuf, TextBuf};
 pub struct CheckCommand {
     /// The directories in which included files are looked for, in their order.
     pub directories: ListBuf<TextBuf>,
-    /// Whether the report is told as JSON, and not as lines.
+    /// Whether the report is written as JSON, and not as lines.
     pub json: bool,
     /// The names of the source files.
     pub sources: ListBuf<TextBuf>,

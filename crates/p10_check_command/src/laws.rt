@@ -11,7 +11,7 @@ pub fn one_report()
     one_reading();
 }
 
-/// Where files are told, only one thing is right to say to `check`, but for a read fault and out of memory.
+/// Where files are told, only one thing is right to say to `check`, unless a read fails or memory runs out.
 pub fn one_answer_is_right()
     ensures { CheckSaysOneThing }
 {

@@ -1,12 +1,12 @@
-//! The command `check` of `p10`: what breaks Holzmann's rules in a program is told.
+//! The command `check` of `p10`: what breaks Holzmann's rules in a program is reported.
 //!
 //!     check a.c                  a.c:1:5: rule 5.1: fewer than two assertions per function
 //!     check --format json a.c    {"refusal":null,"violations":[{"col":5,"file":"a.c","line":1,"rule":"5.1","text":..}]}
 //!
 //! Entry point: [`check`]. The sources are gathered and read, and the rules are tried on all that was read: those on directives
 //! on the directives that were obeyed, those on trees where the words have trees, and those on programs where these are a
-//! program. So a refusal is told after the violations that still stand. Invariant: the status and both texts are those of a
-//! right answer, and where the files are told at most one is right, but for faults and out of memory. Which words are this
+//! program. So a refusal is reported after the violations that still stand. Invariant: the status and both texts are those of a
+//! right answer, and where the files are told at most one is right, unless a read fails or memory runs out. Which words are this
 //! command is left to the crate above, and what breaks a rule to the crates of the rules.
 #![tactic(auto)]
 
@@ -30,11 +30,11 @@ use sources::check_sources;
 use std::alloc::Global;
 use tell::tell_gathering;
 
-/// Obeys the command: tells on `out` what breaks a rule and why the sources are refused, and all else on `err`. Gives the status
+/// Obeys the command: reports on `out` what breaks a rule and why the sources are refused, and all else on `err`. Gives the status
 /// with which the program exits.
 ///
 /// The statuses: 0 nothing breaks a rule, 1 something does, 3 the sources are refused, 5 a read failed, 6 a write failed, 7 out
-/// of memory, 8 a limit is passed, 9 a file is absent.
+/// of memory, 8 a limit is exceeded, 9 a file is absent.
 pub fn check<F: Files, O: Sink, E: Sink>(
     alloc: Global,
     command: &CheckCommand,

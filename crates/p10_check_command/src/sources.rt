@@ -23,7 +23,7 @@ use p10_front::{FrontFault, Reading, read};
 use p10_world::Sink;
 use std::alloc::Global;
 
-/// Reports gathered sources, or tells the limit that they pass. Gives the status of the program.
+/// Reports gathered sources, or the limit that they exceed. Gives the status of the program.
 pub fn check_sources<O: Sink, E: Sink>(
     alloc: Global,
     command: &CheckCommand,
@@ -44,7 +44,7 @@ pub fn check_sources<O: Sink, E: Sink>(
     }
 }
 
-/// Tells why there is no report, and gives the status of the program.
+/// Writes why there is no report, and gives the status of the program.
 fn tell_fault<E: Sink>(fault: FrontFault, err: &mut E) -> u8
     ensures told { result ≢ 6 → IsTold (fault_saying fault).status (fault_saying fault).err (E.taken err.old) (E.taken err.new) result }
     ensures stopped { result ≡ 6 → StopsWithin (E.taken err.old) (E.taken err.new) (fault_saying fault).err }
@@ -60,7 +60,7 @@ fn tell_fault<E: Sink>(fault: FrontFault, err: &mut E) -> u8
 ///
 /// # Errors
 ///
-/// The sources pass a limit before a refusal, or out of memory.
+/// The sources exceed a limit before a refusal, or out of memory.
 fn report(alloc: Global, sources: &Sources) -> Result<Report, FrontFault>
     requires { HaveWords sources.now }
     ensures report { IfOk result (IsReport sources.now) }

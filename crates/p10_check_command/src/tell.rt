@@ -1,4 +1,4 @@
-//! What is told, and the status of the program.
+//! What is reported, and the status of the program.
 
 ghost use Rattle.std.specs.Prelude.{◌≡◌, ◌≢◌, ◌⊎◌, ◌≤◌, ◌++◌, codes, OnErr, OnOk};
 ghost use Rattle.std.specs.Io.KnownBytes.{Appends};
@@ -19,7 +19,7 @@ use p10_report::{json, put_refusal, put_violations};
 use p10_world::{Sink, SinkFault};
 use std::alloc::Global;
 
-/// Tells why the sources of the command aren't gathered, and gives the status of the program. A refusal is reported.
+/// Reports why the sources of the command aren't gathered, and gives the status of the program. A refusal is reported.
 pub fn tell_gathering<O: Sink, E: Sink>(
     alloc: Global,
     command: &CheckCommand,
@@ -46,7 +46,7 @@ pub fn tell_gathering<O: Sink, E: Sink>(
     }
 }
 
-/// Tells a report in the form that is asked for, and gives the status of the program.
+/// Writes a report in the form that is asked for, and gives the status of the program.
 pub fn tell_report<O: Sink, E: Sink>(
     alloc: Global,
     command: &CheckCommand,
@@ -72,7 +72,7 @@ pub fn tell_report<O: Sink, E: Sink>(
     }
 }
 
-/// Tells a report as lines, and gives the status of the program.
+/// Writes a report as lines, and gives the status of the program.
 fn tell_lines<O: Sink>(sources: &Sources, report: &Report, out: &mut O) -> u8
     requires { IsPrintable report.now.refusal }
     ensures status { result ≢ 6 → result ≡ report_status report.now }
@@ -86,7 +86,7 @@ fn tell_lines<O: Sink>(sources: &Sources, report: &Report, out: &mut O) -> u8
     }
 }
 
-/// Tells a report as JSON, whose text this is, and gives the status of the program.
+/// Writes a report as JSON, whose text this is, and gives the status of the program.
 fn tell_json<O: Sink>(text: &str, report: &Report, out: &mut O) -> u8
     ensures status { result ≢ 6 → result ≡ report_status report.now }
     ensures told { result ≢ 6 → Appends (O.taken out.old) (O.taken out.new) (text.now ++ codes "\n") }

@@ -1,4 +1,4 @@
--- The first flaw, gone over from the front.
+-- The first flaw, looked for from the first on.
 use Rattle.std.proofs.Common.{◌≡◌, ◌<◌, Bool, true, false, List, [], ◌∷◌, length, Option, Some, None, refl, ap, sym, ◌∙◌, arith}
 use Rattle.std.specs.Prelude.{nat_lt, if◌then◌else◌}
 use Rattle.std.proofs.lemmas.Bool.Decides.{nat_tests}
@@ -17,7 +17,7 @@ by_tests f g k false false p q =
     let not_below : nat_lt k.c f.c ≡ false = grind (arith, nat_tests, p, q) in
     ap (λ t. if t then k else f) not_below ∙ sym (ap (λ t. if t then g else f) p)
 
--- the first of three, taken from the front or from the end
+-- the first of three, taken from the first on or from the last on
 first_of_three : (f g : Flaw) (o : Option Flaw) → first_of (if nat_lt g.c f.c then g else f) o ≡ first_of f (Some (first_of g o))
 first_of_three f g None = refl
 first_of_three f g (Some k) = by_tests f g k (nat_lt g.c f.c) (nat_lt k.c g.c) refl refl

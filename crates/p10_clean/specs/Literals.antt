@@ -7,7 +7,7 @@ abbrev mutual
   pub lies_in_literal : PlainPlace → Bool
   lies_in_literal (place at t form) = form_in_literal form
 
-  -- the same of a form of place
+  -- the same for a form of place
   pub form_in_literal : PlainPlaceForm → Bool
   form_in_literal (literal n bytes) = true
   form_in_literal (member p m) = lies_in_literal p
@@ -18,7 +18,7 @@ abbrev mutual
   pub points_in_literal : PlainValue → Bool
   points_in_literal (value at t form) = decays_in_literal form
 
-  -- the same of a form of value
+  -- the same for a form of value
   pub decays_in_literal : PlainForm → Bool
   decays_in_literal (decay p) = lies_in_literal p
   decays_in_literal form = false

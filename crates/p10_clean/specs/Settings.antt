@@ -119,7 +119,7 @@ abbrev mutual
   pub ways_of_switch : PlainLabels → PlainStatement → Settings → Ways
   ways_of_switch labels (statement at form) entry = ways_of_switch_form labels form entry
 
-  -- the same of a form
+  -- the same for a form
   pub ways_of_switch_form : PlainLabels → PlainStatementForm → Settings → Ways
   ways_of_switch_form labels (block ss) entry = after_switch labels entry (ways_from labels 0 ss entry None)
   ways_of_switch_form labels form entry = goes_on entry

@@ -169,7 +169,7 @@ abbrev mutual
   pub flaws_in_switch : Manner → PlainLabels → PlainStatement → Settings → Environment → List Flaw
   flaws_in_switch m labels (statement at form) before env = flaws_in_switch_form m labels form before env
 
-  -- the same of a form
+  -- the same for a form
   pub flaws_in_switch_form : Manner → PlainLabels → PlainStatementForm → Settings → Environment → List Flaw
   flaws_in_switch_form m labels (block ss) before env = flaws_from m labels 0 ss before env None None
   flaws_in_switch_form m labels form before env = []

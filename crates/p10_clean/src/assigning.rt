@@ -117,7 +117,7 @@ impl Look<'_, '_> {
         }
     }
 
-    /// The same of a frame variable, which isn't set yet where its initialiser is evaluated.
+    /// The same for a frame variable, which isn't set yet where its initialiser is evaluated.
     fn put_frame(
         &self,
         n: u32,
@@ -140,7 +140,7 @@ impl Look<'_, '_> {
         Ok(())
     }
 
-    /// The same of an object, which needs an initialiser without itself.
+    /// The same for an object, which needs an initialiser without itself.
     fn put_object(
         &self,
         n: u32,

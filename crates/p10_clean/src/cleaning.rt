@@ -21,7 +21,7 @@ use std::alloc::{AllocError, Global};
 ///
 /// # Errors
 ///
-/// It is out of memory, as which 2^32 functions count too.
+/// Out of memory; 2^32 functions count as that, too.
 pub fn clean(alloc: Global, p: &Program<'_>, c: &Cert) -> Result<Clean, AllocError>
     ensures { IfOk result (λ said. said ≡ cleanness (plain_program p.now) (claims_of c.now)) }
 {

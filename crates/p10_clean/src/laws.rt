@@ -28,7 +28,7 @@ pub fn places_at_edges()
     ensures { PlacesAtEdges }
 {}
 
-/// Which reads, declarations and functions are, and which condition is told first.
+/// Which reads, declarations and functions are, and which condition is answered first.
 pub fn settings_asked()
     ensures { SettingsAsked }
 {}

@@ -12,8 +12,9 @@
 //! aren't 0 (C2), shifts are defined (C3), indices lie in their arrays (C4), nothing is done by pointers (C5), what is read is set (C6),
 //! functions with a result return one (C7), and no literal is written (C8). Which variables are set is decided by syntax alone
 //! (`specs/Settings.antt`), and needs no ranges.
-//! It is a function of any program and certificate, so nothing is asked of a caller; it fails only out of memory, as which 2^32
-//! functions count too. What follows a statement is known by a pass over it, so a statement is passed once for each one round it.
+//! It is a function of any program and certificate, so nothing is asked of a caller; it fails only where memory runs out, and 2^32
+//! functions count as that, too. What follows a statement is known by a pass over it, so a statement is passed once for each one
+//! around it.
 //! What clean certificates mean is left to the crates above.
 #![tactic(auto)]
 

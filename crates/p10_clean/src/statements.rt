@@ -140,7 +140,7 @@ impl Walk<'_, '_> {
         at.go_past(self.alloc, s)
     }
 
-    /// The same, but that what is set stays as it was before.
+    /// The same, except that what is set stays as it was before.
     #[cycle(walking)]
     fn put_reached(
         &self,

@@ -190,7 +190,7 @@ impl Look<'_, '_> {
         }
     }
 
-    /// The same of the second one of two values, where the first one leaves a state.
+    /// The same for the second one of two values, where the first one leaves a state.
     #[cycle(looking)]
     fn put_after(
         &self,
@@ -209,7 +209,7 @@ impl Look<'_, '_> {
         }
     }
 
-    /// The same of a value that is evaluated where a test is true or false.
+    /// The same for a value that is evaluated where a test is true or false.
     #[cycle(looking)]
     fn put_where(
         &self,
@@ -229,7 +229,7 @@ impl Look<'_, '_> {
         Ok(())
     }
 
-    /// The same of values, one after the other.
+    /// The same for values, one after the other.
     #[cycle(looking)]
     fn put_values(
         &self,

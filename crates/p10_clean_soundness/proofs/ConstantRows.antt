@@ -64,7 +64,7 @@ unary_number Neg t r i e o = promoted_number Neg t r i e o
 unary_number Com t r i e o = promoted_number Com t r i e o
 unary_number Not t r i e o = negated_number t r i e
 
--- the same of a binary operator, whose right operand counts as it is
+-- the same for a binary operator, whose right operand counts as it is
 pub record BinaryNumber (op : BinOp) (i j : IntType) (t : PlainType) : Type 0 where
   pub kind : IntType
   pub type_is : t ≡ integer false kind

@@ -70,13 +70,13 @@ module _ (p : PlainProgram) (whole : IsWholeProgram p) (n : ℕ) (depth : Depth)
     pub clean : flaws_in_value m settings v env ≡ []
     pub describes : Describes f.variables env head frame.held
 
-  -- the same of values
+  -- the same for values
   pub record AreClear (vs : PlainValues) (env : Environment) : Type 0 where
     pub lies : failing_among calls vs env ≡ []
     pub clean : flaws_in_values m settings vs env ≡ []
     pub describes : Describes f.variables env head frame.held
 
-  -- the same of a place
+  -- the same for a place
   pub record IsClearPlace (q : PlainPlace) (env : Environment) : Type 0 where
     pub lies : failing_at calls q env ≡ []
     pub clean : flaws_in_place m settings q env ≡ []

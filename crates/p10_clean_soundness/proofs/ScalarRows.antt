@@ -103,7 +103,7 @@ module _ (structures : List PlainStructure) where
 
 -- ## Unary operators
 
--- the operand is a scalar, and an integer but where it is negated as a truth value
+-- the operand is a scalar, and an integer unless it is negated as a truth value
 pub data TakesScalar : UnOp → UnaryRow → Type 0 where
   takes_integer : (op : UnOp) (r : UnaryRow) (i : IntType) → r.operand ≡ integer false i → TakesScalar op r
   takes_pointer : (r : UnaryRow) → is_pointer r.operand ≡ true → TakesScalar Not r

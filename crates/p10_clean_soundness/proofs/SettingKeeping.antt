@@ -1,4 +1,4 @@
--- Frames in which what is set after statements is: what is set before the statements is set in them too, but for what these declare themselves.
+-- Frames in which what is set after statements is: what is set before the statements is set in them too, except for what these declare themselves.
 use Rattle.std.proofs.Common.{ℕ, List, ◌∙◌, ap}
 use Rattle.p10_core.specs.Typed.{PlainStatement, PlainStatements, PlainVariable}
 use Rattle.p10_core.specs.WholePrograms.{declared_in, declared_of}

@@ -1,4 +1,4 @@
--- Statements keep what is set, but for the variables that they declare themselves: so the head of a loop keeps what is set at its entry.
+-- Statements keep what is set, except for the variables that they declare themselves: so the head of a loop keeps what is set at its entry.
 use Rattle.std.proofs.Common.{◌≡◌, ℕ, suc, Bool, true, false, List, [], ◌∷◌, ◌++◌, refl, ◌∙◌, sym, None}
 use Rattle.std.specs.Prelude.{is_none, if◌then◌else◌}
 use Rattle.std.proofs.lemmas.Bool.{eqb-false}

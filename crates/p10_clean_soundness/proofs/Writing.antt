@@ -173,7 +173,7 @@ module _ (p : PlainProgram) (opening : List ℕ) (objects : List Object) (o i : 
 abbrev pub part_at : Window → ℕ → ℕ → ℕ
 part_at window n i = (window_in window n i 1 1).start + 0
 
--- an element of so many scalars that is in an object
+-- an element of `count` scalars that is in an object
 pub record HasParts (objects : List Object) (o : ℕ) (window : Window) (n count : ℕ) : Type 0 where
   pub object : Object
   pub there : find o objects ≡ Some object

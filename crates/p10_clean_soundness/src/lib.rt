@@ -12,7 +12,7 @@
 //!
 //! The definitions in `specs/private/` say what an execution keeps: `Setting.antt` which variables in scope are set, `Objects.antt` which objects are
 //! live and set, `Standing.antt` both with a sound state. Invariant: all live objects are set but those that are being initialised,
-//! and no object dies but at the end of its own block or call.
+//! and no object dies except at the end of its own block or call.
 //! That values lie in the claimed ranges is taken from the crates below: a piece is shown here to end in no undefined operation, and no more.
 #![tactic(auto)]
 

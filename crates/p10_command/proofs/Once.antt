@@ -140,12 +140,12 @@ pub unread_or_program : ReadsOnce → (s : Setting) → IsSome s.held → (g h :
 unread_or_program once s told g h why q gathers is has =
     read_or_not once h has.reading q why has.read (subst (λ (x : Gathered). AreUnread x why) (same_sources s told g h gathers has.gathers) is)
 
--- ## What is told
+-- ## What is said
 
 pub is_told : {A : Type 0} (held : Option A) (x : A) → held ≡ Some x → IsSome held
 is_told held x is = subst (λ h. IsSome h) (sym is) refl
 
--- a trouble is told by no other status
+-- a trouble has no other status
 pub no_trouble : (trouble : Trouble) (status : ℕ) → status ≡ trouble_status trouble → status ≢ 5 → status ≢ 7 → ⊥
 no_trouble Read status is five seven = five is
 no_trouble Memory status is five seven = seven is

@@ -1,4 +1,4 @@
--- What is told on one of the outputs alone.
+-- What is written to one of the outputs alone.
 use Rattle.std.proofs.Common.{◌≡◌, ℕ, List, [], sym, ap, subst, Option}
 use Rattle.std.specs.Io.KnownBytes.{Appends}
 use Rattle.std.proofs.KnownBytes.{Appends-nil}
@@ -40,7 +40,7 @@ may_be_more may more out_old out_new err_old err_new given each told = record { 
 pub may_stop_more : (may more : Saying → Type 0) (out_old out_new err_old err_new : Option (List ℕ)) → ((saying : Saying) → may saying → more saying) → Stopped may out_old out_new err_old err_new → Stopped more out_old out_new err_old err_new
 may_stop_more may more out_old out_new err_old err_new each stopped = record { saying = stopped.saying; may = each stopped.saying stopped.may; taken = stopped.taken }
 
--- ## The same names are told
+-- ## The same names are written
 
 pub named_told : (roots roots' : List Text) (g : Gathered) (why : Ungathered) (old new : Option (List ℕ)) (given : ℕ) → roots ≡ roots' → IsTold (ungathered_status why) (ungathered_line roots g why) old new given
     → IsTold (ungathered_status why) (ungathered_line roots' g why) old new given

@@ -16,7 +16,7 @@ AreUngathered s g (AbsentRoot place) = FailsBy s (fault.RootAbsent place)
 AreUngathered s g (Refused refusal) = FailsBy s (fault.Refused refusal g)
 AreUngathered s g (Over limit) = FailsBy s (fault.Over limit)
 
--- the reason can be told: the place is that of a root with one of these names, and the code of a refusal has a text
+-- the reason can be printed: the place is that of a root with one of these names, and the code of a refusal has a text
 abbrev pub CanBeTold : List Text → Ungathered → Type 0
 CanBeTold roots (AbsentRoot place) = place < length roots
 CanBeTold roots (Refused refusal) = IsCode refusal.family refusal.number

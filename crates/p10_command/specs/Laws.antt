@@ -4,7 +4,7 @@ use Rattle.p10_world.specs.Files.{Named}
 use Rattle.p10_command.specs.Saying.{Saying}
 use Rattle.p10_command.specs.Seen.{Seen}
 
--- Where files are told, only one thing is right to say by what is seen of them, but for a read fault and out of memory. So each
+-- Where files are told, only one thing is right to say by what is seen of them, unless a read fails or memory runs out. So each
 -- answer comes exactly where it is right.
 abbrev pub OneIsRight : (Seen → Saying → Type 0) → Type 0
 OneIsRight right =

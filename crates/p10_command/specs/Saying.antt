@@ -64,7 +64,7 @@ ungathered_saying roots g why = line_saying (ungathered_status why) (ungathered_
 abbrev pub unread_saying : Gathered → Unread → Saying
 unread_saying g why = line_saying (unread_status why) (unread_line g why)
 
--- what is said where a limit is passed
+-- what is said where a limit is exceeded
 abbrev pub limit_saying : Limit → Saying
 limit_saying limit = line_saying 8 (limit_line limit)
 

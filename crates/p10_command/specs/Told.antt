@@ -14,7 +14,7 @@ pub record BothTakeFronts (out_old out_new err_old err_new : Option (List ℕ)) 
   pub on_out : TakesFront out_old out_new out
   pub on_err : TakesFront err_old err_new err
 
--- a line was told on the error output, all of it, and this is its status
+-- a line was written to the error output, all of it, and this is its status
 pub record IsTold (status : ℕ) (line : List ℕ) (err_old err_new : Option (List ℕ)) (given : ℕ) : Type 0 where
   pub status_is : given ≡ status
   pub taken : Appends err_old err_new line

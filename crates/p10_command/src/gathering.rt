@@ -24,7 +24,7 @@ pub enum Ungathered {
     AbsentRoot(u32),
     /// A file is refused: X1 to X6.
     Refused(Refusal),
-    /// A file passes M1 or M2, or all files pass M7.
+    /// A file exceeds M1 or M2, or all files together exceed M7.
     Over(Limit),
 }
 

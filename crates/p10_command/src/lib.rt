@@ -11,7 +11,7 @@
 //!
 //! [`tell_ungathered`], [`tell_unread`], [`tell_trouble`] and [`tell_limit`] give the status as well.
 //!
-//! Invariant: where the files are told, each comes exactly where it is right, but for trouble. What a command does with its
+//! Invariant: where the files are told, each comes exactly where it is right, unless a read fails or memory runs out. What a command does with its
 //! program is left to the crates above.
 #![tactic(auto)]
 

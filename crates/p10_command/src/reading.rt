@@ -23,7 +23,7 @@ use std::alloc::{AllocError, Global};
 pub enum Unread {
     /// They are refused: by D1 to D8, G1, or S1 to S30.
     Refused(Refusal),
-    /// They pass a limit before a refusal: M3 to M6, or M8.
+    /// They exceed a limit before a refusal: M3 to M6, or M8.
     Over(Limit),
 }
 

@@ -1,4 +1,4 @@
-//! Why a command has no answer, told with the status of the program.
+//! Why a command has no answer, reported with the status of the program.
 
 ghost use Rattle.std.specs.Prelude.{◌≡◌, ◌≢◌};
 ghost use Rattle.p10_world.specs.Faults.{Rose};
@@ -16,7 +16,7 @@ use p10_base::{Limit, Sources, TextBuf};
 use p10_report::put_limit;
 use p10_world::Sink;
 
-/// Tells why sources aren't gathered, as [`put_ungathered`], and gives the status of the program; 6 where the write failed.
+/// Reports why sources aren't gathered, as [`put_ungathered`], and gives the status of the program; 6 where the write failed.
 pub fn tell_ungathered<E: Sink>(
     roots: &[TextBuf],
     sources: &Sources,
@@ -34,7 +34,7 @@ pub fn tell_ungathered<E: Sink>(
     }
 }
 
-/// Tells why gathered sources are no program, as [`put_unread`], and gives the status of the program; 6 where the write failed.
+/// Reports why gathered sources are no program, as [`put_unread`], and gives the status of the program; 6 where the write failed.
 pub fn tell_unread<E: Sink>(sources: &Sources, why: &Unread, err: &mut E) -> u8
     requires { HasCode why.now }
     ensures told { result ≢ 6 → IsTold (unread_status why.now) (unread_line sources.now why.now) (E.taken err.old) (E.taken err.new) result }
@@ -47,7 +47,7 @@ pub fn tell_unread<E: Sink>(sources: &Sources, why: &Unread, err: &mut E) -> u8
     }
 }
 
-/// Tells that a read has failed or memory is out, as [`put_trouble`], and gives the status of the program; 6 where the write failed.
+/// Reports that a read has failed or memory is out, as [`put_trouble`], and gives the status of the program; 6 where the write failed.
 pub fn tell_trouble<E: Sink>(trouble: Trouble, err: &mut E) -> u8
     ensures told { result ≢ 6 → IsTold (trouble_status trouble) (trouble_line trouble) (E.taken err.old) (E.taken err.new) result }
     ensures stopped { result ≡ 6 → StopsWithin (E.taken err.old) (E.taken err.new) (trouble_line trouble) }
@@ -59,7 +59,7 @@ pub fn tell_trouble<E: Sink>(trouble: Trouble, err: &mut E) -> u8
     }
 }
 
-/// Tells that a limit is passed, and gives the status of the program; 6 where the write failed.
+/// Reports that a limit is exceeded, and gives the status of the program; 6 where the write failed.
 pub fn tell_limit<E: Sink>(limit: Limit, err: &mut E) -> u8
     ensures told { result ≢ 6 → IsTold 8 (limit_line limit) (E.taken err.old) (E.taken err.new) result }
     ensures stopped { result ≡ 6 → StopsWithin (E.taken err.old) (E.taken err.new) (limit_line limit) }

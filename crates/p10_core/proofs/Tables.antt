@@ -15,7 +15,7 @@ pub record IsTable (ss : List Structure) (bodies : ℕ) : Type 0 where
   pub counted : bodies ≡ complete_count (map plain_structure ss)
   pub built : AreBuilt (map plain_structure ss)
 
--- one structure more, or none where memory is lacking
+-- one structure more, or none where memory runs out
 pub pushed_is_table : (ok : Bool) (ss ts : List Structure) (x : Structure) (bodies : ℕ) (tag : Option (List ℕ)) → IsTable ss bodies →
     plain_structure x ≡ incomplete_structure (length (map plain_structure ss)) tag → length (map plain_structure ss) < 4294967296 → ts ≡ (if ok then ss ++ x ∷ [] else ss) → IsTable ts bodies
 pushed_is_table false ss ts x bodies tag t new room e = subst (λ ts. IsTable ts bodies) (sym e) t

@@ -23,7 +23,7 @@ complete_count (s ∷ rest) = cond (is_some s.body) 1 0 + complete_count rest
 abbrev pub member_layout : List PlainStructure → List PlainMember → Layout
 member_layout structures members = layout_of_members (layout_of structures) members
 
--- the body with these members, after so many others
+-- the body with these members, after `order` others
 abbrev pub body_with : List PlainStructure → ℕ → List PlainMember → PlainBody
 body_with structures order members = record {
   members = members;

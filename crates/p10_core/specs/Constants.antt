@@ -87,7 +87,7 @@ pub record IsSmall (z : ℤ) : Type 0 where
 abbrev pub unary_result : UnOp → IntType → ℤ → Result ℤ Stop
 unary_result op i x = operate_unary op i (converted i x)
 
--- a right operand is converted too, but for a shift count
+-- a right operand is converted too, except for a shift count
 abbrev pub right_operand : BinOp → IntType → ℤ → ℤ
 right_operand Shl i y = y
 right_operand Shr i y = y

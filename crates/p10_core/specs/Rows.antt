@@ -39,7 +39,7 @@ mark_of (pointer c t) = c
 mark_of (array c t n) = c
 mark_of (structure c n) = c
 
--- whether two types are the same but for their own marks
+-- whether two types are the same except for their own marks
 abbrev pub same_form : PlainType → PlainType → Bool
 same_form (void c) (void d) = true
 same_form (integer c i) (integer d j) = same_integer i j
@@ -153,7 +153,7 @@ order_row (integer c a) (integer d b) = compared_row a b
 order_row (pointer c s) (pointer d t) = row_where (same s t) int_type (pointer false s) (pointer false t)
 order_row s t = None
 
--- `==` and `!=` (C99 6.5.9): integers; pointers of one type; a pointer and a null constant, which the flags tell
+-- `==` and `!=` (C99 6.5.9): integers; pointers of one type; a pointer and a null constant, which the flags say
 abbrev pub equality_row : Bool → Bool → PlainType → PlainType → Option Row
 equality_row left_null right_null (integer c a) (integer d b) = compared_row a b
 equality_row left_null right_null (pointer c s) (pointer d t) = row_where (same s t) int_type (pointer false s) (pointer false t)

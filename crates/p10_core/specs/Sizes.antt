@@ -31,7 +31,7 @@ pub record Layout : Type 0 where
 abbrev pub aligned : ℕ → ℕ → ℕ
 aligned n alignment = (n + (alignment - 1)) / alignment * alignment
 
--- a list so many times
+-- a list repeated n times
 abbrev pub repeated : {A : Type 0} → ℕ → List A → List A
 repeated zero xs = []
 repeated (suc n) xs = xs ++ repeated n xs

@@ -394,7 +394,7 @@ abbrev mutual
   pub loops_in : PlainStatement → List LoopHead
   loops_in (statement at f) = loops_in_form f
 
-  -- the same of a form of statement
+  -- the same for a form of statement
   pub loops_in_form : PlainStatementForm → List LoopHead
   loops_in_form (block ss) = loops_of ss
   loops_in_form (if_then v s) = loops_in s
@@ -403,7 +403,7 @@ abbrev mutual
   loops_in_form (switch span v labels body) = loops_in body
   loops_in_form f = []
 
-  -- the same of statements, one after the other
+  -- the same for statements, one after the other
   pub loops_of : PlainStatements → List LoopHead
   loops_of no_statements = []
   loops_of (more_statements s rest) = loops_in s ++ loops_of rest
@@ -413,7 +413,7 @@ abbrev mutual
   pub declared_in : PlainStatement → List ℕ
   declared_in (statement at f) = declared_in_form f
 
-  -- the same of a form of statement
+  -- the same for a form of statement
   pub declared_in_form : PlainStatementForm → List ℕ
   declared_in_form (declare n i) = n ∷ []
   declared_in_form (block ss) = declared_of ss
@@ -423,7 +423,7 @@ abbrev mutual
   declared_in_form (switch span v labels body) = declared_in body
   declared_in_form f = []
 
-  -- the same of statements, one after the other
+  -- the same for statements, one after the other
   pub declared_of : PlainStatements → List ℕ
   declared_of no_statements = []
   declared_of (more_statements s rest) = declared_in s ++ declared_of rest
@@ -433,7 +433,7 @@ abbrev mutual
   pub marks_in : PlainStatement → List MarkKind
   marks_in (statement at f) = marks_in_form f
 
-  -- the same of a form of statement
+  -- the same for a form of statement
   pub marks_in_form : PlainStatementForm → List MarkKind
   marks_in_form (mark kind) = kind ∷ []
   marks_in_form (block ss) = marks_of ss
@@ -443,12 +443,12 @@ abbrev mutual
   marks_in_form (switch span v labels body) = marks_in body
   marks_in_form f = []
 
-  -- the same of statements, one after the other
+  -- the same for statements, one after the other
   pub marks_of : PlainStatements → List MarkKind
   marks_of no_statements = []
   marks_of (more_statements s rest) = marks_in s ++ marks_of rest
 
--- so many numbers from one on
+-- the first `count` numbers from n on
 abbrev pub numbers_from : ℕ → ℕ → List ℕ
 numbers_from n zero = []
 numbers_from n (suc count) = n ∷ numbers_from (n + 1) count

@@ -50,7 +50,7 @@ impl CType {
         }
     }
 
-    /// A pointer to `target`, without a mark.
+    /// A pointer to `target`, without a mark. It fails only where memory runs out.
     pub fn pointer(alloc: Global, target: CType) -> Result<CType, AllocError>
         ensures { IfOk result (λ t. plain_type t ≡ pointer false (plain_type target)) }
     {
@@ -60,7 +60,7 @@ impl CType {
         })
     }
 
-    /// An array of `length` elements.
+    /// An array of `length` elements. It fails only where memory runs out.
     pub fn array(alloc: Global, element: CType, length: u64) -> Result<CType, AllocError>
         ensures { IfOk result (λ t. plain_type t ≡ array false (plain_type element) length) }
     {
@@ -80,7 +80,7 @@ impl CType {
         }
     }
 
-    /// An equal type.
+    /// An equal type. It fails only where memory runs out.
     pub fn copy(&self, alloc: Global) -> Result<CType, AllocError>
         ensures { IfOk result (λ t. plain_type t ≡ plain_type self.now) }
     {
@@ -117,7 +117,7 @@ impl CType {
         self.is_const == other.is_const && self.has_same_form(other)
     }
 
-    /// Whether the types are the same but for their own marks.
+    /// Whether the types are the same except for their own marks.
     #[tactic(auto, using(crate::proofs::TypeViews::mark_of_plain))]
     pub fn has_same_form(&self, other: &CType) -> bool
         ensures { result ≡ same_form (plain_type self.now) (plain_type other.now) }

@@ -1,4 +1,4 @@
-//! Values and places, made of their parts.
+//! Values and places, made of their parts. A maker that may fail does so only where memory runs out.
 
 ghost use Rattle.std.specs.Prelude.{◌≡◌, IfOk};
 ghost use Rattle.p10_core.specs.Types.{plain_type};

@@ -1,4 +1,4 @@
-//! Statements, made of their parts.
+//! Statements, made of their parts. A maker that may fail does so only where memory runs out.
 
 ghost use Rattle.std.specs.Prelude.{◌≡◌, IfOk, option_map};
 ghost use Rattle.p10_core.specs.Types.{plain_type};

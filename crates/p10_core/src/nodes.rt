@@ -35,7 +35,7 @@ impl<'p> Nodes<'p> {
         }
     }
 
-    /// The nodes of statements, one after the other.
+    /// The nodes of statements, one after the other. It fails only where memory runs out.
     pub fn of_statements(alloc: Global, all: &'p [Stmt]) -> Result<Nodes<'p>, AllocError>
         ensures { IfOk result (λ w. left_in w ≡ nodes_of_statements (plain_statements all.now)) }
     {
@@ -44,7 +44,7 @@ impl<'p> Nodes<'p> {
         Ok(nodes)
     }
 
-    /// The nodes of a value.
+    /// The nodes of a value. It fails only where memory runs out.
     pub fn of_value(alloc: Global, value: &'p Value) -> Result<Nodes<'p>, AllocError>
         ensures { IfOk result (λ w. left_in w ≡ nodes_of_value (plain_value value.now)) }
     {
@@ -53,7 +53,7 @@ impl<'p> Nodes<'p> {
         Ok(nodes)
     }
 
-    /// The nodes of an initialiser.
+    /// The nodes of an initialiser. It fails only where memory runs out.
     pub fn of_initializer(alloc: Global, initial: &'p Initializer) -> Result<Nodes<'p>, AllocError>
         ensures { IfOk result (λ w. left_in w ≡ nodes_of_initializer (plain_initializer initial.now)) }
     {

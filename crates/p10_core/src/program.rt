@@ -34,7 +34,7 @@ pub struct Func<'s> {
     pub body: ListBuf<Stmt>,
 }
 
-/// Functions in a row, from the number `from` up to and without the number `to`.
+/// Functions in a row, from the number `from` up to but not including the number `to`.
 #[derive(Clone, Copy, Debug)]
 pub struct Extent {
     pub from: u32,

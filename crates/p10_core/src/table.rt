@@ -226,7 +226,8 @@ impl<'s> Types<'s> {
         }
     }
 
-    /// The numbers of the structures that stand for each one and for those of other roots that are compatible with it.
+    /// The numbers of the structures that stand for each one and for those of other roots that are compatible with it. It fails only where
+    /// memory runs out.
     pub fn representatives(&self, alloc: Global) -> Result<Vec<u32>, AllocError>
         ensures { IfOk result (λ numbers. numbers.items ≡ representatives (plain_types self.now)) }
     {

@@ -1,4 +1,4 @@
--- Where files are told, one thing is right to say, but for a read fault and out of memory.
+-- Where files are told, one thing is right to say, unless a read fails or memory runs out.
 use Rattle.std.proofs.Common.{◌≡◌, ◌≢◌, List, sym, ◌∙◌, ap, subst, Some, IsSome}
 use Rattle.p10_base.specs.Gathered.{Gathered}
 use Rattle.p10_world.specs.Files.{Named}

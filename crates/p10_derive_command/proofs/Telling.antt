@@ -1,4 +1,4 @@
--- What is told on one of the outputs alone.
+-- What is written to one of the outputs alone.
 use Rattle.std.proofs.Common.{◌≡◌, ℕ, List, [], refl, sym, subst, ap, Option}
 use Rattle.std.specs.Io.KnownBytes.{Appends}
 use Rattle.std.proofs.KnownBytes.{Appends-nil}
@@ -21,7 +21,7 @@ use Rattle.p10_derive_command.specs.private.Telling.{IsSaid, fault_saying}
 
 -- ## What may be said
 
--- what is told is right where the one thing that is said is
+-- what is written is right where the one thing that is said is
 is_right : (right : Saying → Type 0) (wanted : Saying) → right wanted → (saying : Saying) → IsSaid wanted saying → right saying
 is_right right wanted is saying said = subst (λ (s : Saying). right s) (sym said) is
 

@@ -21,7 +21,7 @@ use Rattle.p10_derive_command.specs.declared.command.DeriveCommand.{DeriveComman
 abbrev pub setting_of : Seen → DeriveCommand → Setting
 setting_of seen derive = setting seen.held derive.sources derive.directories
 
--- what is said of what is derived: the text of the certificate on the output; the violations, or the limit that is passed, on the
+-- what is said of what is derived: the text of the certificate on the output; the violations, or the limit that is exceeded, on the
 -- error output
 abbrev pub derived_saying : Gathered → Derived → Saying
 derived_saying g (Certified claims) = record { status = 0; out = certificate_text claims; err = [] }

@@ -14,7 +14,7 @@ use Rattle.p10_command.specs.Seen.{Seen}
 use Rattle.p10_derive_command.specs.declared.command.DeriveCommand.{DeriveCommand}
 use Rattle.p10_derive_command.specs.Answers.{SaysRight, setting_of}
 
--- only one thing is right to say to a command
+-- where files are told, only one thing is right to say to a command, unless a read fails or memory runs out
 abbrev pub DeriveSaysOneThing : Type 0
 DeriveSaysOneThing = (derive : DeriveCommand) → OneIsRight (SaysRight derive)
 

@@ -5,7 +5,7 @@ ghost use Rattle.p10_derive_command.specs.Laws.{DeriveSaysOneThing, SuccessIsACe
 use p10_finder::laws::one_derivation;
 use p10_front::laws::one_reading;
 
-/// Where files are told, only one thing is right to say to `derive`, but for a read fault and out of memory.
+/// Where files are told, only one thing is right to say to `derive`, unless a read fails or memory runs out.
 pub fn one_answer_is_right()
     ensures { DeriveSaysOneThing }
 {

@@ -8,10 +8,11 @@
 //!
 //!     derive b.c                     b.c:3:5: rule 2.1: loop without a proved bound
 //!
-//! Entry point: [`derive`]. The sources are gathered and read as a program, and what derivation answers of it is told: the text
+//! Entry point: [`derive`]. The sources are gathered and read as a program, and what derivation answers of it is reported: the text
 //! of its certificate on the output, and else on the error output the violations for which there is none, or the limit that is
-//! passed. Invariant: the status and both texts are those of a right answer, and where the files are told at most one is right,
-//! but for faults and out of memory. Which words are this command is left to the crate above, and what is derived to `p10_finder`.
+//! exceeded. Invariant: the status and both texts are those of a right answer, and where the files are told at most one is right,
+//! unless a read fails or memory runs out. Which words are this command is left to the crate above, and what is derived to
+//! `p10_finder`.
 #![tactic(auto)]
 
 ghost use Rattle.std.specs.Prelude.{◌≡◌, ◌≢◌, ◌⊎◌, ◌≤◌, length};
@@ -30,11 +31,11 @@ use p10_world::{Files, Sink};
 use program::derive_sources;
 use std::alloc::Global;
 
-/// Obeys the command: tells on `out` the certificate that is derived of the sources' program, and all else on `err`. Gives the
+/// Obeys the command: writes to `out` the certificate that is derived of the sources' program, and all else to `err`. Gives the
 /// status with which the program exits.
 ///
 /// The statuses: 0 a certificate, 1 violations for which there is none, 3 the sources are refused, 5 a read failed, 6 a write
-/// failed, 7 out of memory, 8 a limit is passed, 9 a file is absent.
+/// failed, 7 out of memory, 8 a limit is exceeded, 9 a file is absent.
 pub fn derive<F: Files, O: Sink, E: Sink>(
     alloc: Global,
     command: &DeriveCommand,

@@ -1,4 +1,4 @@
-//! Gathered sources are read, and what is derived of their program is told.
+//! Gathered sources are read, and what is derived of their program is reported.
 
 ghost use Rattle.std.specs.Prelude.{◌≡◌, ◌≢◌, ◌⊎◌, IsSomeAnd};
 ghost use Rattle.p10_world.specs.Faults.{Rose};
@@ -19,7 +19,7 @@ use p10_front::Reading;
 use p10_world::Sink;
 use std::alloc::Global;
 
-/// Tells what is derived of the program of gathered sources, or why there is none. Gives the status of the program.
+/// Writes what is derived of the program of gathered sources, or why there is none. Gives the status of the program.
 ///
 /// It is right to say to each command that gathers these sources.
 pub fn derive_sources<O: Sink, E: Sink>(

@@ -1,4 +1,4 @@
-//! What is told, and the status of the program.
+//! What is reported, and the status of the program.
 
 ghost use Rattle.std.specs.Prelude.{◌≡◌, ◌≢◌, ◌⊎◌};
 ghost use Rattle.std.specs.Io.KnownBytes.{Appends};
@@ -20,7 +20,7 @@ use p10_finder::{FinderFault, Found};
 use p10_report::put_violations;
 use p10_world::Sink;
 
-/// Tells what has come of derivation, and gives the status of the program.
+/// Reports what has come of derivation, and gives the status of the program.
 pub fn tell_end<O: Sink, E: Sink>(
     sources: &Sources,
     end: Result<Found, FinderFault>,
@@ -37,7 +37,7 @@ pub fn tell_end<O: Sink, E: Sink>(
     }
 }
 
-/// Tells what is derived, and gives the status of the program: a certificate on `out`, and violations on `err`.
+/// Writes what is derived, and gives the status of the program: a certificate on `out`, and violations on `err`.
 fn tell_found<O: Sink, E: Sink>(sources: &Sources, found: &Found, out: &mut O, err: &mut E) -> u8
     ensures told { result ≢ 6 → Told (IsSaid (derived_saying sources.now (derived_of found.now))) (O.taken out.old) (O.taken out.new) (E.taken err.old) (E.taken err.new) result }
     ensures stopped { result ≡ 6 → Stopped (IsSaid (derived_saying sources.now (derived_of found.now))) (O.taken out.old) (O.taken out.new) (E.taken err.old) (E.taken err.new) }
@@ -49,7 +49,7 @@ fn tell_found<O: Sink, E: Sink>(sources: &Sources, found: &Found, out: &mut O, e
     }
 }
 
-/// Tells a certificate, and gives the status of the program.
+/// Writes a certificate, and gives the status of the program.
 fn tell_certificate<O: Sink>(certificate: &Cert, out: &mut O) -> u8
     ensures status { result ≢ 6 → result ≡ 0 }
     ensures told { result ≢ 6 → Appends (O.taken out.old) (O.taken out.new) (certificate_text (claims_of certificate.now)) }
@@ -62,7 +62,7 @@ fn tell_certificate<O: Sink>(certificate: &Cert, out: &mut O) -> u8
     }
 }
 
-/// Tells violations, and gives the status of the program.
+/// Writes violations, and gives the status of the program.
 fn tell_violations<E: Sink>(sources: &Sources, violations: &[Violation], err: &mut E) -> u8
     ensures status { result ≢ 6 → result ≡ 1 }
     ensures told { result ≢ 6 → Appends (E.taken err.old) (E.taken err.new) (violation_lines sources.now violations.now) }
@@ -75,7 +75,7 @@ fn tell_violations<E: Sink>(sources: &Sources, violations: &[Violation], err: &m
     }
 }
 
-/// Tells why nothing is derived, and gives the status of the program.
+/// Reports why nothing is derived, and gives the status of the program.
 fn tell_fault<E: Sink>(fault: FinderFault, err: &mut E) -> u8
     ensures told { result ≢ 6 → IsTold (fault_saying fault).status (fault_saying fault).err (E.taken err.old) (E.taken err.new) result }
     ensures stopped { result ≡ 6 → StopsWithin (E.taken err.old) (E.taken err.new) (fault_saying fault).err }

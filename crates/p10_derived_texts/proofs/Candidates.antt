@@ -65,7 +65,7 @@ range_typed AtMost t r h = hull_of_type t r _ h (number_of_type t _ (ends_in t).
 range_typed Above t r h = hull_of_type t r _ h (number_of_type t _ (ends_in t).0)
 range_typed AtLeast t r h = hull_of_type t r _ h (number_of_type t _ (ends_in t).0)
 
--- what is claimed of a loop so deep: it fits, and is the task's or not
+-- what is claimed of a loop of this depth: it fits, and is the task's or not
 pub record Good (variables : List PlainVariable) (depth tasks : ℕ) (x : Loop) : Type 0 where
   pub fits : LoopFits variables x
   pub depth_is : x.depth ≡ depth

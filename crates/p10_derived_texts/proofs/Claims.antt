@@ -53,7 +53,7 @@ ends_of_type t r h =
       ordered = h.0;
     }
 
--- a rank of one of so many variables, with a bound that is written
+-- a rank of one of the first `count` variables, with a bound that is written
 abbrev pub RankFits : ℕ → Rank → Type 0
 RankFits count (Up v bound) = (v < count) × IsEnd bound
 RankFits count (Down v bound) = (v < count) × IsEnd bound

@@ -147,7 +147,7 @@ module _ (p : PlainProgram) (whole : IsWholeProgram p) (named : AreNamed p) (c :
       let same : suc k + n ≡ k + suc n = omega arith in
       there (sum_at p c.funcs k) (sums_from p c.funcs (suc k) count) (sum_at p c.funcs (k + suc n)) (subst (λ j. Contains (sums_from p c.funcs (suc k) count) (sum_at p c.funcs j)) same (sum_among (suc k) count n (omega (arith, low))))
 
-  -- no sum passes the limit
+  -- no sum exceeds the limit
   pub sum_keeps : (n : ℕ) → n < length p.functions → keeps_limit (sum_at p c.funcs n) ≡ true
   sum_keeps n low = at (keeps_limit (sum_at p c.funcs n)) refl
     where

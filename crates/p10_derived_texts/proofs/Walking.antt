@@ -91,11 +91,11 @@ abbrev pub Shallow : Loop → Type 0
 Shallow l = (task_number l.rank ≡ 0) ⊎ (l.depth ≡ 0)
 
 abbrev mutual
-  -- in a statement that stands in so many loops, no loop that stands in one is the task
+  -- in a statement that stands in `depth` loops, no loop that stands in one is the task
   pub Free : Option ℕ → ℕ → PlainStatement → Type 0
   Free task depth (statement at form) = FreeForm task depth form
 
-  -- the same of a form of statement
+  -- the same for a form of statement
   pub FreeForm : Option ℕ → ℕ → PlainStatementForm → Type 0
   FreeForm task depth (block xs) = FreeAll task depth xs
   FreeForm task depth (if_then v x) = Free task depth x
@@ -104,7 +104,7 @@ abbrev mutual
   FreeForm task depth (switch keyword v labels body) = Free task depth body
   FreeForm task depth form = Unit {0}
 
-  -- the same of statements
+  -- the same for statements
   pub FreeAll : Option ℕ → ℕ → PlainStatements → Type 0
   FreeAll task depth no_statements = Unit {0}
   FreeAll task depth (more_statements x rest) = Free task depth x × FreeAll task depth rest
@@ -203,7 +203,7 @@ module _ (p : PlainProgram) (f : PlainFunction) (calls : Claims) (results : Resu
   abbrev Typed : Option Environment → Type 0
   Typed o = MaybeOfTypes f.variables o
 
-  -- loops found so far: their claims fit, loops may follow from a depth on, and so many are tasks
+  -- loops found so far: their claims fit, loops may follow from a depth on, and `tasks` of them are tasks
   pub record Right (depth tasks : ℕ) (found : LoopsFound) : Type 0 where
     pub fits : AllByRecursion (LoopFits f.variables) found.claims
     pub nesting : OpenFrom depth found.claims

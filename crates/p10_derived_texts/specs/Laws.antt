@@ -11,7 +11,7 @@ use Rattle.p10_cert.specs.Reading.{ReadsAs}
 use Rattle.p10_finder.specs.Answers.{AreClaims, PassesSum, PassesText, IsCertified}
 use Rattle.p10_derived_texts.specs.Naming.{AreNamed}
 
--- the claims of a whole program with names of C are those of a certificate, where no sum and no number of turns passes the greatest
+-- the claims of a whole program with names of C are those of a certificate, where no sum and no number of turns exceeds the greatest
 -- that is allowed (M9), and the text isn't longer than is allowed (M10)
 abbrev pub ClaimsHaveText : Type 0
 ClaimsHaveText = (p : PlainProgram) → IsWholeProgram p → AreNamed p → (c : Claims) → AreClaims p c → (PassesSum p c → ⊥) → (PassesText c → ⊥) → IsCertificate c
@@ -20,7 +20,7 @@ ClaimsHaveText = (p : PlainProgram) → IsWholeProgram p → AreNamed p → (c :
 abbrev pub DerivedCertificatesHaveText : Type 0
 DerivedCertificatesHaveText = (p : PlainProgram) → IsWholeProgram p → AreNamed p → (c : Claims) → IsCertified p c → IsCertificate c
 
--- what is read of its text are the claims, but for want of memory
+-- what is read of its text are the claims, unless memory runs out
 abbrev pub DerivedTextsAreReadBack : Type 0
 DerivedTextsAreReadBack =
     (p : PlainProgram) → IsWholeProgram p → AreNamed p → (c : Claims) → IsCertified p c → (result : Result Cert CertFault) → ReadsAs (certificate_text c) result

@@ -1,4 +1,4 @@
-//! A certificate that is derived has a text: what is claimed of a whole program, where no number passes its limit, is what a
+//! A certificate that is derived has a text: what is claimed of a whole program, where no number exceeds its limit, is what a
 //! certificate may claim, so it can be written, and what is read of its text are the same claims.
 //!
 //! Nothing runs here. `p10_finder` says what is claimed, and `p10_cert` what a certificate may claim; the functions of [`laws`] stand

@@ -1,4 +1,4 @@
--- The words of a file are cut in just one way.
+-- The words of a file are cut in exactly one way.
 use Rattle.std.proofs.Common.{◌≡◌, ℕ, ◌-◌, ◌<◌, ◌≤◌, List, [], ◌∷◌, ◌++◌, Bool, true, false, cond, length, take, drop, map, refl, sym, ◌∙◌, ap, subst, arith, codes, Option, Some, append_assoc, append-nil, length-append, length-drop, take-append-drop}
 use Rattle.std.proofs.lemmas.List.{map-append, length-map, take-map, drop-map}
 use Rattle.std.proofs.Math.ListN.{drop_of_length-le}
@@ -55,7 +55,7 @@ behind_again test [] rest fails passes = all_behind test rest passes
 behind_again test (word ∷ words) rest fails passes =
     ap (λ t. cond t (word ∷ words ++ rest) (behind test (words ++ rest))) fails.0 ∙ behind_again test words rest fails.1 passes
 
--- what is left in front, by lengths
+-- what stands before the rest, by lengths
 taken : (front rest all : List PlainWord) → front ++ rest ≡ all → take (length all - length rest) all ≡ front
 taken front rest all e =
     let short : length all - length rest ≡ length front = omega (arith, length-append front rest, ap length e) in

@@ -143,7 +143,7 @@ include_takes whole (word ∷ []) =
 include_takes whole [] = tt
 include_takes whole (word ∷ next ∷ words) = tt
 
--- a directive of a name, told from the name of the directive
+-- a directive of a name, known from the name of the directive
 abbrev OfName : (Text → PlainDirective) → List PlainWord → Outcome → Type 0
 OfName directive words outcome = ((name : Text) × One (IsNamed name) words × (outcome ≡ Read (directive name))) ⊎ (outcome ≡ BadForm)
 

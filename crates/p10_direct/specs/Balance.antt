@@ -30,7 +30,7 @@ abbrev pub mark_of : Piece → Mark
 mark_of (DirectiveLine (hash ∷ name ∷ words)) = mark_of_word name
 mark_of _ = Plain
 
--- whether a conditional is closed in what follows; so many conditionals have begun since and are to be closed before it
+-- whether a conditional is closed in what follows; `inner` conditionals have begun since and are to be closed before it
 abbrev pub is_closed : ℕ → List Mark → Bool
 is_closed inner [] = false
 is_closed inner (Opens ∷ after) = is_closed (suc inner) after
@@ -39,7 +39,7 @@ is_closed (suc inner) (Closes ∷ after) = is_closed inner after
 is_closed inner (_ ∷ after) = is_closed inner after
 
 -- the conditional to which a line belongs, looked for in the lines before it, the nearest first: whether it has had its `#else`,
--- or None where none is open; so many conditionals that end on the way are passed over
+-- or None where none is open; `inner` conditionals that end on the way are passed over
 abbrev pub open_before : ℕ → List Mark → Option Bool
 open_before inner [] = None
 open_before zero (Opens ∷ before) = Some false

@@ -153,7 +153,7 @@ abbrev pub enclosed : Bool → Text → Text
 enclosed true name = 60 ∷ name ++ 62 ∷ []
 enclosed false name = 34 ∷ name ++ 34 ∷ []
 
--- a pragma that is none of this program's: not of `p10`, and not just `once`
+-- a pragma that is none of this program's: not of `p10`, and not `once` alone
 abbrev pub IsOther : List PlainWord → Type 0
 IsOther [] = Unit {0}
 IsOther (word ∷ []) = (is_name (codes "p10") word ≡ false) × (is_name (codes "once") word ≡ false)

@@ -39,7 +39,7 @@ abbrev pub BeginsWithHash : List PlainWord → Type 0
 BeginsWithHash [] = ⊥
 BeginsWithHash (hash ∷ words) = is_punctuator (codes "#") hash ≡ true
 
--- a fault tells how the line is refused, or that memory ran out, which it may only for a function-like macro
+-- a fault says how the line is refused, or that memory ran out, which it may only for a function-like macro
 abbrev pub IsFaultOf : List PlainWord → DirectFault → Type 0
 IsFaultOf line (Refused refusal) = IsRefused line refusal
 IsFaultOf line Memory = DefinesFunctionLike line

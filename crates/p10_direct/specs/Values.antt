@@ -70,11 +70,11 @@ is_comparison _ = false
 abbrev pub is_done_unsigned : BinOp → Bool → Bool → Bool
 is_done_unsigned op left right = left || (not (is_shift op) && right)
 
--- the right operand: converted to the type, but for a shift, where it may be any number
+-- the right operand: converted to the type, except for a shift, where it may be any number
 abbrev pub right_operand : BinOp → IntType → ℤ → ℤ
 right_operand op t y = if is_shift op then y else converted t y
 
--- what an operator makes of two numbers in a type, to which they are converted first, but for the count of a
+-- what an operator makes of two numbers in a type, to which they are converted first, except for the count of a
 -- shift; None where it stops
 abbrev pub operated : BinOp → IntType → ℤ → ℤ → Option ℤ
 operated op t x y = as_option (operate op t (converted t x) (right_operand op t y))

@@ -77,7 +77,7 @@ fn first_stray(alloc: Global, lines: &[Line<'_, '_>]) -> Result<Option<usize>, A
     Ok(None)
 }
 
-/// Takes one line, or tells that it doesn't fit. `pending` has, for each open conditional, whether its
+/// Takes one line, or answers that it doesn't fit. `pending` has, for each open conditional, whether its
 /// `#else` was taken, the innermost one last.
 fn take(pending: &mut Vec<bool>, mark: Mark) -> Result<bool, AllocError>
     ensures { IfOk result (λ fits. Stacks mark fits (reverse pending.old.items) (reverse pending.new.items)) }
@@ -121,7 +121,7 @@ fn first_unclosed(lines: &[Line<'_, '_>]) -> Option<usize>
 }
 
 /// Passes over a line on the way back. `first` is the place of the first conditional after it that
-/// isn't closed, and `closing` tells how many `#endif` after it close one that begins before them.
+/// isn't closed, and `closing` has how many `#endif` after it close one that begins before them.
 fn pass_back(
     mark: Mark,
     place: usize,

@@ -84,7 +84,7 @@ fn punctuates_at(words: &[Word<'_>], place: usize, text: &[u8]) -> bool
     }
 }
 
-/// The operator at the place, where it binds at least so tightly.
+/// The operator at the place, where it binds at least as tightly as `level` says.
 fn operator(words: &[Word<'_>], place: usize, level: u32) -> Option<Binary>
     ensures { result ≡ operator_at level (from place words.now) }
 {
@@ -95,7 +95,7 @@ fn operator(words: &[Word<'_>], place: usize, level: u32) -> Option<Binary>
     }
 }
 
-/// The operator that the word is, where it binds at least so tightly.
+/// The operator that the word is, where it binds at least as tightly as `level` says.
 fn operator_word(word: &Word<'_>, level: u32) -> Option<Binary>
     ensures { result ≡ if_level level (binary_of (token_of (plain_word word.now))) }
 {

@@ -16,7 +16,7 @@ use std::alloc::{AllocError, Global};
 /// conditionals are unbalanced.
 ///
 /// `words` are all words of the file, in their order. A line begins at the first word, and at each word
-/// that has `first` set. It fails only where memory ran out.
+/// that has `first` set. It fails only where memory runs out.
 pub fn lines<'w, 's>(alloc: Global, words: &'w [Word<'s>]) -> Result<Lines<'w, 's>, AllocError>
     ensures cut { IfOk result (λ found. AreCut (map plain_word words.now) (map piece_of found.lines)) }
     ensures unbalanced { IfOk result (λ found. found.unbalanced ≡ first_unbalanced (map piece_of found.lines)) }

@@ -59,7 +59,7 @@ pub fn define<'w, 's>(
 /// with a parameter list directly after it, and a replacement list (C99 6.10p1).
 ///
 /// `words` go to the end of the line. `None` where they begin with no name, or with a parameter list of
-/// another form. It fails only where memory ran out.
+/// another form. It fails only where memory runs out.
 pub fn read_definition<'w, 's>(
     alloc: Global,
     words: &'w [Word<'s>],
@@ -151,7 +151,7 @@ fn judge<'w, 's>(
     }
 }
 
-/// Whether the definition is refused. Where one word makes it a bad one, the answer wants no memory.
+/// Whether the definition is refused. Where one word makes it a bad one, the answer needs no memory.
 fn is_bad_definition(alloc: Global, found: &Definition<'_, '_>) -> Result<bool, AllocError>
     ensures exact { IfOk result (λ bad. bad ≡ is_bad (plain_definition found.now)) }
     ensures sure { IsTrue (has_bad_word (plain_definition found.now)) → result ≡ Ok true }

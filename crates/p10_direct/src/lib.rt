@@ -3,7 +3,7 @@
 //!
 //! Entry points: [`lines`], which cuts a file's words into directive lines and runs of text;
 //! [`directive`], which reads one directive line; [`read_definition`], which reads the words of a
-//! definition, also of one that is refused; and [`truth`], which tells what a condition is.
+//! definition, also of one that is refused; and [`truth`], which gives the truth of a condition.
 //!
 //! Invariant: the words of the lines, joined, are the words of the file.
 //! Which lines are obeyed, the replacement of macros, the files that an include names, and a name

@@ -19,7 +19,7 @@ use std::alloc::Global;
 /// of another form; D4 for a bad definition, at the defined name, or at the directive where it has none.
 ///
 /// `line` has the words of one directive line, from its `#` on. A name that is defined with another list
-/// isn't told here. Memory may run out only where the line begins as the definition of a
+/// isn't refused here. Memory may run out only where the line begins as the definition of a
 /// function-like macro, `#define NAME(`.
 pub fn directive<'w, 's>(
     alloc: Global,

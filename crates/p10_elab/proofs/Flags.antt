@@ -51,7 +51,7 @@ sighted_more n (t ∷ all) s = ap (λ b. nat_eq t.number n || b) (sighted_more n
     regrouped true b c = refl
     regrouped false b c = refl
 
--- the flags say which objects are sighted, after one more or where memory is lacking
+-- the flags say which objects are sighted, after one more or where memory runs out
 pub flags_kept : (ok : Bool) (n : ℕ) (all new : List Sighting) (s : Sighting) (old flag : Bool) → new ≡ (if ok then all ++ s ∷ [] else all) → flag ≡ (old || (ok && nat_eq s.number n)) → old ≡ is_sighted n all → flag ≡ is_sighted n new
 flags_kept true n all new s old flag e f h = f ∙ ap (λ b. b || nat_eq s.number n) h ∙ sym (sighted_more n all s) ∙ ap (is_sighted n) (sym e)
 flags_kept false n all new s old flag e f h = f ∙ sym (or_false old) ∙ h ∙ ap (is_sighted n) (sym e)

@@ -71,7 +71,7 @@ is_sighted n (s ∷ rest) = nat_eq s.number n || is_sighted n rest
 abbrev pub with_sighting : Sighting → List Sighting → List Sighting
 with_sighting s all = if is_sighted s.number all then all else all ++ s ∷ []
 
--- the same where that is wanted, by the object's number and how many functions stand before
+-- the same where that is asked for, by the object's number and how many functions stand before
 abbrev pub sighted_where : Bool → ℕ → ℕ → List Sighting → List Sighting
 sighted_where wanted n from all = if wanted then with_sighting (record { number = n; from = from }) all else all
 
@@ -134,8 +134,7 @@ abbrev pub is_defined_at : ℕ → List Head → Bool
 is_defined_at first [] = false
 is_defined_at first (f ∷ rest) = (nat_eq f.at.first first && not f.in_block) || is_defined_at first rest
 
--- whether a declaration is the one that defines its object: it has an initialiser, or it is where the object is defined for the time
--- being
+-- whether a declaration is the one that defines its object: the first with an initialiser, or else the first tentative one (C99 6.9.2p2)
 abbrev pub is_site : Heads → Identifier At → Bool
 is_site heads name = is_defined_at name.place.first heads.objects
 

@@ -48,7 +48,7 @@ numbered_objects structures visible (d ∷ rest) =
 abbrev pub main_among : List PlainFunction → Option ℕ
 main_among functions = position_from (λ f. is_main_name f.name) 0 functions
 
--- the program of what is known, where so many objects are defined
+-- the program of what is known, where `count` objects are defined
 abbrev pub program_of : ℕ → PlainStanding → Known → PlainProgram
 program_of count s k =
     program_with s.scope.structures (objects_from 0 count (k.block_objects ++ numbered_objects s.scope.structures k.visible k.objects)) k.functions (main_among k.functions)
@@ -79,7 +79,7 @@ names_settled functions objects main mains p =
     (unless_problem (missing_main main (mains ++ calls_of_main main (nodes_of_program p)))
     (within_sizes p))
 
--- what comes of all that is known of the roots, where so many objects are defined: the first of the rows S1 to S26, S29 and S30 that
+-- what comes of all that is known of the roots, where `count` objects are defined: the first of the rows S1 to S26, S29 and S30 that
 -- hold; else what its program comes to
 abbrev pub settled : ℕ → PlainStanding → Known → Elaborated
 settled count s k = unless_problem s.problems (names_settled (length k.functions) count (main_among k.functions) k.mains (program_of count s k))

@@ -92,7 +92,7 @@ fn is_object(kind: &LinkedKind) -> bool
     matches!(kind, LinkedKind::Object(_))
 }
 
-/// Notes an object that is declared after so many functions, where that is wanted.
+/// Notes an object that is declared after the first `from` functions, where that is asked for.
 fn sight_where(
     sightings: &mut Sightings,
     wanted: bool,

@@ -9,13 +9,13 @@ pub fn the_first_is_answered()
     ensures { TheFirstIsAnswered }
 {}
 
-/// Small programs, worked out by hand: each row of the subset refuses one at the word where it is wanted, and programs beside them are
+/// Small programs, worked out by hand: each row of the subset refuses one at the word where it is expected, and programs beside them are
 /// accepted.
 pub fn programs_are_settled()
     ensures { ProgramsAreSettled }
 {}
 
-/// A program is answered only where no row of the subset holds and nothing passes limit M8, and that limit only where no row holds.
+/// A program is answered only where no row of the subset holds and nothing exceeds limit M8, and that limit only where no row holds.
 pub fn answers_have_causes()
     ensures { AnswersHaveCauses }
 {}

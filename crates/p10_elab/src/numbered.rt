@@ -14,8 +14,8 @@ use p10_elabs::bytes_of;
 use p10_program::{extents_at, objects_by_number, visible_by_number};
 use std::alloc::{AllocError, Global};
 
-/// The objects of static lifetime by their numbers, of which there are so many: those of blocks and those that are defined outside of
-/// functions, where the functions are known at which those are in scope.
+/// The objects of static lifetime with numbers below `count`, by their numbers: those of blocks and those that are defined outside
+/// of functions, where the functions are known at which those are in scope.
 pub(crate) fn objects_of<'s>(
     alloc: Global,
     count: usize,
@@ -51,7 +51,7 @@ fn numbered_objects<'s>(
     Ok(all)
 }
 
-/// An object that is defined outside of functions. Where its size isn't known, or is more than a type may have, out of memory.
+/// An object that is defined outside of functions. One whose size isn't known, or is more than a type may have, is answered as out of memory.
 fn object_with<'s>(
     types: &Types<'s>,
     visible: ListBuf<Extent>,

@@ -19,7 +19,7 @@ use p10_linkage::is_main_name;
 use p10_program::{is_too_large, main_problem_in, program_with, undefined_in};
 use std::alloc::Global;
 
-/// What comes of all that is known of the roots, where so many objects are defined: the first row that holds in their declarations,
+/// What comes of all that is known of the roots, where `count` objects are defined: the first row that holds in their declarations,
 /// else what comes of their program.
 pub(crate) fn settle<'s>(
     alloc: Global,

@@ -6,7 +6,7 @@ ghost use Rattle.p10_elab.specs.Outer.{is_sighted};
 use crate::outer_object::Sighting;
 use std::alloc::{AllocError, Global};
 
-/// The objects that a root declares outside of functions, each where it is first declared. Whether one is among them is told at once,
+/// The objects that a root declares outside of functions, each where it is first declared. Whether one is among them is found at once,
 /// however many there are.
 #[derive(Drop)]
 pub struct Sightings {
@@ -80,7 +80,7 @@ fn put_sighting(
     Ok(())
 }
 
-/// Makes place for the flag of a number.
+/// Makes room for the flag of a number.
 #[tactic(auto, using(crate::proofs::Flags::flag_pushed))]
 fn reach(flags: &mut Vec<bool>, number: u32) -> Result<(), AllocError>
     ensures same { (n : ℕ) → slice_index_or flags.new.items n false ≡ slice_index_or flags.old.items n false }

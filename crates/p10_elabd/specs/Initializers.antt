@@ -1,4 +1,4 @@
--- Initialisers (C99 6.7.8). Braces aren't left out, but that `{0}` may stand for any aggregate.
+-- Initialisers (C99 6.7.8). Braces aren't left out, except that `{0}` may stand for any aggregate.
 use Rattle.std.specs.Prelude.{ℕ, nat_eq, ◌&&◌, ◌+◌, ◌-◌, pos, nat_le, nat_lt, Bool, true, false, if◌then◌else◌, List, [], ◌∷◌, ◌++◌, map, length, slice_get, Option, Some, None, option_map, Ok, codes, bytes_eq}
 use Rattle.p10_base.specs.Words.{Text}
 use Rattle.p10_base.specs.declared.at.At.{At}
@@ -74,7 +74,7 @@ string_for t i = string_by (is_character t) i
 
 -- ## Lists
 
--- whether an expression is just the number written `0`
+-- whether an expression is the number written `0`
 abbrev pub is_zero : Expression At → Bool
 is_zero (expression at n (Number text)) = nat_eq n 0 && bytes_eq text (codes "0")
 is_zero e = false
@@ -129,7 +129,7 @@ expression_ruled life t scalar v = if is_scalar t then scalar_item life t scalar
 abbrev pub expression_item : Keep → Lifetime → PlainType → ℕ → PlainStanding → Expression At → Passed PlainItem
 expression_item h life t scalar s e = value_by h s e (expression_ruled life t scalar)
 
--- a string as an item: it is no longer than the array, but for the 0 at its end
+-- a string as an item: it is no longer than the array, except for the 0 at its end
 abbrev pub text_item : Keep → ℕ → ℕ → PlainStanding → At × Text → Passed PlainItem
 text_item h n scalar s (at, bytes) =
     if nat_le (length bytes) n then passed (record { scalar = scalar; written = scalars_of_text bytes }) s
@@ -155,7 +155,7 @@ abbrev pub braced_scalar : Keep → Lifetime → PlainType → ℕ → Passed (L
 braced_scalar h life t scalar p NoInitializers = p
 braced_scalar h life t scalar p (MoreInitializers one rest) = no_surplus h (braced_first h life t scalar p one) rest
 
--- what is left to initialise of an aggregate: so many elements of a type; or members of these types
+-- what is left to initialise of an aggregate: a number of elements of a type; or members of these types
 pub data Slots : Type 0 where
   elements : PlainType → ℕ → Slots
   members : List PlainType → Slots

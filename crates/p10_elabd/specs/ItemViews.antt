@@ -44,7 +44,7 @@ slot_at i (elements t n) = if nat_lt i n then Some t else None
 slot_at i (members ts) = slice_get ts i
 slot_at i no_slots = None
 
--- what is left after so many
+-- what is left after the first `i`
 abbrev pub slots_after : ℕ → PlainSlots → PlainSlots
 slots_after i (elements t n) = elements t (n - i)
 slots_after i (members ts) = members (drop i ts)

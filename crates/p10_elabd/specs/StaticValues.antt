@@ -23,7 +23,7 @@ abbrev mutual
   address_part (value at t (binary Sub a b)) = first_of_parts (address_part a) (inconstant_part b)
   address_part v = Some (at_of v)
 
-  -- the same of a place whose address is taken: objects of static lifetime have one that is constant
+  -- the same for a place whose address is taken: objects of static lifetime have one that is constant
   pub place_part : PlainPlace → Option At
   place_part (place at t (variable n)) = Some at
   place_part (place at t (global n)) = None
@@ -59,7 +59,7 @@ abbrev mutual
       first_of_parts (address_stop a) (first_of_parts (fold_stop b) (stops_unless (target_of (value at t (binary Sub a b))) at))
   address_stop v = stops_unless (target_of v) (at_of v)
 
-  -- the same of a place whose address is taken
+  -- the same for a place whose address is taken
   pub place_stop : PlainPlace → Option At
   place_stop (place at t (index a i)) =
       first_of_parts (address_stop a) (first_of_parts (fold_stop i) (stops_unless (place_target (place at t (index a i))) at))

@@ -46,16 +46,16 @@ abbrev mutual
   tags_in (expression at n (SizeofType t)) = tags_in_type t
   tags_in (expression at n (Comma all)) = tags_in_all all
 
-  -- the same of expressions in a row
+  -- the same for expressions in a row
   pub tags_in_all : Expressions At → List Text
   tags_in_all NoExpressions = []
   tags_in_all (MoreExpressions e rest) = tags_in e ++ tags_in_all rest
 
-  -- the same of a type name
+  -- the same for a type name
   pub tags_in_type : TypeName At → List Text
   tags_in_type (type_name at specifiers d) = tags_of specifiers ++ tags_in_declarator d
 
-  -- the same of its declarator: what a function's parameters name is declared inside of it alone
+  -- the same for its declarator: what a function's parameters name is declared inside of it alone
   pub tags_in_declarator : Declarator At → List Text
   tags_in_declarator (Named name) = []
   tags_in_declarator (Unnamed at) = []

@@ -26,7 +26,12 @@ pub fn declare_tags<'s>(standing: &mut Standing<'s>, e: &Expr<'s>) -> Result<(),
     Ok(())
 }
 
-/// What is found in an expression where a value is needed; what its type names declare stands from then on. A problem isn't noted.
+/// What is found in the expression `e` where a value is needed: the value, or the first row that holds, or neither; no row is noted. What the
+/// expression's type names declare stands from then on.
+///
+/// # Errors
+///
+/// Out of memory.
 pub fn expression_value<'s>(
     alloc: Global,
     standing: &mut Standing<'s>,
@@ -54,7 +59,11 @@ pub fn noted<T: Drop>(standing: &mut Standing<'_>, found: Result<T, Option<Probl
     }
 }
 
-/// The number that an integer constant expression gives; a problem is noted.
+/// The number that the integer constant expression `e` gives (C99 6.6p6); `None` where it is refused, and a row that holds is noted.
+///
+/// # Errors
+///
+/// Out of memory.
 pub fn constant_value<'s>(
     alloc: Global,
     standing: &mut Standing<'s>,

@@ -1,4 +1,4 @@
-//! Initialisers (C99 6.7.8). Braces aren't left out, but that `{0}` may stand for any aggregate.
+//! Initialisers (C99 6.7.8). Braces aren't left out, except that `{0}` may stand for any aggregate.
 
 ghost use Rattle.std.specs.Prelude.{◌≡◌, IfOk, map, option_map};
 ghost use Rattle.p10_syn.specs.Trees.{initializer_row};
@@ -360,7 +360,12 @@ fn braced<'s>(
     }
 }
 
-/// The initialiser of an object of a type.
+/// The initialiser `i` of an object of the type `ty` and the lifetime `life` (C99 6.7.8); `None` where it is refused, and a row that
+/// holds is noted.
+///
+/// # Errors
+///
+/// Out of memory.
 pub fn initialized<'s>(
     alloc: Global,
     standing: &mut Standing<'s>,

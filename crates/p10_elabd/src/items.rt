@@ -137,7 +137,7 @@ pub fn expression_item<'s>(
     Ok(item_noted(standing, found))
 }
 
-/// A string as an item: it is no longer than the array, but for the 0 at its end.
+/// A string as an item: it is no longer than the array, except for the 0 at its end.
 pub fn text_item(
     standing: &mut Standing<'_>,
     length: u64,

@@ -17,7 +17,7 @@ use p10_elabx::converted;
 use p10_int::IntType;
 use std::alloc::{AllocError, Global};
 
-/// What there is to initialise of a type: so many elements of a type, or members of these types.
+/// What there is to initialise of a type: a number of elements of a type, or members of these types.
 #[derive(Drop)]
 pub enum Slots {
     Elements(CType, u64),
@@ -78,7 +78,7 @@ pub fn scalar_count(types: &Types<'_>, ty: &CType) -> u64
     if holds { types.scalars(ty) } else { 0 }
 }
 
-/// The place after so many scalars.
+/// The place that lies `count` scalars after a place.
 pub fn place_after(scalar: u64, count: u64) -> Result<u64, AllocError>
     ensures { IfOk result (λ n. n ≡ scalar + count) }
 {

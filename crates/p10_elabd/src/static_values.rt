@@ -122,7 +122,7 @@ pub fn address_part(v: &Value) -> Option<At>
     }
 }
 
-/// The same of a place whose address is taken: objects of static lifetime have one that is constant.
+/// The same for a place whose address is taken: objects of static lifetime have one that is constant.
 #[cycle(address)]
 pub fn place_part(p: &Place) -> Option<At>
     ensures { result ≡ place_part (plain_place p.now) }

@@ -123,7 +123,7 @@ pub fn string_by(alloc: Global, characters: bool, i: &Init<'_>) -> Result<Option
     }
 }
 
-/// Whether an expression is just the number written `0`.
+/// Whether an expression is the number written `0`.
 fn is_zero(e: &Expr<'_>) -> bool
     ensures { result ≡ is_zero (expression_of e.now) }
 {
@@ -133,7 +133,7 @@ fn is_zero(e: &Expr<'_>) -> bool
     }
 }
 
-/// Whether an item is just the number written `0`.
+/// Whether an item is the number written `0`.
 fn is_zero_item(one: &Init<'_>) -> bool
     ensures { result ≡ is_zero_item (initializer_of one.now) }
 {

@@ -31,7 +31,12 @@ use p10_elabx::declarator_place;
 use p10_syn::{Declarator, Field, Member as MemberTree, Parameter, Spec, Structure};
 use std::alloc::{AllocError, Global};
 
-/// The type that specifiers name where something is declared; `alone` says that they are a whole declaration.
+/// The type that the specifiers `specs` name where something is declared (C99 6.7): at a site, where some words are allowed. `alone` says
+/// that they are a whole declaration. `None` where it is refused, and a row that holds is noted.
+///
+/// # Errors
+///
+/// Out of memory.
 #[cycle(declare)]
 pub fn specified<'s>(
     alloc: Global,
@@ -205,7 +210,12 @@ fn field_passed<'s>(
     Ok(members)
 }
 
-/// What a declarator makes of a type, from its specifiers to its name; where an incomplete type is told is given.
+/// What the declarator `d` makes of a given type, from its specifiers to its name (C99 6.7.5); `name_at` is the place at which an
+/// incomplete type is refused. `None` where it is refused, or where there is no type; a row that holds is noted.
+///
+/// # Errors
+///
+/// Out of memory.
 #[cycle(declare)]
 pub fn declarator_passed<'s>(
     alloc: Global,

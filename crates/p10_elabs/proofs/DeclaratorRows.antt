@@ -65,7 +65,7 @@ all_added h f at s sensor t b p (d ∷ rest) =
     all_added h f at s sensor t b (record { items = p.items ++ q.items; after = q.after }) rest
     ∙ ap (λ (x : Block'). declarators_added h f at s sensor t x rest) (joined b p q)
 
--- a declaration is done, of which the parts are told
+-- a declaration is done, of which the parts are known
 pub declaration_added : (h : Keep) (f : Frame) (site : Site) (d : Declaration At) (b whole : Block') (at : At) (s : Storage) (sensor : Bool) (t : Passed PlainType) (ds : List (InitDeclarator At)) →
     at ≡ d.place → s ≡ storage_of d.specifiers → sensor ≡ makes_sensors d → ds ≡ d.declarators → t ≡ specified_in h false site b.after.standing d →
     whole ≡ declarators_added h f at s sensor t.made (record b { after = with_standing b.after t.after }) ds →

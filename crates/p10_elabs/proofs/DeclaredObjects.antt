@@ -1,4 +1,4 @@
--- Variables and objects that blocks declare, from what is told of each part.
+-- Variables and objects that blocks declare, from what is known of each part.
 use Rattle.std.specs.Prelude.{◌≡◌, ℕ, Bool, true, false, if◌then◌else◌, List, [], ◌∷◌, Option, Some, None, option_map}
 use Rattle.std.proofs.Common.{◌∙◌, ap, sym}
 use Rattle.p10_base.specs.declared.at.At.{At}
@@ -24,7 +24,7 @@ use Rattle.p10_elabs.specs.LocalDeclarations.{Declaring, no_items, is_frame_vari
 
 -- ## Specifiers
 
--- the type that specifiers name, of which the parts are told
+-- the type that specifiers name, of which the parts are known
 pub specifiers_noted : (h : Keep) (outside : Bool) (site : Site) (d : Declaration At) (s after : PlainStanding) (allowed : Allowed) (alone may : Bool) (t : Passed PlainType) →
     allowed ≡ allowed_by d → alone ≡ is_alone d → t ≡ specified h site allowed alone s d.specifiers → may ≡ declares_sensors outside t.made d → after ≡ volatile_noted h may d.specifiers t.after →
     record { made = t.made; after = after } ≡ specified_in h outside site s d
@@ -35,7 +35,7 @@ specifiers_noted h outside site d s after allowed alone may t allowed_is alone_i
 
 -- ## Variables
 
--- a variable is declared, of which the parts are told
+-- a variable is declared, of which the parts are known
 pub variable_declared : (h : Keep) (f : Frame) (name : Identifier At) (t kept meant : PlainType) (l a b : Local) (s : PlainStanding) (bytes n : ℕ) (frame : Bool) →
     bytes ≡ size_of l.standing.scope.structures t → n ≡ l.count → a ≡ one_more l → frame ≡ is_frame_variable f n t → kept ≡ t → meant ≡ t →
     b ≡ with_listed (record { name = name.name; type = kept; bytes = bytes; frame = frame; span = name.place.span }) a →
@@ -144,7 +144,7 @@ named_other h f at s sensor t l d name given j b q given_is j_is b_is so is =
     ∙ sym (ap (λ x. if x then prototype_passed h name d (with_standing l j.after) else by_storage h f at s sensor name d (with_standing l j.after) j.made) so)
     ∙ (λ k. if b_is k then prototype_passed h name d (with_standing l (full k).after) else by_storage h f at s sensor name d (with_standing l (full k).after) (full k).made)
 
--- a declarator by the name that is told of it
+-- a declarator by the name that is known of it
 pub by_name : (h : Keep) (f : Frame) (at : At) (s : Storage) (sensor : Bool) (t : Option PlainType) (l : Local) (d : InitDeclarator At) (found name : Option (Identifier At)) (q : Declaring) →
     found ≡ name → q ≡ local_named h f at s sensor t l d found → q ≡ local_named h f at s sensor t l d name
 by_name h f at s sensor t l d found name q same is = is ∙ ap (local_named h f at s sensor t l d) same

@@ -97,28 +97,28 @@ abbrev mutual
   taken_in names (expression at n (SizeofType t)) = []
   taken_in names (expression at n (Comma all)) = taken_in_all names all
 
-  -- the same of expressions in a row
+  -- the same for expressions in a row
   pub taken_in_all : LocalNames → Expressions At → List ℕ
   taken_in_all names NoExpressions = []
   taken_in_all names (MoreExpressions e rest) = taken_in names e ++ taken_in_all names rest
 
--- the same of an expression that may be left out
+-- the same for an expression that may be left out
 abbrev pub taken_in_optional : LocalNames → Optional At → List ℕ
 taken_in_optional names Absent = []
 taken_in_optional names (Present e) = taken_in names e
 
 abbrev mutual
-  -- the same of an initialiser
+  -- the same for an initialiser
   pub taken_in_initializer : LocalNames → Initializer At → List ℕ
   taken_in_initializer names (Value e) = taken_in names e
   taken_in_initializer names (Braced at items comma) = taken_in_items names items
 
-  -- the same of the items of a list
+  -- the same for the items of a list
   pub taken_in_items : LocalNames → Initializers At → List ℕ
   taken_in_items names NoInitializers = []
   taken_in_items names (MoreInitializers i rest) = taken_in_initializer names i ++ taken_in_items names rest
 
--- the same of an initialiser that may be left out
+-- the same for an initialiser that may be left out
 abbrev pub taken_in_initial : LocalNames → Option (Initializer At) → List ℕ
 taken_in_initial names None = []
 taken_in_initial names (Some i) = taken_in_initializer names i

@@ -170,7 +170,7 @@ typedef_of h name (Some (of_function f)) s = unknown_in h name s
 abbrev pub typedef_passed : Keep → Identifier At → Declarator At → Option DeclaredType → PlainStanding → PlainStanding
 typedef_passed h name d o s = typedef_of h name o (refusing h (declares_function d) subset.BadSpecifier (declarator_place d) s)
 
--- an array of so many elements; that it is too large is refused at its brackets
+-- an array of n elements; one that is too large is refused at its brackets
 abbrev pub counted_array : Keep → At → PlainType → ℕ → PlainStanding → Passed PlainType
 counted_array h brackets t n s =
     if nat_le (n * size_of s.scope.structures t) most_bytes then passed (array false t n) s else nothing_made (refusing h true subset.BadLength brackets s)

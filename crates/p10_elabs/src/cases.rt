@@ -65,7 +65,7 @@ fn case_number<'s>(
     Ok(noted(&mut local.standing, number))
 }
 
-/// A `case` before the item of a number.
+/// A `case` before the item with a number.
 fn case_done<'s>(
     alloc: Global,
     local: &mut Local<'s>,

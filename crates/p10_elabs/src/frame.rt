@@ -25,7 +25,7 @@ impl<'h, 's> Frame<'h, 's> {
     ghost use Rattle.p10_elabs.specs.LocalDeclarations.{is_frame_variable};
     ghost use Rattle.p10_elabs.specs.FrameViews.{plain_frame};
 
-    /// Whether the variable of a number is a frame variable, where its type is given: a scalar whose address isn't taken.
+    /// Whether the variable with a number is a frame variable, where its type is given: a scalar whose address isn't taken.
     pub fn is_frame_variable(&self, number: u32, ty: &CType) -> bool
         ensures { result ≡ is_frame_variable (plain_frame self.now) number (plain_type ty.now) }
     {

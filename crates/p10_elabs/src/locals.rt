@@ -23,7 +23,12 @@ use p10_elabx::{Named, declarator_place, known_size};
 use p10_syn::{Decl, Declarator, Identifier, Init};
 use std::alloc::{AllocError, Global};
 
-/// The type that the specifiers of a declaration name, where they name one; `outside` says that it stands outside of functions.
+/// The type that the specifiers of the declaration `d` name at a site, where they name one; `outside` says that it stands outside of
+/// functions. `None` where it is refused, and a row that holds is noted.
+///
+/// # Errors
+///
+/// Out of memory.
 pub fn specified_in<'s>(
     alloc: Global,
     standing: &mut Standing<'s>,
@@ -107,7 +112,7 @@ fn typedef_of<'s>(
     }
 }
 
-/// The size of a type in bytes (C99 6.5.3.4). Where it isn't known, or is more than a type may have, out of memory.
+/// The size of a type in bytes (C99 6.5.3.4). One that isn't known, or is more than a type may have, is answered as out of memory.
 pub fn bytes_of(types: &Types<'_>, ty: &CType) -> Result<u64, AllocError>
     ensures { IfOk result (λ n. n ≡ size_of (plain_types types.now) (plain_type ty.now)) }
 {
@@ -118,7 +123,7 @@ pub fn bytes_of(types: &Types<'_>, ty: &CType) -> Result<u64, AllocError>
     }
 }
 
-/// An array of so many elements; that it is too large is refused at its brackets.
+/// An array of `count` elements; one that is too large is refused at its brackets.
 fn counted_array(
     alloc: Global,
     standing: &mut Standing<'_>,
@@ -144,7 +149,7 @@ fn counted_array(
     }
 }
 
-/// An array of as many elements as an initialiser gives (C99 6.7.8p22); that it is too large is refused at its brackets.
+/// An array of as many elements as an initialiser gives (C99 6.7.8p22); one that is too large is refused at its brackets.
 pub fn filled_array<'s>(
     alloc: Global,
     standing: &mut Standing<'s>,
@@ -166,8 +171,12 @@ pub fn filled_array<'s>(
     }
 }
 
-/// The type of an object: it has a size; the length of an array may come from its initialiser (C99 6.7p7, 6.7.8p22). Where its name
-/// and its brackets stand are given.
+/// The type of an object: it has a size; the length of an array may come from its initialiser (C99 6.7p7, 6.7.8p22). `name_at` and
+/// `brackets` say where its name and its brackets stand. `None` where it is refused, and a row that holds is noted.
+///
+/// # Errors
+///
+/// Out of memory.
 pub fn object_type<'s>(
     alloc: Global,
     standing: &mut Standing<'s>,
@@ -221,7 +230,12 @@ pub(crate) fn declared_object<'s>(
     }
 }
 
-/// What an object of a type and a lifetime is initialised with, if an initialiser is written (C99 6.7.8).
+/// What an object of the type `ty` and the lifetime `life` is initialised with, if an initialiser is written (C99 6.7.8). `None` where it
+/// is refused, and a row that holds is noted.
+///
+/// # Errors
+///
+/// Out of memory.
 pub fn initialized_by<'s>(
     alloc: Global,
     standing: &mut Standing<'s>,

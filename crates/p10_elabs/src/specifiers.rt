@@ -30,7 +30,7 @@ pub(crate) enum Declares {
     Functions,
 }
 
-/// Whether it is so of a declarator.
+/// Whether that holds for a declarator.
 fn passes_declarator(asked: Declares, d: &InitDeclarator<'_>) -> bool
     ensures { result ≡ passes_declarator asked (init_declarator_of d.now) }
 {
@@ -40,7 +40,7 @@ fn passes_declarator(asked: Declares, d: &InitDeclarator<'_>) -> bool
     }
 }
 
-/// Whether it is so of each declarator.
+/// Whether that holds for each declarator.
 fn all_pass(asked: Declares, all: &[InitDeclarator<'_>]) -> bool
     ensures { result ≡ all_pass asked (map init_declarator_of all.now) }
 {
@@ -54,7 +54,7 @@ fn all_pass(asked: Declares, all: &[InitDeclarator<'_>]) -> bool
     true
 }
 
-/// Whether it is so of each declarator, and there is one.
+/// Whether that holds for each declarator, and there is one.
 fn are_so(asked: Declares, all: &[InitDeclarator<'_>]) -> bool
     ensures { result ≡ are_so asked (map init_declarator_of all.now) }
 {

@@ -358,8 +358,13 @@ fn switched_item<'s>(
     Ok(Switched { items, labels })
 }
 
-/// The items of a block after those before, and what each is for the pragmas; those of the body of `main` may be pragmas. Where an
-/// item is refused, or a row holds in it, that stands in what the body has then.
+/// The items of a block, `all`, after those before, and what each is for the pragmas (C99 6.8.2). `in_main` says that they are items of
+/// the body of `main`, which may be pragmas; `round` what stands round them. Where an item is refused, or a row holds in it, that stands
+/// in what the body, `local`, has then.
+///
+/// # Errors
+///
+/// Out of memory.
 #[cycle(statements)]
 pub fn items_done<'s>(
     all: &[Stmt<'s>],

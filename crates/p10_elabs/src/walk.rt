@@ -249,7 +249,12 @@ fn walk_all<'s>(all: &[Stmt<'s>], alloc: Global, walk: &mut Walk<'s>) -> Result<
     Ok(())
 }
 
-/// The variables of a function whose addresses are taken in its body, in operands that are evaluated.
+/// The numbers of the variables of a function whose addresses are taken in its body, in operands that are evaluated. The parameters are
+/// its first variables.
+///
+/// # Errors
+///
+/// Out of memory.
 pub fn addresses_taken<'s>(
     alloc: Global,
     parameters: &[DeclaredParameter<'s>],

@@ -30,7 +30,7 @@ called_is s at name_at all c n w k j en ew ek ej =
     ej ∙ ap (call_judged only_first at name_at c n) (ek ∙ ap (asked s all) ew)
     ∙ ap (called s at name_at all c) (en ∙ sym (count_row all))
 
--- a call of a name where an operand is wanted
+-- a call of a name where an operand is needed
 pub named_is : (s : PlainScope) (at : At) (f : Identifier At) (all : List Expr) (what : Option Meaning) (c : Callee) (n : ℕ) (w : List Wanted) (k : Listed) (j r : Judged PlainOperand) →
     what ≡ named s f.name → c ≡ callee_of what f.name → n ≡ length all → w ≡ wanted_of (wants_of c) n → k ≡ asked s all w →
     j ≡ call_judged only_first at f.place c n k → r ≡ operand_call only_first at c j →

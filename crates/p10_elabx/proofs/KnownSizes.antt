@@ -91,7 +91,7 @@ known_small ss t size e =
     let both : (has_size ss t ≡ true) × (size ≡ size_of ss t) = known_some _ _ size e in
     subst (λ k. k ≤ most_bytes) (sym both.1) (leb-true _ _ (has_small ss t both.0))
 
--- an array has so many times the size of its elements
+-- an array has n times the size of an element
 pub array_known : (ss : List PlainStructure) (whole : PlainType) (c : Bool) (t : PlainType) (n size : ℕ) (r : Option ℕ) → whole ≡ array c t n →
     Some size ≡ (if has_size ss t then Some (size_of ss t) else None) →
     r ≡ (if nat_le (n * size) most_bytes then Some (n * size) else None) →

@@ -129,7 +129,7 @@ pub arrow_whole : (c : Surroundings) (at : At) (name : Text) (v : PlainValue) �
 arrow_whole c at name (value b (pointer d (structure e n)) f) w = member_in_whole c at name (place at (structure e n) (dereference (value b (pointer d (structure e n)) f))) (w.0, w.1)
 arrow_whole c at name v w = tt
 
--- `&`, but of the name of a frame variable
+-- `&`, except of the name of a frame variable
 pub address_whole : (c : Surroundings) (at : At) (o : PlainOperand) → WholeOperand c false o → IfRuled (WholeOperand c false) (address_found at o)
 address_whole c at (a_value v) w = tt
 address_whole c at (a_function b) w = tt

@@ -31,7 +31,7 @@ abbrev pub IfFound : {A : Type 0} → (A → Type 0) → Found A → Type 0
 IfFound P (Ok a) = P a
 IfFound P (Err rs) = Unit {0}
 
--- the same of what a row gives
+-- the same for what a row gives
 abbrev pub IfRuled : {A : Type 0} → (A → Type 0) → Ruled A → Type 0
 IfRuled P (Ok a) = P a
 IfRuled P (Err r) = Unit {0}
@@ -193,7 +193,7 @@ converted_by c v t false e w k = ((w.0, k), refl)
 pub converted_whole : (c : Surroundings) (v : PlainValue) (t : PlainType) → WholeValue c v → fits (is_null v) (type_of v) t ≡ true → t ≡ unqualified t → WholeOf c t (converted v t)
 converted_whole c v t w f q = converted_by c v t (same (type_of v) t) refl w (converts v (type_of v) t refl f w.1 q)
 
--- the mark of the wanted type doesn't count
+-- the mark of the expected type doesn't count
 fits_off : (null : Bool) (s t : PlainType) → fits null s t ≡ true → fits null s (unqualified t) ≡ true
 fits_off null (integer a i) (integer b j) f = refl
 fits_off null (integer a i) (pointer b t) f = f

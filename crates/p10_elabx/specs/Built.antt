@@ -50,17 +50,17 @@ abbrev pub ruled_value : Result Value (Option Problem) → Ruled PlainValue
 ruled_value (Ok v) = Ok (plain_value v)
 ruled_value (Err r) = Err r
 
--- the same of operands
+-- the same for operands
 abbrev pub ruled_operand : Result Operand (Option Problem) → Ruled PlainOperand
 ruled_operand (Ok o) = Ok (plain_operand o)
 ruled_operand (Err r) = Err r
 
--- the same of targets
+-- the same for targets
 abbrev pub ruled_target : Result (PlaceKind × Place) (Option Problem) → Ruled (PlaceKind × PlainPlace)
 ruled_target (Ok (kind, p)) = Ok (kind, plain_place p)
 ruled_target (Err r) = Err r
 
--- the same of statements
+-- the same for statements
 abbrev pub ruled_form : Result StmtForm (Option Problem) → Ruled PlainStatementForm
 ruled_form (Ok f) = Ok (plain_statement_form f)
 ruled_form (Err r) = Err r
@@ -78,12 +78,12 @@ abbrev pub ruled_shape : Result Shape (Option Problem) → Ruled PlainShape
 ruled_shape (Ok s) = Ok (plain_shape s)
 ruled_shape (Err r) = Err r
 
--- the same of a type
+-- the same for a type
 abbrev pub ruled_type : Result CType (Option Problem) → Ruled PlainType
 ruled_type (Ok t) = Ok (plain_type t)
 ruled_type (Err r) = Err r
 
--- the same of a type that is lent
+-- the same for a type that is lent
 abbrev pub ruled_lent : Result (Bor CType) (Option Problem) → Ruled PlainType
 ruled_lent (Ok t) = Ok (plain_type t.now)
 ruled_lent (Err r) = Err r
@@ -92,17 +92,17 @@ ruled_lent (Err r) = Err r
 abbrev pub plain_size : CType × Value → PlainType × PlainValue
 plain_size (t, v) = (plain_type t, plain_value v)
 
--- the same of a type with its size
+-- the same for a type with its size
 abbrev pub ruled_size : Result (CType × Value) (Option Problem) → Ruled (PlainType × PlainValue)
 ruled_size (Ok x) = Ok (plain_size x)
 ruled_size (Err r) = Err r
 
--- the same of a type that may be lacking
+-- the same for a type that may be lacking
 abbrev pub ruled_named : Result (Option CType) (Option Problem) → Ruled (Option PlainType)
 ruled_named (Ok o) = Ok (option_map plain_type o)
 ruled_named (Err r) = Err r
 
--- the same of the types of parameters
+-- the same for the types of parameters
 abbrev pub ruled_types : Result (Vec CType Global) (Option Problem) → Ruled (List PlainType)
 ruled_types (Ok ts) = Ok (map plain_type ts.items)
 ruled_types (Err r) = Err r

@@ -194,7 +194,7 @@ abbrev pub points_to : PlainType → PlainType → Bool
 points_to (pointer c t) element = same t element
 points_to t element = false
 
--- an allocation of elements of a type under a cast: the cast's type is a pointer to just that type
+-- an allocation of elements of a type under a cast: the cast's type is a pointer to exactly that type
 abbrev pub allocation : At → PlainType → At → At → Library → PlainType → Option PlainValue → Ruled PlainOperand
 allocation cast_at t at name_at f element count =
     if points_to t element

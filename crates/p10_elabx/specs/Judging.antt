@@ -467,7 +467,7 @@ abbrev mutual
   judge_type h s (type_name at specifiers d) =
       judge_declarator h s (declarator_place d) around.Nothing (specifiers_judged h s at specifiers) d
 
-  -- what a declarator makes of a type: where an incomplete type is told, and what stands round the declarator, are given
+  -- what a declarator makes of a type: where an incomplete type is refused, and what stands round the declarator, are given
   pub judge_declarator : Keep → PlainScope → At → Made → Judged Shape → Declarator At → Judged Shape
   judge_declarator h s name_at made j (Named name) = j
   judge_declarator h s name_at made j (Unnamed at) = j

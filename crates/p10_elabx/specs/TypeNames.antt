@@ -59,7 +59,7 @@ signed_or_not unsigned_words signed_type unsigned_type = if nat_eq unsigned_word
 abbrev pub is_signed_once : Words → Bool
 is_signed_once w = nat_le (w.signed_words + w.unsigned_words) 1
 
--- whether `void`, `_Bool`, `char` and `short` stand so often
+-- whether `void`, `_Bool`, `char` and `short` stand this many times each
 abbrev pub stand : Words → ℕ → ℕ → ℕ → ℕ → Bool
 stand w v b c s = nat_eq w.void_words v && (nat_eq w.bool_words b && (nat_eq w.char_words c && nat_eq w.short_words s))
 
@@ -71,7 +71,7 @@ stand_alone w = nat_eq (w.int_words + w.long_words + w.signed_words + w.unsigned
 abbrev pub char_type : Words → IntType
 char_type w = if nat_eq w.unsigned_words 1 then type.UChar else (if nat_eq w.signed_words 1 then type.SChar else type.Char)
 
--- the type of `int` with so many `long`
+-- the type of `int`, or of the `long`s that are written
 abbrev pub long_type : Words → Option PlainType
 long_type w =
     if nat_eq w.long_words 0 then (if nat_eq (w.int_words + w.signed_words + w.unsigned_words) 0 then None else Some (integer false (signed_or_not w.unsigned_words type.Int type.UInt)))
@@ -251,7 +251,7 @@ declarator_place (Parenthesised at d) = at
 declarator_place (Array at d brackets length) = at
 declarator_place (Function at d parentheses _ _) = at
 
--- where an incomplete type is told: at the declared name; where nothing is named, at a tree that is given
+-- where an incomplete type is refused: at the declared name; where nothing is named, at a tree that is given
 abbrev pub name_place : At → Declarator At → At
 name_place otherwise (Named name) = name.place
 name_place otherwise (Unnamed at) = otherwise
@@ -316,7 +316,7 @@ abbrev pub array_length : ℤ → Option ℕ
 array_length (pos n) = if nat_le 1 n && nat_le n most_bytes then Some n else None
 array_length (negsuc n) = None
 
--- so many elements, of an array that isn't larger than a type may be
+-- the number of elements of an array, which isn't larger than a type may be
 abbrev pub counted_array : List PlainStructure → At → PlainType → Option ℕ → Ruled Shape
 counted_array structures at t None = refused subset.BadLength at
 counted_array structures at t (Some n) =

@@ -69,7 +69,7 @@ fn array_length(length: i128) -> Option<u64>
     Some(length as u64)
 }
 
-/// An array of so many elements, unless it is too large.
+/// An array of `count` elements, unless it is too large.
 fn counted_array(
     alloc: Global,
     types: &Types<'_>,

@@ -390,7 +390,7 @@ pub fn call_judged(
     Ok(also_operand(unordered, SubsetCode::UnspecifiedOrder, at, seen))
 }
 
-/// What is found in a call where an operand is wanted.
+/// What is found in a call where an operand is needed.
 #[tactic(auto, unfolding(crate::specs::Calls::operand_call))]
 pub fn operand_call(at: At, callee: &Callee<'_>, j: Judged<Operand>) -> Judged<Operand>
     ensures { judged_operand result ≡ operand_call only_first at (plain_callee callee.now) (judged_operand j) }

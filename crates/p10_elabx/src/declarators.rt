@@ -30,7 +30,7 @@ pub fn declarator_place(d: &Declarator<'_>) -> At
     }
 }
 
-/// Where an incomplete type is told: at the declared name; where nothing is named, at a tree that is given.
+/// Where an incomplete type is refused: at the declared name; where nothing is named, at a tree that is given.
 pub fn name_place(otherwise: At, d: &Declarator<'_>) -> At
     ensures { result ≡ name_place otherwise (declarator_of d.now) }
 {

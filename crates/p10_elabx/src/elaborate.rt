@@ -31,7 +31,8 @@ pub enum ElabFault {
 /// # Errors
 ///
 /// The first of all rows S1 to S25 that hold in the expression: the one whose tree begins first, of these the one with the least
-/// number, and of these the one of the smallest tree.
+/// number, and of these the one of the smallest tree. [`ElabFault::NothingSaid`] where no row holds, but a name is used whose
+/// declaration was refused. Else [`ElabFault::Memory`].
 pub fn value(alloc: Global, scope: &Scope<'_>, e: &Expr<'_>) -> Result<Value, ElabFault>
     requires { AreWholeStructures (plain_scope scope.now).structures }
     ensures { Answers (as_value (plain_scope scope.now).structures (judge every (plain_scope scope.now) (expression_of e.now))).found result }

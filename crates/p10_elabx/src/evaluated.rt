@@ -21,7 +21,12 @@ use p10_core::{Place, Value};
 use p10_syn::Expr;
 use std::alloc::{AllocError, Global};
 
-/// What is found in an expression.
+/// What is found in the expression `e` in a scope, where it is evaluated: an operand, or the first row of the subset that holds in it,
+/// or neither (see [`Judged`]).
+///
+/// # Errors
+///
+/// Out of memory.
 pub fn judge(alloc: Global, scope: &Scope<'_>, e: &Expr<'_>) -> Result<Judged<Operand>, AllocError>
     requires { AreWholeStructures (plain_scope scope.now).structures }
     ensures { IfOk result (λ j. judged_operand j ≡ judge only_first (plain_scope scope.now) (expression_of e.now)) }
@@ -36,7 +41,12 @@ pub fn judge(alloc: Global, scope: &Scope<'_>, e: &Expr<'_>) -> Result<Judged<Op
     )
 }
 
-/// What is found in an expression where a value is needed.
+/// What is found in the expression `e` in a scope, where it is evaluated and a value is needed: the value, or the first row that holds,
+/// or neither.
+///
+/// # Errors
+///
+/// Out of memory.
 pub fn judge_value(
     alloc: Global,
     scope: &Scope<'_>,
@@ -55,7 +65,12 @@ pub fn judge_value(
     )
 }
 
-/// What is found in the target of an assignment or a step.
+/// What is found in the target `e` of an assignment or a step in a scope: the place and its kind, or the first row that holds, or
+/// neither.
+///
+/// # Errors
+///
+/// Out of memory.
 pub fn judge_target(
     alloc: Global,
     scope: &Scope<'_>,
@@ -74,7 +89,12 @@ pub fn judge_target(
     )
 }
 
-/// What is found in arguments, or in operands of the comma operator.
+/// What is found in the arguments `all` of a call in a scope, or in operands of the comma operator, from the left; `wants` says what is
+/// asked of each.
+///
+/// # Errors
+///
+/// Out of memory.
 pub fn judge_arguments(
     alloc: Global,
     scope: &Scope<'_>,

@@ -242,7 +242,7 @@ fn function_found(
 #[derive(Clone, Copy, Debug)]
 pub struct FunctionSite {
     pub at: At,
-    /// Where an incomplete type is told.
+    /// Where an incomplete type is refused.
     pub name_at: At,
     /// The parentheses.
     pub parentheses: At,

@@ -44,7 +44,7 @@ fn structure_size(types: &Types<'_>, number: u32) -> Option<u64>
     }
 }
 
-/// So many times a size, if that isn't too large.
+/// A size times a length, if that isn't too large for a type.
 #[tactic(auto, using(crate::proofs::KnownSizes::product_within, crate::proofs::KnownSizes::product_beyond))]
 fn product(length: u64, size: u64) -> Option<u64>
     requires { size ≤ most_bytes }
@@ -58,7 +58,7 @@ fn product(length: u64, size: u64) -> Option<u64>
     }
 }
 
-/// Whether so many bytes aren't more than a type may have.
+/// Whether a type may have this many bytes.
 #[tactic(auto, using(crate::proofs::KnownSizes::most_is))]
 pub fn is_small(bytes: u64) -> bool
     ensures { result ≡ nat_le bytes most_bytes }

@@ -236,7 +236,7 @@ fn no_operand(found: Result<StmtForm, Option<Problem>>) -> Result<Operand, Optio
     }
 }
 
-/// An assignment or a step where an operand is wanted.
+/// An assignment or a step where an operand is needed.
 #[tactic(auto, unfolding(crate::specs::Judging::nested))]
 pub fn nested(at: At, j: Judged<StmtForm>) -> Judged<Operand>
     ensures { judged_operand result ≡ nested only_first at (judged_form j) }

@@ -46,7 +46,8 @@ use p10_core::{CType, Place, Value};
 use p10_syn::{Declarator, Expr, Form, Identifier, Parameter, TypeName};
 use std::alloc::{AllocError, Global};
 
-/// What is found in an expression.
+/// What is found in the expression `e`, in a scope where it is evaluated or not: an operand, or the first row that holds in it, or
+/// neither.
 #[cycle(judge)]
 pub fn judge(
     alloc: Global,
@@ -165,7 +166,7 @@ pub fn judge(
     }
 }
 
-/// What is found in an expression where a value is needed.
+/// What is found in the expression `e` where a value is needed: the value, or the first row that holds, or neither.
 #[cycle(judge)]
 pub fn judge_value(
     alloc: Global,
@@ -180,7 +181,7 @@ pub fn judge_value(
     Ok(value_if_evaluated(situation.evaluated, value))
 }
 
-/// What is found in the target of an assignment or a step.
+/// What is found in the target `e` of an assignment or a step: the place and its kind, or the first row that holds, or neither.
 #[cycle(judge)]
 pub fn judge_target(
     alloc: Global,
@@ -195,7 +196,7 @@ pub fn judge_target(
     Ok(target_if_evaluated(situation.evaluated, target))
 }
 
-/// What is found in arguments, or in operands of the comma operator.
+/// What is found in the arguments `all`, or in operands of the comma operator, from the left; `wants` says what is asked of each.
 #[cycle(judge)]
 pub fn judge_arguments(
     alloc: Global,
@@ -215,7 +216,7 @@ pub fn judge_arguments(
     Ok(list)
 }
 
-/// What is found in a call of a name, where an operand is wanted.
+/// What is found in a call of a name, where an operand is needed.
 #[cycle(judge)]
 fn judge_call(
     alloc: Global,
@@ -234,7 +235,11 @@ fn judge_call(
     Ok(operand_call(at, &callee, seen))
 }
 
-/// What is found in the name of a type.
+/// The type that a type name names in a scope, or the first row that holds in it, or neither (C99 6.7.6).
+///
+/// # Errors
+///
+/// Out of memory.
 #[cycle(judge)]
 pub fn judge_type(
     alloc: Global,
@@ -256,7 +261,12 @@ pub fn judge_type(
     )
 }
 
-/// What a declarator makes of a type: where an incomplete type is told, and what stands round the declarator, are given.
+/// What the declarator `d` makes of the type `shape` in a scope, if that wasn't refused (C99 6.7.5, 6.7.6). `name_at` is where an
+/// incomplete type is refused, and `made` what the declarator round this one makes.
+///
+/// # Errors
+///
+/// Out of memory.
 #[cycle(judge)]
 pub fn judge_declarator(
     alloc: Global,
@@ -310,7 +320,12 @@ pub fn judge_declarator(
     }
 }
 
-/// The types of the parameters of a function; whether there is one alone that names nothing is given.
+/// The types of the parameters of a function, or the first row that holds in them, or neither (C99 6.7.5.3). `alone` says that there is
+/// one parameter, which names nothing: its `void` then says that there are none.
+///
+/// # Errors
+///
+/// Out of memory.
 #[cycle(judge)]
 pub fn judge_parameters(
     alloc: Global,

@@ -180,7 +180,7 @@ fn is_signed_once(w: &Words) -> bool
     }
 }
 
-/// Whether `void`, `_Bool`, `char` and `short` stand so often.
+/// Whether `void`, `_Bool`, `char` and `short` stand this many times each.
 fn stand(w: &Words, void: usize, truth: usize, char: usize, short: usize) -> bool
     ensures { result ≡ stand w.now void truth char short }
 {

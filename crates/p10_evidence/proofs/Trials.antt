@@ -30,7 +30,7 @@ ranks_told depth turns vars One at entry r = none_of_three (enters_ranked One r.
 ranks_told depth turns vars (Up v bound) at entry r = none_of_three (enters_ranked (Up v bound) r.enters) (goes_back_ranked (Up v bound) r.back) (is_enough turns (rank_in (Up v bound) entry)) at
 ranks_told depth turns vars (Down v bound) at entry r = none_of_three (enters_ranked (Down v bound) r.enters) (goes_back_ranked (Down v bound) r.back) (is_enough turns (rank_in (Down v bound) entry)) at
 
--- the trial round of a statement tells whether a claim holds of it
+-- the trial round of a statement decides whether a claim holds for it
 pub trial_told : (variables : List PlainVariable) (s : PlainStatement) (entry : Environment) (claim : Loop) →
     stands_with variables (round_at (trial_manner variables) s (head_of claim variables entry)) entry claim ≡ loop_stands variables (parts_of s) entry claim
 trial_told variables (statement at (loop head first tested third body)) entry claim =

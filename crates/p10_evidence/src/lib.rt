@@ -9,7 +9,7 @@
 //! int i = 0; while (i < 3) { i = i + 1; }                 // up i 3 turns 3, with i in [0, 3]
 //! ```
 //!
-//! and not for 2 turns of it. It is a function of any program and claim, so nothing is asked of a caller; it fails only out of memory.
+//! and not for 2 turns of it. It is a function of any program and claim, so nothing is asked of a caller; it fails only where memory runs out.
 //! Invariant: a search has passed as many loops as its number has fallen.
 //! That such a loop does keep its turns is a law of `p10_turns`.
 #![tactic(auto)]

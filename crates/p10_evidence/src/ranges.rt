@@ -57,7 +57,7 @@ fn stands_in(
     }
 }
 
-/// The same of a function that is there.
+/// The same for a function that is there.
 fn stands_among(
     alloc: Global,
     function: &Func<'_>,

@@ -33,7 +33,7 @@ abbrev UpTo : ℤ → Interval → ℕ → Option ℤ → Type 0
 UpTo bound all n (Some z) = (bound -ℤ z) ≤ℤ pos n
 UpTo bound all n None = (bound -ℤ all.low) ≤ℤ pos n
 
--- the same of `down`
+-- the same for `down`
 abbrev DownTo : ℤ → Interval → ℕ → Option ℤ → Type 0
 DownTo bound all n (Some z) = (z -ℤ bound) ≤ℤ pos n
 DownTo bound all n None = (all.high -ℤ bound) ≤ℤ pos n

@@ -54,7 +54,7 @@ module _ (variables : List PlainVariable) where
   MaybeScoped but env None = Unit {0}
   MaybeScoped but env (Some other) = Scoped but env other
 
-  -- the same of each end
+  -- the same for each end
   pub record EndsScoped (but : ℕ → Bool) (env : Environment) (a : Left) : Type 0 where
     pub normal : MaybeScoped but env a.normal
     pub breaks : MaybeScoped but env a.breaks

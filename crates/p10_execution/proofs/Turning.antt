@@ -107,7 +107,7 @@ on_back_both continued P Q h k = (h, k)
 on_back_both broken P Q h k = tt
 on_back_both (returned x) P Q h k = tt
 
--- a loop that enters its body so often, and whose tests and rounds keep something
+-- a loop that enters its body this often, and whose tests and rounds keep something
 module _ (Tested Entered : Frame → State → Type 0) (test : Frame → State → Progress Bool) (round : Frame → State → Progress Done) (TestKeeps RoundKeeps : Frame → State → Type 0)
     (tests : (frame : Frame) (w : State) → Tested frame w → HoldsOf (λ more w. more ≡ true → Entered frame w) (test frame w))
     (rounds : (frame : Frame) (w : State) → Entered frame w → HoldsOf (λ (d : Done) w. OnBack d.flow (Tested d.frame w)) (round frame w))

@@ -39,7 +39,7 @@ abbrev mutual
   pub loop_trees : PlainStatement → List LoopTree
   loop_trees (statement at form) = trees_of_form form
 
-  -- the same of a form of statement
+  -- the same for a form of statement
   pub trees_of_form : PlainStatementForm → List LoopTree
   trees_of_form (block xs) = trees_among xs
   trees_of_form (if_then v x) = loop_trees x
@@ -48,7 +48,7 @@ abbrev mutual
   trees_of_form (switch keyword v labels body) = loop_trees body
   trees_of_form form = []
 
-  -- the same of statements, one after the other
+  -- the same for statements, one after the other
   pub trees_among : PlainStatements → List LoopTree
   trees_among no_statements = []
   trees_among (more_statements x rest) = loop_trees x ++ trees_among rest

@@ -28,7 +28,7 @@ pub record IsReturned (returned : Option Interval) (claim : Option Value) (z : �
   pub member : IsSomeAnd returned (λ r. IsMember r z)
   pub claimed : LiesInClaim claim z
 
--- the same of what is returned, if it is a number
+-- the same for what is returned, if it is a number
 abbrev pub ReturnsIn : Option Interval → Option Value → Option Scalar → Type 0
 ReturnsIn range claim (Some (Int z)) = IsReturned range claim z
 ReturnsIn range claim x = Unit {0}

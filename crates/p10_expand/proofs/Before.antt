@@ -108,7 +108,7 @@ module _ (macros : Table) (taken words : List PlainWord) (left : ℕ) (same : ta
 
 -- ## The answer
 
--- a run that is refused at a place, behind what the words before it give
+-- a run that is refused at a place, after what the words before it give
 pub refused_so : (s new : State) (words : List PlainWord) (refusal : Refusal) → FrontsGive → ComeInOrder 0 words → IsFault s.macros words s.left (fault.Refused refusal) → GivesBefore s (words_before refusal.span words) new → TextGives s words (StopsWith (RefusedBy new refusal))
 refused_so s new words refusal fronts order (family, ends) given =
     let (made, remaining, gives) = words_before_give fronts s.macros words s.left refusal.number refusal.span order ends in

@@ -1,4 +1,4 @@
--- Replacement gives no more words than it is given, but for those that it counts.
+-- Replacement gives no more words than it is given, except for those that it counts.
 use Rattle.std.proofs.Common.{◌≡◌, ℕ, zero, suc, ◌+◌, ◌≤◌, ◌==◌, List, [], ◌∷◌, ◌++◌, length, map, Bool, true, false, ◌&&◌, if◌then◌else◌, Option, Some, None, sym, subst, arith, length-append}
 use Rattle.std.proofs.lemmas.List.{length-map}
 use Rattle.p10_base.specs.declared.span.Span.{Span}

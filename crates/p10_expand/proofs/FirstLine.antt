@@ -8,7 +8,7 @@ use Rattle.p10_expand.specs.Obeying.{State, PassedLimit, Ended, Finished, Stoppe
 use Rattle.p10_expand.specs.Expands.{passed_line, FileEnds, LinesEnd, next_line, file_finished, file_stopped, nested_too_deep, line_stops}
 use Rattle.p10_base.specs.declared.report.TheConstants.Limit.{NESTED_INCLUDES}
 
--- what comes of an included file, in a file in which so many includes may be nested
+-- what comes of an included file, in a file in which a number of includes may be nested
 abbrev pub IncludeEnds : Gathered → ℕ → ℕ → Bool → State → Ended → Type 0
 IncludeEnds g zero number built_in s ended = ended ≡ Stopped (PassedLimit NESTED_INCLUDES)
 IncludeEnds g (suc more) number built_in s ended = FileEnds g more number built_in s ended

@@ -15,7 +15,7 @@ use Rattle.p10_expand.specs.Obeying.{State, TextGives, RunGives}
 use Rattle.p10_expand.specs.Before.{ComeInOrder}
 use Rattle.p10_expand.specs.private.Steps.{Steps}
 
--- those that come behind a place come behind an earlier one
+-- those that come after a place come after an earlier one
 earlier : (place before : ℕ) (words : List PlainWord) → before ≤ place → ComeInOrder place words → ComeInOrder before words
 earlier place before [] less order = tt
 earlier place before (word ∷ words) less order = (omega (arith, less, order.0), order.1)
@@ -70,7 +70,7 @@ joined_lines (word ∷ words) =
     let others : word ∷ joined (lines_of words) ≡ word ∷ words = ap (λ (others : List PlainWord). word ∷ others) (joined_lines words) in
     joined_if (ends_line words) ((word ∷ []) ∷ lines_of words) (onto_line word (lines_of words)) (word ∷ words) others (joined_onto word (lines_of words) ∙ others)
 
--- other words behind the first ones
+-- other words after the first ones
 behind_in_order : (place : ℕ) (front these those : List PlainWord) → ((from : ℕ) → ComeInOrder from these → ComeInOrder from those) → ComeInOrder place (front ++ these) → ComeInOrder place (front ++ those)
 behind_in_order place [] these those change order = change place order
 behind_in_order place (word ∷ front) these those change order = (order.0, behind_in_order (suc word.at.start) front these those change order.1)

@@ -29,7 +29,7 @@ pub before_behind : (test : PlainWord → Bool) (words : List PlainWord) → bef
 before_behind test [] = refl
 before_behind test (word ∷ words) = whole_by (test word) word words _ _ (before_behind test words)
 
--- what stands after a front, by the lengths
+-- what stands after a prefix, by the lengths
 pub drop_to : (front after all : List PlainWord) → all ≡ front ++ after → drop (length all - length after) all ≡ after
 drop_to front after all same =
     let count : length all - length after ≡ length front = omega (arith, ap length same, length-append front after) in
@@ -51,7 +51,7 @@ line_cut_of all place line after (word ∷ words) here some cut =
       rest = drop_to (take place all ++ line) after all (sym (take-append-drop place all) ∙ ap (λ rest. take place all ++ rest) (sym joined) ∙ sym (append_assoc (take place all) line after));
     }
 
--- the same of the code's words
+-- the same for the code's words
 pub record CutsLine (all : List Word) (place : ℕ) (line after : List Word) : Type 0 where
   pub lines : lines_of (drop place (map plain_word all)) ≡ map plain_word line ∷ lines_of (map plain_word after)
   pub rest : drop (length all - length after) (map plain_word all) ≡ map plain_word after

@@ -109,7 +109,7 @@ gathered_put : (s : Setting) (known : List Known) (g : Gathered) (k : Known) (te
 gathered_put s known g k text words many text_is lexed gathered =
     gathered_more s.held known g.files k (record { name = name_at k.place; text = text; built_in = is_header_place k.place; words = words; links = [] }) many gathered (record { named = refl; text = text_is; marked = refl; lexed = lexed })
 
--- a file that the next request finds is put behind the others
+-- a file that the next request finds is put after the others
 puts : (s : Setting) (known : List Known) (g : Gathered) (rest : List Request) (request : Request) (k : Known) (text : List ℕ) (words : List WordPlace) → k.depth ≡ depth_of request → HasText s.held k.place text → HasIncludes (count_of g) text words k.includes →
     Holds s known g (request ∷ rest) → Holds s (known ++ k ∷ []) (with_file g (name_at k.place) text (is_header_place k.place) words) (request ∷ (rest ++ lines_of (count_of g) k))
 puts s known g rest request k text words deep text_is lexed holds = record {
@@ -123,7 +123,7 @@ puts s known g rest request k text words deep text_is lexed holds = record {
   lines = lines_more s known g (request ∷ rest) (count_of g) k (name_at k.place) text (is_header_place k.place) words holds.many holds.many holds.lines;
 }
 
--- the places of a request are the same when a file was put behind the others
+-- the places of a request are the same when a file was put after the others
 places_grown : (dirs : List (List ℕ)) (known : List Known) (g : Gathered) (request : Request) (name text : List ℕ) (built_in : Bool) (words : List WordPlace) → length known ≡ count_of g → IsAsked known request → sought_places dirs (with_file g name text built_in words) request ≡ sought_places dirs g request
 places_grown dirs known g (Root name) other text built_in words many asked = refl
 places_grown dirs known g (Line from depth include) other text built_in words many asked = ap (λ n. candidates_of dirs n include) (name_grown g other text built_in words from (omega (arith, many, asked.held)))

@@ -65,7 +65,7 @@ lines_next : (number : ℕ) (k : Known) (b : Bool) → All (IsAtDepth (k.depth +
 lines_next number k true = All-map (IsAtDepth (k.depth + 1)) (Line number (k.depth + 1)) k.includes (λ i d below. refl)
 lines_next number k false = All-nil (IsAtDepth (k.depth + 1))
 
--- a file that the next request finds is put behind the others, and its include lines behind the requests
+-- a file that the next request finds is put after the others, and its include lines after the requests
 pub levels_more : (known : List Known) (rest : List Request) (request : Request) (number : ℕ) (k : Known) → k.depth ≡ depth_of request → AreLevels known rest (depth_of request) →
     AreLevels (known ++ k ∷ []) (request ∷ (rest ++ lines_of number k)) (depth_of request)
 levels_more known rest request number k deep levels = record {

@@ -62,7 +62,7 @@ module _ (g : Gathered) where
   abbrev pub Coming : PlainWord → Type 0
   Coming word = Comes g word
 
-  -- a word of a file, but for its place
+  -- a word of a file, except for its place
   pub record IsPart (word : PlainWord) : Type 0 where
     pub part : PlainWord
     pub written : IsWritten g part

@@ -1,4 +1,4 @@
--- What a program is refused by, which limits it may pass, and how many roots it expands to.
+-- What a program is refused by, which limits it may exceed, and how many roots it expands to.
 use Rattle.std.proofs.Common.{◌≡◌, ◌⊎◌, inl, inr, ℕ, ◌+◌, ◌≤◌, List, [], ◌∷◌, ◌++◌, length, length-append, Bool, true, false, MatchBool, if◌then◌else◌, nat_lt, Option, Some, None, IfSome, Result, Ok, Err, refl, sym, subst, arith}
 use Rattle.std.proofs.lemmas.List.{length-map}
 use Rattle.p10_base.specs.declared.span.Span.{Span}
@@ -154,7 +154,7 @@ roots_numbered (root_finished file others) = roots_numbered others
 roots_numbered (root_refused file) = file_numbered file
 roots_numbered (limit_passed file) = file_numbered file
 
--- there are words of so many roots
+-- there are words of `count` roots
 abbrev pub HasRoots : ℕ → Result Expansion Limit → Type 0
 HasRoots count (Ok expansion) = length expansion.roots ≡ count
 HasRoots count (Err limit) = Unit {0}

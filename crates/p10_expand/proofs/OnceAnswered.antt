@@ -1,4 +1,4 @@
--- Where files are told, each request is answered in one way, so there is one moment after so many answers.
+-- Where files are told, each request is answered in one way, so there is one moment after each number of answers.
 use Rattle.std.proofs.Common.{◌≡◌, ℕ, zero, suc, ◌+◌, ◌<◌, List, [], ◌∷◌, ◌++◌, length, sym, ◌∙◌, ap, subst, inl, inr, arith, length-append, ◌⊎◌}
 use Rattle.std.specs.Prelude.{All, IsSome}
 use Rattle.std.proofs.lemmas.Bool.{cases_order}
@@ -133,7 +133,7 @@ answered_once s m after other told distinct (inr (inr is)) (inl are) = absurd (p
 answered_once s m after other told distinct (inr (inr is)) (inr (inl are)) = absurd (meets_or_adds s m other after told are is)
 answered_once s m after other told distinct (inr (inr is)) (inr (inr are)) = adds_once s m after other told is are
 
--- one moment is reached after so many answers
+-- one moment is reached after a number of answers
 pub reached_once : (s : Setting) (answered : ℕ) (m other : Moment) → IsSome s.held → Reached s answered m → Reached s answered other → m ≡ other
 reached_once s zero m other told is are = is ∙ sym are
 reached_once s (suc answered) m other told (before, reached, answers) (before', reached', answers') =

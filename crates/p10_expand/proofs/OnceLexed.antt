@@ -1,4 +1,4 @@
--- A text has one list of include lines, or one refusal, or passes one limit.
+-- A text has one list of include lines, or one refusal, or exceeds one limit.
 use Rattle.std.proofs.Common.{◌≡◌, ◌≢◌, ℕ, List, [], ◌∷◌, Bool, sym, ◌∙◌, ap, subst, inl, inr}
 use Rattle.std.specs.Prelude.{Result, Ok, Err}
 use Rattle.p10_base.specs.declared.report.Refusal.{Refusal}
@@ -62,7 +62,7 @@ pub refusal_once : (number : ℕ) (text : List ℕ) (r q : Refusal) → Answers 
 refusal_once number text r q is are =
     same_refusal r q (same_answer number text (refused_by r) (refused_by q) (refusal_there r) (refusal_there q) is are)
 
--- a text passes one limit
+-- a text exceeds one limit
 pub limit_once : (number : ℕ) (text : List ℕ) (l m : Limit) → Answers number text (Err (Over l)) → Answers number text (Err (Over m)) → l ≡ m
 limit_once number text l m is are =
     same_limit l m (same_answer number text (passing l) (passing m) (limit_there l) (limit_there m) is are)

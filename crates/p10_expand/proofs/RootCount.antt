@@ -1,4 +1,4 @@
--- How many roots there are, and what a fault tells.
+-- How many roots there are, and what a fault says.
 use Rattle.std.proofs.Common.{◌≡◌, ℕ, zero, suc, ◌+◌, ◌<◌, ◌≤◌, Bool, true, false, cond, List, [], ◌∷◌, ◌++◌, length, map, refl, ap, sym, ◌∙◌, subst, inl, inr, arith, length-append}
 use Rattle.std.specs.Prelude.{nat_le, is_some}
 use Rattle.std.proofs.Math.Seq.{get_or-append_seam}
@@ -76,7 +76,7 @@ unfolding moment_roots
 gathers_roots s g gathers =
     ap root_count gathers.sources ∙ (omega (arith, ap asked_roots gathers.done) ∙ reached_roots s gathers.answered gathers.last gathers.reached)
 
--- ## What a fault tells
+-- ## What a fault says
 
 -- an absent root is one of the roots
 pub absent_below : (s : Setting) (place : ℕ) → FailsBy s (gathering.RootAbsent place) → place < length s.roots

@@ -38,7 +38,7 @@ roots_begin roots = record {
   named = λ i below. absurd (omega (arith, below));
 }
 
--- ## A file is put behind the others
+-- ## A file is put after the others
 
 pub known_grown : (known : List Known) (k : Known) (number : ℕ) → number < length known → known_at (known ++ k ∷ []) number ≡ known_at known number
 known_grown known k number held = get_or_append_left known (k ∷ []) no_known number held

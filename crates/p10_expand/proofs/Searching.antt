@@ -104,7 +104,7 @@ found_none told old new place depth found is none = subst (λ o. IsFound told ol
 found_some : (told : Option (List Named)) (old new : Gathering) (place : Place) (depth : ℕ) (found : Option ℕ) (number : ℕ) → IsFound told old new place depth found → found ≡ Some number → IsLocated told old new place depth number
 found_some told old new place depth found number is some = subst (λ o. IsFound told old new place depth o) some is
 
--- ## The same, as the code tells it: what files are told is the same before and after
+-- ## The same, as the code says it: the told files are the same before and after
 
 pub turn_fails : (was told : Option (List Named)) (old mid new : Gathering) (places : List Place) (i : ℕ) (place : Place) (trouble : Trouble) → was ≡ told →
     i < length places → place ≡ get_or places i place → Keeps old mid → All (IsAbsent told) (take i places) → Fails was mid new place trouble → FailsFirst told old new places trouble

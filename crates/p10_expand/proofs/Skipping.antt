@@ -12,7 +12,7 @@ use Rattle.p10_expand.specs.Groups.{Groups, outer_of, open_after_line, none_hold
 abbrev some_holds : Groups → Bool
 some_holds groups = list_any (λ h. h) groups
 
--- so many of the innermost conditionals have begun in a group that isn't chosen, in which nothing else around isn't; `chosen` tells
+-- `inner` of the innermost conditionals have begun in a group that isn't chosen, in which nothing else around isn't; `chosen` says
 -- whether another group of that conditional is
 abbrev pub Lacks : ℕ → Bool → List Groups → Type 0
 Lacks inner chosen [] = ⊥

@@ -1,4 +1,4 @@
--- What stands after a file was put behind the others, or linked.
+-- What stands after a file was put after the others, or linked.
 use Rattle.std.proofs.Common.{◌≡◌, ℕ, zero, suc, ◌+◌, ◌<◌, ◌≤◌, Bool, true, false, cond, List, [], ◌∷◌, ◌++◌, length, take, Option, Some, None, refl, ap, sym, ◌∙◌, subst, inl, inr, arith, length-append, get_or, set, below_more, ◌≢◌}
 use Rattle.std.specs.Prelude.{All, IsSome, IsSomeAnd, Err, is_some}
 use Rattle.std.proofs.lemmas.Bool.{cases_order}
@@ -63,7 +63,7 @@ front_there told (Header name) text is = some_there (header_of name) text is
 front_there None (File name) text is = tt
 front_there (Some files) (File name) text is = front_some (world.file_of name files) text is
 
--- a text that passes a limit, and a file of which it is the front
+-- a text that exceeds a limit, and a file of which it is a prefix
 over_some : (found : Option (List ℕ)) (text : List ℕ) (number : ℕ) (limit : Limit) → IsSomeAnd found (λ whole. text ≡ take 1048577 whole) → Answers number text (Err (lexing.Over limit)) →
     (whole : List ℕ) × (found ≡ Some whole) × Answers number whole (Err (lexing.Over limit))
 over_some None text number limit front over = absurd front

@@ -141,7 +141,7 @@ lines_append number (k ∷ first) second =
     ∙ (sym (append_assoc (lines_of number k) (lines_from (number + 1) first) (lines_from (number + 1 + length first) second))
     ∙ ap (λ n. lines_of number k ++ lines_from (number + 1) first ++ lines_from n second) (omega arith))
 
--- the include lines of all files from one on, where files were added behind the others
+-- the include lines of all files from one on, where files were added after the others
 grow_lines : (known behind : List Known) (file : ℕ) → file ≤ length known →
     lines_from file (drop file known) ++ lines_from (length known) (drop (length known) (known ++ behind)) ≡ lines_from file (drop file (known ++ behind))
 grow_lines known behind file within =

@@ -24,7 +24,7 @@ unbroken_first file = record { none = refl }
 
 -- ## What is open
 
--- a conditional is open around so many others
+-- a conditional is open around n others
 abbrev IsOpen : ℕ → List Groups → Type 0
 IsOpen n [] = ⊥
 IsOpen zero (groups ∷ outer) = Unit {0}

@@ -31,7 +31,7 @@ expansion_of expanded = record {
 abbrev pub IsExpansion : Gathered → Expanded → Type 0
 IsExpansion g expanded = ExpandsTo g (Ok (expansion_of expanded))
 
--- why a program isn't expanded: it passes this limit, or memory is wanting
+-- why a program isn't expanded: it exceeds this limit, or memory is out
 abbrev pub IsFault : Gathered → ExpandFault → Type 0
 IsFault g (Over limit) = ExpandsTo g (Err limit)
 IsFault g Memory = Unit {0}

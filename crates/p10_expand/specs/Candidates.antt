@@ -11,7 +11,7 @@ use Rattle.p10_base.specs.Words.{Text}
 abbrev pub is_slash : ℕ → Bool
 is_slash byte = byte == 47
 
--- the directory of a file: its name up to and with the last `/`, or nothing where there is none
+-- the directory of a file: its name up to and including the last `/`, or nothing where there is none
 abbrev pub directory_of : List ℕ → List ℕ
 directory_of name = take (length name - length (after_last is_slash name)) name
 

@@ -64,7 +64,7 @@ pub record IsMacroName (g : Gathered) (name : Text) : Type 0 where
 
 -- ## Words of an expansion
 
--- it is a mark, which a pragma leaves: a word of a file, but for its kind
+-- it is a mark, which a pragma leaves: a word of a file, except for its kind
 pub record IsMark (g : Gathered) (word : PlainWord) : Type 0 where
   pub last : PlainWord
   pub written : IsWritten g last
@@ -95,7 +95,7 @@ pub record IsExpanded (g : Gathered) (macros : Table) (run : List PlainWord) (ma
   pub remaining : ℕ
   pub gives : RunEnds macros run state.left (Gives made remaining)
 
--- a macro gave it (C99 6.10.3): it is a word of a file, as of a definition, of an argument or of a built-in header, but for its
+-- a macro gave it (C99 6.10.3): it is a word of a file, as of a definition, of an argument or of a built-in header, except for its
 -- place. It is made where a run of text is expanded, and its place is that of the outermost use: of a name in that run which began a use when
 -- it was met, of one of the macros that were then defined
 pub record IsGiven (g : Gathered) (word : PlainWord) : Type 0 where

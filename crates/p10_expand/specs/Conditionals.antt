@@ -53,7 +53,7 @@ abbrev pub answered_at : Table → PlainWord → (ℕ → List PlainWord) → Op
 answered_at macros word others None = word ∷ others 0
 answered_at macros word others (Some (name, more)) = digit_at word (is_defined macros name) ∷ others more
 
--- a condition where these questions are answered, before macros are replaced; so many words belong to the last question
+-- a condition where these questions are answered, before macros are replaced; the first `more` words belong to the last question
 abbrev pub answered : Table → ℕ → List PlainWord → List PlainWord
 answered macros more [] = []
 answered macros (suc more) (word ∷ words) = answered macros more words

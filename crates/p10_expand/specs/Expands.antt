@@ -23,7 +23,7 @@ abbrev pub passed_line : Piece → Bool → PassedLine
 passed_line piece holds = record { mark = mark_of piece; holds = holds }
 
 mutual
-  -- what comes of the file with a number, which is a built-in header or not, and in which so many includes may still be nested
+  -- what comes of the file with a number, which is a built-in header or not, and in which a number of includes may still be nested
   pub data FileEnds (g : Gathered) : ℕ → ℕ → Bool → State → Ended → Type 0 where
     -- its words (C99 6.4) are counted, and then its lines come in order
     words_counted : {nested number : ℕ} {built_in : Bool} {s begun : State} {words : List PlainWord} {pieces : List Piece} {ended : Ended} →
@@ -73,7 +73,7 @@ fresh obeyed left = record { macros = []; once = []; given = []; words = []; obe
 abbrev pub no_words : List ℕ → List (List PlainWord)
 no_words numbers = map (λ number. []) numbers
 
--- what comes of these roots after those with these words, where so many words may still be counted; 64 includes may be nested
+-- what comes of these roots after those with these words, where a number of words may still be counted; 64 includes may be nested
 pub data RootsEnd (g : Gathered) : List ℕ → List (List PlainWord) → List PlainObeyed → ℕ → Result Expansion Limit → Type 0 where
   no_roots : {roots : List (List PlainWord)} {obeyed : List PlainObeyed} {left : ℕ} → RootsEnd g [] roots obeyed left (Ok (record { roots = roots; obeyed = obeyed; refusal = None }))
   root_finished : {number : ℕ} {numbers : List ℕ} {roots : List (List PlainWord)} {obeyed : List PlainObeyed} {left : ℕ} {s : State} {answer : Result Expansion Limit} →
@@ -86,7 +86,7 @@ pub data RootsEnd (g : Gathered) : List ℕ → List (List PlainWord) → List P
   limit_passed : {number : ℕ} {numbers : List ℕ} {roots : List (List PlainWord)} {obeyed : List PlainObeyed} {left : ℕ} {limit : Limit} →
       FileEnds g MOST_NESTED_INCLUDES number false (fresh obeyed left) (Stopped (PassedLimit limit)) → RootsEnd g (number ∷ numbers) roots obeyed left (Err limit)
 
--- what the program of these files expands to, or the limit that it passes before a refusal
+-- what the program of these files expands to, or the limit that it exceeds before a refusal
 abbrev pub ExpandsTo : Gathered → Result Expansion Limit → Type 0
 ExpandsTo g answer = RootsEnd g g.roots [] [] MOST_EXPANDED_WORDS answer
 

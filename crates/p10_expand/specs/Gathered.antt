@@ -52,7 +52,7 @@ abbrev pub IsLed : Setting → Gathered → List Known → ℕ → Include → O
 IsLed s g known from include (Some number) = IsLink s g known from include number
 IsLed s g known from include None = All (IsAbsent s.held) (candidates_of s.dirs (name_of g from) include)
 
--- a chain of so many includes leads from a root to the file with this number
+-- a chain of this many includes leads from a root to the file with this number
 abbrev pub EndsChain : Gathered → ℕ → ℕ → Type 0
 EndsChain g zero number = Contains g.roots number
 EndsChain g (suc n) number = (from : ℕ) × (include : Include) × EndsChain g n from × (candidate_of g from include.name include.angle ≡ Some number)

@@ -29,7 +29,7 @@ pub record Setting : Type 0 where
   pub roots : List Text
   pub dirs : List Text
 
--- a root by its name, or an include line of the file with this number, at the end of a chain of so many includes
+-- a root by its name, or an include line of the file with this number, at the end of a chain of includes of this length
 pub data Request : Type 0 where
   Root : List ℕ → Request
   Line : ℕ → ℕ → Include → Request
@@ -96,7 +96,7 @@ abbrev pub noted : Request → ℕ → Gathered → Gathered
 noted (Root name) number g = with_root g number
 noted (Line from depth include) number g = linked from include number g
 
--- the next request, with the others behind it, and the first of its places at which there is a file
+-- the next request, with the others after it, and the first of its places at which there is a file
 pub record Finds (s : Setting) (m : Moment) (request : Request) (rest : List Request) (place : Place) : Type 0 where
   pub asked : m.ahead ≡ request ∷ rest
   pub first : IsFirst s.held (sought_places s.dirs m.sources request) place
@@ -127,7 +127,7 @@ pub record Meets (s : Setting) (before after : Moment) : Type 0 where
 abbrev pub found : Request → Place → List Include → Known
 found request place includes = record { place = place; depth = depth_of request; includes = includes }
 
--- a file is put behind the others with its words, marked where it is a built-in header, and its include lines behind the other requests
+-- a file is put after the others with its words, marked where it is a built-in header, and its include lines after the other requests
 abbrev pub added : Request → List Request → Known → Text → List WordPlace → Moment → Moment
 added request rest known text words before = record {
   known = before.known ++ known ∷ [];
@@ -154,7 +154,7 @@ pub record Adds (s : Setting) (before after : Moment) : Type 0 where
 abbrev pub Answered : Setting → Moment → Moment → Type 0
 Answered s before after = Passes s before after ⊎ Meets s before after ⊎ Adds s before after
 
--- this is how things stand after so many requests were answered
+-- this is how things stand after this many requests were answered
 abbrev pub Reached : Setting → ℕ → Moment → Type 0
 Reached s zero m = m ≡ beginning s
 Reached s (suc answered) m = (before : Moment) × Reached s answered before × Answered s before m
@@ -185,7 +185,7 @@ pub record RefusesNext (s : Setting) (m : Moment) (refusal : Refusal) (g : Gathe
   pub refused : Answers (count_of m.sources) text (Err (lexing.Refused refusal))
   pub sources : g ≡ with_file m.sources (name_at place) text (is_header_place place) []
 
--- the next file passes M1 or M2
+-- the next file exceeds M1 or M2
 pub record PassesLimit (s : Setting) (m : Moment) (limit : Limit) : Type 0 where
   pub place : Place
   pub text : List ℕ
@@ -227,7 +227,7 @@ pub record FailsBy (s : Setting) (fault : GatherFault) : Type 0 where
   pub reached : Reached s answered last
   pub ends : EndsAt s last fault
 
--- a fault of reading and want of memory have no cause in the files
+-- a fault of reading and running out of memory have no cause in the files
 abbrev pub IsFault : Setting → GatherFault → Type 0
 IsFault s Read = Unit {0}
 IsFault s Memory = Unit {0}

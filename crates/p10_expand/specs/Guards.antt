@@ -28,7 +28,7 @@ abbrev pub defines_as_nothing : Text → List PlainWord → Bool
 defines_as_nothing name (hash ∷ word ∷ defined ∷ []) = is_name (codes "define") word && is_name name defined
 defines_as_nothing name _ = false
 
--- the conditional that is open ends with the last of these lines, and has no `#elif` and no `#else`; so many conditionals have begun in it and are open
+-- the conditional that is open ends with the last of these lines, and has no `#elif` and no `#else`; `inner` conditionals in it are open
 abbrev pub closes_last : ℕ → List Mark → Bool
 closes_last inner [] = false
 closes_last inner (Opens ∷ marks) = closes_last (suc inner) marks
@@ -53,7 +53,7 @@ abbrev pub ends_with_endif : List Piece → Bool
 ends_with_endif pieces = is_endif_there (slice_get pieces (length pieces - 1))
 
 -- whether a file guards this name: its second line defines it with an empty list, and its last line is `#endif` alone and ends
--- the conditional that its first line begins, which has no `#elif` and no `#else`; `pieces` are the lines behind those two
+-- the conditional that its first line begins, which has no `#elif` and no `#else`; `pieces` are the lines after those two
 abbrev pub guards : Option Text → List PlainWord → List Piece → Bool
 guards None define pieces = false
 guards (Some name) define pieces = defines_as_nothing name define && ends_with_endif pieces && closes_last 0 (map mark_of pieces)

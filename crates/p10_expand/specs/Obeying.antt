@@ -27,7 +27,7 @@ use Rattle.p10_base.specs.declared.report.TheConstants.Limit.{EXPANDED_WORDS, MA
 
 -- ## What is known between two lines
 
--- a directive that was obeyed, or the refused one, which for D2 may stand in a skipped group: its words, its place, and whether it begins an include guard
+-- an obeyed directive, or the refused one, which for D2 may stand in a skipped group: its words, its place, whether it begins an include guard
 pub record PlainObeyed : Type 0 where
   pub words : List PlainWord
   pub span : Span
@@ -52,7 +52,7 @@ pub record State : Type 0 where
 pub data Cause : Type 0 where
   -- a line or a use of a macro is refused
   RefusedBy : State → Refusal → Cause
-  -- a limit is passed before anything is refused
+  -- a limit is exceeded before anything is refused
   PassedLimit : Limit → Cause
 
 -- what comes of lines

@@ -10,7 +10,7 @@ use Rattle.p10_expand.specs.Obeying.{PlainObeyed, State, Finished, GoesOn, Enter
 use Rattle.p10_expand.specs.Expands.{counted, passed_line, fresh, FileEnds}
 use Rattle.p10_base.specs.declared.report.TheConstants.Limit.{MOST_NESTED_INCLUDES, MOST_EXPANDED_WORDS}
 
--- these roots are the last of the program, and the ones before them came to an end, with these obeyed directives and so many words that may still be counted
+-- these roots are the last of the program, and the ones before them came to an end, with these obeyed directives and this many words left to count
 pub data ReachesRoots (g : Gathered) : List ℕ → List PlainObeyed → ℕ → Type 0 where
   all_roots : ReachesRoots g g.roots [] MOST_EXPANDED_WORDS
   roots_after : {number : ℕ} {numbers : List ℕ} {obeyed : List PlainObeyed} {left : ℕ} {s : State} →
@@ -23,7 +23,7 @@ pub record FileBegins (g : Gathered) (number : ℕ) (built_in : Bool) (entered :
   pub counts : counted built_in (length words) entered ≡ Some begun
   pub cut : AreCut words pieces
 
--- these lines are the last of a file, where so many includes may still be nested, and expansion comes to the first of them in this
+-- these lines are the last of a file, where this many includes may still be nested, and expansion comes to the first of them in this
 -- state, after the lines before them, of which the last comes first
 pub data ReachesLines (g : Gathered) : ℕ → File → List PassedLine → List Piece → State → Type 0 where
   lines_of_root : {number : ℕ} {numbers : List ℕ} {obeyed : List PlainObeyed} {left : ℕ} {pieces : List Piece} {begun : State} →

@@ -40,7 +40,7 @@ impl Absent {
         self.names.contains(name)
     }
 
-    /// Puts a name behind the others, unless it is there; where memory is wanting, all stays as it was.
+    /// Adds a name, unless it is there; where memory runs out, all stays as it was.
     pub fn add(&mut self, name: String) -> Result<(), AllocError>
         ensures ok { OnOk result (self.new ≡ insert_key bytes_eq self.old (string_bytes name)) }
         ensures err { OnErr result (self.new ≡ self.old) }

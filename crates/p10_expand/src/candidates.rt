@@ -48,7 +48,7 @@ fn name_of(name: &[u8]) -> Option<&str>
     }
 }
 
-/// The text of a file's name up to and with its last `/`.
+/// The text of a file's name up to and including its last `/`.
 fn directory(name: &str) -> &str
     ensures { result.now ≡ directory_of name.now }
 {
@@ -58,7 +58,7 @@ fn directory(name: &str) -> &str
     }
 }
 
-/// Puts the places of a name in each of the directories behind the others.
+/// Puts the places of a name in each of the directories after the others.
 #[tactic(auto, using(crate::proofs::Naming::naming))]
 fn push_directories(
     alloc: Global,
@@ -76,7 +76,7 @@ fn push_directories(
     Ok(())
 }
 
-/// Puts the file whose name is these two texts, joined, behind the others.
+/// Puts the file whose name is these two texts, joined, after the others.
 fn push_file(
     alloc: Global,
     places: &mut Vec<Place>,
@@ -91,7 +91,7 @@ fn push_file(
     Ok(())
 }
 
-/// Puts the built-in header with this name behind the others.
+/// Puts the built-in header with this name after the others.
 fn push_header(alloc: Global, places: &mut Vec<Place>, name: &str) -> Result<(), AllocError>
     ensures { OnOk result (places.new.items ≡ places.old.items ++ Place.Header name.now ∷ []) }
 {

@@ -40,14 +40,14 @@ const MOST_WORDS: u64 = Limit::MOST_EXPANDED_WORDS;
 /// Expands a program: obeys its directives and replaces its macros (C99 6.10).
 ///
 /// The words of each file are those of its text, as in what `gather` gives. The first of D1 to D8 is the refusal; a limit is answered
-/// where it is passed before one: M3 by the 65th nested include, M4 by 1,048,577 words of files and of replacements, and M6
+/// where it is exceeded before one: M3 by the 65th nested include, M4 by 1,048,577 words of files and of replacements, and M6
 /// by 8,193 macros that are defined at once, without those of built-in headers.
 pub fn expand<'s>(alloc: Global, sources: &'s Sources) -> Result<Expanded<'s>, ExpandFault>
     requires { HaveWords sources.now }
     ensures expanded { IfOk result (IsExpansion sources.now) }
     ensures fault { IfErr result (IsFault sources.now) }
-    // What follows: each word of a root is a word of a file at its place, but for the kind of a mark; or, where a macro
-    // gave it, a word of a file but for its place, which is that of the outermost use: of a name in a run of text that
+    // What follows: each word of a root is a word of a file at its place, except for the kind of a mark; or, where a macro
+    // gave it, a word of a file except for its place, which is that of the outermost use: of a name in a run of text that
     // began a use when it was met, of one of the macros that were then defined. What was obeyed are directives of the
     // files, a refusal's place lies in a file, and words can be counted by a `u32`.
     ensures comes { IfOk result (λ expanded. ExpansionComes sources.now (expansion_of expanded)) }
@@ -159,7 +159,7 @@ fn expand_roots<'w, 's>(alloc: Global, texts: &Texts<'w, 's>) -> Result<Expanded
     })
 }
 
-/// What is expanded where the last of these roots is refused, and so many others follow it.
+/// What is expanded where the last of these roots is refused, and this many others follow it.
 fn refused<'s>(
     alloc: Global,
     roots: Vec<Vec<Word<'s>>>,

@@ -14,7 +14,7 @@ pub enum GatherFault {
     Refused(Refusal, Sources),
     /// A file has too many bytes (M1) or words (M2), or there are too many files (M7).
     Over(Limit),
-    /// Memory is wanting.
+    /// Out of memory.
     Memory,
 }
 
@@ -27,7 +27,7 @@ pub enum Trouble {
     Refused(Refusal),
     /// M1, M2 or M7.
     Over(Limit),
-    /// Memory is wanting.
+    /// Out of memory.
     Memory,
 }
 

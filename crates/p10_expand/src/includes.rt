@@ -27,7 +27,7 @@ pub fn includes_of(alloc: Global, words: &[Word<'_>]) -> Result<Vec<Include>, Al
     Ok(includes)
 }
 
-/// Puts what a line includes behind the others.
+/// Puts what a line includes after the others.
 fn push_include(
     alloc: Global,
     line: &Line<'_, '_>,

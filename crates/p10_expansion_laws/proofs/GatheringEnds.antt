@@ -144,7 +144,7 @@ module _ (s : Setting) (told : IsSome s.held) where
   abbrev Ending : Type 0
   Ending = (answer : Result Gathered GatherFault) × IsEnding s answer
 
-  -- gathering ends from a moment on, where so many files may still be added
+  -- gathering ends from a moment on, where `slots` files may still be added
   abbrev From : ℕ → Moment → Type 0
   From slots m = (answered : ℕ) (done names : List Text) (lines : List Request) → Reached s answered m → Stage s m done names lines → slots_of m.known ≤ slots → Ending
 
@@ -152,7 +152,7 @@ module _ (s : Setting) (told : IsSome s.held) where
   Fewer zero = Unit {0}
   Fewer (suc slots) = (m : Moment) → From slots m
 
-  -- and where so many requests are ahead
+  -- and where `size` requests are ahead
   abbrev UpTo : ℕ → ℕ → Type 0
   UpTo slots size = (m : Moment) (answered : ℕ) (done names : List Text) (lines : List Request) → Reached s answered m → Stage s m done names lines → slots_of m.known ≤ slots → length names + length lines ≤ size → Ending
 

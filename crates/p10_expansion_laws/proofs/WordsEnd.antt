@@ -14,7 +14,7 @@ module _ (table : Table) where
   abbrev EndingOf : Option Span → List Sourced → ℕ → Type 0
   EndingOf outer words left = (ending : Ending (List Sourced)) × Ends table outer words left ending
 
-  -- up to so many words end, where up to so many may be made
+  -- up to `size` words end, where up to `budget` may be made
   abbrev UpTo : ℕ → ℕ → Type 0
   UpTo budget size = (outer : Option Span) (words : List Sourced) (left : ℕ) → left ≤ budget → length words ≤ size → EndingOf outer words left
 

@@ -15,7 +15,7 @@ use Rattle.p10_expand.specs.Expands.{Expansion, ExpandsTo}
 abbrev pub WordsEnd : Type 0
 WordsEnd = (table : Table) (outer : Option Span) (words : List Sourced) (left : ℕ) → (ending : Ending (List Sourced)) × Ends table outer words left ending
 
--- the program of files that have words expands to something: words, perhaps with a refusal, or a passed limit
+-- the program of files that have words expands to something: words, perhaps with a refusal, or a limit that is exceeded
 abbrev pub ProgramsExpand : Type 0
 ProgramsExpand = (g : Gathered) → HaveWords g → (answer : Result Expansion Limit) × ExpandsTo g answer
 

@@ -16,7 +16,7 @@ pub fn words_end()
     ensures { WordsEnd }
 {}
 
-/// The program of files that have words expands to something: to words, perhaps with a refusal, or it passes a limit.
+/// The program of files that have words expands to something: to words, perhaps with a refusal, or it exceeds a limit.
 pub fn programs_expand()
     ensures { ProgramsExpand }
 {}

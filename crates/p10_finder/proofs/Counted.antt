@@ -68,7 +68,7 @@ counted_none p funcs ranks rank sums = record { each = refl; counted = λ n low 
 module _ (p : PlainProgram) (c : Claims) (ranks : List ℕ) (are : AreUnsummed p c ranks c.funcs) where
   -- ## What a function costs under sums
 
-  -- the same by so many steps of a turn of the task
+  -- the same by t steps of a turn of the task
   abbrev cost : List FuncSum → ℕ → PlainFunction → ℕ → FuncSum
   cost ss n f t = sum_under (counting_under p f.variables (with_sums c.funcs ss) (map (with_turn_steps t) (loops_of p c n f).claims)) (task_of p n) f
 

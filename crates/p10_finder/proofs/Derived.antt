@@ -52,12 +52,12 @@ violating p c found right all some = record { all = record { claims = c; right =
 
 -- ## Limits
 
--- a fault, where this certificate passes the limit
+-- a fault, where this certificate exceeds the limit
 pub passed_fault : (p : PlainProgram) (c : Claims) (why : FinderFault) → Claiming p c → IsPassed p c why → IsFault p why
 passed_fault p c (fault.Over limit) claims passes = record { certificate = c; claims = claims; passes = passes }
 passed_fault p c fault.Memory claims passes = tt
 
--- no sum passes, and no loop has too many turns
+-- no sum exceeds the limit, and no loop has too many turns
 pub keeps_sums : (p : PlainProgram) (c : Claims) (sums : List FuncSum) → sums ≡ all_sums p c.funcs → All (λ s. keeps_limit s ≡ true) sums → long_among c.funcs ≡ false → PassesSum p c → ⊥
 keeps_sums p c sums are within short (inl passing) =
     let held : Contains sums passing.sum = subst (λ xs. Contains xs passing.sum) (sym are) passing.among in

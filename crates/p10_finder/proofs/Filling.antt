@@ -36,7 +36,7 @@ filled_twice old a b =
     ap (λ k. (old ++ take (4 - length old) a) ++ take k b) (room_left old a) ∙
     (append_assoc old (take (4 - length old) a) (take ((4 - length old) - length a) b) ∙ ap (λ l. old ++ l) (sym (take_both (4 - length old) a b)))
 
--- the same of two steps, of which the second may fail
+-- the same for two steps, of which the second may fail
 pub filled_then : {T E A : Type 0} (r : Result T E) (old mid new a b : List A) → mid ≡ filled old a → OnOk r (new ≡ filled mid b) → OnOk r (new ≡ filled old (a ++ b))
 filled_then r old mid new a b first second = on_ok_weaker r (λ is. is ∙ (ap (λ m. filled m b) first ∙ filled_twice old a b)) second
 

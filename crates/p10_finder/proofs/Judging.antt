@@ -43,7 +43,7 @@ params_put old new vars k p v there v_is same put so-far =
     ap (map value_of) put ∙ (map-append value_of old (p ∷ [])
     ∙ (ap (λ l. l ++ value_of p ∷ []) so-far ∙ (ap (λ y. map (λ (x : PlainVariable). any_value x.type) (take k (map plain_variable vars)) ++ y ∷ []) same ∙ sym (variable_more vars k v there v_is))))
 
--- so many of a list, or all of it
+-- the first n of a list, or all of it
 take_least : {A : Type 0} (xs : List A) (n : ℕ) → take (min (length xs) n) xs ≡ take n xs
 take_least [] zero = refl
 take_least [] (suc n) = let none : min 0 (suc n) ≡ 0 = omega arith in ap (λ k. take k []) none

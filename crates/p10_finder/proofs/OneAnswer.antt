@@ -32,7 +32,7 @@ not_both p found c is claiming = is.some (violations_one p is.all.claims c found
 
 -- ## Limits
 
--- the certificate whose limit is passed is this one
+-- the certificate that exceeds the limit is this one
 passes_this : (p : PlainProgram) (limit : Limit) (c : Claims) (is : PassesLimit p limit) → Claiming p c → ((limit ≡ SUM) × PassesSum p c) ⊎ ((limit ≡ CERTIFICATE_BYTES) × (PassesSum p c → ⊥) × PassesText c)
 passes_this p limit c is claiming =
     subst (λ (d : Claims). ((limit ≡ SUM) × PassesSum p d) ⊎ ((limit ≡ CERTIFICATE_BYTES) × (PassesSum p d → ⊥) × PassesText d)) (one_claims p is.certificate c is.claims.claims claiming.claims) is.passes
@@ -44,7 +44,7 @@ one_limit p c this that (inl (is, passes)) (inr (are, keeps, text)) = absurd (ke
 one_limit p c this that (inr (is, keeps, text)) (inl (are, passes)) = absurd (keeps passes)
 one_limit p c this that (inr (is, keeps, text)) (inr (are, keeps2, text2)) = is ∙ sym are
 
--- a program whose certificate passes a limit isn't certified
+-- a program whose certificate exceeds a limit isn't certified
 not_certified : (p : PlainProgram) (limit : Limit) (c : Claims) → PassesLimit p limit → IsCertified p c → ⊥
 not_certified p limit c is certified = at (passes_this p limit c is certified.claims)
   where

@@ -75,7 +75,7 @@ module _ (fs gs : List Func) where
       let more = effects_same rest h.1 in
       λ i. (node_manages_memory n || one i) || more i
 
-  -- two sums by the same loops, with so many steps of a turn
+  -- two sums by the same loops, with t steps of a turn
   pub one_sum : (p : PlainProgram) (task : Option ℕ) (f : PlainFunction) (loops : List Loop) (t : ℕ) → EachCalled (OneClaim fs gs) (nodes_of_statements f.body)
       → sum_under (counting_under p f.variables fs (map (with_turn_steps t) loops)) task f ≡ sum_under (counting_under p f.variables gs (map (with_turn_steps t) loops)) task f
   one_sum p task f loops t h =

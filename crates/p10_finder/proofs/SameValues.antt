@@ -16,12 +16,12 @@ use Rattle.p10_absx.specs.Entering.{claims_on}
 use Rattle.p10_pass.specs.Arguments.{has_value, all_have_values, lies_in, arguments_lie, where_reached, goes_on_where, failing_calls, failing_in_form, failing_in_values, failing_in_place, failing_in_place_form}
 use Rattle.p10_finder.proofs.Called.{EachCalled, first_called, last_called}
 
--- two claims, of which each may be lacking, say the same of a function's parameters and result
+-- two claims, of which each may be lacking, say the same for a function's parameters and result
 pub record SayTheSame (x y : Option Func) : Type 0 where
   pub params : claims_on x ≡ claims_on y
   pub result : (kind : IntType) → result_claimed kind x ≡ result_claimed kind y
 
--- the same of the function with a number
+-- the same for the function with a number
 abbrev pub Same : Claims → Claims → ℕ → Type 0
 Same c d n = SayTheSame (slice_get c.funcs n) (slice_get d.funcs n)
 

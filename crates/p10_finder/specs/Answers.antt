@@ -1,4 +1,4 @@
--- What derivation answers of a program: its violations, a limit that is passed, or one certificate.
+-- What derivation answers of a program: its violations, a limit that is exceeded, or one certificate.
 use Rattle.std.specs.Prelude.{◌≡◌, ◌↔◌, ◌⊎◌, ℕ, ◌<◌, List, [], map, length, slice_get, Some, Contains}
 use Rattle.std.specs.List.Sorted.{IsStrictlySortedBy}
 use Rattle.p10_base.specs.declared.span.Span.{Span}
@@ -28,7 +28,7 @@ pub record HasResult (p : PlainProgram) (c : Claims) (n : ℕ) (f : PlainFunctio
   pub other : (IsOnCycle (call_graph p) n → ⊥) → claim.result ≡ result_of p c n f
 
 -- claims of the functions of a program in which each result is the one that is found where the others stand: so it is found after
--- those of the callees, but on a cycle
+-- those of the callees, except on a cycle
 pub record HaveResults (p : PlainProgram) (c : Claims) : Type 0 where
   pub each : length c.funcs ≡ length p.functions
   pub results : (n : ℕ) (f : PlainFunction) (claim : Func) → slice_get p.functions n ≡ Some f → slice_get c.funcs n ≡ Some claim → HasResult p c n f claim
@@ -79,7 +79,7 @@ pub record HasLongLoop (funcs : List Func) : Type 0 where
   pub inside : Contains func.loops loop
   pub long : MOST_SUM < loop.turns
 
--- a sum of steps, calls or bytes, or a number of turns, passes the greatest that is allowed (M9)
+-- a sum of steps, calls or bytes, or a number of turns, exceeds the greatest that is allowed (M9)
 abbrev pub PassesSum : PlainProgram → Claims → Type 0
 PassesSum p c = HasPassing (all_sums p c.funcs) ⊎ HasLongLoop c.funcs
 
@@ -89,7 +89,7 @@ PassesText c = MOST_CERTIFICATE_BYTES < length (certificate_text c)
 
 -- ## Answers
 
--- an answer: violations, a limit that is passed, or a certificate
+-- an answer: violations, a limit that is exceeded, or a certificate
 pub data Derived : Type 0 where
   Violating : List Violation → Derived
   Over : Limit → Derived
@@ -105,7 +105,7 @@ pub record Claiming (p : PlainProgram) (c : Claims) : Type 0 where
   pub claims : AreClaims p c
   pub lawful : AreViolations p c []
 
--- the limit that is passed where there are no violations: a sum first, and then the text
+-- the limit that is exceeded where there are no violations: a sum first, and then the text
 pub record PassesLimit (p : PlainProgram) (limit : Limit) : Type 0 where
   pub certificate : Claims
   pub claims : Claiming p certificate

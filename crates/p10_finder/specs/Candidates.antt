@@ -35,7 +35,7 @@ abbrev mutual
   pub conjuncts : PlainValue → List PlainValue
   conjuncts (value at t form) = conjuncts_of_form at t form
 
-  -- the same of a form of value at a place
+  -- the same for a form of value at a place
   pub conjuncts_of_form : At → PlainType → PlainForm → List PlainValue
   conjuncts_of_form at t (logic And a b) = conjuncts a ++ conjuncts b
   conjuncts_of_form at t form = value at t form ∷ []
@@ -55,7 +55,7 @@ abbrev mutual
   pub variable_under : PlainValue → Option ℕ
   variable_under (value at t form) = variable_under_form form
 
-  -- the same of a form of value
+  -- the same for a form of value
   pub variable_under_form : PlainForm → Option ℕ
   variable_under_form (read p) = variable_named p
   variable_under_form (convert v) = variable_under v
@@ -104,7 +104,7 @@ abbrev pub moved_along : ℕ → Course → Option PlainVariable → Option Abst
 moved_along v course (Some x) (Some a) env = learned env v (only_range (range_along course (integer_of x.type) a.range))
 moved_along v course x a env = env
 
--- the environment for a variable on a course: the same, but that this variable, if the loop assigns it, comes by the course from
+-- the environment for a variable on a course: the same, except that this variable, if the loop assigns it, comes by the course from
 -- its range at entry
 abbrev pub trial_along : LoopEntry → ℕ → Course → Environment
 trial_along l v course = if l.assigned v then moved_along v course (slice_get l.variables v) (known l.entry v) (any_trial l) else any_trial l

@@ -23,12 +23,12 @@ use Rattle.p10_finder.specs.Worked.{outer_loop, stepped_on, for_loop}
 abbrev pub loops_alone : PlainFunction → LoopsFound
 loops_alone f = loops_of (main_of [] []) (claims_for []) 0 f
 
--- the same of function 0 of `main` alone
+-- the same for function 0 of `main` alone
 abbrev pub loops_of_main : Option PlainFunction → LoopsFound
 loops_of_main None = no_loops
 loops_of_main (Some f) = loops_alone f
 
--- the loops of a function with so many parameters, these variables and this body
+-- the loops of a function with a number of parameters, these variables and this body
 abbrev pub over : ℕ → List PlainVariable → List PlainStatement → LoopsFound
 over parameters variables body = loops_alone (function_of parameters int variables (body ++ returns (number (pos 0)) ∷ []))
 
@@ -108,7 +108,7 @@ triangle = over 0 (int_variable ∷ int_variable ∷ [])
 -- ## Bounds
 
 pub record BoundsAtEdges : Type 0 where
-  -- a counter of 8 bits wraps before it passes 255
+  -- a counter of 8 bits wraps before it exceeds 255
   pub wraps : loops_of_main (slice_get wrapping.functions 0) ≡ unbounded []
   -- nor does it come to a number of 16 bits, unless that is small
   pub narrow : bounded_after [] ≡ unbounded []

@@ -38,7 +38,7 @@ abbrev pub derived_of : Found → Derived
 derived_of (Certificate c) = Certified (claims_of c)
 derived_of (Violations found) = Violating found.items
 
--- why nothing is found: this limit is passed, or memory is out
+-- why nothing is found: this limit is exceeded, or memory is out
 abbrev pub IsFault : PlainProgram → FinderFault → Type 0
 IsFault p (fault.Over limit) = IsDerived p (Over limit)
 IsFault p fault.Memory = Unit {0}

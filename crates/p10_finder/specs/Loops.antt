@@ -98,7 +98,7 @@ rounds_in variables s = λ env. no_round
 abbrev pub entered_found : Bool → Span → Rounds → LoopEntry → ℕ → LoopFound
 entered_found task keyword round l depth = if task then task_found round l depth else loop_found keyword round l depth
 
--- the same of a loop to whose entry a state may not come
+-- the same for a loop to whose entry a state may not come
 abbrev pub reached_found : Bool → Span → Rounds → (Environment → LoopEntry) → ℕ → Option Environment → LoopFound
 reached_found task keyword round l depth None = unreached_found depth (if task then Task else One)
 reached_found task keyword round l depth (Some entry) = entered_found task keyword round (l entry) depth
@@ -122,11 +122,11 @@ loop_passed s depth head first tested third body env found =
 -- ## All loops
 
 abbrev mutual
-  -- the loops in a statement, which stands in so many loops, after those found so far; no state may come to it
+  -- the loops in a statement, which stands in `depth` loops, after those found so far; no state may come to it
   pub loops_in : Search → ℕ → PlainStatement → Option Environment → LoopsFound → LoopsFound
   loops_in s depth (statement at form) env found = loops_in_form s depth form env found
 
-  -- the same of a form of statement: a loop is found before the loops in its body, which stand under its claim
+  -- the same for a form of statement: a loop is found before the loops in its body, which stand under its claim
   pub loops_in_form : Search → ℕ → PlainStatementForm → Option Environment → LoopsFound → LoopsFound
   loops_in_form s depth (block xs) env found = loops_in_all s depth xs env found
   loops_in_form s depth (if_then v x) env found = loops_in s depth x (known_where_value s v true env) found
@@ -137,23 +137,23 @@ abbrev mutual
   loops_in_form s depth (switch keyword v labels body) env found = loops_in_switch s depth labels body (known_after_value s v env) found
   loops_in_form s depth form env found = found
 
-  -- the same of statements, one after the other
+  -- the same for statements, one after the other
   pub loops_in_all : Search → ℕ → PlainStatements → Option Environment → LoopsFound → LoopsFound
   loops_in_all s depth no_statements env found = found
   loops_in_all s depth (more_statements x rest) env found =
       let next : LoopsFound = loops_in s depth x env found in
       loops_in_all s depth rest (known_after_statement s next x env) next
 
-  -- the same of the body of a `switch`: one that is no block has no labels, so no state comes to it
+  -- the same for the body of a `switch`: one that is no block has no labels, so no state comes to it
   pub loops_in_switch : Search → ℕ → PlainLabels → PlainStatement → Option Environment → LoopsFound → LoopsFound
   loops_in_switch s depth labels (statement at form) env found = loops_in_cases s depth labels form env found (loops_in_form s depth form None found)
 
-  -- the same of a form, where it is a block
+  -- the same for a form, where it is a block
   pub loops_in_cases : Search → ℕ → PlainLabels → PlainStatementForm → Option Environment → LoopsFound → LoopsFound → LoopsFound
   loops_in_cases s depth labels (block xs) env found other = loops_from s depth labels 0 xs env None found
   loops_in_cases s depth labels form env found other = other
 
-  -- the same of items from item k on, where the `switch` is entered with an environment, and another one may come from before
+  -- the same for items from item k on, where the `switch` is entered with an environment, and another one may come from before
   pub loops_from : Search → ℕ → PlainLabels → ℕ → PlainStatements → Option Environment → Option Environment → LoopsFound → LoopsFound
   loops_from s depth labels k no_statements env before found = found
   loops_from s depth labels k (more_statements x rest) env before found =

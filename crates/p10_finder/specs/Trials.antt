@@ -60,7 +60,7 @@ lines_from n (v ∷ variables) env = line_for n (integer_of v.type) (known env n
 
 -- ## Claims
 
--- a number of steps, calls, bytes or turns that passes the limit M9 counts as one more than it allows
+-- a number of steps, calls, bytes or turns that exceeds the limit M9 counts as one more than it allows
 abbrev pub counted : ℕ → ℕ
 counted n = min n (MOST_SUM + 1)
 

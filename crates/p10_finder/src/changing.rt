@@ -50,8 +50,8 @@ pub fn head_after(
     changed(alloc, l, &Change::Back(back))
 }
 
-/// The environment in which each variable that the loop assigns is changed. So many variables that 32 bits don't number them never
-/// fit memory, and are told as out of it.
+/// The environment in which each variable that the loop assigns is changed. More variables than 32 bits number never fit memory, and
+/// are answered as out of memory.
 fn changed(alloc: Global, l: &LoopEntry<'_, '_>, change: &Change<'_>) -> Result<Env, AllocError>
     ensures { IfOk result (λ env. env ≡ unbranched (changed_each (change_by (entry_by l.now) change.now) 0 (entry_by l.now).variables (entry_by l.now).entry)) }
 {

@@ -47,7 +47,7 @@ fn put_line(
     Ok(())
 }
 
-/// The lines for variables. So many that 32 bits don't number them never fit memory, and are told as out of it.
+/// The lines for variables. More than 32 bits number never fit memory, and are answered as out of memory.
 fn lines(alloc: Global, variables: &[Variable<'_>], head: &Env) -> Result<Vec<VarRange>, AllocError>
     ensures { IfOk result (λ lines. map var_of lines.items ≡ lines_from 0 (map plain_variable variables.now) head.now.values) }
 {
@@ -61,7 +61,7 @@ fn lines(alloc: Global, variables: &[Variable<'_>], head: &Env) -> Result<Vec<Va
     Ok(lines)
 }
 
-/// A difference as a number of turns: 0 where it is negative, and no more than passes the limit.
+/// A difference as a number of turns: 0 where it is negative, and at most one more than the limit M9 allows.
 fn turns_between(high: i128, low: i128) -> u64
     ensures { result ≡ counted (unsigned_abs (int_max (high -ℤ low) (pos 0))) }
 {

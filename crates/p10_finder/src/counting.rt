@@ -99,7 +99,7 @@ pub(crate) fn end_of(ranks: &[u32]) -> u64
     end
 }
 
-/// The sum of a function before it is counted: a turn of the task takes as many steps as pass the limit, so that what is counted first
+/// The sum of a function before it is counted: a turn of the task takes more steps than the limit allows, so that what is counted first
 /// is right, whether it counts itself or not.
 fn first_sum() -> FuncSum
     ensures { result ≡ sum_at_first }

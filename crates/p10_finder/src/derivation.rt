@@ -23,8 +23,7 @@ use std::alloc::{AllocError, Global};
 ///
 /// # Errors
 ///
-/// M9 where a sum or a number of turns of the certificate passes 10^18, M10 where its text is longer than 8 MiB, and that it is out
-/// of memory.
+/// M9 where a sum or a number of turns of the certificate exceeds 10^18, M10 where its text is longer than 8 MiB, or out of memory.
 pub fn derive(alloc: Global, program: &Program<'_>) -> Result<Found, FinderFault>
     requires { IsWholeProgram (plain_program program.now) }
     ensures found { IfOk result (λ found. IsDerived (plain_program program.now) (derived_of found)) }

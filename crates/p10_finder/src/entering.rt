@@ -69,7 +69,7 @@ pub(crate) fn enter_loop(
     }
 }
 
-/// The same of a loop, by what is known at its entry.
+/// The same for a loop, by what is known at its entry.
 fn put_loop(
     alloc: Global,
     s: &Search<'_, '_>,
@@ -150,7 +150,7 @@ fn is_task(task: Option<u32>, n: u32) -> bool
     }
 }
 
-/// Marks of the variables that a statement assigns, of so many.
+/// Marks of the variables that a statement assigns, of the first `count`.
 fn assigned_of(alloc: Global, x: &Stmt, count: usize) -> Result<Vec<bool>, AllocError>
     ensures { IfOk result (λ marks. is_marked marks.items ≡ assigned_below count (plain_statement x.now)) }
 {

@@ -15,8 +15,8 @@ pub enum Found {
 /// Why nothing is found.
 #[derive(Clone, Copy, Debug, PartialEq, Eq)]
 pub enum FinderFault {
-    /// The certificate passes a limit: M9 of a sum or of turns, or M10 of its text.
+    /// The certificate exceeds a limit: M9 of a sum or of turns, or M10 of its text.
     Over(Limit),
-    /// Out of memory, as which 2^32 functions, variables or loops in one another count too.
+    /// Out of memory; 2^32 functions, variables or nested loops count as that, too.
     Memory,
 }

@@ -30,7 +30,7 @@ pub struct FunctionFound {
 }
 
 /// What is found of the function with a number, where claims of the functions that it calls stand: their results count. It fails only
-/// out of memory, as which 2^32 variables or loops in one another count too.
+/// where memory runs out; 2^32 variables or nested loops count as that, too.
 pub fn function_found(
     alloc: Global,
     program: &Program<'_>,

@@ -28,7 +28,7 @@ pub struct Candidate {
 const MOST: usize = 4;
 
 /// The candidates of a loop, in the order in which they are tried: the first four of its guard, and then the rank 1. It fails only
-/// out of memory; a bound that 128 bits don't hold, which no value of C comes to, is told as that.
+/// where memory runs out; a bound that 128 bits don't hold, which no value of C comes to, is answered as that.
 pub fn candidates(alloc: Global, l: &LoopEntry<'_, '_>) -> Result<Vec<Candidate>, AllocError>
     ensures { IfOk result (λ found. map candidate_by found.items ≡ candidates_of (entry_by l.now)) }
 {

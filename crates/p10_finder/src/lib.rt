@@ -1,4 +1,4 @@
-//! Certificates of programs: what can be claimed of their loops and functions without being told.
+//! Certificates of programs: what can be claimed of their loops and functions without help.
 //!
 //! ```c
 //! int main(void) {

@@ -1,4 +1,4 @@
-//! The results of functions: each is found after those of the functions that it calls, but that one on a cycle of calls may give
+//! The results of functions: each is found after those of the functions that it calls, except that one on a cycle of calls may give
 //! any value of its type.
 
 ghost use Rattle.std.specs.Prelude.{◌≡◌, ◌+◌, ◌≤◌, map, length, IfOk, OnOk};

@@ -19,7 +19,7 @@ pub(crate) fn text_length(alloc: Global, certificate: &Cert) -> Result<usize, Al
     }
 }
 
-/// A sink that keeps all bytes, and fails only out of memory.
+/// A sink that keeps all bytes, and fails only where memory runs out.
 #[derive(Drop)]
 struct TextSink {
     bytes: Vec<u8>,

@@ -94,7 +94,7 @@ fn other_range(
     }
 }
 
-/// The rank of a variable on a course, by the range of the other side. A bound that 128 bits don't hold is told as out of memory.
+/// The rank of a variable on a course, by the range of the other side. A bound that 128 bits don't hold is answered as out of memory.
 fn rank_along(course: Course, v: u32, r: Range) -> Result<Rank, AllocError>
     ensures { IfOk result (λ rank. rank ≡ rank_of course v (interval_of r)) }
 {
@@ -118,7 +118,7 @@ fn rank_along(course: Course, v: u32, r: Range) -> Result<Rank, AllocError>
     }
 }
 
-/// The environment for a variable on a course: the same, but that it comes by the course from its range at entry, if the loop
+/// The environment for a variable on a course: the same, except that it comes by the course from its range at entry, if the loop
 /// assigns it.
 fn trial_along(
     alloc: Global,

@@ -13,8 +13,8 @@ use p10_cert::{Cert, FuncClaim, ValueClaim};
 use p10_core::{Func, Program};
 use std::alloc::{AllocError, Global};
 
-/// The claims on all functions with these ranks, by claims with the program's results. It fails only out of memory, as which 2^32
-/// functions count too.
+/// The claims on all functions with these ranks, by claims with the program's results. It fails only where memory runs out; 2^32
+/// functions count as that, too.
 pub(crate) fn unsummed_claims(
     alloc: Global,
     program: &Program<'_>,

@@ -17,8 +17,8 @@ use p10_flowrules::flow_rules;
 use p10_graph::components;
 use std::alloc::{AllocError, Global};
 
-/// The violations of rows 1.3, 2.1, 2.2 and 3.1 by a program, in the order of violations, each once. It fails only out of memory,
-/// as which 2^32 functions, variables or loops in one another count too.
+/// The violations of rows 1.3, 2.1, 2.2 and 3.1 by a program, in the order of violations, each once. It fails only where memory runs
+/// out; 2^32 functions, variables or nested loops count as that, too.
 pub fn bound_rules(alloc: Global, program: &Program<'_>) -> Result<Vec<Violation>, AllocError>
     ensures { IfOk result (λ found. HasViolations (plain_program program.now) found.items) }
 {
@@ -73,7 +73,7 @@ fn violations_under(
     Ok(violations)
 }
 
-/// The keywords of the loops without a bound. It fails only out of memory, as which 2^32 functions count too.
+/// The keywords of the loops without a bound. It fails only where memory runs out; 2^32 functions count as that, too.
 fn lacking(alloc: Global, program: &Program<'_>, claims: &Cert) -> Result<Vec<Span>, AllocError>
     ensures { IfOk result (λ spans. spans.items ≡ lacking_from (plain_program program.now) (claims_of claims.now) 0 (plain_program program.now).functions) }
 {

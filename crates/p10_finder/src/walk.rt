@@ -18,7 +18,7 @@ use p10_core::{Labels, Stmt, StmtForm};
 use p10_pass::{is_marked, label_marks};
 use std::alloc::{AllocError, Global};
 
-/// Finds the loops in a statement, which stands in so many loops, after those found so far; no state may come to it.
+/// Finds the loops in a statement, which stands in `depth` loops, after those found so far; no state may come to it.
 #[cycle(looking)]
 pub fn loops_in(
     alloc: Global,
@@ -130,7 +130,7 @@ fn loops_in_if(
 }
 
 /// Finds a loop, and the loops in its body under its claim. Loops that nest so deep that 32 bits don't count them never fit memory,
-/// and are told as out of it.
+/// and are answered as out of memory.
 #[cycle(looking)]
 fn loops_in_loop(
     alloc: Global,
@@ -211,7 +211,7 @@ fn loops_in_switch(
     }
 }
 
-/// The same of the body and the labels, where the value was evaluated.
+/// The same for the body and the labels, where the value was evaluated.
 #[cycle(looking)]
 fn loops_in_body(
     alloc: Global,

@@ -47,7 +47,7 @@ pub count_most : (n : ℕ) (xs : List ℕ) → count_of n xs ≤ length xs
 count_most n [] = omega arith
 count_most n (x ∷ xs) = let one : one_if (nat_eq n x) ≤ 1 = one_at_most (nat_eq n x) in let rest : count_of n xs ≤ length xs = count_most n xs in omega arith
 
--- whether a variable is in scope is told by its count
+-- whether a variable is in scope is known by its count
 pub told_by_count : (counts numbers : List ℕ) (n x : ℕ) → AreCounts counts numbers → n < length counts → x ≡ slice_index_or counts n x
     → (IsTrue (nat_lt 0 x) ↔ (is_among n numbers ≡ true))
 told_by_count counts numbers n x known lt is =

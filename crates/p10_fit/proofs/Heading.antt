@@ -12,7 +12,7 @@ use Rattle.p10_cert.specs.Claims.{Value}
 use Rattle.p10_fit.specs.Sites.{loop_number_at, task_loop_number}
 use Rattle.p10_fit.specs.Fits.{fits_types}
 
--- the first elements, where there are so many, are those of a list
+-- the first `count` elements, which are the first k or all, are those of a list
 shortened : {X : Type 0} (k count : ℕ) (xs : List X) → count ≡ min (length xs) k → take count xs ≡ take k xs
 shortened k count xs is = by_case (cases_lt k (length xs))
   where

@@ -82,7 +82,7 @@ pub both_parts : (f : PlainFunction) (task : Option ℕ) (whole sites others : L
 both_parts f task whole sites others claims left is now =
     ap (then_after f task others) now ∙ sym (after_both f task sites others claims) ∙ ap (λ ss. claims_after f task ss claims) (sym is)
 
--- the same of a result, where the second part is in a scope that is as before
+-- the same for a result, where the second part is in a scope that is as before
 pub follows_both : {E : Type 0} (f : PlainFunction) (task : Option ℕ) (r : Result (Option ℕ) E) (claims : List LoopClaim) (left before : List Loop) (whole sites : List LoopSite) (others : List ℕ → List LoopSite) (scope now : List ℕ)
     → whole ≡ sites ++ others scope → now ≡ scope → Some left ≡ claims_after f task sites before
     → IfOk r (λ after. option_map (λ n. map loop_of (drop n claims)) after ≡ claims_after f task (others now) left)

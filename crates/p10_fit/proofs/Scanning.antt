@@ -83,7 +83,7 @@ pub unfit_loop : (f : PlainFunction) (task : Option ℕ) (site : LoopSite) (site
 unfit_loop f task site sites [] fits = refl
 unfit_loop f task site sites (claim ∷ claims) fits = ap (λ b. if b then claims_after f task sites claims else None) (sym fits)
 
--- whether the next claim fits is told at its place
+-- whether the next claim fits is decided at its place
 pub next_there : (f : PlainFunction) (task : Option ℕ) (site : LoopSite) (claims : List LoopClaim) (place : ℕ) (claim : LoopClaim) (b : Bool)
     → place < length claims → claim ≡ get_or claims place claim → b ≡ fits_loop f task site (loop_of claim) → b ≡ next_fits f task site (map loop_of (drop place claims))
 next_there f task site claims place claim b lt is fits = fits ∙ sym (ap (λ cs. next_fits f task site (map loop_of cs)) (cut claims place claim lt is))
@@ -120,13 +120,13 @@ none_least n = grind (arith, nat_tests)
 one_less : (n m : ℕ) → nat_le (suc n) (suc m) ≡ nat_le n m
 one_less n m = grind (arith, nat_tests)
 
--- whether none is left is told by the place
+-- whether none is left is known by the place
 pub end_by_place : (claims : List LoopClaim) (place : ℕ) → nat_le (length claims) place ≡ is_end (Some (map loop_of (drop place claims)))
 end_by_place [] place = least_of place ∙ sym (ap (λ cs. is_end (Some (map loop_of cs))) (drop-nil place))
 end_by_place (claim ∷ claims) zero = none_least (length claims)
 end_by_place (claim ∷ claims) (suc place) = one_less (length claims) place ∙ end_by_place claims place
 
--- whether all claims are those on the loops of a function is told by the place after its body
+-- whether all claims are those on the loops of a function is known by the place after its body
 pub told_by_place : (f : PlainFunction) (task : Option ℕ) (scope : List ℕ) (body : PlainStatements) (claims : List LoopClaim) (o : Option ℕ) (place : ℕ) → scope ≡ numbers_from 0 f.parameters → body ≡ f.body → o ≡ Some place
     → option_map (λ n. map loop_of (drop n claims)) o ≡ claims_after f task (loop_sites_of 0 scope body) (map loop_of (drop 0 claims))
     → nat_le (length claims) place ≡ fits_loops f task (loop_sites f) (map loop_of claims)

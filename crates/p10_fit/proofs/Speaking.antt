@@ -1,4 +1,4 @@
--- Certificates that are told nowhere, and those that speak of a program.
+-- Certificates that differ from a program at no function, and those that speak of a program.
 use Rattle.std.proofs.Common.{◌≡◌, ◌∙◌, ℕ, zero, suc, ◌+◌, Bool, true, false, List, [], ◌∷◌, length, slice_get, Option, Some, None, if◌then◌else◌, sym, ap, refl, arith}
 use Rattle.p10_cert.specs.Claims.{Func}
 use Rattle.p10_core.specs.Typed.{PlainFunction, PlainProgram}

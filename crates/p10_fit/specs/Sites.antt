@@ -26,7 +26,7 @@ abbrev mutual
   pub loop_sites_in : ℕ → List ℕ → PlainStatement → List LoopSite
   loop_sites_in depth scope (statement at f) = loop_sites_in_form depth scope f
 
-  -- the same of a form of statement
+  -- the same for a form of statement
   pub loop_sites_in_form : ℕ → List ℕ → PlainStatementForm → List LoopSite
   loop_sites_in_form depth scope (block ss) = loop_sites_of depth scope ss
   loop_sites_in_form depth scope (if_then v s) = loop_sites_in depth scope s
@@ -36,7 +36,7 @@ abbrev mutual
   loop_sites_in_form depth scope (switch span v labels body) = loop_sites_in depth scope body
   loop_sites_in_form depth scope f = []
 
-  -- the same of statements, one after the other: each sees what those before it declare
+  -- the same for statements, one after the other: each sees what those before it declare
   pub loop_sites_of : ℕ → List ℕ → PlainStatements → List LoopSite
   loop_sites_of depth scope no_statements = []
   loop_sites_of depth scope (more_statements s rest) = loop_sites_in depth scope s ++ loop_sites_of depth (in_scope_after scope s) rest

@@ -18,7 +18,7 @@ use std::alloc::{AllocError, Global};
 ///
 /// # Errors
 ///
-/// It is out of memory.
+/// Out of memory.
 pub fn unfit(
     alloc: Global,
     program: &Program<'_>,

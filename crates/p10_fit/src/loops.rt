@@ -107,7 +107,7 @@ fn follow(
     }
 }
 
-/// The same of a statement that is a part of another one: what it declares isn't in scope after it.
+/// The same for a statement that is a part of another one: what it declares isn't in scope after it.
 #[cycle(follow)]
 fn follow_part(
     compared: &Compared<'_, '_>,
@@ -130,7 +130,7 @@ fn follow_part(
     Ok(after)
 }
 
-/// The same of the items of a block.
+/// The same for the items of a block.
 #[cycle(follow)]
 fn follow_block(
     compared: &Compared<'_, '_>,
@@ -153,7 +153,7 @@ fn follow_block(
     Ok(after)
 }
 
-/// The same of the second branch of an `if`, if there is one.
+/// The same for the second branch of an `if`, if there is one.
 #[cycle(follow)]
 fn follow_other(
     compared: &Compared<'_, '_>,
@@ -174,7 +174,7 @@ fn follow_other(
     }
 }
 
-/// The same of a loop, of which the body and the first clause are given: its own claim, and then those of the loops in it.
+/// The same for a loop, of which the body and the first clause are given: its own claim, and then those of the loops in it.
 #[cycle(follow)]
 fn follow_loop(
     compared: &Compared<'_, '_>,

@@ -17,7 +17,7 @@ impl Scope {
     ghost use Rattle.std.specs.Prelude.{◌≡◌, ◌≤◌, ◌<◌, ◌++◌, ◌∷◌, [], ◌↔◌, IsTrue, OnOk, OnErr, IfOk, length, take, true, slice_get, None};
     ghost use Rattle.p10_core.specs.WholePrograms.{is_among, numbers_from};
 
-    /// No variable in scope of a function with so many.
+    /// No variable in scope of a function with this many.
     pub(crate) fn new(alloc: Global, variables: usize) -> Result<Scope, AllocError>
         ensures empty { IfOk result (λ s. s.numbers.items ≡ []) }
         ensures counts { IfOk result (λ s. length s.counts.items ≡ variables) }
@@ -30,7 +30,7 @@ impl Scope {
         })
     }
 
-    /// The first variables of the function, so many, are declared: its parameters.
+    /// The first `count` variables of the function are declared: its parameters.
     pub(crate) fn declare_first(&mut self, count: u32) -> Result<(), AllocError>
         requires { self.old.numbers.items ≡ [] }
         ensures ok { OnOk result (self.new.numbers.items ≡ numbers_from 0 count) }
@@ -61,7 +61,7 @@ impl Scope {
         Ok(())
     }
 
-    /// The variables that were declared after the first ones, so many, are in scope no longer.
+    /// The variables that were declared after the first `count` are in scope no longer.
     pub(crate) fn leave(&mut self, count: usize)
         requires { count ≤ length self.old.numbers.items }
         ensures left { self.new.numbers.items ≡ take count self.old.numbers.items }

@@ -11,7 +11,7 @@ use Rattle.p10_flowrules.specs.declared.calls.AnyCall.{AnyCall}
 use Rattle.p10_flowrules.specs.TaskExits.{exits_of_loop}
 use Rattle.p10_flowrules.specs.Allocating.{AllocatesOrFrees, AreLateAllocations, has_memory_call}
 
--- a place that is told by one number
+-- a place that is made of one number
 abbrev pub numbered_place : ℕ → At
 numbered_place n = record { first = n; past = n; span = record { file = 0; start = n; end = n } }
 

@@ -17,7 +17,7 @@ abbrev mutual
   pub exits_in : Breaks → PlainStatement → List At
   exits_in breaks (statement at f) = exits_in_form breaks at f
 
-  -- the same of a form of statement
+  -- the same for a form of statement
   pub exits_in_form : Breaks → At → PlainStatementForm → List At
   exits_in_form breaks at (block ss) = exits_of breaks ss
   exits_in_form breaks at (if_then v s) = exits_in breaks s
@@ -28,7 +28,7 @@ abbrev mutual
   exits_in_form breaks at (return span v) = at ∷ []
   exits_in_form breaks at f = []
 
-  -- the same of statements, one after the other
+  -- the same for statements, one after the other
   pub exits_of : Breaks → PlainStatements → List At
   exits_of breaks no_statements = []
   exits_of breaks (more_statements s rest) = exits_in breaks s ++ exits_of breaks rest

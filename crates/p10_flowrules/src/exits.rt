@@ -21,7 +21,7 @@ pub enum Breaks {
 }
 
 /// The places of the statements that leave the task loop, in text order: each `return` in it, and each `break` that leaves it. There
-/// are none where the program has no task loop. It fails only out of memory.
+/// are none where the program has no task loop. It fails only where memory runs out.
 pub fn task_exits(alloc: Global, program: &Program<'_>) -> Result<Vec<At>, AllocError>
     ensures { IfOk result (λ exits. exits.items ≡ task_exits (plain_program program.now)) }
 {

@@ -16,7 +16,7 @@ use p10_core::{Node, Nodes, Program, Stmt};
 use std::alloc::{AllocError, Global};
 
 /// The calls in `main` after the mark `init_done` that are or reach an allocation or `free`, in text order; without a mark, those in
-/// all of `main`. It fails only out of memory.
+/// all of `main`. It fails only where memory runs out.
 pub fn late_allocations(alloc: Global, program: &Program<'_>) -> Result<Vec<AnyCall>, AllocError>
     ensures { IfOk result (λ calls. AreLateAllocations (plain_program program.now) calls.items) }
 {

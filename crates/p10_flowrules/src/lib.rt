@@ -16,7 +16,7 @@
 //! }
 //! ```
 //!
-//! No condition is asked of the program. The time is linear in it, but that violations are sorted.
+//! No condition is asked of the program. The time is linear in it, apart from sorting the violations.
 #![tactic(auto)]
 
 mod calls;

@@ -18,7 +18,7 @@ pub(crate) fn memory_numbers(alloc: Global, program: &Program<'_>) -> Result<Vec
 {
     let calls = call_graph(alloc, program)?;
     let memory = calls.count();
-    // A graph counts its nodes in 32 bits. So many functions never fit memory, and are told as out of it.
+    // A graph counts its nodes in 32 bits. That many functions never fit memory, and are answered as out of memory.
     if memory == u32::MAX {
         return Err(AllocError);
     }

@@ -16,7 +16,7 @@ use p10_calls::{CallSite, recursive_calls};
 use p10_core::Program;
 use std::alloc::{AllocError, Global};
 
-/// The violations of rows 1.3, 2.2 and 3.1 by a program, in the order of violations, each once. It fails only out of memory.
+/// The violations of rows 1.3, 2.2 and 3.1 by a program, in the order of violations, each once. It fails only where memory runs out.
 pub fn flow_rules(alloc: Global, program: &Program<'_>) -> Result<Vec<Violation>, AllocError>
     ensures sorted { IfOk result (λ found. IsStrictlySortedBy violation_cmp found.items) }
     ensures exact { IfOk result (λ found. (v : Violation) → Contains found.items v ↔ ViolatesFlow (plain_program program.now) v.sub v.span) }

@@ -1,4 +1,4 @@
--- What holds of all that files are read as: a refusal can be printed, and there is a program exactly where there is none.
+-- What holds of all that files are read as: a refusal can be printed, and there is a program exactly where nothing is refused.
 use Rattle.std.proofs.Common.{◌≡◌, ◌≤◌, Bool, true, false, List, [], ◌∷◌, refl, sym, subst, arith, inl, inr, Option, Some, None, IfSome, Result, Ok, Err, IfOk, ◌↔◌, is_some}
 use Rattle.p10_base.specs.declared.at.At.{At}
 use Rattle.p10_base.specs.declared.codes.SubsetCode.{SubsetCode}

@@ -30,7 +30,7 @@ typed_of (Some p) = Some (plain_program p)
 abbrev pub reading_of : Reading → PlainReading
 reading_of r = record { expansion = expansion_of r.expanded; units = trees_of r.units; program = typed_of r.program; refusal = r.refusal }
 
--- why files aren't read: they pass this limit, or memory is wanting
+-- why files aren't read: they exceed this limit, or memory is out
 abbrev pub IsFault : Gathered → FrontFault → Type 0
 IsFault g (Over limit) = Reads g (Err limit)
 IsFault g Memory = Unit {0}

@@ -36,7 +36,7 @@ untyped_reading expansion trees refusal = record { expansion = expansion; units 
 abbrev pub typed_reading : Expansion → List (External At) → PlainProgram → PlainReading
 typed_reading expansion trees program = record { expansion = expansion; units = Some trees; program = Some program; refusal = None }
 
--- what the trees of expanded words are read as, or the limit that their program passes before a refusal
+-- what the trees of expanded words are read as, or the limit that their program exceeds before a refusal
 pub data Elaborates (expansion : Expansion) (trees : List (External At)) (answer : Result PlainReading Limit) : Type 0 where
   -- rows of the subset hold in the trees, and this is the first: S1 to S30
   untyped : (problem : Problem) → elaborated trees ≡ the_problem problem → answer ≡ Ok (untyped_reading expansion trees (refusal_of problem)) → Elaborates expansion trees answer
@@ -45,7 +45,7 @@ pub data Elaborates (expansion : Expansion) (trees : List (External At)) (answer
   -- they are a typed program
   typed : (program : PlainProgram) → elaborated trees ≡ the_program program → answer ≡ Ok (typed_reading expansion trees program) → Elaborates expansion trees answer
 
--- what expanded words are read as, or the limit that they pass before a refusal
+-- what expanded words are read as, or the limit that they exceed before a refusal
 pub data Parses (expansion : Expansion) (answer : Result PlainReading Limit) : Type 0 where
   -- a directive or a use of a macro is refused already: D1 to D8
   unexpanded : (refusal : Refusal) → expansion.refusal ≡ Some refusal → answer ≡ Ok (refused_reading expansion refusal) → Parses expansion answer
@@ -56,9 +56,9 @@ pub data Parses (expansion : Expansion) (answer : Result PlainReading Limit) : T
   -- trees spell the words of all roots, and what these are is read
   spelled : (trees : List (External At)) → expansion.refusal ≡ None → AllFit expansion.roots → Spells expansion.roots trees → Elaborates expansion trees answer → Parses expansion answer
 
--- what files are read as, or the limit that they pass before a refusal
+-- what files are read as, or the limit that they exceed before a refusal
 pub data Reads (g : Gathered) (answer : Result PlainReading Limit) : Type 0 where
-  -- they pass a limit of expansion: M3, M4 or M6
+  -- they exceed a limit of expansion: M3, M4 or M6
   expanded_over : (limit : Limit) → ExpandsTo g (Err limit) → answer ≡ Err limit → Reads g answer
   -- they expand, and what they expand to is read
   expanded : (expansion : Expansion) → ExpandsTo g (Ok expansion) → Parses expansion answer → Reads g answer

@@ -1,7 +1,7 @@
 //! The front of `p10`: from the gathered files of a program to its typed program.
 //!
 //! Directives are obeyed and macros replaced, then the words are read as declarations and functions, and these are given types
-//! (C99 5.1.1.2p1, phases 3 to 7). Entry point: [`read`]. The first stage that refuses the files, or at which they pass a limit,
+//! (C99 5.1.1.2p1, phases 3 to 7). Entry point: [`read`]. The first stage that refuses the files, or at which they exceed a limit,
 //! decides:
 //!
 //! | Stage | Refusals | Limits | Gives |

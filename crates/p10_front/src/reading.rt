@@ -34,7 +34,7 @@ pub struct Reading<'s> {
 /// Reads the files of a program. Each of them lexes within its limits, as in what `p10_expand::gather` gives.
 ///
 /// # Errors
-/// A limit is passed before a refusal, or memory is wanting.
+/// A limit is exceeded before a refusal, or memory is out.
 pub fn read<'s>(alloc: Global, sources: &'s Sources) -> Result<Reading<'s>, FrontFault>
     requires { HaveWords sources.now }
     ensures read { IfOk result (λ reading. Reads sources.now (Ok (reading_of reading))) }

@@ -1,4 +1,4 @@
--- One thing is right to say, but for out of memory.
+-- One thing is right to say, unless memory runs out.
 use Rattle.std.proofs.Common.{◌≡◌, ◌≢◌, ℕ, refl, sym, ◌∙◌, ap, subst, IsSome}
 use Rattle.p10_core.specs.Typed.{PlainProgram}
 use Rattle.p10_cert.specs.Certificate.{certificate_text}

@@ -1,4 +1,4 @@
--- What the statuses tell.
+-- What the statuses say.
 use Rattle.std.proofs.Common.{◌≡◌, ℕ, sym, ◌∙◌, ap, inl, inr, arith}
 use Rattle.std.specs.Prelude.{◌⊎◌, ℤ}
 use Rattle.p10_base.specs.declared.report.Bounds.{Bounds}
@@ -46,7 +46,7 @@ not_unread : (why : Unread) (total : Bounds) (value : ℤ) → Returns total val
 not_unread (reading.Refused refusal) total value is = cc
 not_unread (reading.Over limit) total value is = cc
 
--- the run that an answer tells
+-- the run that an answer reports
 record HasReturned (total other : Bounds) (value : ℤ) (outcome : Outcome) : Type 0 where
   same : total ≡ other
   is : outcome ≡ Returned value

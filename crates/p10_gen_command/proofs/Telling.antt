@@ -1,4 +1,4 @@
--- What is told of a right answer is right to say.
+-- What is written for a right answer is right to say.
 use Rattle.std.proofs.Common.{◌≡◌, ℕ, List, refl, Option}
 use Rattle.p10_command.specs.Told.{BothTake, BothTakeFronts, Stopped, Told}
 use Rattle.p10_gen_command.specs.declared.answer.Answer.{Answer}

@@ -51,12 +51,12 @@ outcome_within p b = (run_with p (budget_within b 1 0) []).outcome
 
 -- ## Answers, stage by stage
 
--- where the file isn't gathered: it passes a limit (M1, M2), or fails at being read
+-- where the file isn't gathered: it exceeds a limit (M1, M2), or fails at being read
 abbrev pub ungathered_answer : GatherFault → Answer
 ungathered_answer (fault.Over limit) = Over limit
 ungathered_answer why = Fails Reading
 
--- where it is no program: it passes a limit (M3 to M6, M8), or fails at being read
+-- where it is no program: it exceeds a limit (M3 to M6, M8), or fails at being read
 abbrev pub unread_answer : Unread → Answer
 unread_answer (reading.Over limit) = Over limit
 unread_answer (reading.Refused refusal) = Fails Reading
@@ -76,7 +76,7 @@ judged_answer p claims judgement = Fails Verifying
 pub data IsShown (p : PlainProgram) (answer : Answer) : Type 0 where
   -- a row of the rules for which there is no certificate is violated
   violating : (violations : List Violation) → IsDerived p (Violating violations) → answer ≡ Fails Deriving → IsShown p answer
-  -- a limit of derivation is passed (M9, M10)
+  -- a limit of derivation is exceeded (M9, M10)
   passing : (limit : Limit) → IsDerived p (Passing limit) → answer ≡ Over limit → IsShown p answer
   -- a certificate is derived, and its text is judged
   certified : (claims : Claims) (judgement : Judgement) → IsDerived p (Certified claims) → IsWeighed p (certificate_text claims) judgement → answer ≡ judged_answer p claims judgement → IsShown p answer

@@ -15,16 +15,16 @@ use Rattle.p10_gen_command.specs.Answers.{outcome_within, setting_of}
 use Rattle.p10_gen_command.specs.Lines.{shown_text}
 use Rattle.p10_gen_command.specs.Told.{SaysRight}
 
--- only one thing may be said to a command, but for out of memory: so each answer comes exactly where it is right
+-- only one thing may be said to a command, unless memory runs out: so each answer comes exactly where it is right
 abbrev pub GenSaysOneThing : Type 0
 GenSaysOneThing = (n : ℕ) (some other : Saying) → SaysRight n some → SaysRight n other → some.status ≢ 7 → other.status ≢ 7 → some ≡ other
 
--- the status is one of these; 1 alone tells of a program that fails
+-- the status is one of these; 1 alone is that of a program that fails
 abbrev pub GenHasFewStatuses : Type 0
 GenHasFewStatuses = (n : ℕ) (saying : Saying) → SaysRight n saying → (saying.status ≡ 0) ⊎ (saying.status ≡ 1) ⊎ (saying.status ≡ 7) ⊎ (saying.status ≡ 8)
 
 -- the generated program has a certificate that is derived of it, whose text is accepted for it, and within which a run of it
--- returns; the certificate's total and the value are told, and nothing else
+-- returns; the certificate's total and the value are reported, and nothing else
 pub record TellsReturn (n : ℕ) (saying : Saying) : Type 0 where
   pub files : Gathered
   pub program : PlainProgram

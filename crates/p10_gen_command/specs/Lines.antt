@@ -1,4 +1,4 @@
--- The lines that tell of a generated program.
+-- The lines that report a generated program.
 use Rattle.std.specs.Prelude.{ℕ, ◌+◌, ℤ, List, codes}
 use Rattle.p10_base.specs.declared.report.Bounds.{Bounds}
 use Rattle.p10_report.specs.Lines.{depths_part, labelled, labelled_signed}

@@ -20,7 +20,7 @@ pub enum Stage {
 /// An answer to `gen`.
 #[derive(Clone, Copy, Debug)]
 pub enum Answer {
-    /// A limit is passed.
+    /// A limit is exceeded.
     Over(Limit),
     /// The program fails at a stage.
     Fails(Stage),

@@ -8,10 +8,10 @@
 //!     gen 10000                      p10: limit M1
 //!
 //! Entry point: [`generate`]. The text of the program is that of `p10_gen`, in a file `gen.c` which is the only one. It is gathered,
-//! read, derived and verified as by the other commands, and run within the certificate; the first limit that is passed on the
-//! way is what is told, and else the certificate's total and what `main` returns. A program that failed at a stage would be told so, with
-//! status 1: no number of functions is known for which it does. Invariant: the status and both texts are those of a right answer, and at
-//! most one is right, but for out of memory. Which words are this command is left to the crate above.
+//! read, derived and verified as by the other commands, and run within the certificate; the first limit that is exceeded on the
+//! way is what is reported, and else the certificate's total and what `main` returns. A program that failed at a stage would be
+//! reported so, with status 1: no number of functions is known for which it does. Invariant: the status and both texts are those of
+//! a right answer, and at most one is right, unless memory runs out. Which words are this command is left to the crate above.
 #![tactic(auto)]
 
 ghost use Rattle.std.specs.Prelude.{◌≡◌, ◌≢◌, ◌⊎◌};
@@ -33,11 +33,11 @@ use p10_world::Sink;
 use std::alloc::Global;
 use tell::tell;
 
-/// Obeys the command for the program of `functions` functions and `main`: tells on `out` that it has a certificate, and what it returns,
-/// and all else on `err`. Gives the status with which the program exits.
+/// Obeys the command for the program of `functions` functions and `main`: reports on `out` that it has a certificate, and what it
+/// returns, and all else on `err`. Gives the status with which the program exits.
 ///
 /// The statuses: 0 derived, verified and run; 1 the program fails at one of these stages; 6 a write failed; 7 out of memory; 8 a limit
-/// is passed.
+/// is exceeded.
 pub fn generate<O: Sink, E: Sink>(alloc: Global, functions: u64, out: &mut O, err: &mut E) -> u8
     // The status and both texts are those of a right answer.
     ensures told { result ≢ 6 → Told (SaysRight functions) (O.taken out.old) (O.taken out.new) (E.taken err.old) (E.taken err.new) result }

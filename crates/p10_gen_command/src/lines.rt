@@ -1,4 +1,4 @@
-//! The lines that tell of a generated program.
+//! The lines that report a generated program.
 
 ghost use Rattle.std.specs.Prelude.{◌≡◌, ◌+◌, ◌≤◌, OnErr, OnOk, codes};
 ghost use Rattle.std.specs.Io.KnownBytes.{Appends};

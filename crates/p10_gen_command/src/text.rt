@@ -23,7 +23,7 @@ pub fn certificate_text(alloc: Global, certificate: &Cert) -> Result<Vec<u8>, Al
     }
 }
 
-/// A sink in memory that grows by what it takes. Its faults are wants of memory.
+/// A sink in memory that grows by what it takes. It fails only where memory runs out.
 #[derive(Drop)]
 struct GrowingText {
     bytes: Vec<u8>,

@@ -1,4 +1,4 @@
--- Groups of places, and places of which all are finished but some.
+-- Groups of places, and places that are finished, all but some.
 use Rattle.std.proofs.Common.{◌≡◌, ℕ, ◌<◌, ◌≤◌, ◌⊎◌, inl, inr, List, [], ◌∷◌, length, drop, Some, None, slice_get, refl, sym, ◌∙◌, subst, arith}
 use Rattle.std.proofs.lemmas.Bool.{cases_lt, cases_order}
 use Rattle.std.proofs.lemmas.Option.{none-some, same_Some}
@@ -6,7 +6,7 @@ use Rattle.p10_graph.specs.private.Searching.{AllFinishedBut, Begin, IsUpTo}
 
 -- ## Groups
 
--- no group begins behind the last place
+-- no group begins after the last place
 up_to_past : (groups : List ℕ) (n p q : ℕ) → Begin groups n → n ≤ q → IsUpTo groups p q
 up_to_past [] n p q b l = tt
 up_to_past (start ∷ groups) n p q b l = ((λ _. omega arith), up_to_past groups start p q b.1 (omega arith))
@@ -96,12 +96,12 @@ finished_more F (first ∷ second ∷ rest) n top e f h = (
   h.2.2,
 )
 
--- every place from one on that lies behind the last unfinished one is finished
+-- every place from one on that lies after the last unfinished one is finished
 pub finished_from : (F : ℕ → Type 0) (stack : List ℕ) (n start : ℕ) → ((top : ℕ) → slice_get stack 0 ≡ Some top → top < start) → AllFinishedBut F stack n → (p : ℕ) → start ≤ p → p < n → F p
 finished_from F [] n start below h p m l = h p l
 finished_from F (top ∷ rest) n start below h p m l = let low = below top refl in h.1 p (omega arith) l
 
--- and the places before it are finished but the unfinished ones
+-- and of the places before it all but the unfinished ones are finished
 pub finished_before : (F : ℕ → Type 0) (stack : List ℕ) (n start : ℕ) → ((top : ℕ) → slice_get stack 0 ≡ Some top → top < start) → start ≤ n → AllFinishedBut F stack n → AllFinishedBut F stack start
 finished_before F [] n start below m h = λ p l. h p (omega arith)
 finished_before F (top ∷ rest) n start below m h = (below top refl, (λ p k l. h.1 p k (omega arith)), h.2)

@@ -25,7 +25,7 @@ push_cases (z ∷ xs) y zero x e = inl e
 push_cases (z ∷ xs) y (suc i) x e =
     elim (push_cases xs y i x e) [ inl h ↦ inl h | inr h ↦ inr (ap suc h.0, h.1) ]
 
--- an element of a front lies below its length
+-- an element of a prefix lies below its length
 pub take_cases : {X : Type 0} (n : ℕ) (xs : List X) (i : ℕ) (x : X) → slice_get (take n xs) i ≡ Some x → (i < n) × (slice_get xs i ≡ Some x)
 take_cases zero xs i x e = absurd (none-some x e)
 take_cases (suc n) [] i x e = absurd (none-some x e)

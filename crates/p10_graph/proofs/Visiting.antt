@@ -11,7 +11,7 @@ use Rattle.p10_graph.proofs.Groups.{finished_as}
 use Rattle.p10_graph.proofs.Marks.{mark-set_other, mark-set_same, mark_after, mark_before, unseen-set}
 use Rattle.p10_graph.proofs.Walks.{reaches_itself}
 
--- an edge that was done leads where it led: the new group stands behind all others
+-- an edge that was done leads where it led: the new group stands after all others
 settles_more : (groups : List ℕ) (n place : ℕ) (m : Mark) → place < n → ((end : ℕ) → m ≡ Open end → end < n) → Settles groups place m → Settles (n ∷ groups) place m
 settles_more groups n place Unseen l f h = h
 settles_more groups n place (Open end) l f h =
@@ -56,7 +56,7 @@ stands_after marks nodes node u place l f h =
       | inr differs ↦ slice_get-left nodes (node ∷ []) place u (f u place (sym (mark-set_other marks node u (Open (length nodes)) differs) ∙ h))
     ]
 
--- each open node reaches those of its group and of the groups behind, the new one included
+-- each open node reaches those of its group and of the groups after it, the new one included
 reaches_after : (g : List (List ℕ)) (nodes groups : List ℕ) (node p q u v : ℕ) → ((place w : ℕ) → slice_get nodes place ≡ Some w → Reaches g w node)
     → ((p q u v : ℕ) → slice_get nodes p ≡ Some u → slice_get nodes q ≡ Some v → IsUpTo groups p q → Reaches g u v)
     → slice_get (nodes ++ node ∷ []) p ≡ Some u → slice_get (nodes ++ node ∷ []) q ≡ Some v → IsUpTo (length nodes ∷ groups) p q → Reaches g u v

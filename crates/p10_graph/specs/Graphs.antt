@@ -15,7 +15,7 @@ pub record IsGraph (g : List (List ℕ)) : Type 0 where
   pub few : length g < 2 ^ 32
   pub held : (u v : ℕ) → Edge g u v → v < length g
 
--- a walk of so many edges leads from u to v
+-- a walk of this many edges leads from u to v
 abbrev pub Walk : List (List ℕ) → ℕ → ℕ → ℕ → Type 0
 Walk g zero u v = u ≡ v
 Walk g (suc n) u v = (w : ℕ) × Edge g u w × Walk g n w v

@@ -28,7 +28,7 @@ impl Graph {
     ghost use Rattle.std.specs.List.{All, Contains};
     ghost use Rattle.p10_graph.specs.Graphs.{Edge, IsGraph};
 
-    /// The graph of `count` nodes without edges. It fails only where memory is wanting.
+    /// The graph of `count` nodes without edges. It fails only where memory runs out.
     pub fn new(alloc: Global, count: u32) -> Result<Graph, AllocError>
         ensures { IfOk result (λ graph. graph ≡ replicate count []) }
     {
@@ -40,7 +40,7 @@ impl Graph {
     }
 
     /// The graph of `count` nodes with these edges, each from its first node to its second. It fails only
-    /// where memory is wanting.
+    /// where memory runs out.
     pub fn of(alloc: Global, count: u32, edges: &[(u32, u32)]) -> Result<Graph, AllocError>
         requires { All (λ edge. (edge.0 < count) × (edge.1 < count)) edges.now }
         ensures count { IfOk result (λ graph. length graph ≡ count) }
@@ -70,7 +70,7 @@ impl Graph {
         self.successors[node as usize].as_slice()
     }
 
-    /// Adds an edge from a node to a node. Where memory is wanting nothing is added.
+    /// Adds an edge from a node to a node. Where memory runs out, nothing is added.
     pub fn add_edge(&mut self, from: u32, to: u32) -> Result<(), AllocError>
         requires from { from < length self.old }
         requires to { to < length self.old }

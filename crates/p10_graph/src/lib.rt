@@ -1,7 +1,7 @@
 //! Directed graphs, and their strongly connected components in linear time.
 //!
 //! Entry points: [`Graph`], which is built edge by edge, [`components`], which numbers the strongly
-//! connected components of a graph, and [`is_on_cycle`], which tells by these numbers whether a node
+//! connected components of a graph, and [`is_on_cycle`], which answers by these numbers whether a node
 //! lies on a cycle. Invariant: every edge of a `Graph` leads from one of its nodes to one of its nodes.
 //! What nodes stand for is left to the crates above: functions and calls, or macros and the names in
 //! their lists.

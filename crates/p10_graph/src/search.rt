@@ -3,7 +3,7 @@
 //!
 //! The nodes that were seen and have no component yet are *open*. They stand in the order in which they
 //! were seen, cut into groups. The nodes of a group reach each other, and each group reaches the groups
-//! behind it. Where an edge leads from the last group back into an earlier one, all groups from there
+//! after it. Where an edge leads from the last group back into an earlier one, all groups from there
 //! on become one. Where every edge of the last group was looked at, the group is a component.
 
 ghost use Rattle.std.specs.Prelude.{◌≡◌, ◌≤◌, IfOk, length, map};
@@ -48,7 +48,7 @@ struct Search {
 /// The number of the strongly connected component of each node, in the order of the nodes.
 ///
 /// Two nodes have one number exactly where they reach each other, and an edge never leads to a greater
-/// number. The time is linear in nodes and edges. It fails only where memory is wanting.
+/// number. The time is linear in nodes and edges. It fails only where memory runs out.
 pub fn components(alloc: Global, graph: &Graph) -> Result<Vec<u32>, AllocError>
     ensures { IfOk result (λ numbers. AreComponents graph.now numbers.items) }
 {

@@ -4,7 +4,7 @@ use crate::{Graph, components, is_on_cycle};
 use std::alloc::{AllocError, Global};
 use std::test::Fail;
 
-/// The graph of so many nodes with the edges that lie between them.
+/// The graph of `count` nodes with the edges that lie between them.
 fn graph(alloc: Global, count: u32, edges: &[(u32, u32)]) -> Result<Graph, AllocError> {
     let mut graph = Graph::new(alloc, count)?;
     for edge in edges {

@@ -98,7 +98,7 @@ is_fully o = fully_by o.defining
     fully_by defined.Fully = true
     fully_by d = false
 
--- whether an outline defines an object for the time being
+-- whether an outline defines an object tentatively (C99 6.9.2p2)
 abbrev pub is_tentative : Outline → Bool
 is_tentative o = tentative_by o.defining
   where
@@ -171,7 +171,7 @@ abbrev mutual
   heads_in root (Declare d) = static_heads root (storage_of d.specifiers) d.declarators
   heads_in root (Pragma at text) = []
 
-  -- the same of the items of a block
+  -- the same for the items of a block
   pub heads_in_all : ℕ → Statements At → List Head
   heads_in_all root NoStatements = []
   heads_in_all root (MoreStatements s rest) = heads_in root s ++ heads_in_all root rest

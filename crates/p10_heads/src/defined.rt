@@ -13,8 +13,8 @@ use crate::roots::{rest_from, root_length};
 use p10_syn::Unit;
 use std::alloc::{AllocError, Global};
 
-/// What the roots define, whose declarations and functions follow one another: functions, objects outside of functions, and objects
-/// of static lifetime in blocks.
+/// What the roots define, whose declarations and functions follow one another in `units`: functions, objects outside of functions, and
+/// objects of static lifetime in blocks. It fails only where memory runs out; 2^32 of them count as that, too.
 pub fn heads_of_units<'s>(alloc: Global, units: &[Unit<'s>]) -> Result<Heads<'s>, AllocError>
     ensures { IfOk result (λ h. plain_heads h ≡ heads_of_roots 0 (roots_of (map external_of units.now))) }
 {

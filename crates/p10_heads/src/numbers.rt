@@ -191,7 +191,7 @@ fn put_table<'s>(
     Ok(())
 }
 
-/// How many roots there are, as far as definitions tell.
+/// How many roots there are, as far as definitions say.
 fn roots_in(heads: &[Head<'_>]) -> Result<u32, AllocError>
     ensures { IfOk result (λ roots. roots ≡ roots_in (map plain_head heads.now)) }
 {

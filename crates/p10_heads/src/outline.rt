@@ -7,7 +7,7 @@ use p10_base::At;
 pub enum Defining {
     /// It is defined elsewhere.
     Elsewhere,
-    /// For the time being, unless another declarator has an initialiser.
+    /// Tentatively: it counts unless another declarator has an initialiser (C99 6.9.2p2).
     Tentatively,
     /// With its initialiser, or a function with its body.
     Fully,

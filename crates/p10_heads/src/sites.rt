@@ -17,13 +17,13 @@ use std::alloc::{AllocError, Global};
 pub(crate) enum Asked {
     /// It has a body or an initialiser.
     Full,
-    /// It defines an object for the time being.
+    /// It defines an object tentatively (C99 6.9.2p2).
     Tentative,
     /// `static` stands before it.
     Internal,
 }
 
-/// Where the names of a root are defined: the first places of each name at which it is so.
+/// Where the names of a root are defined: the first places of each name at which that holds.
 #[derive(Drop)]
 pub(crate) struct Sites<'s> {
     full: Bindings<'s, At>,
@@ -69,7 +69,7 @@ impl<'s> Sites<'s> {
     }
 }
 
-/// Whether it is so of an outline.
+/// Whether that holds for an outline.
 fn passes(asked: Asked, outline: &Outline<'_>) -> bool
     ensures { result ≡ passes asked (plain_outline outline.now) }
 {
@@ -80,7 +80,7 @@ fn passes(asked: Asked, outline: &Outline<'_>) -> bool
     }
 }
 
-/// Puts down the name of an outline of which it is so.
+/// Puts down the name of an outline for which that holds.
 fn put_site<'s>(
     asked: Asked,
     outline: &Outline<'s>,
@@ -95,7 +95,7 @@ fn put_site<'s>(
     }
 }
 
-/// The names of outlines of which it is so, each with the first place.
+/// The names of outlines for which that holds, each with the first place.
 fn table<'s>(
     alloc: Global,
     asked: Asked,

@@ -144,7 +144,7 @@ converted_keeps ULong z r = reduced_keeps ULong z r
 converted_keeps LLong z r = reduced_keeps LLong z r
 converted_keeps ULLong z r = reduced_keeps ULLong z r
 
--- but for `_Bool`, conversion is reduction
+-- except for `_Bool`, conversion is reduction
 pub converted_other : (t : IntType) (z : ℤ) → ¬ (t ≡ Bool) → reduced t z ≡ converted t z
 converted_other Bool z n = absurd (n refl)
 converted_other Char z n = refl

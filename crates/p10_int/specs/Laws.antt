@@ -89,7 +89,7 @@ abbrev pub IsSet : IntType → ℤ → ℕ → Type 0
 IsSet t z i = bit_at (pattern_of t z) i ≡ 1
 
 -- the bits of the results of `&`, `|`, `^` and `~` (C99 6.5.10, 6.5.12, 6.5.11, 6.5.3.3): set where both are, where one or
--- both are, where just one is, where the bit isn't
+-- both are, where exactly one is, where the bit isn't
 pub record BitwiseByBits (t : IntType) (a b : ℤ) (i : ℕ) : Type 0 where
   pub and_bits : IsSet t (bitwise bit_and t a b) i ↔ (IsSet t a i × IsSet t b i)
   pub or_bits : IsSet t (bitwise bit_or t a b) i ↔ (IsSet t a i ⊎ IsSet t b i)

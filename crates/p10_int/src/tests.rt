@@ -172,7 +172,7 @@ static ULONG: [&str; 15] = [
     "5 0: 5 5 0 U2 U2 5 5 0 5 5 0 1 0 1 0 1",
 ];
 
-/// The same of `_Bool`, an unsigned type of width 1.
+/// The same for `_Bool`, an unsigned type of width 1.
 static BOOL: [&str; 4] = [
     "0 0: 0 0 0 U2 U2 0 0 0 0 0 0 0 1 1 1 0",
     "0 1: 1 1 0 0 0 0 0 0 1 1 1 0 1 0 0 1",
@@ -180,7 +180,7 @@ static BOOL: [&str; 4] = [
     "1 1: 0 0 1 1 0 0 0 1 1 0 0 0 1 1 1 0",
 ];
 
-/// The operands of those rows but for `_Bool`: the ends of the type, and numbers about 0 and about its
+/// The operands of those rows except for `_Bool`: the ends of the type, and numbers about 0 and about its
 /// width.
 fn pairs(t: IntType) -> [(i128, i128); 15] {
     let (least, greatest) = range(t);

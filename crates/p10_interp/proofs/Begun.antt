@@ -48,7 +48,7 @@ pub two_tasks : {B : Type 0} (a b : Task) (x y : Task) (k : List Task) (operands
 two_tasks a b x y k operands calls w v r new d e h =
     subst (λ x. Answers (step w (λ w. goes_on (x ∷ (y ∷ k)) operands calls w)) r new v) d (subst (λ y. Answers (step w (λ w. goes_on (a ∷ (y ∷ k)) operands calls w)) r new v) e h)
 
--- the arguments of a call, and what it is on so many
+-- the arguments of a call, and what it is on this many
 pub arguments_are : {B : Type 0} (call : ℕ → Task) (vs all : List Value) (k : List Task) (operands : List Operand) (calls : List Open) (w v : State) (r : Result B Halt) (new : Rig) → vs ≡ all →
     Answers (step w (λ w. goes_on (evaluate_values (plain_values vs) ∷ (call (count_of (plain_values vs)) ∷ k)) operands calls w)) r new v →
     Answers (step w (λ w. goes_on (evaluate_values (plain_values all) ∷ (call (count_of (plain_values all)) ∷ k)) operands calls w)) r new v

@@ -112,7 +112,7 @@ filled_next p standing objects (v ∷ vs) (a ∷ more) variable argument before 
 
 -- ## The body
 
--- the same of another number that is that one
+-- the same for another number that is equal
 pub returns_same : (p : PlainProgram) (held : List Held) (objects : List Object) (body : PlainStatements) (before after : ℕ) (z y : ℤ) → y ≡ z → Returns p held objects body before z after → Returns p held objects body before y after
 returns_same p held objects body before after z y e h = subst (λ z. Returns p held objects body before z after) (sym e) h
 
@@ -167,7 +167,7 @@ pub value_called : (p : PlainProgram) (g : ℕ) (arguments : PlainValues) (cs : 
 value_called p g arguments cs objects before paid after depth z e h = λ at t name n f calls w few most opens some same.
     call_value (setting_in p n f) f.frame.held at t name g arguments (record w { left = before }) (record (raised depth w) { left = after }) paid z e (h (setting_in p n f) n f calls refl refl (omega (arith, e, few, most)) opens some w same)
 
--- the same of another number that is that one
+-- the same for another number that is equal
 pub called_same : (p : PlainProgram) (g : ℕ) (arguments : PlainValues) (cs : List Open) (objects : List Object) (before after : ℕ) (depth : Depth) (z y : ℤ) → y ≡ z → IsCalled p g arguments cs objects before depth z after → IsCalled p g arguments cs objects before depth y after
 called_same p g arguments cs objects before after depth z y e h = subst (λ z. IsCalled p g arguments cs objects before depth z after) (sym e) h
 

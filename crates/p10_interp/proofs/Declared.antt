@@ -63,7 +63,7 @@ declared_object p span n v i k operands f calls w object most q new e o m at is 
 pub variable_is : (o : Option PlainVariable) (v : PlainVariable) (n : ℕ) (old : List Open) (f : Open) (calls : List Open) → o ≡ slice_get (innermost_variables old) n → o ≡ Some v → old ≡ f ∷ calls → slice_get f.function.variables n ≡ Some v
 variable_is o v n old f calls d e same = sym (ap (λ calls. slice_get (innermost_variables calls) n) same) ∙ (sym d ∙ e)
 
--- a declaration that stops wants memory
+-- a declaration that stops is out of memory
 pub declares_err : {A B : Type 0} (r : Result B Halt) (halt : Halt) (p : PlainProgram) (n : ℕ) (v : PlainVariable) (f : Open) (calls : List Open) (w : State) (now : List Open) (new after : State) (o : Progress A) (x : A) →
     r ≡ Err halt → Declares p n v f calls w (Err halt) now new → Answers o r x after
 declares_err r (Failed span) p n v f calls w now new after o x e h = absurd h

@@ -123,7 +123,7 @@ comes_on from old new Memory go to c = c
 
 -- ## Giving up
 
--- what comes of a state with so many steps at most comes after it
+-- what comes of a state with at most n steps comes after it
 abbrev pub GoesOn : {A : Type 0} → (State → Progress A) → ℕ → Type 0
 GoesOn from n = (w : State) → w.left ≤ n → EndsAfter w (from w)
 
@@ -134,7 +134,7 @@ grown w (ends end v) f = f.output
 pub proceed_goes_on : (p : PlainProgram) (n : ℕ) (r : Rig) → GoesOn (proceed p n r) n
 proceed_goes_on p n r w b = let g : Goes w (proceed p n r w) = proceed_goes p n r w b in g.after
 
--- the front of what waits went out
+-- a prefix of what waits went out
 front_of : (earlier waiting front back all : List ℕ) → waiting ≡ front ++ back → Extends (earlier ++ waiting) all → Extends (earlier ++ front) all
 front_of earlier waiting front back all e x = record {
   more = back ++ x.more;
@@ -225,7 +225,7 @@ module _ {A : Type 0} (from to : State → Progress A) (same : (w : State) → f
   comes_as old new (Err Write) go c = loses_as old new.left new.taken c
   comes_as old new (Err Memory) go c = loses_as old new.left new.taken c
 
--- want of memory
+-- out of memory
 pub comes_memory : {A X : Type 0} (from : State → Progress A) (n : ℕ) (s t : Outside) (ended now : Bool) (left taken : Option (List ℕ)) (e : Broken) (go : X → State → Progress A) → GoesOn from n → s.left ≤ n → e ≡ Memory →
     Comes from (record { outside = s; ended = ended; left = left; taken = taken }) (Err e) go (record { outside = t; ended = now; left = left; taken = taken })
 comes_memory {A} {X} from n s t ended now left taken e go goes few is =

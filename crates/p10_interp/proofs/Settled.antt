@@ -90,7 +90,7 @@ opens p denied o h =
     ap (λ bytes. record (state_of o (record { out = []; rest = [] })) { input = []; output = bytes }) (ap (λ (w : State). w.output) e) ∙
     ap (λ (w : State). record w { input = []; output = [] }) e
 
--- the machine is as before but for room
+-- the machine is as before except for room
 pub rests_same : (p : PlainProgram) (place : Place) (old new : Engine) (turns : ℕ) → StaysButRoom old new → resting p place new turns ≡ resting p place old turns
 rests_same p place old new turns s =
     ap (λ calls. record (resting p place new turns) { position = position_of place calls }) s.calls ∙

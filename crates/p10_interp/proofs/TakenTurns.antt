@@ -86,7 +86,7 @@ row_next p xs rest at form f calls old new w u v row less h = record {
       (first_goes p at form rest k operands (in_block (with_held f row.held) opened outer ∷ calls) (in_block (with_held f row.held) opened outer) calls (in_block (with_held f h.held) opened outer ∷ calls) u v refl less (executed_in p form (with_held f row.held) calls new u v opened outer h));
 }
 
--- the next one was executed, as the code tells it
+-- the next one was executed, as the code says it
 pub row_more : (p : PlainProgram) (xs : PlainStatements) (ys : List Stmt) (first : Stmt) (b : Bool) (f : Open) (calls old new : List Open) (w u v : State) → 1 ≤ length ys → first ≡ get_or ys 0 first → b ≡ true → v.left < u.left → (row : IsRow p xs (plain_statements ys) f calls w old u) → Executes p (plain_statement_form first.form) b (with_held f row.held) calls u new v →
     IsRow p xs (plain_statements (take (length ys - 1) (drop 1 ys))) f calls w new v
 row_more p xs [] first b f calls old new w u v l is true_is less row h = absurd (omega (arith, l))

@@ -36,7 +36,7 @@ value_done p n v k operands now cs f calls w u x e put run =
     (ap (λ o. and_then o (λ x w. resume p n k (evaluated (Some x) ∷ operands) (f ∷ calls) w)) run ∙
     (ap (λ operands. resume p n k operands (f ∷ calls) u) (sym put) ∙ ap (λ cs. resume p n k now cs u) (sym e)))
 
--- the same of a value in the innermost call
+-- the same for a value in the innermost call
 pub value_is_done : (p : PlainProgram) (v : PlainValue) (old new : Stacks) (f : Open) (calls : List Open) (w u : State) (x : ℤ) → calls_in old.calls ≡ f ∷ calls → rig_of normal new ≡ rig_at (tasks_in old.tasks) (evaluated (Some (Int x)) ∷ old.operands) (calls_in old.calls) → u.left < w.left →
     ((n : ℕ) → w.left ≤ n → evaluate (setting_in p n f) f.frame.held v w ≡ gives (Int x) u) → IsDone p (evaluate_value v) old w new u
 value_is_done p v old new f calls w u x e now less run = record {
@@ -81,7 +81,7 @@ first_is_done p at form rest old new f calls w v e now less h = record {
       ap (λ r. proceed p n r v) (sym now);
 }
 
--- ## What is done at once, as the code tells it
+-- ## What is done at once, as the code says it
 
 -- a statement wasn't executed
 not_done : (p : PlainProgram) (t : Task) (form : PlainStatementForm) (b : Bool) (old new : Stacks) (f : Open) (calls : List Open) (w v : State) → b ≡ false → calls_in old.calls ≡ f ∷ calls → rig_of normal new ≡ rig_at (tasks_in old.tasks) old.operands (calls_in new.calls) → Executes p form b f calls w (calls_in new.calls) v → Does p t old w false new v

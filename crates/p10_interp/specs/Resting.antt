@@ -36,7 +36,7 @@ abbrev pub rest_of : Bool → List ℕ → List ℕ
 rest_of true rest = []
 rest_of false rest = rest
 
--- the state in which a call begins, with so many steps: the input goes on with these bytes, and the output comes after what went out before
+-- the state in which a call begins, with `steps` steps: the input goes on with these bytes, and the output comes after what went out before
 abbrev pub begun : Resting → ℕ → List ℕ → List ℕ → State
 begun m steps input earlier = record m.state { left = steps; input = m.state.input ++ input; output = earlier ++ m.state.output }
 

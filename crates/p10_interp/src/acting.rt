@@ -41,7 +41,7 @@ pub fn next_act<'p>(
     }
 }
 
-/// Passes a piece of work. Where no call is open it has no answer but want of memory; that never comes.
+/// Passes a piece of work. Where no call is open it is answered as out of memory; that never comes.
 fn pass_if_called<'p>(
     p: &'p Program<'p>,
     flow: Flow,
@@ -78,7 +78,7 @@ fn act<'p>(
     }
 }
 
-/// Does a piece of work that stands in a call. Where none is open it has no answer but want of memory; that never comes.
+/// Does a piece of work that stands in a call. Where none is open it is answered as out of memory; that never comes.
 fn act_if_called<'p>(
     p: &'p Program<'p>,
     work: Work<'p>,

@@ -25,7 +25,7 @@ use p10_store::{Origin, Shape};
 /// The greatest request for memory, in bytes.
 const MOST_REQUEST: u128 = 1_048_576;
 
-/// `malloc`, or `calloc`: memory for so many elements, whose scalars are unset or zero. The type is
+/// `malloc`, or `calloc`: memory for a number of elements, whose scalars are unset or zero. The type is
 /// that of a pointer to an element.
 pub fn allocate(
     p: &Program<'_>,
@@ -68,8 +68,8 @@ fn pointee_of(t: &CType) -> &CType
     }
 }
 
-/// A request: one of 0 bytes or of more than 2^20 gives null and isn't counted. An element of a type without a size has no answer
-/// but want of memory; whole programs have none.
+/// A request: one of 0 bytes or of more than 2^20 gives null and isn't counted. An element of a type without a size is answered
+/// as out of memory; whole programs have none.
 fn request(
     p: &Program<'_>,
     t: &CType,
@@ -145,7 +145,7 @@ fn is_denied(denied: &[u64], number: u128) -> bool
     false
 }
 
-/// The pointer to the first of so many elements of so many scalars.
+/// The pointer to the first of `count` elements of `scalars` scalars.
 fn first_of(object: u128, scalars: u64, count: u64) -> Ptr
     ensures { result ≡ first_of object scalars count }
 {
@@ -162,7 +162,7 @@ fn first_of(object: u128, scalars: u64, count: u64) -> Ptr
     }
 }
 
-/// Opens an allocation of so many elements of so many scalars, which are zero or unset.
+/// Opens an allocation of a number of elements, each of a number of scalars, which are zero or unset.
 fn open_allocated(
     p: &Program<'_>,
     t: &CType,
@@ -218,7 +218,7 @@ fn open_zeroed(stride: u64, count: u64, outside: &mut Outside) -> Result<(), Hal
     }
 }
 
-/// The cells of so many elements of a type are zero or null, and nothing else.
+/// The cells of `count` elements of a type are zero or null, and nothing else.
 fn put_zeros(
     types: &Types<'_>,
     t: &CType,

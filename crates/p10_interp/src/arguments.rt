@@ -9,7 +9,7 @@ use crate::tasks::Operands;
 use crate::work::Halt;
 use p10_meaning::Scalar;
 
-/// Takes so many values from the top. The last was on top, and the first is the next argument.
+/// Takes `count` values from the top. The last was on top, and the first is the next argument.
 pub fn take_arguments(
     count: usize,
     operands: &mut Operands,

@@ -16,6 +16,6 @@ pub enum Broken {
     Read,
     /// The sink failed.
     Write,
-    /// Want of memory.
+    /// Out of memory.
     Memory,
 }

@@ -327,7 +327,7 @@ fn variable_in<'p>(variables: &'p [Variable<'p>], number: u32) -> Option<&'p Var
     variables.get(number as usize)
 }
 
-/// The place of a variable where those of its call begin at a place, among so many.
+/// The place of a variable where those of its call begin at a place, if it is one of the first `most`.
 fn place_in(from: usize, variable: u32, most: usize) -> Option<usize>
     ensures { IsPlaced from most variable result }
 {

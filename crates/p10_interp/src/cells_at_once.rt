@@ -41,7 +41,7 @@ pub fn cell_from(store: &Store, start: Ptr, by: i128) -> Option<&Cell>
     }
 }
 
-/// The pointer that stands so many elements after this one in its array, whether their object is live or not.
+/// The pointer that stands `by` elements after this one in its array, whether their object is live or not.
 #[inline(always)]
 pub fn pointer_from(start: Ptr, by: i128) -> Option<Ptr>
     ensures { IfSome result (λ there. IsMoved start by there) }

@@ -117,7 +117,7 @@ fn constant<'p>(
     }
 }
 
-/// Whether a run ended by itself, and not for want of steps or memory.
+/// Whether a run ended by itself, and not because it ran out of steps or memory.
 fn is_ended(halt: Halt) -> bool
     ensures { result ≡ is_ended halt }
 {
@@ -174,7 +174,7 @@ fn items_if<'i>(given: bool, items: &'i [Item]) -> &'i [Item]
     if given { items } else { &items[..0] }
 }
 
-/// The cells that a list gives to an object of so many scalars.
+/// The cells that a list gives to an object of `count` scalars.
 fn put_listed_cells(
     types: &Types<'_>,
     t: &CType,

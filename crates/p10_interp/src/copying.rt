@@ -63,7 +63,7 @@ pub fn copy(
     copy_scalars(copied, scalars, outside)
 }
 
-/// So many scalars are copied, from the first on.
+/// The first `count` scalars are copied, in order.
 fn copy_scalars(copied: Copied, count: u64, outside: &mut Outside) -> Result<(), Halt>
     ensures { (io : Around) (frame : Frame) → Answers (copy_scalars count 0 copied.to_span copied.to copied.from_span copied.from frame (state_of outside.old io)) result (record { flow = normal; frame = frame }) (state_of outside.new io) }
 {

@@ -27,6 +27,6 @@ pub enum RunFault {
     Read,
     /// The sink failed.
     Write,
-    /// Want of memory.
+    /// Out of memory.
     Memory,
 }

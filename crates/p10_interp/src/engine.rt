@@ -94,7 +94,7 @@ impl<'p> Engine<'p> {
         }
     }
 
-    /// Acts until a pause, and does there what is wanted of the outside.
+    /// Acts until a pause, and does there what is needed of the outside.
     fn act_and_serve<I: Source, O: Sink>(
         &mut self,
         p: &'p Program<'p>,
@@ -116,7 +116,7 @@ impl<'p> Engine<'p> {
         }
     }
 
-    /// Does at a pause what is wanted of the outside.
+    /// Does at a pause what is needed of the outside.
     fn serve_at<I: Source, O: Sink>(
         &mut self,
         pause: Pause,
@@ -154,7 +154,7 @@ impl<'p> Engine<'p> {
         }
     }
 
-    /// Does what is wanted of the outside before the next act.
+    /// Does what is needed of the outside before the next act.
     fn serve<I: Source, O: Sink>(
         &mut self,
         flow: Flow,

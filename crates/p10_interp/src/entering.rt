@@ -205,7 +205,7 @@ fn write_argument(object: u128, x: Scalar, store: &mut Store) -> Result<(), Halt
     }
 }
 
-/// The innermost block has opened the objects from a number on, up to another and without it.
+/// The innermost block has opened the objects from a number on, up to but not including another.
 fn own_between(first: u128, end: u128, calls: &mut Calls<'_>) -> Result<(), Halt>
     ensures ok { OnOk result ((f : Open) (around : List Open) → calls_in calls.old ≡ f ∷ around → calls_in calls.new ≡ owning_all f (numbers_from first (end - first) ++ f.frame.opened) ∷ around) }
     ensures err { IfErr result (λ e. e ≡ Halt.Memory) }

@@ -53,7 +53,7 @@ pub fn fill(
     fill_scalars(&p.types, t, listed, place, scalars, outside)
 }
 
-/// So many scalars of an object of a type are written, from the first on.
+/// All scalars of an object of a type, `count` in number, are written, from the first on.
 fn fill_scalars(
     types: &Types<'_>,
     t: &CType,

@@ -1,14 +1,14 @@
-//! Where the outside is wanted before the next act.
+//! Where the outside is needed before the next act.
 
 use crate::outside::Outside;
 use crate::stacks::Stacks;
 use crate::work::{Operation, Work};
 use p10_core::Library;
 
-/// How many bytes are taken from a source at most at a time, and how many wait before they are put into a sink.
+/// How many bytes are taken from a source at most at a time, and how many wait before they are written to a sink.
 pub const PIECE: usize = 4096;
 
-/// Whether the outside is wanted before the next act: a piece of output waits, or the act takes a byte of input and none is
+/// Whether the outside is needed before the next act: a piece of output waits, or the act takes a byte of input and none is
 /// pending. What comes of a run doesn't depend on where it pauses, so no clause says where.
 pub fn is_held(stacks: &Stacks<'_>, outside: &Outside) -> bool {
     is_full(outside) || is_starved(stacks, outside)

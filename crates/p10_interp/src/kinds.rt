@@ -33,7 +33,7 @@ pub fn kind_at(types: &Types<'_>, t: &CType, number: u64) -> Option<Kind>
     kind_within(MOST_DEPTH, types, t, number)
 }
 
-/// The kind of a scalar of an object of a type, in which types are nested less deep than so often.
+/// The kind of a scalar of an object of a type, in which types are nested less deep than `depth`.
 fn kind_within(depth: u64, types: &Types<'_>, t: &CType, number: u64) -> Option<Kind>
     requires structures { AreWholeStructures (plain_types types.now) }
     ensures { IfSome result (λ k. HasKindAt (scalars_of (plain_types types.now) (bare (plain_types types.now) (plain_type t.now))) number k) }
@@ -95,8 +95,8 @@ fn place_within(types: &Types<'_>, members: &[Member<'_>], number: u64) -> Optio
     None
 }
 
-/// A scalar converted to the type of another (C99 6.3). A number that no type holds has no answer but want of memory; whole
-/// programs have none.
+/// A scalar converted to the type of another (C99 6.3). A number that no type holds is answered as out of memory; whole programs
+/// have none.
 pub fn convert_to_kind(kind: Kind, x: Scalar) -> Result<Scalar, Halt>
     ensures value { (t : PlainType) → HasKind t kind → IfOk result (λ y. y ≡ converted_to t x) }
     ensures memory { IfErr result (λ halt. halt ≡ Halt.Memory) }

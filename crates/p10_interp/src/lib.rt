@@ -8,7 +8,7 @@
 //! Inside, contracts see the work that is left as a list of tasks (`specs/private/Tasks.antt`), what it comes to in terms of the
 //! meaning (`specs/private/Resuming.antt`), and one act as a function on plain lists (`specs/private/Acts.antt`). Each act leaves
 //! what the tasks come to as it was (`proofs/Right.antt`), and takes a step or leaves less to be done (`proofs/Lighter.antt`).
-//! The acts never see a source or a sink: they pause where one is wanted, and `Engine` sees to it.
+//! The acts never see a source or a sink: they pause where one is needed, and `Engine` sees to it.
 //! Invariant: none that callers have to keep; a machine at its task loop has one open call, that of `main`.
 #![tactic(auto)]
 

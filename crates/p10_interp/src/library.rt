@@ -104,8 +104,8 @@ fn assert_first(x: Scalar, span: Span, outside: &Outside) -> Result<Option<Scala
     }
 }
 
-/// `getchar`: the next byte of the input (C99 7.19.7.6). Where no byte was taken from the source and not given yet, it has no
-/// answer but want of memory: the source is asked before, and its end is told by whoever asks it.
+/// `getchar`: the next byte of the input (C99 7.19.7.6). Where no byte is pending it is answered as out of memory: the source is
+/// asked before, and its end is noted by whoever asks it.
 fn get_byte(outside: &mut Outside) -> Result<Option<Scalar>, Halt>
     ensures { (io : Around) → Gives (next_byte (state_of outside.old io).input (state_of outside.old io)) result (state_of outside.new io) }
 {

@@ -170,7 +170,7 @@ fn find_among(listed: Listed<'_>, number: u64) -> Option<Scalar>
     None
 }
 
-/// The scalar that an item gives for a number, if it gives one, where so many values were used before.
+/// The scalar that an item gives for a number, if it gives one, where `used` values were used before.
 fn scalar_in(item: &Item, values: &Queue<Scalar>, used: usize, number: u64) -> Option<Scalar>
     ensures { (more : List Scalar → List (ℕ × Scalar)) → LooksAt number item.now.scalar (plain_written item.now.written) values.now used more result }
 {
@@ -193,7 +193,7 @@ fn byte_value(byte: Option<u8>) -> Option<Scalar>
     }
 }
 
-/// How many values an item takes, where so many were used before: one where a value is written and is there.
+/// How many values an item takes, where `used` were used before: one where a value is written and is there.
 fn count_taken(item: &Item, values: &Queue<Scalar>, used: usize) -> usize
     ensures taken { result ≡ taken_by (plain_written item.now.written) (slice_get values.now used) }
     ensures most { result ≤ 1 }

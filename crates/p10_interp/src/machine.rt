@@ -40,7 +40,7 @@ impl<'p> Machine<'p> {
     ///
     /// # Errors
     ///
-    /// Want of memory.
+    /// Out of memory.
     pub fn new(
         alloc: Global,
         p: &'p Program<'p>,
@@ -71,11 +71,11 @@ impl<'p> Machine<'p> {
         self.engine.outside.sensors = Queue::of(values);
     }
 
-    /// Makes room on the stacks and among the objects for a turn that stays within bounds. The machine is as before but for room.
+    /// Makes room on the stacks and among the objects for a turn that stays within bounds. The machine is as before except for room.
     ///
     /// # Errors
     ///
-    /// Want of memory.
+    /// Out of memory.
     pub fn reserve_for(&mut self, b: &Bounds) -> Result<(), AllocError>
         ensures { resting_of self.new ≡ resting_of self.old }
     {
@@ -111,14 +111,14 @@ impl<'p> Machine<'p> {
         self.engine.outside.bytes
     }
 
-    /// Runs `main` with so many steps: up to its task loop, whose statement step it takes ([`Ended::AtLoop`]), or all of it where
+    /// Runs `main` with `steps` steps: up to its task loop, whose statement step it takes ([`Ended::AtLoop`]), or all of it where
     /// it has none. Input is taken from the source in pieces of at most 4,096 bytes, none after its end was noted; output is put
     /// when 4,096 bytes wait, and before each answer.
     ///
     /// # Errors
     ///
     /// [`RunFault::Read`] and [`RunFault::Write`] only where the count of faults of the source or the sink rose, and
-    /// [`RunFault::Memory`] for want of memory. No turn comes after that, and what went out is a prefix of the output.
+    /// [`RunFault::Memory`] where memory is out. No turn comes after that, and what went out is a prefix of the output.
     pub fn run_main<I: Source, O: Sink>(
         &mut self,
         input: &mut I,
@@ -147,7 +147,7 @@ impl<'p> Machine<'p> {
         }
     }
 
-    /// Runs one turn of the task loop with so many steps: its test and its body. It is [`Ended::TurnDone`] where another may come;
+    /// Runs one turn of the task loop with `steps` steps: its test and its body. It is [`Ended::TurnDone`] where another may come;
     /// a turn that leaves the loop ends the run as a return of 0. Input and output are as in [`Machine::run_main`].
     ///
     /// # Errors

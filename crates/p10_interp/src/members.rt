@@ -46,7 +46,7 @@ pub fn member(
     operands.push(Operand::Located(Target::Element(there)))
 }
 
-/// How many scalars of a structure stand before a member (C99 6.7.2.1p13); none where their number passes that of all addresses.
+/// How many scalars of a structure stand before a member (C99 6.7.2.1p13); none where their number exceeds that of all addresses.
 pub fn scalars_before(types: &Types<'_>, t: &CType, number: u32) -> Option<u64>
     requires structures { AreWholeStructures (plain_types types.now) }
     ensures { (p : PlainProgram) → p.structures ≡ plain_types types.now → IfSome result (λ n. n ≡ scalars_before p (bare p.structures (plain_type t.now)) number) }
@@ -62,7 +62,7 @@ pub fn scalars_before(types: &Types<'_>, t: &CType, number: u32) -> Option<u64>
     }
 }
 
-/// How many scalars the first members have, as many as asked; none where their number passes that of all addresses.
+/// How many scalars the first members have, as many as asked; none where their number exceeds that of all addresses.
 fn scalars_of_first(types: &Types<'_>, members: &[Member<'_>], number: u32) -> Option<u64>
     requires structures { AreWholeStructures (plain_types types.now) }
     ensures { IfSome result (λ n. n ≡ length (flat_map (λ (x : PlainMember). scalars_of (plain_types types.now) (bare (plain_types types.now) x.type)) (take number (map plain_member members.now)))) }

@@ -42,7 +42,7 @@ fn operate_number(op: UnOp, t: IntType, a: i128, span: Span) -> Result<i128, Hal
     }
 }
 
-/// A unary operator on a number of its type. Any other operand has no answer but want of memory; whole programs have none.
+/// A unary operator on a number of its type. Any other operand is answered as out of memory; whole programs have none.
 fn calculate_one(op: UnOp, t: IntType, a: i128, span: Span) -> Result<i128, Halt>
     ensures { Finds (operate_unary op t a) span result }
 {
@@ -171,7 +171,7 @@ fn operate_numbers(op: BinOp, t: IntType, a: i128, b: i128, span: Span) -> Resul
     }
 }
 
-/// A binary operator on numbers of its type. Any other operands have no answer but want of memory; whole programs have none.
+/// A binary operator on numbers of its type. Any other operands are answered as out of memory; whole programs have none.
 fn calculate(op: BinOp, t: IntType, a: i128, b: i128, span: Span) -> Result<i128, Halt>
     ensures { Finds (operate op t a b) span result }
 {
@@ -184,7 +184,7 @@ fn calculate(op: BinOp, t: IntType, a: i128, b: i128, span: Span) -> Result<i128
     }
 }
 
-/// Whether the operands are values of the operator's type, but for the count of a shift.
+/// Whether the operands are values of the operator's type, except for the count of a shift.
 pub fn are_operands(op: BinOp, t: IntType, a: i128, b: i128) -> bool
     ensures { IsTrue result → InRange t a × IsRightOperand op t b }
 {
@@ -247,8 +247,8 @@ fn are_same_windows(a: Window, b: Window) -> bool
         && a.whole == b.whole
 }
 
-/// A difference of pointers at the type of the operator: U1 where it isn't representable (C99 6.5.6p9). An unsigned type has no
-/// answer but want of memory; whole programs have none there.
+/// A difference of pointers at the type of the operator: U1 where it isn't representable (C99 6.5.6p9). An unsigned type is
+/// answered as out of memory; whole programs have none there.
 #[tactic(auto, unfolding(p10_int::specs::Operators::fitted))]
 fn fit_difference(t: IntType, difference: i128, span: Span) -> Result<i128, Halt>
     ensures { Finds (fitted t U1 difference) span result }

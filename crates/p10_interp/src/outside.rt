@@ -4,7 +4,7 @@ use crate::queue::Queue;
 use p10_meaning::Cell;
 use p10_store::Store;
 
-/// The state of a run, but for its stacks.
+/// The state of a run, except for its stacks.
 #[derive(Drop)]
 pub struct Outside {
     pub store: Store,

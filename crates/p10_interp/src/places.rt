@@ -20,7 +20,7 @@ use p10_core::{CType, Global, Literal, Program};
 use p10_meaning::{Ptr, Window};
 use p10_store::Stop;
 
-/// The pointer to a single object of so many scalars.
+/// The pointer to a single object of `scalars` scalars.
 pub fn single(object: u128, scalars: u64) -> Ptr
     ensures { result ≡ first_of object scalars 1 }
 {

@@ -108,7 +108,7 @@ pub fn first_at(around: &Surroundings<'_>, t: &CType, pointer: Ptr, left: &mut u
     }
 }
 
-/// The pointer to the first of so many elements of so many scalars from a scalar of an element on.
+/// The pointer to the first of `count` elements of `scalars` scalars each, from a scalar of an element on.
 fn inner_at(store: &Store, from: (Ptr, u64), scalars: u64, count: u64, left: &mut u64) -> Ptr
     ensures { IsFound (inner store.now.objects from.0 from.1 scalars count) left.old result left.new }
 {
@@ -176,7 +176,7 @@ fn start_in_place(around: &Surroundings<'_>, place: &Place) -> Option<Ptr>
     }
 }
 
-/// The pointer to the first of so many elements of so many scalars of an object.
+/// The pointer to the first of `count` elements of `scalars` scalars each, of an object.
 #[inline(always)]
 fn start_of(object: u128, scalars: u64, count: u64) -> Ptr
     ensures { result ≡ To object (array_window scalars count) 0 }

@@ -51,7 +51,7 @@ pub fn decay(
     operands.push(Operand::Evaluated(Some(Scalar::Pointer(first))))
 }
 
-/// The pointer to the first element of the array of so many elements of so many scalars that begins at a scalar of an
+/// The pointer to the first element of the array of `count` elements, of `scalars` scalars each, that begins at a scalar of an
 /// element: U5, U7.
 pub fn inner(
     store: &Store,

@@ -1,4 +1,4 @@
-//! A list that is taken from its front.
+//! A list from which the first element is taken.
 
 ghost use Rattle.std.specs.Prelude.{◌≡◌, ◌∷◌, [], OnOk, IfErr, MatchOption, reverse, slice_get};
 

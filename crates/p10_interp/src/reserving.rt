@@ -10,7 +10,7 @@ use std::alloc::AllocError;
 impl<'p> Engine<'p> {
     ghost use Rattle.p10_interp.specs.private.Reserving.{StaysButRoom};
 
-    /// Makes room for so many further calls, whose frames have so many bytes, and each of which has so much on a stack at once.
+    /// Makes room for `calls` further calls, whose frames have `bytes` bytes, and each of which has at most `room` on a stack at once.
     /// Each variable, object and cell of a frame has a byte at least.
     pub fn reserve(&mut self, calls: u64, bytes: u64, room: u64) -> Result<(), AllocError>
         ensures { StaysButRoom self.old self.new }
@@ -23,7 +23,7 @@ impl<'p> Engine<'p> {
     }
 }
 
-/// Makes room for so many calls, whose frames have so many bytes, with so many blocks.
+/// Makes room for `count` calls, whose frames have `bytes` bytes, with `blocks` blocks.
 fn reserve_calls(
     calls: &mut Calls<'_>,
     count: u64,
@@ -39,7 +39,7 @@ fn reserve_calls(
     calls.marks.reserve(bytes.saturating_add(blocks) as usize)
 }
 
-/// Makes room for objects that have so many bytes.
+/// Makes room for objects that have `bytes` bytes.
 fn reserve_objects(store: &mut Store, bytes: u64) -> Result<(), AllocError>
     ensures objects { store.new.objects ≡ store.old.objects }
     ensures opened { store.new.opened ≡ store.old.opened }

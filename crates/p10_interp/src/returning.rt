@@ -21,8 +21,8 @@ pub fn returned(operands: &mut Operands) -> Result<Ended, Broken>
     }
 }
 
-/// `main` has returned a value, or 0 where it gave none (C99 5.1.2.2.3). A value that no `int` holds has no answer but want of
-/// memory; whole programs have none.
+/// `main` has returned a value, or 0 where it gave none (C99 5.1.2.2.3). A value that no `int` holds is answered as out of memory;
+/// whole programs have none.
 pub fn returned_with(given: Option<Scalar>) -> Result<Ended, Broken>
     ensures ok { IfOk result (λ ended. ended ≡ Ended.Returned (status given)) }
     ensures err { IfErr result (λ e. e ≡ Broken.Memory) }

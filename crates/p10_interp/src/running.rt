@@ -17,7 +17,7 @@ use crate::turning::turn;
 use crate::work::{Flow, Halt, Pause};
 use p10_core::Program;
 
-/// Does all work that is left. Where the outside is wanted it has no answer but want of memory.
+/// Does all work that is left. Where the outside is needed, it is answered as out of memory.
 pub fn run<'p>(
     p: &'p Program<'p>,
     flow: Flow,
@@ -40,7 +40,7 @@ pub fn run<'p>(
     }
 }
 
-/// Acts until all work is done, or the outside is wanted before the next act.
+/// Acts until all work is done, or the outside is needed before the next act.
 pub fn work_on<'p>(
     p: &'p Program<'p>,
     flow: Flow,
@@ -69,7 +69,7 @@ pub fn work_on<'p>(
     }
 }
 
-/// Acts until all work is done, or a step was taken, or the outside is wanted before the next act.
+/// Acts until all work is done, or a step was taken, or the outside is needed before the next act.
 pub fn advance<'p>(
     p: &'p Program<'p>,
     flow: Flow,

@@ -57,7 +57,7 @@ pub fn integer_type(t: &CType) -> IntType
     }
 }
 
-/// A scalar converted to a type (C99 6.3). A number that no type holds has no answer but want of memory; whole programs have none.
+/// A scalar converted to a type (C99 6.3). A number that no type holds is answered as out of memory; whole programs have none.
 pub fn convert_to(t: &CType, x: Scalar) -> Result<Scalar, Halt>
     ensures value { IfOk result (λ y. y ≡ converted_to (plain_type t.now) x) }
     ensures memory { IfErr result (λ halt. halt ≡ Halt.Memory) }

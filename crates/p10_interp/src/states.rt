@@ -34,7 +34,7 @@ impl<'p> State<'p> {
 ///
 /// # Errors
 ///
-/// Want of memory.
+/// Out of memory.
 pub fn start<'p>(alloc: Global, p: &'p Program<'p>, world: World) -> Result<State<'p>, AllocError>
     requires { IsWholeProgram (plain_program p.now) }
     ensures program { IfOk result (λ s. s.program.now ≡ p.now) }

@@ -69,7 +69,7 @@ impl<'p> Tasks<'p> {
         self.items.pop()
     }
 
-    /// Makes room for so many further pieces of work.
+    /// Makes room for `count` further pieces of work.
     pub fn reserve(&mut self, count: u64) -> Result<(), AllocError>
         ensures { tasks_in self.new ≡ tasks_in self.old }
     {
@@ -115,7 +115,7 @@ impl Operands {
         self.items.clear();
     }
 
-    /// Makes room for so many further operands.
+    /// Makes room for `count` further operands.
     pub fn reserve(&mut self, count: u64) -> Result<(), AllocError>
         ensures { self.new ≡ self.old }
     {

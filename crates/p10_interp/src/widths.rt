@@ -8,7 +8,7 @@ ghost use Rattle.p10_core.specs.WholePrograms.{AreWholeStructures};
 
 use p10_core::{CType, TypeForm, Types};
 
-/// How many scalars an object of a type has; none where their number passes that of all addresses. Structures of several
+/// How many scalars an object of a type has; none where their number exceeds that of all addresses. Structures of several
 /// roots that are compatible are one (C99 6.2.7).
 #[tactic(auto, unfolding(p10_core::specs::Sizes::layout_of))]
 pub fn width_of(types: &Types<'_>, t: &CType) -> Option<u64>
@@ -47,7 +47,7 @@ fn structure_width(types: &Types<'_>, number: u32) -> u64
     }
 }
 
-/// The structure that stands for one of its number: itself where there is none.
+/// The structure that stands for the one with this number: itself where there is none.
 pub fn representative(types: &Types<'_>, number: u32) -> u32
     ensures { result ≡ representative_of (plain_types types.now) number }
 {

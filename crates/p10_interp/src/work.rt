@@ -14,7 +14,7 @@ pub enum Halt {
     Undefined(Stop, Span),
     /// No step is left.
     Spent,
-    /// Want of memory.
+    /// Out of memory.
     Memory,
 }
 
@@ -32,7 +32,7 @@ pub enum Flow {
 pub enum Pause {
     /// All work is done.
     Over(Flow),
-    /// The outside is wanted before the next act.
+    /// The outside is needed before the next act.
     Held(Flow),
 }
 

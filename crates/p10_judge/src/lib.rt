@@ -5,9 +5,9 @@
 //!
 //! Entry points, in the order in which a command calls them: [`load_certificate`] reads the file, and [`weigh`] says what its bytes
 //! come to for a program: they are over the limit, or the text of no certificate, or a condition on program and certificate
-//! fails, or it is accepted, and bounds every run. [`put_judgement`] tells it. Invariant: each judgement comes just where it is right, and for a file
-//! and a program there is one, but for faults and out of memory. How the program is read, and what is done with it, is left to the
-//! crates above.
+//! fails, or it is accepted, and bounds every run. [`put_judgement`] prints it. Invariant: each judgement comes exactly where it
+//! is right, and for a file and a program there is one, unless a read fails or memory runs out. How the program is read, and
+//! what is done with it, is left to the crates above.
 #![tactic(auto)]
 
 mod judgement;

@@ -1,4 +1,4 @@
--- A piece at the front of a text is what is cut off there.
+-- A piece at the beginning of a text is what is cut off there.
 use Rattle.std.proofs.Common.{◌≡◌, ◌≢◌, ℕ, suc, ◌+◌, ◌-◌, ◌<◌, ◌≤◌, List, [], ◌∷◌, ◌++◌, length, take, drop, refl, sym, ◌∙◌, ap, subst, arith, Bool, true, false, ◌⊎◌, inl, inr, append_assoc, length-append, length-take-le}
 use Rattle.std.specs.Prelude.{◌==◌, nat_lt, ◌&&◌, ◌||◌, not, Option, Some, None}
 use Rattle.std.specs.List.{list_all}
@@ -154,7 +154,7 @@ again_header b text rest asked header =
     ap (λ (x : Bool). cut_at x (text ++ rest)) asked ∙ (ap (cut_at true) whole
     ∙ (cut_angle (header.inside ++ 62 ∷ rest) ∙ header_some (header.inside ++ 62 ∷ rest) rest (header_again header.inside rest header.one_line)))
 
--- of two fronts without `>`, the one before a `>` goes on with the other
+-- of two prefixes without `>`, the one before a `>` goes on with the other
 split_angle : (cs inside rest after : List ℕ) → cs ++ rest ≡ inside ++ 62 ∷ after → list_all (λ d. not (d == 62)) cs ≡ true
     → (more : List ℕ) × (inside ≡ cs ++ more) × (rest ≡ more ++ 62 ∷ after)
 split_angle [] inside rest after e all = (inside, refl, e)
@@ -212,7 +212,7 @@ some_text : (text : List ℕ) → is_punctuator text ≡ true → 0 < length tex
 some_text [] e = absurd (no_empty e)
 some_text (c ∷ t) e = omega arith
 
--- a front that goes past the first of two texts
+-- a prefix that goes past the first of two texts
 take_past : (text rest : List ℕ) (m : ℕ) → take (length text + m) (text ++ rest) ≡ text ++ take m rest
 take_past [] rest m = let e : 0 + m ≡ m = omega arith in rw e refl
 take_past (c ∷ text) rest m = let e : suc (length text) + m ≡ suc (length text + m) = omega arith in rw e (ap (λ (x : List ℕ). c ∷ x) (take_past text rest m))

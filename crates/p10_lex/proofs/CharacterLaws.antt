@@ -182,7 +182,7 @@ begins_after quote value c t values follows = by value (begin_character quote c)
     by None (Some mode) e f = begins_one quote c t values mode e f
     by (Some v) (Some mode) e (others, are, f) = record { others = others; characters = begins_one quote c t others mode e f; are = are }
 
--- the byte behind a backslash
+-- the byte after a backslash
 takes_escape : (quote c : ℕ) (t values : Text) → FollowsStep quote (read_byte quote Escape c) t values → FollowsEscape quote (c ∷ t) values
 unfolding read_byte begin_escape
 takes_escape quote c t values follows = by (simple_escape c) refl follows
@@ -218,7 +218,7 @@ takes_escape quote c t values follows = by (simple_escape c) refl follows
         (λ l f. absurd f))
         follows
 
--- a byte behind octal digits
+-- a byte after octal digits
 takes_octal : (quote left value c : ℕ) (t values : Text) → FollowsStep quote (read_byte quote (Octal left value) c) t values → value ≤ 255 → FollowsOctal quote left value (c ∷ t) values
 unfolding read_byte add_octal value_from
 takes_octal quote left value c t values follows most =
@@ -260,7 +260,7 @@ takes_octal quote left value c t values follows most =
     })
     follows
 
--- the byte behind `\x`
+-- the byte after `\x`
 takes_start : (quote c : ℕ) (t values : Text) → FollowsStep quote (read_byte quote HexadecimalStart c) t values → FollowsStart quote (c ∷ t) values
 unfolding read_byte
 takes_start quote c t values follows =
@@ -282,7 +282,7 @@ takes_start quote c t values follows =
     })
     (λ h f. absurd f) follows
 
--- a byte behind hexadecimal digits
+-- a byte after hexadecimal digits
 takes_hexadecimal : (quote value c : ℕ) (t values : Text) → FollowsStep quote (read_byte quote (Hexadecimal value) c) t values → value ≤ 255 → FollowsHexadecimal quote value (c ∷ t) values
 unfolding read_byte add_hexadecimal value_from
 takes_hexadecimal quote value c t values follows most =

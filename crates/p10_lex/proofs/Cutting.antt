@@ -1,4 +1,4 @@
--- The piece at the front of a text is found, and is the only one.
+-- The piece at the beginning of a text is found, and is the only one.
 use Rattle.std.proofs.Common.{◌≡◌, ℕ, ◌<◌, List, [], ◌∷◌, ◌++◌, length, sym, ◌∙◌, ap, subst, arith, Bool}
 use Rattle.std.proofs.lemmas.List.{append_cancel_right}
 use Rattle.p10_lex.specs.declared.pieces.Piece.{Piece}
@@ -22,7 +22,7 @@ cut_again after_include piece text rest is = again after_include piece text rest
 pub piece_some : (after_include : Bool) (piece : Piece) (text rest : List ℕ) → IsPiece after_include piece text rest → 0 < length text
 piece_some after_include piece text rest is = some_byte after_include piece text rest is
 
--- one piece stands at the front of a text
+-- one piece stands at the beginning of a text
 pub same_piece : (after_include : Bool) (piece other : Piece) (text more rest after : List ℕ) → IsPiece after_include piece text rest
     → IsPiece after_include other more after → text ++ rest ≡ more ++ after → (piece ≡ other) × (text ≡ more) × (rest ≡ after)
 same_piece after_include piece other text more rest after is are e =

@@ -1,4 +1,4 @@
--- What is cut off at the front of a text is a piece.
+-- What is cut off at the beginning of a text is a piece.
 use Rattle.std.proofs.Common.{◌≡◌, ◌≢◌, ℕ, ◌<◌, ◌≤◌, List, [], ◌∷◌, ◌++◌, length, take, drop, refl, sym, ◌∙◌, ap, subst, arith, Bool, true, false, ◌⊎◌, inl, inr, append_assoc, length-append, length-take-le}
 use Rattle.std.specs.Prelude.{◌==◌, nat_lt, ◌&&◌, ◌||◌, Option, Some, None}
 use Rattle.std.proofs.lemmas.List.{append-nil, take-append-drop}
@@ -18,7 +18,7 @@ use Rattle.p10_lex.proofs.SpliceLaws.{literal_takes, literal_again, splices_take
 use Rattle.p10_lex.proofs.Punctuation.{length_sound, length_most}
 use Rattle.p10_lex.proofs.Longest.{name_longest, number_longest, IsQuoteByte, single_quote, double_quote, quoted_longest, header_longest, head_is, tail_is}
 
--- a piece with what is left behind it stands at the front of a text
+-- a piece, with what is left after it, stands at the beginning of a text
 abbrev pub Found : Bool → List ℕ → Piece × List ℕ → Type 0
 Found b whole x = (text : List ℕ) × (whole ≡ text ++ x.1) × IsPiece b x.0 text x.1
 
@@ -51,7 +51,7 @@ digit_goes_on old d e = elim (or_case (is_nondigit d)) [ inl h ↦ rw h refl | i
     or_case true = inl refl
     or_case false = inr refl
 
--- the front of a number begins as the number does
+-- a prefix of a number begins as the number does
 number_front : (c : ℕ) (t front rest : List ℕ) → begins_number (c ∷ t) ≡ true → t ≡ front ++ rest
     → ((d : ℕ) (more after : List ℕ) → rest ≡ d ∷ after → all_go_on_number c (front ++ d ∷ more) ≡ true → ⊥) → begins_number (c ∷ front) ≡ true
 unfolding begins_number begins_digit

@@ -116,7 +116,7 @@ splices_mark zero (c ∷ t) e = elim (is_either (nat_lt 0 (splice_length (c ∷ 
 pub all_splices_mark : (text : List ℕ) → joined text ≡ [] → HasNoMark text
 all_splices_mark text e = splices_mark 0 text e
 
--- behind its first byte a punctuator has none
+-- after its first byte a punctuator has none
 pub punctuator_mark : (c : ℕ) (t : List ℕ) → is_punctuator (c ∷ t) ≡ true → HasNoMark t
 punctuator_mark c t e = punctuator_rest c t e
 

@@ -10,7 +10,7 @@ one_step : (o k : ℕ) (c : ℕ) (t : List ℕ) → splice_length (c ∷ t) ≡ 
 unfolding mark_at
 one_step o k c t s b = rw (s, b) refl
 
--- no splice or trigraph stands here, so the search goes on behind the first byte
+-- no splice or trigraph stands here, so the search goes on after the first byte
 pub mark_more : (o k : ℕ) (t : List ℕ) → 0 < length t → 0 < k → splice_length t ≤ 0 → begins_trigraph t ≡ false → mark_at (o + 1) (k - 1) (take (length t - 1) (drop 1 t)) ≡ mark_at o k t
 mark_more o zero t some left s b = absurd (omega arith)
 mark_more o (suc k) [] some left s b = absurd (omega arith)

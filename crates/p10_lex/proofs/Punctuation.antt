@@ -1,4 +1,4 @@
--- The longest punctuator at the front of a text.
+-- The longest punctuator at the beginning of a text.
 use Rattle.std.proofs.Common.{◌≡◌, ◌≢◌, ℕ, suc, ◌<◌, ◌≤◌, List, [], ◌∷◌, ◌++◌, length, take, refl, sym, ◌∙◌, ap, arith, Bool, true, false, ◌⊎◌, inl, inr}
 use Rattle.std.specs.Prelude.{◌==◌, ◌&&◌, ◌||◌, not, codes, bytes_eq}
 use Rattle.std.specs.List.{list_all, list_any}

@@ -16,7 +16,7 @@ use Rattle.p10_lex.proofs.Cutting.{piece_some}
 use Rattle.p10_lex.proofs.Rows.{row_within}
 use Rattle.p10_base.specs.Words.{PlainWord, span_of}
 
--- slices behind a place are slices behind an earlier one
+-- slices after a place are slices after an earlier one
 earlier : (file : ℕ) (bytes : List ℕ) (place other : ℕ) (words : List PlainWord) → place ≤ other → AreSlices file bytes other words → AreSlices file bytes place words
 earlier file bytes place other [] h are = tt
 earlier file bytes place other (word ∷ words) h (a, b, c) = (omega arith, b, c)
@@ -66,7 +66,7 @@ lexes_slices : (file : ℕ) (bytes : List ℕ) (words : List PlainWord) → Lexe
 lexes_slices file bytes words is =
     subst (λ (x : List PlainWord). AreSlices file bytes 0 x) (sym is.are_words) (pieces_slices file bytes is.pieces beginning [] bytes [] refl refl is.cuts)
 
--- a place behind pieces is within the file
+-- a place after pieces is within the file
 place_after : (pieces : List Cut) (s : State) (bytes rest : List ℕ) → Cuts s bytes pieces rest → (state_after s pieces).place + length rest ≡ s.place + length bytes
 place_after [] s bytes rest cuts = omega (arith, ap length cuts)
 place_after (p ∷ ps) s bytes rest (after, e, is, cuts) =

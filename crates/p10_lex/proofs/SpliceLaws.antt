@@ -17,7 +17,7 @@ and_false : (b : Bool) → (b && false) ≡ false
 and_false true = refl
 and_false false = refl
 
--- the end of a line in `front` isn't changed by a quote behind it
+-- the end of a line in `front` isn't changed by a quote after it
 line_end_before : (q : ℕ) → q ≢ 10 → q ≢ 13 → (front rest : List ℕ) → line_end_length (front ++ q ∷ rest) ≡ line_end_length front
 unfolding line_end_length
 line_end_before q a b [] [] = rw (other_number q 10 a) refl
@@ -46,7 +46,7 @@ splice_short [] = omega arith
 splice_short (c ∷ t) = let h = line_end_short t in
     decide (λ (n : ℕ). n ≤ suc (length t)) ((c == 92) && nat_lt 0 (line_end_length t)) _ _ (λ e. omega arith) (λ e. omega arith)
 
--- the line end at the front of a text is that of each longer text
+-- the line end at the beginning of a text is that of each longer text
 line_end_more : (t rest : List ℕ) → 0 < line_end_length t → line_end_length (t ++ rest) ≡ line_end_length t
 unfolding line_end_length
 line_end_more [] rest some = absurd (omega arith)
@@ -55,7 +55,7 @@ line_end_more (b ∷ []) (r ∷ rs) some =
     elim (is_either (b == 10)) [ inl e ↦ rw e refl | inr e ↦ absurd (let h = rw e at some in omega (arith, h)) ]
 line_end_more (b ∷ c ∷ t) rest some = refl
 
--- and of the front that holds it
+-- and of the prefix that holds it
 line_end_front : (t rest : List ℕ) → 0 < line_end_length (t ++ rest) → line_end_length (t ++ rest) ≤ length t → line_end_length t ≡ line_end_length (t ++ rest)
 unfolding line_end_length
 line_end_front [] rest some short = absurd (omega arith)
@@ -87,7 +87,7 @@ positive_test n e = grind (arith, nat_tests)
 pub none_test : (n : ℕ) → nat_lt 0 n ≡ false → n ≡ 0
 none_test n e = grind (arith, nat_tests)
 
--- a splice at the front of a text is one of each longer text
+-- a splice at the beginning of a text is one of each longer text
 pub splice_more : (t rest : List ℕ) → 0 < splice_length t → splice_length (t ++ rest) ≡ splice_length t
 unfolding splice_length
 splice_more [] rest some = absurd (omega arith)
@@ -97,7 +97,7 @@ splice_more (c ∷ t) rest some =
       | inr e ↦ absurd (let h = rw e at some in omega (arith, h))
     ]
 
--- and of the front that holds it
+-- and of the prefix that holds it
 pub splice_front : (c : ℕ) (t rest : List ℕ) → 0 < splice_length (c ∷ (t ++ rest)) → splice_length (c ∷ (t ++ rest)) ≤ suc (length t)
     → splice_length (c ∷ t) ≡ splice_length (c ∷ (t ++ rest))
 unfolding splice_length

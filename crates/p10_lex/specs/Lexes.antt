@@ -33,9 +33,9 @@ HasWordsOrOneRefusal file bytes =
     × ((words : List PlainWord) (other : Refusal) → Refuses file bytes words other → other ≡ refusal)
     × ((words : List PlainWord) → Lexes file bytes words → ⊥))
 
--- What lexing answers: the words, the refusal, or a passed limit. M1 allows 1,048,576 bytes, and is tested
--- first. M2 allows 262,144 words, and is passed before a refusal only by words that end before its place.
--- Want of memory is left open.
+-- What lexing answers: the words, the refusal, or a limit that is exceeded. M1 allows 1,048,576 bytes, and is tested
+-- first. M2 allows 262,144 words, and is exceeded before a refusal only by words that end before its place.
+-- Running out of memory is left open.
 abbrev pub Answers : ℕ → List ℕ → Result (List PlainWord) LexFault → Type 0
 Answers file bytes (Ok words) = (length bytes ≤ MOST_FILE_BYTES) × (length words ≤ MOST_FILE_WORDS) × Lexes file bytes words
 Answers file bytes (Err (Refused refusal)) =

@@ -10,7 +10,7 @@ use Rattle.p10_lex.specs.Splices.{joined, splice_length, AreSplices, ReachesLine
 use Rattle.p10_lex.specs.Lexemes.{is_quotable, IsLexeme, IsLongest}
 use Rattle.p10_base.specs.Words.{PlainWord, span_of}
 
--- whether `/*` or `//` stands at the front of a text
+-- whether `/*` or `//` stands at the beginning of a text
 unfoldable pub begins_comment : List ℕ → Bool
 begins_comment (a ∷ b ∷ rest) = (a == 47) && ((b == 42) || (b == 47))
 begins_comment _ = false

@@ -20,7 +20,7 @@ use Rattle.p10_base.specs.declared.codes.WordCode.TheVariants.{BadByte, CommentW
 unfoldable pub ends_trigraph : ℕ → Bool
 ends_trigraph c = list_any (λ d. c == d) (codes "=/'()!<>-")
 
--- whether a trigraph stands at the front of a text: `??` and one of nine bytes (C99 5.2.1.1)
+-- whether a trigraph stands at the beginning of a text: `??` and one of nine bytes (C99 5.2.1.1)
 unfoldable pub begins_trigraph : List ℕ → Bool
 begins_trigraph (a ∷ b ∷ c ∷ rest) = (a == 63) && ((b == 63) && ends_trigraph c)
 begins_trigraph _ = false

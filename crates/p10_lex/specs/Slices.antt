@@ -11,7 +11,7 @@ pub record IsSlice (file : ℕ) (bytes : List ℕ) (word : PlainWord) : Type 0 w
   pub within : word.at.end ≤ length bytes
   pub slice : word.text ≡ slice_range bytes word.at.start word.at.end
 
--- The words are slices of a file's bytes, each behind the one before it, and the first not before `place`.
+-- The words are slices of a file's bytes, each after the one before it, and the first not before `place`.
 abbrev pub AreSlices : ℕ → List ℕ → ℕ → List PlainWord → Type 0
 AreSlices file bytes place [] = Unit {0}
 AreSlices file bytes place (word ∷ words) = (place ≤ word.at.start) × IsSlice file bytes word × AreSlices file bytes word.at.end words

@@ -1,18 +1,18 @@
 -- Splices: a backslash with the end of the line that it joins to the next (C99 5.1.1.2, phase 2).
 use Rattle.std.specs.Prelude.{ℕ, ◌≡◌, ◌≢◌, zero, suc, ◌==◌, ◌+◌, ◌-◌, nat_lt, Bool, true, false, ◌&&◌, ◌||◌, not, if◌then◌else◌, ◌⊎◌, List, [], ◌∷◌, ◌++◌}
 
--- the length of the LF or CR LF at the front of a text, or 0
+-- the length of the LF or CR LF at the beginning of a text, or 0
 unfoldable pub line_end_length : List ℕ → ℕ
 line_end_length [] = 0
 line_end_length (b ∷ []) = if b == 10 then 1 else 0
 line_end_length (b ∷ c ∷ rest) = if b == 10 then 1 else (if (b == 13) && (c == 10) then 2 else 0)
 
--- the length of the splice at the front of a text, or 0: a backslash with LF, or with CR LF
+-- the length of the splice at the beginning of a text, or 0: a backslash with LF, or with CR LF
 unfoldable pub splice_length : List ℕ → ℕ
 splice_length [] = 0
 splice_length (a ∷ rest) = if (a == 92) && nat_lt 0 (line_end_length rest) then 1 + line_end_length rest else 0
 
--- the text without its splices, byte by byte: `skip` bytes of a splice have still to be passed
+-- the text without its splices, byte by byte: `skip` bytes of a splice are still to be skipped
 unfoldable pub joined_after : ℕ → List ℕ → List ℕ
 joined_after skip [] = []
 joined_after (suc skip) (c ∷ rest) = joined_after skip rest

@@ -12,7 +12,7 @@ pub enum LexFault {
     /// The file has too many bytes (M1), or too many words before any refusal (M2).
     #[error("a limit is passed")]
     Over(Limit),
-    /// Memory is wanting.
+    /// Out of memory.
     #[error("out of memory")]
     Memory,
 }

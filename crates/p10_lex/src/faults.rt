@@ -21,7 +21,7 @@ pub(crate) struct Fault {
     pub(crate) extent: usize,
 }
 
-/// Whether a trigraph stands at the front.
+/// Whether a text begins with a trigraph.
 #[tactic(auto, unfolding(crate::specs::Refusals::begins_trigraph))]
 fn begins_trigraph(text: &[u8]) -> bool
     ensures { result ≡ begins_trigraph text.now }
@@ -36,7 +36,7 @@ fn begins_trigraph(text: &[u8]) -> bool
     }
 }
 
-/// Whether a comment stands at the front.
+/// Whether a text begins with a comment.
 #[tactic(auto, unfolding(crate::specs::Pieces::begins_comment))]
 fn begins_comment(text: &[u8]) -> bool
     ensures { result ≡ begins_comment text.now }
@@ -59,7 +59,7 @@ fn is_tight(text: &[u8]) -> bool
     }
 }
 
-/// Whether a quote stands at the front.
+/// Whether a text begins with a quote.
 #[tactic(auto, unfolding(crate::specs::Characters::begins_with))]
 fn begins_quote(text: &[u8]) -> bool
     ensures { result ≡ begins_with is_quote text.now }

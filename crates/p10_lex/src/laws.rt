@@ -19,7 +19,7 @@ pub fn each_file_has_words_or_one_refusal()
     ensures { (file : ℕ) (bytes : List ℕ) → HasWordsOrOneRefusal file bytes }
 {}
 
-/// Want of memory apart, a file has one answer.
+/// A file has one answer, unless memory runs out.
 pub fn answers_are_unique()
     ensures { (file : ℕ) (bytes : List ℕ) (a b : Result (List PlainWord) LexFault) → a ≢ Err Memory → b ≢ Err Memory
         → Answers file bytes a → Answers file bytes b → a ≡ b }

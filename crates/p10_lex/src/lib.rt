@@ -8,7 +8,7 @@
 //! the source: each one's text is the slice of the file at its span. Directives and macros are left to the
 //! crates above.
 //!
-//! What the words of constants mean, [`integer_constant`], [`character_value`] and [`string_bytes`] tell; [`between`]
+//! What the words of constants mean, [`integer_constant`], [`character_value`] and [`string_bytes`] say; [`between`]
 //! gives what a word encloses.
 #![tactic(auto)]
 

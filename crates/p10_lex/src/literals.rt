@@ -6,7 +6,7 @@ ghost use Rattle.p10_lex.specs.private.Runs.{after_literal};
 
 use crate::splices;
 
-/// What is left behind the closing quote of a literal, whose opening quote stands before the text.
+/// What is left after the closing quote of a literal, whose opening quote stands before the text.
 #[tactic(auto, unfolding(crate::specs::private::Runs::after_literal))]
 pub(crate) fn after_literal(quote: u8, text: &[u8]) -> Option<&[u8]>
     ensures { option_map (λ rest. rest.now) result ≡ after_literal quote 0 false text.now }

@@ -1,4 +1,4 @@
-//! The piece at the front of a text: white space, splices, a comment, a word, or what begins none of these.
+//! The piece at the beginning of a text: white space, splices, a comment, a word, or what begins none of these.
 
 ghost use Rattle.std.specs.Prelude.{◌≡◌};
 ghost use Rattle.p10_lex.specs.Pieces.{line_with, line_after, tight_after, is_include, is_start};
@@ -102,7 +102,7 @@ fn header_at(text: &[u8]) -> (Piece, &[u8])
     }
 }
 
-/// The piece at the front of a text, and what is left behind it.
+/// The piece at the beginning of a text, and what is left after it.
 #[tactic(auto, unfolding(crate::specs::private::Reading::cut_at))]
 pub(crate) fn cut_at(after_include: bool, text: &[u8]) -> (Piece, &[u8])
     ensures { (result.0, result.1.now) ≡ cut_at after_include text.now }

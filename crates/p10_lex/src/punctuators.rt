@@ -33,7 +33,7 @@ fn is_triple(a: u8, b: u8, c: u8) -> bool
         || ((a == b'>' && (b == b'>' && c == b'=')) || (a == b'.' && (b == b'.' && c == b'.')))
 }
 
-/// The length of the longest punctuator at the front, or 0.
+/// The length of the longest punctuator with which a text begins, or 0.
 #[tactic(auto, unfolding(crate::specs::private::Runs::punctuator_length))]
 pub(crate) fn punctuator_length(text: &[u8]) -> usize
     ensures value { result ≡ punctuator_length text.now }

@@ -1,4 +1,4 @@
-//! Names, numbers and block comments: what is left behind them.
+//! Names, numbers and block comments: what is left after them.
 
 ghost use Rattle.std.specs.Prelude.{◌≡◌};
 ghost use Rattle.std.specs.Option.{option_map};
@@ -8,7 +8,7 @@ ghost use Rattle.p10_lex.specs.private.Runs.{after_run, after_number, after_comm
 
 use crate::bytes;
 
-/// What is left behind letters, digits and `_`.
+/// What is left after letters, digits and `_`.
 #[tactic(auto, unfolding(crate::specs::private::Runs::after_run))]
 pub(crate) fn after_name(text: &[u8]) -> &[u8]
     ensures { result.now ≡ after_run is_name_byte text.now }
@@ -23,7 +23,7 @@ pub(crate) fn after_name(text: &[u8]) -> &[u8]
     rest
 }
 
-/// Whether a digit, or a dot and a digit, stands at the front.
+/// Whether a text begins with a digit, or a dot and a digit.
 #[tactic(auto, unfolding(crate::specs::Lexemes::begins_number, crate::specs::Lexemes::begins_digit))]
 pub(crate) fn begins_number(text: &[u8]) -> bool
     ensures { result ≡ begins_number text.now }
@@ -46,7 +46,7 @@ fn goes_on_number(old: u8, byte: u8) -> bool
     bytes::is_name_byte(byte) || (byte == b'.' || (bytes::is_sign(byte) && bytes::is_exponent(old)))
 }
 
-/// What is left behind a number, whose first byte is `first`.
+/// What is left after a number, whose first byte is `first`.
 #[tactic(auto, unfolding(crate::specs::private::Runs::after_number))]
 pub(crate) fn after_number(first: u8, text: &[u8]) -> &[u8]
     ensures { result.now ≡ after_number first text.now }
@@ -63,7 +63,7 @@ pub(crate) fn after_number(first: u8, text: &[u8]) -> &[u8]
     rest
 }
 
-/// What is left behind the first `*/`.
+/// What is left after the first `*/`.
 #[tactic(auto, unfolding(crate::specs::private::Runs::after_comment))]
 pub(crate) fn after_comment(text: &[u8]) -> Option<&[u8]>
     ensures { option_map (λ rest. rest.now) result ≡ after_comment text.now }
@@ -78,7 +78,7 @@ pub(crate) fn after_comment(text: &[u8]) -> Option<&[u8]>
     None
 }
 
-/// What is left behind the `>` of an include name.
+/// What is left after the `>` of an include name.
 #[tactic(auto, unfolding(crate::specs::private::Runs::after_header))]
 pub(crate) fn after_header(text: &[u8]) -> Option<&[u8]>
     ensures { option_map (λ rest. rest.now) result ≡ after_header text.now }

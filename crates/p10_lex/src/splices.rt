@@ -4,7 +4,7 @@ ghost use Rattle.std.specs.Prelude.{◌≡◌, ◌≤◌, length};
 ghost use Rattle.p10_lex.specs.Splices.{line_end_length, splice_length, is_spliced};
 ghost use Rattle.p10_lex.specs.private.Runs.{after_splices, after_line};
 
-/// The length of the LF or CR LF at the front, or 0.
+/// The length of the LF or CR LF with which a text begins, or 0.
 #[tactic(auto, unfolding(crate::specs::Splices::line_end_length))]
 fn line_end_length(text: &[u8]) -> usize
     ensures value { result ≡ line_end_length text.now }
@@ -25,7 +25,7 @@ fn line_end_length(text: &[u8]) -> usize
     }
 }
 
-/// The length of the splice at the front, or 0.
+/// The length of the splice with which a text begins, or 0.
 #[tactic(auto, unfolding(crate::specs::Splices::splice_length))]
 pub(crate) fn splice_length(text: &[u8]) -> usize
     ensures value { result ≡ splice_length text.now }
@@ -43,7 +43,7 @@ pub(crate) fn splice_length(text: &[u8]) -> usize
     }
 }
 
-/// What is left behind the splices at the front.
+/// What is left after the splices with which a text begins.
 #[tactic(auto, unfolding(crate::specs::private::Runs::after_splices))]
 pub(crate) fn after_splices(text: &[u8]) -> &[u8]
     ensures { result.now ≡ after_splices 0 text.now }
@@ -74,7 +74,7 @@ fn is_spliced(older: u8, old: u8) -> bool
     old == b'\\' || (old == b'\r' && older == b'\\')
 }
 
-/// What is left behind a line: the LF that ends it with what follows, or nothing. The byte `before` stands
+/// What is left after a line: the LF that ends it with what follows, or nothing. The byte `before` stands
 /// before the text.
 #[tactic(auto, unfolding(crate::specs::private::Runs::after_line))]
 pub(crate) fn after_line(before: u8, text: &[u8]) -> &[u8]

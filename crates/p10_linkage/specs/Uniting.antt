@@ -49,7 +49,7 @@ structures_united unite m n structures =
     else (if tagged_alike (slice_get structures m) (slice_get structures n)
     then bodies_united unite (body_of structures m) (body_of structures n) (stands_for_both structures m n) else None)
 
--- two types as one, where structures that lie in them are dealt with so; their marks are the same
+-- two types as one, by what is done with the structures that lie in them; their marks are the same, which of an array stand at its elements
 abbrev pub types_united : (ℕ → ℕ → List PlainStructure → Option (List PlainStructure)) → PlainType → PlainType → List PlainStructure → Option (List PlainStructure)
 types_united unite (void c) (void d) structures = if beq c d then Some structures else None
 types_united unite (integer c i) (integer d j) structures = if beq c d && same_integer i j then Some structures else None
@@ -59,7 +59,7 @@ types_united unite (structure c m) (structure d n) structures =
     if beq c d then unite (representative_of structures m) (representative_of structures n) structures else None
 types_united unite t u structures = None
 
--- two structures as one, where so many pairs more may become one: there are no more of these than structures
+-- two structures as one, where this many more pairs may become one: there are no more of these than structures
 abbrev pub united_within : ℕ → ℕ → ℕ → List PlainStructure → Option (List PlainStructure)
 united_within zero m n structures = if nat_eq m n then Some structures else None
 united_within (suc pairs) m n structures = structures_united (types_united (united_within pairs)) m n structures

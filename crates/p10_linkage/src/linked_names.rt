@@ -120,7 +120,7 @@ fn put_row<'s>(
     Ok(())
 }
 
-/// Notes a place for a name, where that is wanted.
+/// Notes a place for a name, where that is asked for.
 fn note_where<'s>(
     alloc: Global,
     groups: &mut Groups<'s>,

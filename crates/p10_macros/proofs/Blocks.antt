@@ -20,7 +20,7 @@ beyond_set set count less = grind (arith, nat_tests)
 this_set : (count : ℕ) → (count + 1 == count + 1) ≡ true
 this_set count = grind (arith, nat_tests)
 
--- parts that are put in front change no set that there was
+-- parts that are put before the others change no set that there was
 has_in_older : (newer older : List Part) (set number : ℕ) → set ≤ length older → has_in (newer ++ older) set number ≡ has_in older set number
 has_in_older [] older set number less = refl
 has_in_older (part ∷ newer) older set number less =
@@ -82,7 +82,7 @@ nowhere = record { block = 0; bits = 0; lower = 0 }
 abbrev pub part_of : List Part → ℕ → Part
 part_of parts set = slice_index_or parts (set - 1) nowhere
 
--- parts up to and with one of them
+-- parts up to and including one of them
 up_to : (parts : List Part) (place : ℕ) → place < length parts →
     parts ≡ (take place parts ++ slice_index_or parts place nowhere ∷ []) ++ drop (suc place) parts
 up_to parts place less =
@@ -221,7 +221,7 @@ or_no_more : (a : Bool) → a ≡ (a || false)
 or_no_more true = refl
 or_no_more false = refl
 
--- what is known of no number in the part's block or above can be told of the numbers below
+-- what is known of no number in the part's block or above can be said of the numbers below
 with_lower : (block bits other : ℕ) (below more : Bool) → (block ≤ other / 64 → more ≡ false) → in_part block bits (below || more) other ≡ (in_part block bits below other || more)
 with_lower block bits other below more none = go (cases_order (other / 64) block)
   where

@@ -59,7 +59,7 @@ pub has_none : {S : Type 0} (by_text : HashMap (Bor Text) ℕ S) (texts : List T
 has_none by_text texts place empty whole text =
     ap (λ (entries : List (Bor Text × ℕ)). lookup (λ (key : Bor Text). bytes_eq text key.now) entries) empty ∙ sym (ap (λ (l : List Text). behind place (place_in l text)) (drop_all place texts whole))
 
--- the place of one more parameter, in front of the others
+-- the place of one more parameter, before the others
 one_more : (parameter text : Text) (rest : List Text) (place : ℕ) → 0 < place → cond (bytes_eq parameter text) (Some (place - 1)) (behind place (place_in rest text)) ≡ behind (place - 1) (place_in (parameter ∷ rest) text)
 one_more parameter text rest place more =
     go (bytes_eq parameter text) (bytes_eq text parameter) (same_text parameter text) (place_in rest text) ∙ ap (behind (place - 1)) (sym (place_in-cons parameter text rest))

@@ -22,7 +22,7 @@ abbrev pub StandsCalled : Origins → ℕ → List Open → List OpenUse → Lis
 StandsCalled origins stop those uses items place found =
     (open' : Open) (use' : OpenUse) → open'.stop ≡ stop → IsOpen origins open' use' → Stands origins items place (open' ∷ those) found.first (with_arguments use' found.others found.rest ∷ uses)
 
--- what the places say is what was found: the `)` stands in the innermost argument, and so many commas before it
+-- what the places say is what was found: the `)` stands in the innermost argument, and `count` commas before it
 abbrev pub IsCalled : Origins → ℕ → List Open → List OpenUse → List Pending → ℕ → ℕ → ℕ → Option Arguments → Type 0
 IsCalled origins stop those uses items argument call count None = call ≤ stop
 IsCalled origins stop those uses items argument call count (Some found) = (stop < call) × (count + 1 ≡ length (found.first ∷ found.others)) × StandsCalled origins stop those uses items argument found
@@ -46,7 +46,7 @@ module _ (origins : Origins) (stop : ℕ) (those : List Open) (uses : List OpenU
         subst (λ (r : Role). StandsBy origins (Stands origins items) pending r here (open' ∷ those) [] (with_arguments use' [] words ∷ uses)) (sym role) (refl, open_again origins open' use' [] words is, behind),
   )
 
-  -- a comma in front of the other arguments
+  -- a comma before the other arguments
   ends_argument : (call count : ℕ) (found : Option Arguments) → IsLinked (pending ∷ items) → separates (word_of pending) ≡ true → IsCalled origins stop those uses items (argument_end 0 items) call count found →
       IsCalled origins stop those uses (pending ∷ items) here call (suc count) (argument_before found)
   ends_argument call count None linked split is = is
@@ -62,7 +62,7 @@ module _ (origins : Origins) (stop : ℕ) (those : List Open) (uses : List OpenU
         subst (λ (r : Role). StandsBy origins (Stands origins items) pending r here (open' ∷ those) [] (with_arguments use' (found.first ∷ found.others) found.rest ∷ uses)) (sym role) (found.first, found.others, refl, split, next),
   )
 
-  -- another word in front of the first argument
+  -- another word before the first argument
   ends_nothing : (word : Sourced) (argument call count : ℕ) (found : Option Arguments) → argument ≤ length items → IsTraced origins pending.traced word → IsCalled origins stop those uses items argument call count found →
       IsCalled origins stop those uses (pending ∷ items) argument call count (word_before word found)
   ends_nothing word argument call count None low traced is = is

@@ -67,7 +67,7 @@ behind_further pending items place less = rw (not_above place (length items) les
 not_zero : (n : ℕ) → (suc n == 0) ≡ false
 not_zero n = grind (arith, nat_tests)
 
--- so many parentheses after a word
+-- how many parentheses are open after a word
 deeper : (word : PlainWord) (depth : ℕ) → opens word ≡ true → depth_after depth word ≡ depth + 1
 deeper word depth opened = rw opened refl
 
@@ -148,7 +148,7 @@ call_past (pending ∷ items) depth more =
     past_word call_end pending items (λ d m. call_past items d m)
     (λ d. no_end (closes (word_of pending)) (length items + 1) (call_end (depth_after (suc d) (word_of pending)) items) d) depth more
 
--- ## What a word in front of others knows
+-- ## What a word before others knows
 
 module _ (pending : Pending) (items : List Pending) (exits : HasExits pending.exits items) where
   exits_separating : (count : ℕ) → count ≡ length items + 1 → separates (word_of pending) ≡ true → HasExits (record { argument = count; call = pending.exits.call }) (pending ∷ items)
@@ -171,7 +171,7 @@ module _ (pending : Pending) (items : List Pending) (exits : HasExits pending.ex
   exits_other : opens (word_of pending) ≡ false → closes (word_of pending) ≡ false → separates (word_of pending) ≡ false → HasExits pending.exits (pending ∷ items)
   exits_other opened closed split = record { argument = exits.argument ∙ rw (closed, split, opened) refl; call = exits.call ∙ rw (closed, opened) refl }
 
--- ## Words in front
+-- ## Words before others
 
 pub linked_none : IsLinked []
 linked_none place = record { argument = refl; call = refl }
@@ -207,7 +207,7 @@ linked_tail pending items linked place = by (nat_le place (length items)) refl
         subst (λ (b : Bool). HasExits (cond b pending.exits (exits_past items place)) (cond b items (after_place items place))) (not_above place (length items) (less_by place (length items) e)) (linked place)
     by false e = above_all place (length items) (more_by place (length items) e) items (omega arith)
 
--- ## The word in front is taken
+-- ## The first word is taken
 
 -- the words below the last one
 pub below_last : (all below : List Pending) (last : Pending) (rest : List Pending) → below ≡ take (length all - 1) all → reverse all ≡ last ∷ rest → reverse below ≡ rest
@@ -285,7 +285,7 @@ pub none_at : (all : List Pending) (place : ℕ) → (place ≡ 0) ⊎ (length a
 none_at all place (inl is) = none_first (reverse all) place is
 none_at all place (inr less) = none_past (reverse all) place (omega (arith, length-reverse all))
 
--- ## The word in front
+-- ## The first word
 
 module _ (all items : List Pending) (none : Pending) (same : all ≡ items) (some : 1 ≤ length all) (linked : IsLinked (reverse items)) where
   abbrev last : Pending

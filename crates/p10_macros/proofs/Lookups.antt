@@ -101,7 +101,7 @@ pub called_none : (plain : PlainMacro) (parameters : ℕ) (close : Sourced) (wor
 called_none plain zero close words e closed = rw closed refl
 called_none plain (suc parameters) close words e closed = cc
 
--- arguments that aren't just one without words
+-- arguments that aren't one alone, without words
 abbrev IsMore : Option Arguments → Type 0
 IsMore None = Unit {0}
 IsMore (Some found) = found.first ∷ found.others ≡ [] ∷ [] → ⊥

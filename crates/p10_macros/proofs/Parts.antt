@@ -97,7 +97,7 @@ fewer_behind (pending ∷ items) place more = by_test (place == length items + 1
 
 -- ## Counting
 
--- so many arguments were counted, and the next ends at this place
+-- `count` arguments were counted, and the next ends at this place
 pub record IsCounting (all : List Pending) (call place count : ℕ) : Type 0 where
   pub rest : List Pending
   pub behind : IsBehind all rest

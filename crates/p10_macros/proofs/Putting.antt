@@ -41,7 +41,7 @@ puts_along before behind these those left remaining e puts = subst (λ (l : List
 pub short_along : (these those : List Traced) (left : ℕ) (f : ReplaceFault) → these ≡ those → Short f (left < length these) → Short f (left < length those)
 short_along these those left f e short = subst (λ (l : List Traced). Short f (left < length l)) e short
 
--- words that are put in front of others
+-- words that are put before others
 pub puts_more : (first second third : List Pending) (front words both : List Traced) (all left remaining : ℕ) → both ≡ front ++ words →
     PutsTraced first second words all left → PutsTraced second third front left remaining → PutsTraced first third both all remaining
 puts_more first second third front words both all left remaining e these those = record {
@@ -64,7 +64,7 @@ flat_less part (x ∷ xs) (suc index) = omega (arith, flat_less part xs index, l
 
 -- ## Chosen words
 
--- what comes of those after so many of the chosen words
+-- what comes of the chosen words from this index on
 abbrev pub parts_behind : (Word → List Traced) → List Word → Option (Vec ℕ Global) → ℕ → List Traced
 parts_behind part words None index = flat_map part (drop index words)
 parts_behind part words (Some places) index = flat_map (λ (place : ℕ). part_there part (slice_get words place)) (drop index places.items)
@@ -109,7 +109,7 @@ module _ (part : Word → List Traced) (words : List Word) (chosen : Option (Vec
       puts_more first second third put (parts_behind part words chosen index) (parts_behind part words chosen (index - 1)) all left remaining
       (behind_one part words chosen index none more less within ∙ ap (λ (l : List Traced). l ++ parts_behind part words chosen index) (sym is)) these one
 
-  -- where words were wanting for one of the parts, they are for the list
+  -- where the words that may still be made are too few for one of the parts, they are for the list
   pub list_short : (before behind : List Pending) (index : ℕ) (none : Word) (put : List Traced) (all left : ℕ) (f : ReplaceFault) → 0 < index → index ≤ chosen_count words chosen →
       IfSome chosen (λ places. All (λ place. place < length words) places.items) → put ≡ part (slice_index_or words (chosen_place chosen (index - 1)) none) →
       PutsTraced before behind (parts_behind part words chosen index) all left → Short f (left < length put) → Short f (all < length (chosen_parts part words chosen))

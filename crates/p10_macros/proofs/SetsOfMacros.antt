@@ -68,7 +68,7 @@ pub has_no_macro : (origins : Origins) (set : ℕ) (name : Text) → set ≤ 0 �
 unfolding has_macro
 has_no_macro origins set name none = nothing_at origins.sets.items set (place_in origins.names name) none
 
--- whether a macro is in a set is told by the place of its name
+-- whether a macro is in a set is known by the place of its name
 pub absent_at : (origins : Origins) (set : ℕ) (name : Text) → None ≡ place_in origins.names name → has_macro origins set name ≡ false
 unfolding has_macro
 absent_at origins set name none = ap (λ (o : Option ℕ). has_at origins.sets.items set o) (sym none)

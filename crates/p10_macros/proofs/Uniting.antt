@@ -91,7 +91,7 @@ word_given old new traced at all plain name word place is joined =
 
 -- ## The words of an argument, one after the other
 
--- the first so many are words of the use
+-- the first `count` are words of the use
 abbrev pub given_first : PlainMacro → Sourced → ℕ → List Sourced → List Sourced
 given_first plain name zero words = words
 given_first plain name (suc count) [] = []
@@ -109,7 +109,7 @@ next_given old new plain name (suc place) none traced (first ∷ value) [] grown
 next_given old new plain name (suc place) none traced (first ∷ value) (word ∷ words) grown less (is, are) one =
     (traced_more old new grown first (given plain name word) is, next_given old new plain name place none traced value words grown (omega arith) are one)
 
--- what holds where the first so many words of an argument are words of the use
+-- what holds where the first words of an argument are words of the use
 pub record IsGivenTo (now : Origins) (name : Traced) (from own all : ℕ) (value : List Traced) (place : ℕ) (plain : PlainMacro) (name' : Sourced) (words : List Sourced) : Type 0 where
   pub named : IsTraced now name name'
   pub base : IsBase now from plain.name name'
@@ -178,7 +178,7 @@ all_given old now name from own all before value place whole gives plain name' w
 
 -- ## All arguments
 
--- the words of the first so many are words of the use
+-- the words of the first `count` are words of the use
 abbrev pub values_first : PlainMacro → Sourced → ℕ → List (List Sourced) → List (List Sourced)
 values_first plain name zero values = values
 values_first plain name (suc count) [] = []
@@ -201,7 +201,7 @@ next_value old new plain name (suc place) none value' (first ∷ values) [] grow
 next_value old new plain name (suc place) none value' (first ∷ values) (word ∷ words) grown less (is, are) one =
     (all_traced_more old new grown first (map (given plain name) word) is, next_value old new plain name place none value' values words grown (omega arith) are one)
 
--- what holds where the words of the first so many arguments are words of the use
+-- what holds where the words of the first arguments are words of the use
 pub record AreGivenTo (now : Origins) (name : Traced) (from : ℕ) (values : List (List Traced)) (place : ℕ) (plain : PlainMacro) (name' : Sourced) (words : List (List Sourced)) : Type 0 where
   pub named : IsTraced now name name'
   pub base : IsBase now from plain.name name'

@@ -5,7 +5,7 @@ use Rattle.p10_macros.specs.Uses.{Sourced}
 
 -- what comes of a replacement: words, or lists of words
 pub data Ending (A : Type 0) : Type 0 where
-  -- this, and so many words of replacements may still be made
+  -- this, and this many words of replacements may still be made
   Gives : A → ℕ → Ending A
   -- the refusal D6, D7 or D8 at a place
   Refused : ℕ → Span → Ending A

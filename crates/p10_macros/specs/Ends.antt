@@ -12,7 +12,7 @@ place_of_use None name = name.word.at
 place_of_use (Some outermost) name = outermost
 
 mutual
-  -- what comes of words, where so many words of replacements may still be made; the place is that of the outermost use where
+  -- what comes of words, where a number of words of replacements may still be made; the place is that of the outermost use where
   -- the words are an argument of it
   pub data Ends (table : Table) : Option Span → List Sourced → ℕ → Ending (List Sourced) → Type 0 where
     no_words : {outer : Option Span} {left : ℕ} → Ends table outer [] left (Gives [] left)

@@ -44,17 +44,17 @@ separates word = is_punctuator (codes ",") word
 abbrev pub depth_after : ℕ → PlainWord → ℕ
 depth_after depth word = if opens word then depth + 1 else if closes word then depth - 1 else depth
 
--- with one more word in front of the first argument
+-- with one more word before the first argument
 abbrev pub word_before : Sourced → Option Arguments → Option Arguments
 word_before word None = None
 word_before word (Some found) = Some (record { first = word ∷ found.first; others = found.others; rest = found.rest })
 
--- with an empty argument in front of the first
+-- with an empty argument before the first
 abbrev pub argument_before : Option Arguments → Option Arguments
 argument_before None = None
 argument_before (Some found) = Some (record { first = []; others = found.first ∷ found.others; rest = found.rest })
 
--- the arguments, where so many parentheses of the first one are open: commas outside parentheses separate arguments, and the
+-- the arguments, where `depth` parentheses of the first one are open: commas outside parentheses separate arguments, and the
 -- `)` that matches none of these parentheses ends the last; none where the words end before it (C99 6.10.3p10, p11)
 abbrev pub arguments_in : ℕ → List Sourced → Option Arguments
 arguments_in depth [] = None
@@ -63,7 +63,7 @@ arguments_in depth (word ∷ words) =
     else if separates word.word && (depth == 0) then argument_before (arguments_in 0 words)
     else word_before word (arguments_in (depth_after depth word.word) words)
 
--- the arguments of a macro with so many parameters: `( )` is one argument without words, but none of a macro without
+-- the arguments of a macro with a number of parameters: `( )` is one argument without words, but none of a macro without
 -- parameters; none where their number is another one (C99 6.10.3p4)
 abbrev pub fitting : ℕ → List (List Sourced) → Option (List (List Sourced))
 fitting zero ([] ∷ []) = Some []

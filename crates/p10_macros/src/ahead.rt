@@ -10,7 +10,7 @@ ghost use Rattle.p10_macros.specs.private.Links.{IsLinked};
 use crate::pending::{Exits, Pending, Traced};
 use std::alloc::{AllocError, Global};
 
-/// The ends in front of words of which none ends an argument.
+/// The ends before which words stand of which none ends an argument.
 const NOWHERE: Exits = Exits {
     argument: 0,
     call: 0,
@@ -30,7 +30,7 @@ impl<'s> Ahead<'s> {
     ghost use Rattle.p10_macros.specs.private.Looking.{opens_on_top};
     ghost use Rattle.p10_macros.specs.private.Putting.{IsPushed};
 
-    /// No words, and room for so many.
+    /// No words, and room for `count`.
     pub fn with_room(alloc: Global, count: usize) -> Result<Ahead<'s>, AllocError>
         ensures { IfOk result (λ ahead. ahead.words.items ≡ []) }
     {
@@ -64,7 +64,7 @@ impl<'s> Ahead<'s> {
         self.words.pop()
     }
 
-    /// Takes the next word, and tells the ends in front of which the words after it stand.
+    /// Takes the next word, and gives the ends before which the words after it stand.
     pub fn skip(&mut self) -> Exits
         ensures taken { self.new.words.items ≡ take (length self.old.words.items - 1) self.old.words.items }
         ensures exits { HasExits result (reverse self.new.words.items) }
@@ -75,7 +75,7 @@ impl<'s> Ahead<'s> {
         }
     }
 
-    /// Puts a word in front of the others.
+    /// Puts a word before the others.
     pub fn push(&mut self, traced: Traced<'s>) -> Result<(), AllocError>
         ensures { OnOk result (IsPushed self.old.words.items self.new.words.items traced.entry) }
     {
@@ -84,7 +84,7 @@ impl<'s> Ahead<'s> {
         Ok(())
     }
 
-    /// How many arguments stand in front of the end of a call, where these are the ends in front of which the words stand.
+    /// How many arguments stand before the end of a call, where these are the ends before which the words stand.
     pub fn arguments(&self, exits: Exits) -> usize
         requires exits { HasExits exits (reverse self.now.words.items) }
         requires closed { 0 < exits.call }
@@ -99,7 +99,7 @@ impl<'s> Ahead<'s> {
         count
     }
 
-    /// The ends in front of which the words stand.
+    /// The ends before which the words stand.
     fn exits(&self) -> Exits
         ensures { HasExits result (reverse self.now.words.items) }
     {
@@ -123,7 +123,7 @@ impl<'s> Ahead<'s> {
         }
     }
 
-    /// The ends in front of which the words after a place stand; a place that no word has gives none.
+    /// The ends before which the words after a place stand; a place that no word has gives none.
     fn exits_after(&self, place: usize) -> Exits
         ensures { result ≡ exits_past (reverse self.now.words.items) place }
     {

@@ -76,7 +76,7 @@ fn run_of<'m, 'w, 's>(
     })
 }
 
-/// The words of a run as pending ones, the first in front.
+/// The words of a run as pending ones, the first on top.
 fn pending_of<'s>(alloc: Global, words: &[Word<'s>]) -> Result<Ahead<'s>, AllocError>
     ensures { IfOk result (λ pending. traced_of (reverse pending.words.items) ≡ map unread words.now) }
 {

@@ -1,7 +1,7 @@
 //! Macros of the preprocessor (C99 6.10.3): the table of those that are defined, and the replacement of all their uses
 //! in a run of words.
 //!
-//! Entry points: [`Macros`], the table; and [`replace`], which gives the words of a run after the replacement, or tells
+//! Entry points: [`Macros`], the table; and [`replace`], which gives the words of a run after the replacement, or says
 //! how it is refused. No name stands in a table twice, since only a name that isn't there is put after the others.
 //! Directives, files and conditions are left to the crates above.
 #![tactic(auto)]

@@ -54,7 +54,7 @@ pub struct Exits {
 #[derive(Clone, Copy)]
 pub struct Pending<'s> {
     pub traced: Traced<'s>,
-    /// The ends in front of which the words after it stand.
+    /// The ends before which the words after it stand.
     pub exits: Exits,
 }
 

@@ -19,7 +19,7 @@ pub enum ReplaceFault {
     Refused(Refusal),
     /// More words of replacements than may be made.
     TooMany,
-    /// Memory is wanting.
+    /// Out of memory.
     Memory,
 }
 

@@ -17,7 +17,7 @@ use crate::pending::{Traced, UseSite};
 use crate::replaced::ReplaceFault;
 use crate::values::value_at;
 
-/// Puts the replacement of a use on top of the pending words, where `left` words may still be made, and tells how many
+/// Puts the replacement of a use on top of the pending words, where `left` words may still be made, and gives how many
 /// are left. The words of the values are made those of the use.
 pub fn put_replacement<'s>(
     pending: &mut Ahead<'s>,
@@ -122,7 +122,7 @@ fn put_part<'s>(
     }
 }
 
-/// Puts words on top, the first in front.
+/// Puts words before the pending ones, in their order.
 fn put_words<'s>(
     pending: &mut Ahead<'s>,
     words: &[Traced<'s>],

@@ -131,7 +131,7 @@ fn begin_use<'m, 'w, 's>(
     }
 }
 
-/// Begins the use of a function-like macro, whose `(` was the next word; `exits` are the ends in front of which the words
+/// Begins the use of a function-like macro, whose `(` was the next word; `exits` are the ends before which the words
 /// after that one stand.
 fn begin_call<'m, 'w, 's>(
     run: &mut Run<'m, 'w, 's>,

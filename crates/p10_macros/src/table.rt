@@ -82,7 +82,7 @@ impl<'w, 's> Macros<'w, 's> {
     }
 
     /// Defines a macro after the others, unless its name is defined. `builtin` says that a built-in header
-    /// defines it.
+    /// defines it. Out of memory, the table stays as it was.
     pub fn define(&mut self, made: Macro<'w, 's>, builtin: bool) -> Result<Effect, AllocError>
         ensures ok { IfOk result (λ answer. Defines (table_of self.old) (plain_macro made.entry) builtin answer (table_of self.new)) }
         ensures err { OnErr result (table_of self.new ≡ table_of self.old) }

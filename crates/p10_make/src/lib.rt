@@ -1,5 +1,5 @@
 //! A function for each node of the trees of C's grammar, which makes it of its parts. What it makes stands nowhere until its
-//! places are set. So the parsers open no box.
+//! places are set. So the parsers open no box. A function that may fail does so only where memory runs out.
 #![tactic(auto)]
 
 mod boxes;

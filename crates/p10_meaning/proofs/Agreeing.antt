@@ -8,7 +8,7 @@ use Rattle.p10_meaning.specs.Values.{Calls}
 use Rattle.p10_meaning.specs.Laws.{Follows, EndsAfter, with_more}
 use Rattle.p10_meaning.proofs.Following.{follows_same, follows_trans, follows_left}
 
--- the same with k more steps; for want of steps the other ends so too, where it has no more
+-- the same with k more steps; where the first runs out of steps, so does the other, if k is 0
 abbrev pub IsSame : {A : Type 0} → ℕ → Progress A → Progress A → Type 0
 IsSame k (gives a w) other = other ≡ gives a (with_more k w)
 IsSame k (ends (AssertionFailed span) w) other = other ≡ ends (AssertionFailed span) (with_more k w)

@@ -1,4 +1,4 @@
--- A run that doesn't end for want of steps gives the same with greater budgets.
+-- A run that doesn't run out of steps gives the same with greater budgets.
 use Rattle.std.proofs.Common.{◌≡◌, ◌≢◌, ℕ, zero, suc, ◌+◌, ◌≤◌, true, [], refl, sym, ◌∙◌, ap, subst, arith, Option, Some, None, slice_get, take}
 use Rattle.p10_core.specs.Typed.{PlainValue, statements_list, statements_of_list, PlainFunction, PlainProgram}
 use Rattle.p10_meaning.specs.declared.pointers.Scalar.{Scalar}

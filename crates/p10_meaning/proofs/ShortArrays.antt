@@ -20,7 +20,7 @@ IsShort (pointer c t) = Unit {0}
 IsShort (array c t n) = (n ≤ most_elements) × IsShort t
 IsShort (structure c n) = Unit {0}
 
--- the same of an array and of its elements
+-- the same for an array and for its elements
 pub record IsShortView (v : View) : Type 0 where
   pub count : v.window.count ≤ most_elements
   pub elem : IsShort v.elem

@@ -313,7 +313,7 @@ both : (a b : Bool) → (a && b) ≡ true → (a ≡ true) × (b ≡ true)
 both true b e = (refl, e)
 both false b e = absurd cc
 
--- types that are the same but for marks are one type without marks
+-- types that are the same except for marks are one type without marks
 pub same_form_bare : (ss : List PlainStructure) (s t : PlainType) → same_form s t ≡ true → bare ss s ≡ bare ss t
 same_form_bare ss (void c) (void d) e = refl
 same_form_bare ss (integer c i) (integer d j) e = ap (λ i. integer false i) (integer_same i j e)

@@ -58,7 +58,7 @@ frame_variable t bytes = record { name = []; type = t; bytes = bytes; frame = tr
 abbrev pub object_variable : PlainType → ℕ → PlainVariable
 object_variable t bytes = record { name = []; type = t; bytes = bytes; frame = false; span = span 0 }
 
--- a function with so many parameters
+-- a function with a number of parameters
 abbrev pub function_of : ℕ → PlainType → List PlainVariable → List PlainStatement → PlainFunction
 function_of parameters result variables body = record {
   name = [];
@@ -132,7 +132,7 @@ program_of functions variables body = record (main_of variables body) {
 
 -- ## What is said of runs
 
--- `main` takes just n + 1 steps, and returns z: with one step fewer, n, the run ends for want of steps
+-- `main` takes exactly n + 1 steps, and returns z: with one step fewer, n, the run runs out of steps
 pub record ReturnsAfter (p : PlainProgram) (n : ℕ) (z : ℤ) : Type 0 where
   pub enough : (run_of p no_world (n + 1) 0 0).outcome ≡ Returned z
   pub fewer : (run_of p no_world n 0 0).outcome ≡ Ended StepsSpent

@@ -44,7 +44,7 @@ EndsAfter from (ends end to) = Follows from to
 abbrev pub with_more : ℕ → State → State
 with_more k w = record w { left = w.left + k }
 
--- what comes of a piece with k more steps: the same, with k more steps left, unless it ended for want of steps
+-- what comes of a piece with k more steps: the same, with k more steps left, unless it ran out of steps
 abbrev pub SameWithMore : {A : Type 0} → ℕ → Progress A → Progress A → Type 0
 SameWithMore k (gives a w) other = other ≡ gives a (with_more k w)
 SameWithMore k (ends (AssertionFailed span) w) other = other ≡ ends (AssertionFailed span) (with_more k w)
@@ -61,7 +61,7 @@ pub record CallsRun (p : PlainProgram) (depth : Depth) (f : ℕ) (xs : List Scal
   pub more : (n m k : ℕ) → w.left ≤ n → w.left + k ≤ m → SameWithMore k (call_at n p depth f xs w) (call_at m p depth f xs (with_more k w))
 
 -- the bound on calls and turns never counts while it is no less than the steps that are left, so the meaning of calls is the
--- plain recursion on trees and steps; more steps change no outcome but the want of steps
+-- plain recursion on trees and steps; more steps change no outcome except that steps ran out
 abbrev pub CallsHaveNoBound : Type 0
 CallsHaveNoBound = (p : PlainProgram) (depth : Depth) (f : ℕ) (xs : List Scalar) (w : State) → CallsRun p depth f xs w
 
@@ -72,7 +72,7 @@ pub record StatementsRun (p : PlainProgram) (depth : Depth) (f : PlainFunction) 
   pub more : (n m k : ℕ) → w.left ≤ n → w.left + k ≤ m →
       SameWithMore k (execute (setting_of p n (call_at n p) depth f) x frame w) (execute (setting_of p m (call_at m p) depth f) x frame (with_more k w))
 
--- the same of statements, in each function at each depth
+-- the same for statements, in each function at each depth
 abbrev pub StatementsHaveNoBound : Type 0
 StatementsHaveNoBound = (p : PlainProgram) (depth : Depth) (f : PlainFunction) (x : PlainStatement) (frame : Frame) (w : State) → StatementsRun p depth f x frame w
 
@@ -91,13 +91,13 @@ LoopsHaveNoBound =
     turns i (test (setting_of p n (call_at n p) depth f) tested) (round (setting_of p n (call_at n p) depth f) third body) frame w ≡
     turns j (test (setting_of p m (call_at m p) depth f) tested) (round (setting_of p m (call_at m p) depth f) third body) frame w
 
--- the same of values
+-- the same for values
 abbrev pub ValuesHaveNoBound : Type 0
 ValuesHaveNoBound = (p : PlainProgram) (depth : Depth) (f : PlainFunction) (v : PlainValue) (held : List Held) (w : State) → ValuesRun p depth f v held w
 
 -- ## Whole runs
 
--- a run that doesn't end for want of steps gives the same with greater budgets
+-- a run that doesn't run out of steps gives the same with greater budgets
 abbrev pub RunsNeedNoMore : Type 0
 RunsNeedNoMore =
     (p : PlainProgram) (world : World) (prefix turn n more_prefix more_turn : ℕ) → (run_of p world prefix turn n).outcome ≢ Ended StepsSpent →

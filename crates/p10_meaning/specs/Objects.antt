@@ -31,7 +31,7 @@ abbrev pub or_stop : {A : Type 0} → Option A → Stop → Result A Stop
 or_stop None stop = Err stop
 or_stop (Some x) stop = Ok x
 
--- the live object of a number
+-- the live object with a number
 abbrev pub find : ℕ → List Object → Option Object
 find n [] = None
 find n (object ∷ objects) = if eqb object.number n then Some object else find n objects
@@ -125,7 +125,7 @@ distance objects left right = on_ok (positions objects left right) (λ at. Ok (p
 abbrev pub opened_with : List Object → ℕ → Origin → List Cell → List Object
 opened_with objects n origin cells = objects ++ record { number = n; origin = origin; cells = cells } ∷ []
 
--- the objects without the one of a number: it is dead from then on
+-- the objects without the one with a number: it is dead from then on
 abbrev pub closed : ℕ → List Object → List Object
 closed n [] = []
 closed n (object ∷ objects) = if eqb object.number n then objects else object ∷ closed n objects

@@ -29,7 +29,7 @@ read_of cell = scalar_of cell.value
 
 -- ## Arrays in an object
 
--- an object of n elements, each of so many scalars, as an array: a single object is an array of one (C99 6.5.6p7)
+-- an object of n elements, each of `stride` scalars, as an array: a single object is an array of one (C99 6.5.6p7)
 abbrev pub whole_window : ℕ → ℕ → Window
 whole_window stride n = record { start = 0; stride = stride; count = n; inside = true; whole = true }
 

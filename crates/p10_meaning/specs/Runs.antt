@@ -114,7 +114,7 @@ run_of p world prefix turn n = run_main p prefix turn n (slice_get p.functions p
 
 -- ## Bounds
 
--- a run stays within bounds: it doesn't end for want of steps, its depths are no greater, and nothing is allocated or freed
+-- a run stays within bounds: it doesn't run out of steps, its depths are no greater, and nothing is allocated or freed
 -- after the mark
 pub record IsWithin (b : Bounds) (r : Ran) : Type 0 where
   pub steps : r.outcome ≢ Ended StepsSpent

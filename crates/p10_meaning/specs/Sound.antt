@@ -147,7 +147,7 @@ abbrev pub AllObjects : PlainProgram → List Kind → List Object → Type 0
 AllObjects p ks [] = Unit {0}
 AllObjects p ks (x ∷ xs) = (ObjectFits p ks x × Above x.number xs) × AllObjects p ks xs
 
--- an array of `char` with so many elements, as a string literal has it
+-- an array of `char` with n elements, as a string literal has it
 abbrev pub text_type : ℕ → PlainType
 text_type n = array false (integer false Char) n
 

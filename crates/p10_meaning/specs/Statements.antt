@@ -201,7 +201,7 @@ abbrev mutual
   pub execute : Setting → PlainStatement → Frame → State → Progress Done
   execute s (statement at form) frame w = execute_form s at form frame w
 
-  -- the same of a form of a statement, at its tree
+  -- the same for a form of a statement, at its tree
   pub execute_form : Setting → At → PlainStatementForm → Frame → State → Progress Done
   -- a declaration of an automatic variable: 1 and its initialiser (C99 6.7, 6.8.2)
   execute_form s at (declare n initializer) frame w =
@@ -265,7 +265,7 @@ abbrev mutual
   pub enter : Setting → Option ℕ → PlainStatement → Frame → State → Progress Done
   enter s k (statement at form) frame w = enter_form s k form frame w
 
-  -- the same of a form
+  -- the same for a form
   pub enter_form : Setting → Option ℕ → PlainStatementForm → Frame → State → Progress Done
   enter_form s k (block statements) frame w = from_label k (λ k frame w. execute_from s k statements frame w) frame w
   enter_form s k form frame w = goes frame w

@@ -16,7 +16,7 @@ abbrev mutual
   pub may_change : ℕ → PlainStatement → Bool
   may_change n (statement at form) = form_may_change n form
 
-  -- the same of a form of statement
+  -- the same for a form of statement
   pub form_may_change : ℕ → PlainStatementForm → Bool
   form_may_change n (set p v) = is_variable_place n p
   form_may_change n (update kind op t p v) = is_variable_place n p
@@ -28,7 +28,7 @@ abbrev mutual
   form_may_change n (switch keyword v labels body) = may_change n body
   form_may_change n form = false
 
-  -- the same of statements, one after the other
+  -- the same for statements, one after the other
   pub any_may_change : ℕ → PlainStatements → Bool
   any_may_change n no_statements = false
   any_may_change n (more_statements s rest) = may_change n s || any_may_change n rest

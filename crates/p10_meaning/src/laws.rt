@@ -14,8 +14,8 @@ ghost use Rattle.p10_meaning.specs.Turns.{TurnsGive};
 ghost use Rattle.p10_meaning.specs.Edges.{EdgesAreSettled};
 
 /// What comes of a call, a statement, a loop or a value doesn't depend on the bound of the recursion, as long as that is no
-/// less than the steps that are left; so calls meet the plain recursion on trees and steps. More steps change no outcome but
-/// the want of steps. No step comes back, and objects, requests, greatest depths, the count after the mark and the output
+/// less than the steps that are left; so calls meet the plain recursion on trees and steps. More steps change no outcome except that
+/// steps ran out. No step comes back, and objects, requests, greatest depths, the count after the mark and the output
 /// only grow; what is executed before the mark isn't counted.
 pub fn bound_never_counts()
     ensures calls { CallsHaveNoBound }
@@ -24,7 +24,7 @@ pub fn bound_never_counts()
     ensures values { ValuesHaveNoBound }
 {}
 
-/// A run that doesn't end for want of steps gives the same with greater budgets.
+/// A run that doesn't run out of steps gives the same with greater budgets.
 pub fn runs_need_no_more()
     ensures { RunsNeedNoMore }
 {}
@@ -65,7 +65,7 @@ pub fn variables_stay()
     ensures values { ValuesLeaveFrames }
 {}
 
-/// What each row of the table of steps costs, at small programs: with a step fewer its run ends for want of steps.
+/// What each row of the table of steps costs, at small programs: with a step fewer its run runs out of steps.
 pub fn steps_are_counted()
     ensures rows { StepsAreCounted }
     ensures others { OtherStepsAreCounted }

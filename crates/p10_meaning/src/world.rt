@@ -2,7 +2,7 @@
 
 use p10_base::ListBuf;
 
-/// The world of a run: what it reads, which of its requests for memory are denied, and what its sensors tell.
+/// The world of a run: what it reads, which of its requests for memory are denied, and what its sensors give.
 #[derive(Debug, Drop)]
 pub struct World {
     /// The bytes of the input, each from 0 to 255.

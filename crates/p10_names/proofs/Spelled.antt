@@ -1,4 +1,4 @@
--- What holds of each symbol that a tree spells before others holds of the others: a tree is spelled in front of what stands after it.
+-- What holds of each symbol that a tree spells before others holds of the others: a tree is spelled before what stands after it.
 use Rattle.std.proofs.Common.{ℕ, zero, suc, Bool, true, false, List, [], ◌∷◌, Option, Some, None}
 use Rattle.std.specs.List.{AllByRecursion}
 use Rattle.p10_base.specs.Words.{Text}

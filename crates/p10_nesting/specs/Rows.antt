@@ -21,12 +21,12 @@ mark text = word_of Punct text
 abbrev pub string : PlainWord
 string = word_of Str (codes "\"\"")
 
--- `0` in so many pairs of parentheses, and then the rest
+-- `0` in a number of pairs of parentheses, and then the rest
 abbrev pub parenthesised : ℕ → List PlainWord → List PlainWord
 parenthesised zero rest = number (codes "0") ∷ rest
 parenthesised (suc n) rest = mark (codes "(") ∷ parenthesised n (mark (codes ")") ∷ rest)
 
--- `int main(void) { return E; }`, where E is `0` in so many pairs of parentheses
+-- `int main(void) { return E; }`, where E is `0` in n pairs of parentheses
 abbrev pub returning : ℕ → List PlainWord
 returning n =
     name (codes "int") ∷ (name (codes "main") ∷ (mark (codes "(") ∷ (name (codes "void") ∷ (mark (codes ")") ∷

@@ -105,11 +105,11 @@ impl Row {
     }
 }
 
-/// Whether trees of the words could be higher than walks over them bear.
+/// Whether trees of the words could be too high for walks over them on the native stack.
 ///
 /// The height of a row is the number of its words and the greatest height of the brackets that were closed in it. Rows
 /// are reduced and emptied as for the nesting, which alone doesn't bound it: `((x + y) + z) + w` is as high as its
-/// chains are long together. It fails only where memory is wanting.
+/// chains are long together. It fails only where memory runs out.
 pub fn is_too_high(alloc: Global, words: &[Word<'_>]) -> Result<bool, AllocError> {
     let mut outer = Vec::new(alloc);
     let mut row = Row::new();

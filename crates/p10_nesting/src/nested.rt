@@ -11,7 +11,7 @@ use std::alloc::{AllocError, Global};
 
 /// Whether the nesting of the words is over the limit M5, which is [`Limit::MOST_NESTING`].
 ///
-/// It takes each word once, and keeps no more rows than that limit. It fails only where memory is wanting.
+/// It takes each word once, and keeps no more rows than that limit. It fails only where memory runs out.
 pub fn is_too_nested(alloc: Global, words: &[Word<'_>]) -> Result<bool, AllocError>
     ensures { IfOk result (λ over. IsTrue over ↔ (Limit.MOST_NESTING < nesting_of (plain_words words.now))) }
 {

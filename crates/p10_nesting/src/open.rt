@@ -41,8 +41,8 @@ impl Open {
         !self.outer.is_empty()
     }
 
-    /// Takes a word of this role that stands directly after a string or not. It tells whether too many words
-    /// stand in the rows then; if so, or where memory is wanting, the rows are of no use.
+    /// Takes a word of this role that stands directly after a string or not. It answers whether too many words
+    /// stand in the rows then; if so, or where memory runs out, the rows are of no use.
     pub fn meet(&mut self, role: Role, after_string: bool) -> Result<bool, AllocError>
         ensures { IfOk result (λ over. Meets role after_string self.old self.new over) }
     {
@@ -57,7 +57,7 @@ impl Open {
     }
 
     /// Adds a word of this role to the row of the innermost level, and opens a level if it is an opening bracket.
-    /// It tells whether that is one word too many.
+    /// It answers whether that is one word too many.
     fn add(&mut self, role: Role) -> Result<bool, AllocError>
         ensures { IfOk result (λ over. Adds role self.old self.new over) }
     {
@@ -83,7 +83,7 @@ impl Open {
         }
     }
 
-    /// Reduces or empties the row of the innermost level after a word of this role was met. `inside` tells whether a
+    /// Reduces or empties the row of the innermost level after a word of this role was met. `inside` says whether a
     /// level was open within the outermost before it, and `goes_on` whether the words after it go on with the statement.
     pub fn settle(&mut self, role: Role, inside: bool, goes_on: bool)
         ensures { Settles role inside goes_on self.old self.new }

@@ -82,7 +82,7 @@ impl Tally {
         }
     }
 
-    /// The row after a word of this role was met. `inside` tells whether a level was open within the outermost
+    /// The row after a word of this role was met. `inside` says whether a level was open within the outermost
     /// before it, and `goes_on` whether the words after it go on with the statement.
     pub fn settled(self, role: Role, inside: bool, goes_on: bool) -> Tally
         ensures { result ≡ settled_counts role inside goes_on self }

@@ -40,10 +40,10 @@ ReadingIsLongest = (names : Scope) (symbols : List Symbol) → let p = externals
 abbrev pub UnitsAreOne : Type 0
 UnitsAreOne = (roots : List (List PlainWord)) (trees others : List (External At)) → Spells roots trees → Spells roots others → trees ≡ others
 
--- roots that are nested within the limit and that trees spell have no fault, unless memory is wanting
+-- roots that are nested within the limit and that trees spell have no fault, unless memory is out
 abbrev pub SpelledHaveNoFault : Type 0
 SpelledHaveNoFault = (roots : List (List PlainWord)) (trees : List (External At)) (fault : ParseFault) → AllFit roots → Spells roots trees → FirstFault roots fault → fault ≡ Memory
 
--- roots have one fault at most, unless memory is wanting
+-- roots have one fault at most, unless memory is out
 abbrev pub FaultsAreOne : Type 0
 FaultsAreOne = (roots : List (List PlainWord)) (f g : ParseFault) → f ≢ Memory → g ≢ Memory → FirstFault roots f → FirstFault roots g → f ≡ g

@@ -31,7 +31,7 @@ abbrev pub or_else : {A B : Type 0} → (A → B) → B → Option A → B
 or_else f b None = b
 or_else f b (Some a) = f a
 
--- at most so many declarations and functions after those that were read before, as many as there are, and the words that
+-- at most this many declarations and functions after those that were read before, as many as there are, and the words that
 -- are left
 unfoldable pub externals_from : ℕ → Scope → List (External Bare) → List Symbol → List (External Bare) × List Symbol
 externals_from zero names done symbols = (done, symbols)

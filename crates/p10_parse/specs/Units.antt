@@ -33,7 +33,7 @@ pub record AreRefused (words : List PlainWord) (r : Refusal) : Type 0 where
   pub placed : r ≡ syntax_refusal word.at
 
 -- this fault is that of the words of a root: M5 where they are nested over the limit, and else G1; where memory is
--- wanting, nothing is said of them
+-- out, nothing is said of them
 abbrev pub HasFault : List PlainWord → ParseFault → Type 0
 HasFault words (Refused r) = FitNesting words × AreRefused words r
 HasFault words (Over limit) = (limit ≡ NESTING) × (MOST_NESTING < nesting_of words)

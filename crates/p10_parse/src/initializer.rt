@@ -124,7 +124,7 @@ fn ends_initializers(cursor: &Cursor<'_, '_>) -> bool
     !cursor.heads(Sign::Comma) || cursor.second_is(Sign::CloseBrace)
 }
 
-/// Reads `}`, or `,` and `}`, and tells which it was.
+/// Reads `}`, or `,` and `}`, and gives which it was.
 fn end_of_initializers(cursor: &mut Cursor<'_, '_>) -> Result<bool, Trouble>
     ensures ok { IfOk result (λ comma. initializers_end cursor.old ≡ Some (comma, cursor.new)) }
     ensures refused { IsErrOf result Refused → initializers_end cursor.old ≡ None }

@@ -7,7 +7,7 @@ ghost use Rattle.p10_parse.specs.Ways.{way_of_sign, way_at, is_label as labels, 
 use p10_pexpr::{Cursor, Scope, begins_specifiers};
 use p10_syn::{Sign, Token};
 
-/// What the first word of a statement, or the first two, tell of it.
+/// What the first word of a statement, or the first two, say of it.
 #[derive(Clone, Copy)]
 pub enum Way {
     /// `;`

@@ -33,7 +33,7 @@ pub restored : (test : ℕ → Bool) (marks shown : List Bool) (count : ℕ) (en
 restored test marks shown count entry vs env same m l =
     same_changes _ _ 0 vs env (λ n v a e. λ i. record { range = a.range; offset = if told test marks shown count vs n v same m l e i then None else offset_in (known entry (zero + n)) })
 
--- the same of an end that may be lacking
+-- the same for an end that may be lacking
 pub end_restored : (test : ℕ → Bool) (marks shown : List Bool) (count : ℕ) (entry : Environment) (vs : List PlainVariable) (o : Option Environment) → shown ≡ marks → AreMarks test count marks → length vs ≤ count →
     option_map (changed_each (λ n v a. record { range = a.range; offset = if is_marked shown n then None else offset_in (known entry n) }) 0 vs) o ≡ option_map (offsets_restored test entry vs) o
 end_restored test marks shown count entry vs None same m l = refl

@@ -48,7 +48,7 @@ abbrev mutual
   pub failing_calls : Claims → PlainValue → Environment → List Span
   failing_calls c (value at t form) env = failing_in_form c form env
 
-  -- the same of a form of value
+  -- the same for a form of value
   pub failing_in_form : Claims → PlainForm → Environment → List Span
   failing_in_form c (constant z) env = []
   failing_in_form c (read p) env = failing_in_place c p env
@@ -69,16 +69,16 @@ abbrev mutual
       ++ failing_in_values c arguments env
   failing_in_form c (built_in name f arguments) env = failing_in_values c arguments env
 
-  -- the same of values, one after the other
+  -- the same for values, one after the other
   pub failing_in_values : Claims → PlainValues → Environment → List Span
   failing_in_values c no_values env = []
   failing_in_values c (more_values v vs) env = failing_calls c v env ++ (if has_value (Some c) v env then failing_in_values c vs env else [])
 
-  -- the same of a place
+  -- the same for a place
   pub failing_in_place : Claims → PlainPlace → Environment → List Span
   failing_in_place c (place at t form) env = failing_in_place_form c form env
 
-  -- the same of a form of place
+  -- the same for a form of place
   pub failing_in_place_form : Claims → PlainPlaceForm → Environment → List Span
   failing_in_place_form c (variable n) env = []
   failing_in_place_form c (global n) env = []
@@ -92,7 +92,7 @@ abbrev pub failing_in : Option Claims → PlainValue → Environment → List Sp
 failing_in None v env = []
 failing_in (Some c) v env = failing_calls c v env
 
--- the same of a place
+-- the same for a place
 abbrev pub failing_at : Option Claims → PlainPlace → Environment → List Span
 failing_at None p env = []
 failing_at (Some c) p env = failing_in_place c p env

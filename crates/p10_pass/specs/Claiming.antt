@@ -45,7 +45,7 @@ ranges_hold_reached claim variables (Some env) = ranges_hold claim 0 variables e
 abbrev pub rank_up : ℤ → Option Abstract → Option Interval
 rank_up bound a = option_map (λ (a : Abstract). from_to (bound -ℤ a.range.high) (bound -ℤ a.range.low)) a
 
--- the same of `down`
+-- the same for `down`
 abbrev pub rank_down : ℤ → Option Abstract → Option Interval
 rank_down bound a = option_map (λ (a : Abstract). from_to (a.range.low -ℤ bound) (a.range.high -ℤ bound)) a
 
@@ -84,7 +84,7 @@ falls n (Some a) = of a.offset
     of None = false
     of (Some o) = nat_eq o.about n && int_le o.by.high (neg_ℤ (pos 1))
 
--- K9: on a way back the rank has fallen by at least 1, as the offset of its variable alone tells; `one` has no way back
+-- K9: on a way back the rank has fallen by at least 1, as the offset of its variable alone shows; `one` has no way back
 abbrev pub goes_back_ranked : Rank → Option Environment → Bool
 goes_back_ranked rank None = true
 goes_back_ranked (Up v bound) (Some env) = rises v (known env v)

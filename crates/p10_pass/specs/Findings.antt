@@ -1,4 +1,4 @@
--- What the public calls of the pass tell.
+-- What the public calls of the pass find.
 use Rattle.std.specs.Prelude.{ℕ, List, [], map, slice_get, Option, Some, None}
 use Rattle.std.specs.Option.{option_map}
 use Rattle.p10_range.specs.Ranges.{Interval, interval_of}
@@ -21,7 +21,7 @@ pub record Findings : Type 0 where
   pub fails : List Failing
   pub weak : List Weakness
 
--- what is told of what statements leave
+-- what is found of what statements leave
 abbrev pub findings_of : Left → Findings
 findings_of a = record {
   normal = a.normal;
@@ -33,7 +33,7 @@ findings_of a = record {
   weak = a.weak;
 }
 
--- what the code tells
+-- what the code finds
 abbrev pub findings_in : Passed → Findings
 findings_in p = record {
   normal = values_in p.normal;

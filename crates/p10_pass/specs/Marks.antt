@@ -10,6 +10,6 @@ marked_in (Some b) = b
 abbrev pub is_marked : List Bool → ℕ → Bool
 is_marked marks n = marked_in (slice_get marks n)
 
--- marks, by the numbers below a count, are what a test tells
+-- marks, by the numbers below a count, are what a test gives
 pub record AreMarks (test : ℕ → Bool) (count : ℕ) (marks : List Bool) : Type 0 where
   pub each : (n : ℕ) → n < count → is_marked marks n ≡ test n

@@ -369,7 +369,7 @@ abbrev mutual
   pub pass_switch : Manner → PlainLabels → PlainStatement → Environment → Left
   pass_switch m labels (statement at form) env = pass_switch_form m labels form env
 
-  -- the same of a form
+  -- the same for a form
   pub pass_switch_form : Manner → PlainLabels → PlainStatementForm → Environment → Left
   pass_switch_form m labels (block ss) env = switch_left labels env (as_block ss (pass_from m labels 0 ss env None))
   pass_switch_form m labels form env = reached (Some env)
@@ -408,7 +408,7 @@ manner_of g (Some c) f = claimed_manner c (slice_get c.funcs f) g.variables
 abbrev pub pass_body : PlainFunction → Option Claims → ℕ → Environment → Left
 pass_body g c f env = as_block g.body (pass_statements (manner_of g c f) g.body env)
 
--- the same of the function with a number, if it is there
+-- the same for the function with a number, if it is there
 abbrev pub pass_of : PlainProgram → Claims → ℕ → Environment → Left
 pass_of p c f env = of (slice_get p.functions f)
   where

@@ -15,7 +15,7 @@ abbrev mutual
   pub assigns : ℕ → PlainStatement → Bool
   assigns n (statement at form) = form_assigns n form
 
-  -- the same of a form of statement
+  -- the same for a form of statement
   pub form_assigns : ℕ → PlainStatementForm → Bool
   form_assigns n (set p v) = is_target n p
   form_assigns n (update kind op t p v) = is_target n p
@@ -26,7 +26,7 @@ abbrev mutual
   form_assigns n (switch keyword v labels body) = assigns n body
   form_assigns n form = false
 
-  -- the same of statements, one after the other
+  -- the same for statements, one after the other
   pub any_assigns : ℕ → PlainStatements → Bool
   any_assigns n no_statements = false
   any_assigns n (more_statements s rest) = assigns n s || any_assigns n rest

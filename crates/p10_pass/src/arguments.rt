@@ -52,7 +52,7 @@ pub(crate) fn put_failing(
     }
 }
 
-/// The same of a place.
+/// The same for a place.
 pub(crate) fn put_failing_at(
     alloc: Global,
     c: Option<&Cert>,
@@ -229,7 +229,7 @@ impl Calls<'_> {
         }
     }
 
-    /// The same of the second one of two values, where the first one leaves a state.
+    /// The same for the second one of two values, where the first one leaves a state.
     #[cycle(failing)]
     fn put_after(
         &self,
@@ -248,7 +248,7 @@ impl Calls<'_> {
         }
     }
 
-    /// The same of a value that is evaluated where a test is true or false.
+    /// The same for a value that is evaluated where a test is true or false.
     #[cycle(failing)]
     fn put_where(
         &self,
@@ -268,7 +268,7 @@ impl Calls<'_> {
         Ok(())
     }
 
-    /// The same of values, one after the other.
+    /// The same for values, one after the other.
     #[cycle(failing)]
     fn put_values(
         &self,
@@ -288,7 +288,7 @@ impl Calls<'_> {
         Ok(())
     }
 
-    /// The same of a place.
+    /// The same for a place.
     #[cycle(failing)]
     fn put_place(&self, p: &Place, env: &mut Env, names: &mut Vec<Span>) -> Result<(), AllocError>
         ensures same { OnOk result (env.new ≡ env.old) }

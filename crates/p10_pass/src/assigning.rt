@@ -48,7 +48,7 @@ fn store(target: &Place, a: Abs, env: &mut Env)
     }
 }
 
-/// The same of an owned environment.
+/// The same for an owned environment.
 fn stored(target: &Place, a: Abs, env: Env) -> Option<Env>
     ensures { values_in result ≡ Some (stored (plain_place target.now) (abstract_of a) env.values) }
 {

@@ -24,8 +24,13 @@ use p10_cert::{Cert, FuncClaim, LoopClaim};
 use p10_core::{Func, Program, Stmt, Variable};
 use std::alloc::{AllocError, Global};
 
-/// The pass over the body of the function with a number, by what a certificate claims: what is known where it ends, which of
-/// K3 and K5 to K7 fail in it, and at which loops K8, K9 or K10 does. A function that isn't there ends nowhere.
+/// The pass over the body of the function with the number `f`, from the environment `env` on, by what the certificate `c` claims: what is
+/// known where the body ends, which of K3 and K5 to K7 fail in it, and at which loops K8, K9 or K10 does. A function that isn't there
+/// ends nowhere.
+///
+/// # Errors
+///
+/// Out of memory.
 pub fn pass(
     alloc: Global,
     p: &Program<'_>,
@@ -39,8 +44,12 @@ pub fn pass(
     told(alloc, left)
 }
 
-/// The pass over one statement of the function with a number; without a certificate it is the trial pass, in which nothing
-/// fails.
+/// The pass over the statement `s` of the function with the number `f`, from the environment `env` on; without a certificate it is the
+/// trial pass, in which nothing fails. In a function that isn't there it ends nowhere.
+///
+/// # Errors
+///
+/// Out of memory.
 pub fn pass_stmt(
     alloc: Global,
     p: &Program<'_>,
@@ -55,8 +64,12 @@ pub fn pass_stmt(
     told(alloc, left)
 }
 
-/// The environment with which the pass enters a loop by its number, in the function with a number: the claimed ranges take the
-/// place of those at its entry. In a function that isn't there nothing changes.
+/// The environment with which the pass enters the loop with the number `at`, in the function with the number `f`: the claimed ranges take
+/// the place of those at its entry. In a function that isn't there nothing changes.
+///
+/// # Errors
+///
+/// Out of memory.
 pub fn head(
     alloc: Global,
     p: &Program<'_>,
@@ -235,7 +248,7 @@ fn fails_of(alloc: Global, left: &Left) -> Result<Vec<Fail>, AllocError>
     Ok(fails)
 }
 
-/// What is told of what statements leave.
+/// What is found of what statements leave.
 fn told(alloc: Global, left: Left) -> Result<Passed, AllocError>
     ensures { IfOk result (λ passed. findings_in passed ≡ findings_of (left_of left)) }
 {

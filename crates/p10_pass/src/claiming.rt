@@ -160,7 +160,7 @@ fn falls(n: u32, known: Option<Abs>) -> bool
     }
 }
 
-/// Whether a rank has fallen by at least 1 on a way back, as offsets tell (K9); where no state comes it has.
+/// Whether a rank has fallen by at least 1 on a way back, as its offset shows (K9); where no state comes it has.
 pub fn goes_back_ranked(rank: Rank, env: &Option<Env>) -> bool
     ensures { result ≡ goes_back_ranked rank (option_map (λ (e : Branching). e.values) env.now) }
 {

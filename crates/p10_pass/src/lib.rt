@@ -11,10 +11,10 @@
 //!     after      i in [10, 10]
 //!
 //! The definitions stand in `specs/Passing.antt`: a row for each form of statement, by its four ways to end. The pass is a
-//! function of any program, certificate and environment, so nothing is asked of a caller; what fails is told by its number
-//! and its place. It fails only out of memory, as which 2^32 variables count too.
+//! function of any program, certificate and environment, so nothing is asked of a caller; what fails is given by its number
+//! and its place. It fails only where memory runs out; 2^32 variables count as that, too.
 //! Invariant: what parts leave is joined in text order, and joining is associative, so lists are passed by loops.
-//! Evidence for the loops that are told as weak, and whether a certificate is accepted, are left to the crates above.
+//! Evidence for the loops that are given as weak, and whether a certificate is accepted, are left to the crates above.
 #![tactic(auto)]
 
 mod arguments;

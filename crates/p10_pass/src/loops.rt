@@ -125,7 +125,7 @@ fn put_if(fails: bool, k: u8, at: Span, into: &mut Vec<Fail>) -> Result<(), Allo
     Ok(())
 }
 
-/// Gives what is known after a loop the offsets that its entry has, but for the variables that it assigns.
+/// Gives what is known after a loop the offsets that its entry has, except for the variables that it assigns.
 fn restore_end(
     marks: &[bool],
     entry: &Env,
@@ -140,7 +140,7 @@ fn restore_end(
     }
 }
 
-/// The same of the ends of a round that go past its loop.
+/// The same for the ends of a round that go past its loop.
 fn restore(
     alloc: Global,
     m: &Manner<'_, '_>,

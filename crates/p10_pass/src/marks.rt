@@ -11,7 +11,7 @@ use crate::scopes::{mark, mark_statement};
 use p10_core::{Label, Labels, Stmt};
 use std::alloc::{AllocError, Global};
 
-/// No marks, for so many numbers.
+/// No marks, for `count` numbers.
 fn unmarked(alloc: Global, count: usize) -> Result<Vec<bool>, AllocError>
     ensures { IfOk result (λ marks. marks.items ≡ replicate count false) }
 {

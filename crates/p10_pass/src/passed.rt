@@ -1,10 +1,10 @@
-//! What the public calls of the pass tell.
+//! What the public calls of the pass find.
 
 use crate::left::{Fail, Weak};
 use p10_absx::Env;
 use p10_range::Range;
 
-/// What a pass tells: for each way in which statements end what is known then, `None` where no state ends so.
+/// What a pass finds: for each way in which statements end what is known then, `None` where no state ends so.
 #[derive(Drop)]
 pub struct Passed {
     pub normal: Option<Env>,

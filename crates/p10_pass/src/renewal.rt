@@ -83,8 +83,8 @@ fn renew(env: &mut Env, how: &Renewal<'_>, n: u32, v: &Variable<'_>)
     }
 }
 
-/// Changes the entry of each variable. So many variables that 32 bits don't number them never fit memory, and are told as out
-/// of it.
+/// Changes the entry of each variable. More variables than 32 bits number never fit memory, and are answered as out
+/// of memory.
 pub(crate) fn renew_each(
     env: &mut Env,
     how: &Renewal<'_>,

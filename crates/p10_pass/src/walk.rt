@@ -351,7 +351,11 @@ fn left_after(
     }
 }
 
-/// One round of a loop from an environment at its head; a statement that is no loop has none.
+/// One round of the loop `s` from the environment `env` at its head; a statement that is no loop has none.
+///
+/// # Errors
+///
+/// Out of memory.
 #[cycle(passing)]
 pub fn one_round(
     alloc: Global,

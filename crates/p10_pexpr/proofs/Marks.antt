@@ -101,7 +101,7 @@ no_comma [] h = refl
 no_comma (Fixed s ∷ rest) h = comma_pulls s h
 no_comma (_ ∷ rest) h = refl
 
--- ## At the begin of an operand
+-- ## At the beginning of an operand
 
 pub unary_again : (s : Sign) → is_unary s ≡ true → start_of s ≡ Operates s
 unary_again sign.And h = refl

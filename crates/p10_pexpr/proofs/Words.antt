@@ -83,7 +83,7 @@ went (Fixed s ∷ rest) = went_sign s rest
 went (String x ∷ rest) = tt
 went (_ ∷ rest) = tt
 
--- ## At the begin of an operand
+-- ## At the beginning of an operand
 
 abbrev pub Began : Sign → Start → Type 0
 Began s Groups = s ≡ sign.Open

@@ -21,6 +21,6 @@ ExpressionsAreUnique =
     (names : Scope) (t u : Expression Bare) (rest more : List Symbol) → IsExpression names t → IsExpression names u → EndsExpression rest → EndsExpression more →
     spell t rest ≡ spell u more → (t ≡ u) × (rest ≡ more)
 
--- a tree that spells words has its places by them, so it is unique with its places, where just these names are typedef names
+-- a tree that spells words has its places by them, so it is unique with its places, where exactly these names are typedef names
 abbrev pub PlacedTreesAreUnique : Type 0
 PlacedTreesAreUnique = (types : List Text) (words : List PlainWord) (t u : Expression At) → SpellsExpression types words t → SpellsExpression types words u → t ≡ u

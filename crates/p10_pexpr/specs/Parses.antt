@@ -32,7 +32,7 @@ NoneSpells names symbols = (t : Expression Bare) → IsSpelled names symbols t �
 abbrev pub IsTreeOf : List Text → List PlainWord → Expression At → Type 0
 IsTreeOf types words t = (nesting_of words ≤ MOST_NESTING) × SpellsExpression types words t
 
--- why an expression of these words isn't given, where just these names are typedef names: its nesting is tested first
+-- why an expression of these words isn't given, where exactly these names are typedef names: its nesting is tested first
 abbrev pub IsFaultOf : List Text → List PlainWord → ParseFault → Type 0
 IsFaultOf types words (Refused refusal) = (nesting_of words ≤ MOST_NESTING) × ((t : Expression At) → SpellsExpression types words t → ⊥) × (refusal ≡ syntax_refusal (first_span words))
 IsFaultOf types words (Over limit) = (MOST_NESTING < nesting_of words) × (limit ≡ NESTING)

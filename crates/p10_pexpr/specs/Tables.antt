@@ -95,7 +95,7 @@ need _ = 16
 abbrev pub goes_on : ℕ → ℕ → Next → Bool
 goes_on level held next = nat_le level (pull next) && nat_le (need next) held
 
--- ## At the begin of an operand
+-- ## At the beginning of an operand
 
 -- what a keyword or punctuator begins where an operand is read (C99 6.5.1, 6.5.3, 6.5.4)
 abbrev pub start_of : Sign → Start

@@ -357,7 +357,7 @@ fn ends_parameters(cursor: &Cursor<'_, '_>) -> bool
     !cursor.heads(Sign::Comma) || cursor.second_is(Sign::Ellipsis)
 }
 
-/// Reads `)`, or `, ...` and `)`, and tells which it was.
+/// Reads `)`, or `, ...` and `)`, and gives which it was.
 fn end_of_parameters(cursor: &mut Cursor<'_, '_>) -> Result<bool, Trouble>
     ensures ok { IfOk result (λ ellipsis. parameters_end cursor.old ≡ Some (ellipsis, cursor.new)) }
     ensures refused { IsErrOf result Refused → parameters_end cursor.old ≡ None }

@@ -27,8 +27,9 @@ use std::alloc::{AllocError, Global};
 
 /// The one tree that spells all the words, where `types` are the typedef names in scope (C99 6.5).
 ///
-/// Words whose nesting is over the limit M5 are `Over`; words whose tree may be higher than the native stack bears are `Memory`. Other words that no tree spells are `Refused` with G1, at the first word;
-/// where there is no word, at bytes 0 to 0 of file 0. It takes time linear in the words.
+/// Words whose nesting is over the limit M5 are `Over`; words whose tree may be too high for walks on the native stack are `Memory`.
+/// Other words that no tree spells are `Refused` with G1, at the first word; where there is no word, at bytes 0 to 0 of file 0. It
+/// takes time linear in the words.
 pub fn expr<'s>(
     alloc: Global,
     words: &[Word<'s>],
@@ -75,7 +76,7 @@ fn entire<'s>(alloc: Global, words: &[Word<'s>], types: &Names<'s>) -> Result<Ex
     read_all(alloc, &mut scope, tokens.as_slice())
 }
 
-/// The scope in which just these names are typedef names.
+/// The scope in which exactly these names are typedef names.
 fn scope_of<'s>(alloc: Global, types: &Names<'s>) -> Result<Scope<'s>, AllocError>
     ensures { IfOk result (λ scope. scope ≡ typedefs types.now) }
 {
@@ -113,7 +114,7 @@ fn read_all<'s>(
     }
 }
 
-/// How deep readers must go for this many words; `None` where memory holds no tree of so many.
+/// How deep readers must go for this many words; `None` where memory holds no tree of this many.
 pub fn budget_of(words: usize) -> Option<usize>
     ensures some { IfSome result (λ budget. budget ≡ 8 * words + 1) }
     ensures none { IfNone result (2 ^ 64 ≤ 8 * words + 1) }

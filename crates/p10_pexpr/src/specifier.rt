@@ -323,7 +323,7 @@ fn ends_enumerators(cursor: &Cursor<'_, '_>) -> bool
     !cursor.heads(Sign::Comma) || cursor.second_is(Sign::CloseBrace)
 }
 
-/// Reads `}`, or `,` and `}`, and tells which it was.
+/// Reads `}`, or `,` and `}`, and gives which it was.
 fn end_of_enumerators(cursor: &mut Cursor<'_, '_>) -> Result<bool, Trouble>
     ensures ok { IfOk result (λ comma. enumerators_end cursor.old ≡ Some (comma, cursor.new)) }
     ensures refused { IsErrOf result Refused → enumerators_end cursor.old ≡ None }

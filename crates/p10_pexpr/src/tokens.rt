@@ -9,7 +9,7 @@ use p10_base::Word;
 use p10_syn::{Token, token_of};
 use std::alloc::{AllocError, Global};
 
-/// The words as the grammar sees them, in order. It fails only where memory is wanting.
+/// The words as the grammar sees them, in order. It fails only where memory runs out.
 pub fn tokens_of<'s>(alloc: Global, words: &[Word<'s>]) -> Result<Vec<Token<'s>>, AllocError>
     ensures { IfOk result (λ tokens. map symbol_at tokens.items ≡ symbols_of (plain_words words.now)) }
 {

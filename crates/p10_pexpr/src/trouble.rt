@@ -5,7 +5,7 @@ use std::alloc::{AllocError, AllocFailed};
 /// Why nothing was read.
 #[derive(Clone, Copy, Debug, Drop)]
 pub enum Trouble {
-    /// The words begin with nothing of the grammar that is wanted.
+    /// The words begin with nothing of the grammar that is expected.
     Refused,
     /// Out of memory.
     Memory,

@@ -19,7 +19,7 @@ use Rattle.p10_place.proofs.Parts.{placed_first, start_of, Placing, has_room, ha
 
 -- ## Expressions
 
--- the first k are placed, from word n on, up to and without word `past`
+-- the first k are placed, from word n on, up to but not including word `past`
 abbrev pub Placing_expressions : Source → ℕ → ℕ → List code_expressions.Expr → List code_expressions.Expr → ℕ → Type 0
 Placing_expressions s k n start now past = Placing code_expressions.Expr (Expression At) (Expression Bare) expression_of bare (locate s) count 1 k n start now past
 
@@ -69,7 +69,7 @@ past_expressions s k n start now past e p =
 
 -- ## Specifiers
 
--- the first k are placed, from word n on, up to and without word `past`
+-- the first k are placed, from word n on, up to but not including word `past`
 abbrev pub Placing_specifiers : Source → ℕ → ℕ → List code_specifiers.Spec → List code_specifiers.Spec → ℕ → Type 0
 Placing_specifiers s k n start now past = Placing code_specifiers.Spec (Specifier At) (Specifier Bare) specifier_of bare_specifier (locate_specifier s) count_specifier 0 k n start now past
 
@@ -123,7 +123,7 @@ past_specifiers s k n start now past e p =
 abbrev pub one_word : Qualifier Bare → ℕ
 one_word q = 1
 
--- the first k are placed, from word n on, up to and without word `past`
+-- the first k are placed, from word n on, up to but not including word `past`
 abbrev pub Placing_qualifiers : Source → ℕ → ℕ → List code_qualifiers.Qualifier → List code_qualifiers.Qualifier → ℕ → Type 0
 Placing_qualifiers s k n start now past = Placing code_qualifiers.Qualifier (Qualifier At) (Qualifier Bare) qualifier_of bare_qualifier (locate_qualifier s) one_word 0 k n start now past
 
@@ -159,7 +159,7 @@ past_qualifiers s k n start now past e p =
 
 -- ## Members
 
--- the first k are placed, from word n on, up to and without word `past`
+-- the first k are placed, from word n on, up to but not including word `past`
 abbrev pub Placing_members : Source → ℕ → ℕ → List code_members.Member → List code_members.Member → ℕ → Type 0
 Placing_members s k n start now past = Placing code_members.Member (MemberDeclaration At) (MemberDeclaration Bare) member_of bare_member (locate_member s) count_member 0 k n start now past
 
@@ -209,7 +209,7 @@ past_members s k n start now past e h p =
 
 -- ## Fields
 
--- the first k are placed, from word n on, up to and without word `past`
+-- the first k are placed, from word n on, up to but not including word `past`
 abbrev pub Placing_fields : Source → ℕ → ℕ → List code_fields.Field → List code_fields.Field → ℕ → Type 0
 Placing_fields s k n start now past = Placing code_fields.Field (Field At) (Field Bare) field_of bare_field (locate_field s) count_field 1 k n start now past
 
@@ -259,7 +259,7 @@ past_fields s k n start now past e p =
 
 -- ## Enumerators
 
--- the first k are placed, from word n on, up to and without word `past`
+-- the first k are placed, from word n on, up to but not including word `past`
 abbrev pub Placing_enumerators : Source → ℕ → ℕ → List code_enumerators.Enumerator → List code_enumerators.Enumerator → ℕ → Type 0
 Placing_enumerators s k n start now past = Placing code_enumerators.Enumerator (Enumerator At) (Enumerator Bare) enumerator_of bare_enumerator (locate_enumerator s) count_enumerator 1 k n start now past
 
@@ -309,7 +309,7 @@ past_enumerators s k n start now past comma e h p =
 
 -- ## Parameters
 
--- the first k are placed, from word n on, up to and without word `past`
+-- the first k are placed, from word n on, up to but not including word `past`
 abbrev pub Placing_parameters : Source → ℕ → ℕ → List code_parameters.Parameter → List code_parameters.Parameter → ℕ → Type 0
 Placing_parameters s k n start now past = Placing code_parameters.Parameter (Parameter At) (Parameter Bare) parameter_of bare_parameter (locate_parameter s) count_parameter 1 k n start now past
 

@@ -17,7 +17,7 @@ use Rattle.p10_place.proofs.Parts.{placed_first, start_of, Placing, has_room, ha
 
 -- ## Initializers
 
--- the first k are placed, from word n on, up to and without word `past`
+-- the first k are placed, from word n on, up to but not including word `past`
 abbrev pub Placing_initializers : Source → ℕ → ℕ → List code_initializers.Init → List code_initializers.Init → ℕ → Type 0
 Placing_initializers s k n start now past = Placing code_initializers.Init (Initializer At) (Initializer Bare) initializer_of bare_initializer (locate_initializer s) count_initializer 1 k n start now past
 
@@ -67,7 +67,7 @@ past_initializers s k n start now past e p =
 
 -- ## Declarators
 
--- the first k are placed, from word n on, up to and without word `past`
+-- the first k are placed, from word n on, up to but not including word `past`
 abbrev pub Placing_declarators : Source → ℕ → ℕ → List code_declarators.InitDeclarator → List code_declarators.InitDeclarator → ℕ → Type 0
 Placing_declarators s k n start now past = Placing code_declarators.InitDeclarator (InitDeclarator At) (InitDeclarator Bare) init_declarator_of bare_init_declarator (locate_init_declarator s) count_init_declarator 1 k n start now past
 
@@ -117,7 +117,7 @@ past_declarators s k n start now past e p =
 
 -- ## Units
 
--- the first k are placed, from word n on, up to and without word `past`
+-- the first k are placed, from word n on, up to but not including word `past`
 abbrev pub Placing_units : Source → ℕ → ℕ → List code_units.Unit → List code_units.Unit → ℕ → Type 0
 Placing_units s k n start now past = Placing code_units.Unit (External At) (External Bare) external_of bare_external (locate_external s) count_external 0 k n start now past
 
@@ -167,7 +167,7 @@ past_units s k n start now past e p =
 
 -- ## Statements
 
--- the first k are placed, from word n on, up to and without word `past`
+-- the first k are placed, from word n on, up to but not including word `past`
 abbrev pub Placing_statements : Source → ℕ → ℕ → List code_statements.Stmt → List code_statements.Stmt → ℕ → Type 0
 Placing_statements s k n start now past = Placing code_statements.Stmt (Statement At) (Statement Bare) statement_of bare_statement (locate_statement s) count_statement 0 k n start now past
 

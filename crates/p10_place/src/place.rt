@@ -14,7 +14,7 @@ use crate::root::Root;
 use p10_syn::{Expr, Unit};
 
 /// Sets the places in an expression that begins with word `first` of the root, and gives the number of the
-/// word past it. The tree stays as it is but for its places.
+/// word past it. The tree stays as it is except for its places.
 #[tactic(auto, unfolding(p10_syn::specs::Built::bare_of))]
 pub fn place_expr(root: &Root<'_, '_>, first: usize, e: &mut Expr<'_>) -> usize
     requires { first + count (bare_of e.old) < 2 ^ 64 }
@@ -26,7 +26,7 @@ pub fn place_expr(root: &Root<'_, '_>, first: usize, e: &mut Expr<'_>) -> usize
 }
 
 /// Sets the places in a declaration outside of functions, or in a function, that begins with word `first` of the
-/// root, and gives the number of the word past it. The tree stays as it is but for its places.
+/// root, and gives the number of the word past it. The tree stays as it is except for its places.
 pub fn place_unit(root: &Root<'_, '_>, first: usize, unit: &mut Unit<'_>) -> usize
     requires { first + count_external (bare_external (external_of unit.old)) < 2 ^ 64 }
     ensures placed { external_of unit.new ≡ locate_external (source_of root.now) first (bare_external (external_of unit.old)) }
@@ -37,7 +37,7 @@ pub fn place_unit(root: &Root<'_, '_>, first: usize, unit: &mut Unit<'_>) -> usi
 }
 
 /// Sets the places in the declarations and functions of a root, which spell its words from word `first` on, and gives
-/// the number of the word past them. The trees stay as they are but for their places.
+/// the number of the word past them. The trees stay as they are except for their places.
 pub fn place_units(root: &Root<'_, '_>, first: usize, units: &mut Vec<Unit<'_>>) -> usize
     requires { first + count_externals (bare_externals (map external_of units.old.items)) < 2 ^ 64 }
     ensures placed { map external_of units.new.items ≡ locate_externals (source_of root.now) first (bare_externals (map external_of units.old.items)) }

@@ -15,7 +15,7 @@ impl<'w, 's> Root<'w, 's> {
     ghost use Rattle.p10_syn.specs.Places.{place_at, number_at, span_at};
     ghost use Rattle.p10_place.specs.Roots.{source_of};
 
-    /// The place of the words from word `first` of the root on, up to and without word `past`.
+    /// The place of the words from word `first` of the root on, up to but not including word `past`.
     #[tactic(auto, unfolding(p10_syn::specs::Places::place_at))]
     pub(crate) fn place_between(&self, first: usize, past: usize) -> At
         requires { first ≤ past }
@@ -53,7 +53,7 @@ impl<'w, 's> Root<'w, 's> {
         self.words.get(place)
     }
 
-    /// The bytes of the words from word `first` on, up to and without word `past`.
+    /// The bytes of the words from word `first` on, up to but not including word `past`.
     fn span_between(&self, first: usize, past: usize) -> Span
         requires { first ≤ past }
         ensures { result ≡ span_at (source_of self.now).words first (past - first) }

@@ -1,4 +1,4 @@
--- The test for complete units tells them.
+-- The test for complete units finds them.
 use Rattle.std.proofs.Common.{◌≡◌, List, [], ◌∷◌, true, ◌||◌, codes, Option, Some, None, refl, ◌∙◌, ap, inl, inr}
 use Rattle.std.proofs.lemmas.Bool.{and_parts}
 use Rattle.p10_base.specs.Words.{PlainWord, is_name, is_name_kind, is_punctuator}

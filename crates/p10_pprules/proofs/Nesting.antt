@@ -13,7 +13,7 @@ use Rattle.p10_pprules.specs.private.Scanning.{side_of, is_same, open_behind, be
 
 -- ## What words are to groups
 
--- a word is what it is told to be
+-- a word is what it is said to be
 abbrev SideIs : PlainWord → Side → Type 0
 SideIs word (Opening bracket) = opens bracket word ≡ true
 SideIs word (Closing bracket) = closes bracket word ≡ true

@@ -47,7 +47,7 @@ fn after_open<'w, 's>(
     Ok(None)
 }
 
-/// Takes one word, or tells that it closes another group than the innermost open one, which is the last
+/// Takes one word, or answers that it closes another group than the innermost open one, which is the last
 /// of `pending`.
 fn take(pending: &mut Vec<Bracket>, side: Side) -> Result<bool, AllocError>
     ensures { IfOk result (λ fits. Opens side fits (reverse pending.old.items) (reverse pending.new.items)) }

@@ -3,8 +3,8 @@
 //!
 //! Entry point: [`pp_rules`], the violations by the obeyed directives of an expanded program. Rows on
 //! single directives and lists of macros are read off one by one; whether a macro's list leads back to
-//! the macro is told by the strongly connected components of the graph of macros and the names in their
-//! lists. The time is proportional to the words of the directives, but for sorting.
+//! the macro is found by the strongly connected components of the graph of macros and the names in their
+//! lists. The time is proportional to the words of the directives, except for sorting.
 //! Which directives are obeyed, and which begin include guards, is left to the crate below.
 #![tactic(auto)]
 

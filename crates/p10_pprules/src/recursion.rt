@@ -27,7 +27,7 @@ pub fn macros_of<'s>(
     for definition in definitions {
         names.add(definition.name.text)?;
     }
-    // A graph counts its nodes in 32 bits. So many names never fit memory, and are told as want of it.
+    // A graph counts its nodes in 32 bits. That many names never fit memory, and are answered as out of memory.
     if names.count() > u32::MAX as usize {
         return Err(AllocError);
     }

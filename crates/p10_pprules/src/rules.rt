@@ -16,7 +16,7 @@ use p10_expand::{Expanded, Obeyed};
 use std::alloc::{AllocError, Global};
 
 /// The violations of rule 8 and row 9.2 by the directives that were obeyed, in the order of violations,
-/// each once. It fails only where memory ran out.
+/// each once. It fails only where memory runs out.
 pub fn pp_rules(alloc: Global, expanded: &Expanded<'_>) -> Result<Vec<Violation>, AllocError>
     ensures sorted { IfOk result (λ found. IsStrictlySortedBy violation_cmp found.items) }
     ensures exact { IfOk result (λ found. (v : Violation) → Contains found.items v ↔ Violates (map plain_obeyed expanded.now.obeyed) v.sub v.span) }

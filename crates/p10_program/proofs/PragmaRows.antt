@@ -1,4 +1,4 @@
--- Pragmas of the function of a number.
+-- Pragmas of the function with a number.
 use Rattle.std.proofs.Common.{◌≡◌, ℕ, zero, suc, List, [], ◌∷◌, Some, slice_get, refl}
 use Rattle.p10_core.specs.declared.statements.MarkKind.{MarkKind}
 use Rattle.p10_core.specs.Typed.{PlainFunction}

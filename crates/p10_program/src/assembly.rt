@@ -13,7 +13,8 @@ use p10_base::ListBuf;
 use p10_core::{Func, Global as StaticObject, Literal, MarkKind, Program, Types};
 use std::alloc::{AllocError, Global};
 
-/// The program of structures, objects and functions; `main` is the number of that function, if it is there.
+/// The program of structures, objects and functions; `main` is the number of that function, if it is there. It fails only where memory
+/// runs out; 2^32 functions or items of `main` count as that, too.
 pub fn program_with<'s>(
     alloc: Global,
     types: Types<'s>,

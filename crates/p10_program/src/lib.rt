@@ -5,7 +5,7 @@
 //! [`main_problem_in`], the first use of what isn't defined and the first problem of `main` (rows S27 and S28 of the subset);
 //! [`is_too_large`], limit M8.
 //! Contracts are equations with the definitions of `specs/`, which go over the nodes of all bodies and initialisers in text order.
-//! Each function takes time linear in the program, but that literals are sorted. How declarations come to functions and objects is left
+//! Each function takes time linear in the program, apart from sorting literals. How declarations come to functions and objects is left
 //! to `p10_elab`.
 #![tactic(auto)]
 

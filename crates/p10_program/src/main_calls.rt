@@ -40,7 +40,7 @@ fn main_used(main: usize, node: Node<'_>) -> Result<Option<Problem>, AllocError>
     }
 }
 
-/// The first of a problem that may be known already and of the calls of `main` among nodes. It passes all nodes.
+/// The first of a problem that may be known already and of the calls of `main` among nodes. It goes over all nodes.
 fn first_call_of_main(
     main: usize,
     first: Option<Problem>,
@@ -57,7 +57,7 @@ fn first_call_of_main(
 }
 
 /// The first problem of `main`, whose number among the functions is given if it is defined: that it is missing, what is wrong with its
-/// declarations, or that it is called by one of the nodes (row S28 of the subset). It passes all nodes, if `main` is there.
+/// declarations, or that it is called by one of the nodes (row S28 of the subset). It goes over all nodes, if `main` is there.
 pub fn first_of_main(
     main: Option<usize>,
     declared: &[Problem],

@@ -63,7 +63,7 @@ fn pragma_place(kind: MarkKind, items: &[Stmt]) -> Option<usize>
     None
 }
 
-/// The function of a number, if it is there.
+/// The function with a number, if it is there.
 fn function_at<'a, 's>(functions: &'a [Func<'s>], number: usize) -> Option<&'a Func<'s>>
     ensures { option_map plain_function (option_copied result) ≡ slice_get (map plain_function functions.now) number }
 {

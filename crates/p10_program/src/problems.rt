@@ -14,8 +14,8 @@ use p10_core::Program;
 use p10_elabx::Problem;
 use std::alloc::{AllocError, Global};
 
-/// The first use in a program of a function or object that isn't defined, where those that are defined have the first numbers, so many
-/// each (row S27 of the subset).
+/// The first use in a program of a function or object that isn't defined, where those that are defined have the numbers below
+/// `functions` and `objects` (row S27 of the subset).
 pub fn undefined_in(
     alloc: Global,
     functions: usize,

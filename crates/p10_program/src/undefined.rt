@@ -74,8 +74,8 @@ fn use_undefined(
     }
 }
 
-/// The first use of a function or object that isn't defined, among nodes, where the functions and objects that are defined have the
-/// first numbers, so many each (row S27 of the subset). It passes all nodes.
+/// The first use of a function or object that isn't defined, among nodes, where those that are defined have the numbers below
+/// `functions` and `objects` (row S27 of the subset). It goes over all nodes.
 pub fn first_undefined(
     functions: usize,
     objects: usize,

@@ -58,7 +58,7 @@ digits_are n h =
     fewest : (d k : ℕ) → 2 ^ d ≤ 2 * n + 1 → n < 2 ^ k → d ≤ k
     fewest d k f l = elim (cases_lt k d) [ inl g ↦ absurd (let p = pow-le-pow_right {n = 2} (omega arith) {i = suc k} {j = d} (omega (arith, g)) in omega (arith, pow-suc 2 k, p, f, l)) | inr le ↦ le ]
 
--- the same of a number that the code carries
+-- the same for a number that the code carries
 pub carried_digits : (z : ℤ) → FitsSigned w128 z → pos 0 ≤ℤ z → z ≤ℤ pos (2 ^ 64 - 1) → 64 - leading_zeros w64 (unsigned_abs (to_z w128 (of_z w128 z))) ≡ binary_digits z
 carried_digits z f p h = rw (to_z-of_z w128 z f) (natural z p h)
   where

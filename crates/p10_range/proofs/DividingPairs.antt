@@ -1,4 +1,4 @@
--- Where a row of quotients or remainders is there, some pair of numbers has a result, but for the least value by -1.
+-- Where a row of quotients or remainders is there, some pair of numbers has a result, except for the least value by -1.
 use Rattle.std.proofs.Common.{◌≡◌, ℕ, zero, suc, ◌≤◌, true, false, Bool as Flag, ap, sym, ◌∙◌, arith, ℤ, pos, negsuc, ◌≤ℤ◌, ◌<ℤ◌, ◌+ℤ◌, refl, subst, Some, None, Ok, Err, ◌⊎◌, inl, inr}
 use Rattle.std.proofs.lemmas.Int.{ints, clamps, by_lt_z}
 use Rattle.std.proofs.Math.Nat.{div-le_self, div-mul-le_self}

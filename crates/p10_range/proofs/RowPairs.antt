@@ -1,4 +1,4 @@
--- Where any row is there, some pair of numbers has a result, but for the least value divided by -1.
+-- Where any row is there, some pair of numbers has a result, except for the least value divided by -1.
 use Rattle.std.proofs.Common.{◌≡◌, ◌-◌, ◌^◌, ◌<◌, true, false, Bool as Flag, ap, ◌∙◌, arith, ℤ, pos, neg_ℤ, ◌≤ℤ◌, ◌-ℤ◌, refl, Option, Some, None, Ok, Err, inl, lit<}
 use Rattle.std.proofs.lemmas.Int.{ints, clamps}
 use Rattle.std.specs.Prelude.{◌&&◌, if◌then◌else◌, unsigned_abs, int_lt}

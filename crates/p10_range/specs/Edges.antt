@@ -115,7 +115,7 @@ binary_edges =
     (Lt, Bool, from_to (pos 0) (pos 0), from_to (pos 1) (pos 1), Some (from_to (pos 1) (pos 1))) ∷
     []
 
--- the same of unary operators
+-- the same for unary operators
 abbrev pub unary_edges : List (UnOp × IntType × Interval × Option Interval)
 unary_edges =
     (Plus, Int, from_to (minus 3) (pos 9), Some (from_to (minus 3) (pos 9))) ∷

@@ -83,7 +83,7 @@ pub record IsLeastByMinusOne (op : BinOp) (t : IntType) (a b : Interval) : Type 
   pub minus_one : b.low ≡ negsuc 0
   pub at_most_zero : b.high ≤ℤ pos 0
 
--- a row that is there has a pair that goes, but for that place
+-- a row that is there has a pair that goes, except for that place
 abbrev pub RowsHavePairs : Type 0
 RowsHavePairs =
     (op : BinOp) (t : IntType) (a b : Interval) → IsInhabited a → IsInhabited b → IsWithin a (values_of t) → IsRightOperand op t b

@@ -195,7 +195,7 @@ unary_row_of Neg t a = fitted_interval t (negatives a)
 unary_row_of Not t a = Some (tested (can_be_equal a only_zero) (can_differ a only_zero))
 unary_row_of Com t a = Some (complements t a)
 
--- a conversion: exact or all; `_Bool` tells whether the value isn't 0 (C99 6.3.1.2, 6.3.1.3)
+-- a conversion: exact or all; to `_Bool`, whether the value isn't 0 (C99 6.3.1.2, 6.3.1.3)
 abbrev pub conversion_row_of : IntType → Interval → Interval
 conversion_row_of Bool a = tested (can_differ a only_zero) (can_be_equal a only_zero)
 conversion_row_of t a = exact_or_all t a

@@ -13,7 +13,7 @@ use Rattle.p10_elabd.proofs.Keeping.{the_first_of_both_is_kept}
 
 -- ## What is alike
 
--- the same stands, but for the problems: of all the first is kept
+-- the same stands, except for the problems: of all the first is kept
 pub record Alike (s t : PlainStanding) : Type 0 where
   pub scope : s.scope ≡ t.scope
   pub open_structures : s.open_structures ≡ t.open_structures

@@ -61,7 +61,7 @@ for_known P k j go a =
     } in
     subst P e (go j.standing.problems a.standing.problems)
 
--- the same is known, but for what stands
+-- the same is known, except for what stands
 pub known_with : {s t : PlainStanding} (k : Known) → Alike s t → AlikeKnown (with_standing k s) (with_standing k t)
 known_with k a = record { standing = a; root = refl; linked = refl; functions = refl; block_objects = refl; objects = refl; sightings = refl; visible = refl; mains = refl }
 

@@ -1,4 +1,4 @@
--- Of all rows that hold in the roots the first is told.
+-- Of all rows that hold in the roots the first is answered.
 use Rattle.std.proofs.Common.{◌≡◌, ℕ, List, [], ◌∷◌, length, refl, sym, subst}
 use Rattle.p10_base.specs.declared.at.At.{At}
 use Rattle.p10_syn.specs.Trees.{External}

@@ -1,4 +1,4 @@
-//! The law of first rows: of all rows of the subset that hold in the trees of roots, the first by the order of the text is told.
+//! The law of first rows: of all rows of the subset that hold in the trees of roots, the first by the order of the text is answered.
 //!
 //! What trees come to is defined twice by one text, with a way to keep rows (`p10_elabx/specs/First.antt`): `every` keeps each row
 //! that holds anywhere, and `only_first` keeps, at each part, the first one alone, as the code does. Entry point:

@@ -47,7 +47,7 @@ all_of_both old middle new first second one other = Appends-trans old middle new
 
 pub ruleset stops = (stop_of_first, stop_of_second, all_of_both)
 
--- what was taken of a write that stopped is a front of it
+-- what was taken of a write that stopped is a prefix of it
 pub TakesFront-stop : (old new : Option (List ℕ)) (text : List ℕ) → StopsWithin old new text → TakesFront old new text
 TakesFront-stop old new text stop = record { front = stop.front; back = stop.back; parts = stop.parts; taken = stop.taken }
 

@@ -1,4 +1,4 @@
--- The lines that tell how a run has ended.
+-- The lines that report how a run has ended.
 use Rattle.std.specs.Prelude.{ℕ, ℤ, List, codes}
 use Rattle.p10_base.specs.Gathered.{Gathered}
 use Rattle.p10_base.specs.declared.span.Span.{Span}
@@ -13,7 +13,7 @@ returned_label = codes "p10: returned "
 unfoldable pub returned_line : ℤ → ℕ → ℕ → List ℕ
 returned_line value calls bytes = labelled_signed returned_label value then depths_part calls bytes
 
--- so many turns of the task loop were made: p10: turns N calls C bytes B
+-- a number of turns of the task loop were made: p10: turns N calls C bytes B
 unfoldable pub turns_line : ℕ → ℕ → ℕ → List ℕ
 turns_line turns calls bytes = labelled (codes "p10: turns ") turns then depths_part calls bytes
 

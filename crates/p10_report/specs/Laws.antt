@@ -20,7 +20,7 @@ one_file = record { files = (record { name = codes "a.c"; text = codes "int main
 abbrev pub unasserted : Violation
 unasserted = record { sub = record { rule = 5; sub = 1 }; span = span_of 0 4 8 }
 
--- how this is told, as a line and as JSON
+-- how this is written, as a line and as JSON
 pub record ExampleIsTold : Type 0 where
   pub as_line : violation_line one_file unasserted ≡ codes "a.c:1:5: rule 5.1: fewer than two assertions per function\n"
   pub as_json : json_text one_file (unasserted ∷ []) None

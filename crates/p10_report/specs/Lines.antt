@@ -1,4 +1,4 @@
--- The lines that tell what was found in the sources.
+-- The lines that report what was found in the sources.
 use Rattle.std.specs.Prelude.{ℕ, ℤ, List, codes, decimal}
 use Rattle.std.specs.Fmt.{signed_decimal}
 use Rattle.p10_base.specs.Gathered.{Gathered, name_of, text_of}
@@ -11,11 +11,11 @@ use Rattle.p10_base.specs.declared.span.Span.{Span}
 use Rattle.p10_base.specs.Codes.{code_text, letter_of}
 use Rattle.p10_report.specs.Stops.{◌then◌}
 
--- a number in decimal behind the text that says which it is
+-- a number in decimal after the text that says which it is
 unfoldable pub labelled : List ℕ → ℕ → List ℕ
 labelled label number = label then decimal number
 
--- a number in decimal, with `-` before it where it is negative, behind the text that says which it is
+-- a number in decimal, with `-` before it where it is negative, after the text that says which it is
 unfoldable pub labelled_signed : List ℕ → ℤ → List ℕ
 labelled_signed label number = label then signed_decimal number
 
@@ -42,7 +42,7 @@ refusal_line g r = place_text g r.span then refused_part r.family r.number then 
 unfoldable pub depths_part : ℕ → ℕ → List ℕ
 depths_part calls bytes = labelled (codes " calls ") calls then labelled (codes " bytes ") bytes then codes "\n"
 
--- the bounds of a program behind the text that says what is accepted: P turn K calls C bytes B
+-- the bounds of a program after the text that says what is accepted: P turn K calls C bytes B
 unfoldable pub bounds_part : List ℕ → Bounds → List ℕ
 bounds_part label b = labelled label b.prefix then labelled (codes " turn ") b.turn then depths_part b.calls b.bytes
 
@@ -54,11 +54,11 @@ accepted_line b = bounds_part (codes "accepted: prefix ") b
 unfoldable pub clean_line : Bounds → List ℕ
 clean_line b = bounds_part (codes "accepted clean: prefix ") b
 
--- a place behind a blank, which ends a line
+-- a place after a blank, which ends a line
 unfoldable pub at_part : Gathered → Span → List ℕ
 at_part g at = codes " " then place_text g at then codes "\n"
 
--- a condition that does not hold, by its number, behind the text that says of which kind it is, and its place
+-- a condition that does not hold, by its number, after the text that says of which kind it is, and its place
 unfoldable pub condition_part : List ℕ → Gathered → ℕ → Span → List ℕ
 condition_part label g condition at = labelled label condition then at_part g at
 
@@ -70,6 +70,6 @@ failing_line g condition at = condition_part (codes "refused: K") g condition at
 unfoldable pub unclean_line : Gathered → ℕ → Span → List ℕ
 unclean_line g condition at = condition_part (codes "refused: C") g condition at
 
--- the line of a passed limit: p10: limit MN
+-- the line of a limit that is exceeded: p10: limit MN
 unfoldable pub limit_line : Limit → List ℕ
 limit_line limit = labelled (codes "p10: limit M") limit.number then codes "\n"

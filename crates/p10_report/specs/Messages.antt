@@ -1,4 +1,4 @@
--- The lines that tell why there is nothing to tell of the sources.
+-- The lines that report why nothing can be said of the sources.
 use Rattle.std.specs.Prelude.{ℕ, List, codes}
 use Rattle.p10_report.specs.Lines.{labelled}
 use Rattle.p10_report.specs.Stops.{◌then◌}
@@ -27,6 +27,6 @@ bad_certificate_line line = labelled refused_at_label line then codes "\n"
 unfoldable pub read_fault_line : List ℕ
 read_fault_line = codes "p10: read fault\n"
 
--- memory is wanting
+-- memory is out
 unfoldable pub out_of_memory_line : List ℕ
 out_of_memory_line = codes "p10: out of memory\n"

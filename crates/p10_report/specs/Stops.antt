@@ -3,11 +3,11 @@ use Rattle.std.specs.Prelude.{ℕ, ◌≡◌, ◌<◌, List, ◌++◌, length, O
 use Rattle.std.specs.Io.KnownBytes.{Appends}
 
 infixr 30 ◌then◌
--- one text, and another behind it
+-- one text, and another after it
 unfoldable pub ◌then◌ : List ℕ → List ℕ → List ℕ
 first then second = first ++ second
 
--- the sink took the front of a text, and some of the text is missing
+-- the sink took a prefix of a text, and some of the text is missing
 pub record StopsWithin (old new : Option (List ℕ)) (text : List ℕ) : Type 0 where
   pub front : List ℕ
   pub back : List ℕ

@@ -1,4 +1,4 @@
--- The rows of Holzmann's rules ("The Power of Ten", 2006), and the lines in which violations are told.
+-- The rows of Holzmann's rules ("The Power of Ten", 2006), and the lines in which violations are reported.
 use Rattle.std.specs.Prelude.{ℕ, ◌==◌, Bool, ◌&&◌, List, [], ◌∷◌, codes, if◌then◌else◌, decimal}
 use Rattle.std.specs.List.{flat_map}
 use Rattle.p10_base.specs.declared.report.Sub.{Sub}

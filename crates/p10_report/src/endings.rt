@@ -1,4 +1,4 @@
-//! The lines that tell how a run has ended.
+//! The lines that report how a run has ended.
 
 ghost use Rattle.std.specs.Prelude.{◌≡◌, ◌≤◌, OnErr, OnOk};
 ghost use Rattle.std.specs.Io.KnownBytes.{Appends};
@@ -15,7 +15,7 @@ use p10_world::{Sink, SinkFault};
 ///
 /// # Errors
 ///
-/// A fault only where the sink's count of faults rose; it then took a front of the line.
+/// A fault only where the sink's count of faults rose; it then took a prefix of the line.
 pub fn put_returned<O: Sink>(
     out: &mut O,
     value: i128,
@@ -36,7 +36,7 @@ pub fn put_returned<O: Sink>(
 ///
 /// # Errors
 ///
-/// A fault only where the sink's count of faults rose; it then took a front of the line.
+/// A fault only where the sink's count of faults rose; it then took a prefix of the line.
 pub fn put_turns<O: Sink>(out: &mut O, turns: u64, calls: u64, bytes: u128) -> Result<(), SinkFault>
     ensures ok { OnOk result (Appends (O.taken out.old) (O.taken out.new) (turns_line turns calls bytes)) }
     ensures stopped { OnErr result (StopsWithin (O.taken out.old) (O.taken out.new) (turns_line turns calls bytes)) }
@@ -52,7 +52,7 @@ pub fn put_turns<O: Sink>(out: &mut O, turns: u64, calls: u64, bytes: u128) -> R
 ///
 /// # Errors
 ///
-/// A fault only where the sink's count of faults rose; it then took a front of the line.
+/// A fault only where the sink's count of faults rose; it then took a prefix of the line.
 pub fn put_assertion_failed<O: Sink>(out: &mut O, s: &Sources, at: Span) -> Result<(), SinkFault>
     ensures ok { OnOk result (Appends (O.taken out.old) (O.taken out.new) (assertion_failed_line s.now at)) }
     ensures stopped { OnErr result (StopsWithin (O.taken out.old) (O.taken out.new) (assertion_failed_line s.now at)) }
@@ -68,7 +68,7 @@ pub fn put_assertion_failed<O: Sink>(out: &mut O, s: &Sources, at: Span) -> Resu
 ///
 /// # Errors
 ///
-/// A fault only where the sink's count of faults rose; it then took a front of the line.
+/// A fault only where the sink's count of faults rose; it then took a prefix of the line.
 pub fn put_undefined<O: Sink>(out: &mut O, s: &Sources, stop: u8, at: Span) -> Result<(), SinkFault>
     ensures ok { OnOk result (Appends (O.taken out.old) (O.taken out.new) (undefined_line s.now stop at)) }
     ensures stopped { OnErr result (StopsWithin (O.taken out.old) (O.taken out.new) (undefined_line s.now stop at)) }
@@ -83,7 +83,7 @@ pub fn put_undefined<O: Sink>(out: &mut O, s: &Sources, stop: u8, at: Span) -> R
 ///
 /// # Errors
 ///
-/// A fault only where the sink's count of faults rose; it then took a front of the line.
+/// A fault only where the sink's count of faults rose; it then took a prefix of the line.
 #[tactic(auto, unfolding(crate::specs::Endings::steps_spent_line))]
 pub fn put_steps_spent<O: Sink>(out: &mut O) -> Result<(), SinkFault>
     ensures ok { OnOk result (Appends (O.taken out.old) (O.taken out.new) steps_spent_line) }

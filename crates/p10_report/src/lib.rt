@@ -1,13 +1,13 @@
-//! The lines in which `p10` tells what it found.
+//! The lines in which `p10` reports what it found.
 //!
 //! Entry points, each of which writes one line to a sink, without memory: [`put_refusal`],
-//! [`put_accepted`], [`put_clean`], [`put_failing`], [`put_unclean`] and [`put_limit`] tell what was found in the sources and the certificate;
-//! [`put_returned`], [`put_turns`], [`put_assertion_failed`], [`put_undefined`] and [`put_steps_spent`] how a run has ended;
-//! [`put_usage`], [`put_absent`], [`put_bad_certificate`], [`put_read_fault`] and [`put_out_of_memory`] tell
-//! why there is nothing to tell of them. [`put_violation`] tells a violation of a rule, [`put_violations`] one on each line,
+//! [`put_accepted`], [`put_clean`], [`put_failing`], [`put_unclean`] and [`put_limit`] report what was found in the sources and
+//! the certificate; [`put_returned`], [`put_turns`], [`put_assertion_failed`], [`put_undefined`] and [`put_steps_spent`] how a
+//! run has ended; [`put_usage`], [`put_absent`], [`put_bad_certificate`], [`put_read_fault`] and [`put_out_of_memory`] why there
+//! is nothing to report of them. [`put_violation`] reports a violation of a rule, [`put_violations`] one on each line,
 //! and [`json`] gives the text of a whole report as JSON, which takes memory. Invariant: what a sink took of a line is always
-//! the line's front, and all of it at `Ok`. A line is written in several pieces, so the `wrote` of a fault counts bytes of the last
-//! piece alone. Which line is told, and to which sink, is left to the crates above.
+//! a prefix of the line, and all of it at `Ok`. A line is written in several pieces, so the `wrote` of a fault counts bytes of the
+//! last piece alone. Which line is reported, and to which sink, is left to the crates above.
 #![tactic(auto)]
 
 ghost use Rattle.std.specs.Prelude.{◌≤◌, OnErr, OnOk};
@@ -42,7 +42,7 @@ mod rows;
 ///
 /// # Errors
 ///
-/// A fault only where the sink's count of faults rose; it then took a front of the line.
+/// A fault only where the sink's count of faults rose; it then took a prefix of the line.
 pub fn put_refusal<O: Sink>(out: &mut O, s: &Sources, r: &Refusal) -> Result<(), SinkFault>
     requires { IsCode r.now.family r.now.number }
     ensures ok { OnOk result (Appends (O.taken out.old) (O.taken out.new) (refusal_line s.now r.now)) }
@@ -62,7 +62,7 @@ pub fn put_refusal<O: Sink>(out: &mut O, s: &Sources, r: &Refusal) -> Result<(),
 ///
 /// # Errors
 ///
-/// A fault only where the sink's count of faults rose; it then took a front of the line.
+/// A fault only where the sink's count of faults rose; it then took a prefix of the line.
 #[tactic(auto, unfolding(crate::specs::Lines::accepted_line))]
 pub fn put_accepted<O: Sink>(out: &mut O, b: &Bounds) -> Result<(), SinkFault>
     ensures ok { OnOk result (Appends (O.taken out.old) (O.taken out.new) (accepted_line b.now)) }
@@ -80,7 +80,7 @@ pub fn put_accepted<O: Sink>(out: &mut O, b: &Bounds) -> Result<(), SinkFault>
 ///
 /// # Errors
 ///
-/// A fault only where the sink's count of faults rose; it then took a front of the line.
+/// A fault only where the sink's count of faults rose; it then took a prefix of the line.
 #[tactic(auto, unfolding(crate::specs::Lines::clean_line))]
 pub fn put_clean<O: Sink>(out: &mut O, b: &Bounds) -> Result<(), SinkFault>
     ensures ok { OnOk result (Appends (O.taken out.old) (O.taken out.new) (clean_line b.now)) }
@@ -98,7 +98,7 @@ pub fn put_clean<O: Sink>(out: &mut O, b: &Bounds) -> Result<(), SinkFault>
 ///
 /// # Errors
 ///
-/// A fault only where the sink's count of faults rose; it then took a front of the line.
+/// A fault only where the sink's count of faults rose; it then took a prefix of the line.
 #[tactic(auto, unfolding(crate::specs::Lines::failing_line))]
 pub fn put_failing<O: Sink>(
     out: &mut O,
@@ -121,7 +121,7 @@ pub fn put_failing<O: Sink>(
 ///
 /// # Errors
 ///
-/// A fault only where the sink's count of faults rose; it then took a front of the line.
+/// A fault only where the sink's count of faults rose; it then took a prefix of the line.
 #[tactic(auto, unfolding(crate::specs::Lines::unclean_line))]
 pub fn put_unclean<O: Sink>(
     out: &mut O,
@@ -137,13 +137,13 @@ pub fn put_unclean<O: Sink>(
     put_condition(out, b"refused: C", s, condition, at)
 }
 
-/// Writes the line of a passed limit, `p10: limit MN`, where N is the limit's number.
+/// Writes the line of a limit that is exceeded, `p10: limit MN`, where N is the limit's number.
 ///
 /// The sink took the whole line at `Ok`.
 ///
 /// # Errors
 ///
-/// A fault only where the sink's count of faults rose; it then took a front of the line.
+/// A fault only where the sink's count of faults rose; it then took a prefix of the line.
 pub fn put_limit<O: Sink>(out: &mut O, limit: Limit) -> Result<(), SinkFault>
     ensures ok { OnOk result (Appends (O.taken out.old) (O.taken out.new) (limit_line limit)) }
     ensures stopped { OnErr result (StopsWithin (O.taken out.old) (O.taken out.new) (limit_line limit)) }

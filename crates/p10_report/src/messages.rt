@@ -1,4 +1,4 @@
-//! The lines that tell why there is nothing to tell of the sources.
+//! The lines that report why nothing can be said of the sources.
 
 ghost use Rattle.std.specs.Prelude.{◌≡◌, ◌≤◌, OnErr, OnOk};
 ghost use Rattle.std.specs.Io.KnownBytes.{Appends};
@@ -13,7 +13,7 @@ use p10_world::{Sink, SinkFault};
 ///
 /// # Errors
 ///
-/// A fault only where the sink's count of faults rose; it then took a front of the line.
+/// A fault only where the sink's count of faults rose; it then took a prefix of the line.
 #[tactic(auto, unfolding(crate::specs::Messages::usage_line))]
 pub fn put_usage<O: Sink>(out: &mut O) -> Result<(), SinkFault>
     ensures ok { OnOk result (Appends (O.taken out.old) (O.taken out.new) usage_line) }
@@ -31,7 +31,7 @@ pub fn put_usage<O: Sink>(out: &mut O) -> Result<(), SinkFault>
 ///
 /// # Errors
 ///
-/// A fault only where the sink's count of faults rose; it then took a front of the line.
+/// A fault only where the sink's count of faults rose; it then took a prefix of the line.
 #[tactic(auto, using(crate::proofs::Stopping::stops), unfolding(crate::specs::Messages::absent_line))]
 pub fn put_absent<O: Sink>(out: &mut O, name: &str) -> Result<(), SinkFault>
     ensures ok { OnOk result (Appends (O.taken out.old) (O.taken out.new) (absent_line name.now)) }
@@ -49,7 +49,7 @@ pub fn put_absent<O: Sink>(out: &mut O, name: &str) -> Result<(), SinkFault>
 ///
 /// # Errors
 ///
-/// A fault only where the sink's count of faults rose; it then took a front of the line.
+/// A fault only where the sink's count of faults rose; it then took a prefix of the line.
 #[tactic(auto, using(crate::proofs::Stopping::stops), unfolding(crate::specs::Messages::bad_certificate_line))]
 pub fn put_bad_certificate<O: Sink>(out: &mut O, line: u64) -> Result<(), SinkFault>
     ensures ok { OnOk result (Appends (O.taken out.old) (O.taken out.new) (bad_certificate_line line)) }
@@ -65,7 +65,7 @@ pub fn put_bad_certificate<O: Sink>(out: &mut O, line: u64) -> Result<(), SinkFa
 ///
 /// # Errors
 ///
-/// A fault only where the sink's count of faults rose; it then took a front of the line.
+/// A fault only where the sink's count of faults rose; it then took a prefix of the line.
 #[tactic(auto, unfolding(crate::specs::Messages::read_fault_line))]
 pub fn put_read_fault<O: Sink>(out: &mut O) -> Result<(), SinkFault>
     ensures ok { OnOk result (Appends (O.taken out.old) (O.taken out.new) read_fault_line) }
@@ -76,11 +76,11 @@ pub fn put_read_fault<O: Sink>(out: &mut O) -> Result<(), SinkFault>
     put_bytes(out, b"p10: read fault\n")
 }
 
-/// Writes the line of want of memory, `p10: out of memory`.
+/// Writes the line for running out of memory, `p10: out of memory`.
 ///
 /// # Errors
 ///
-/// A fault only where the sink's count of faults rose; it then took a front of the line.
+/// A fault only where the sink's count of faults rose; it then took a prefix of the line.
 #[tactic(auto, unfolding(crate::specs::Messages::out_of_memory_line))]
 pub fn put_out_of_memory<O: Sink>(out: &mut O) -> Result<(), SinkFault>
     ensures ok { OnOk result (Appends (O.taken out.old) (O.taken out.new) out_of_memory_line) }

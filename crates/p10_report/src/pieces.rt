@@ -24,7 +24,7 @@ pub fn put_bytes<O: Sink>(out: &mut O, bytes: &[u8]) -> Result<(), SinkFault>
     out.put(bytes)
 }
 
-/// Writes a number in decimal behind the text that says which it is.
+/// Writes a number in decimal after the text that says which it is.
 pub fn put_labelled<O: Sink>(out: &mut O, label: &[u8], number: u128) -> Result<(), SinkFault>
     ensures ok { OnOk result (Appends (O.taken out.old) (O.taken out.new) (labelled label.now number)) }
     ensures stopped { OnErr result (StopsWithin (O.taken out.old) (O.taken out.new) (labelled label.now number)) }
@@ -35,7 +35,7 @@ pub fn put_labelled<O: Sink>(out: &mut O, label: &[u8], number: u128) -> Result<
     put_bytes(out, Buffer::new().format(number).as_bytes())
 }
 
-/// Writes a number in decimal, with `-` before it where it is negative, behind the text that says which it is.
+/// Writes a number in decimal, with `-` before it where it is negative, after the text that says which it is.
 pub fn put_signed<O: Sink>(out: &mut O, label: &[u8], number: i128) -> Result<(), SinkFault>
     ensures ok { OnOk result (Appends (O.taken out.old) (O.taken out.new) (labelled_signed label.now number)) }
     ensures stopped { OnErr result (StopsWithin (O.taken out.old) (O.taken out.new) (labelled_signed label.now number)) }
@@ -139,7 +139,7 @@ pub fn put_depths<O: Sink>(out: &mut O, calls: u64, bytes: u128) -> Result<(), S
     put_bytes(out, b"\n")
 }
 
-/// Writes the bounds of a program behind the text that says what is accepted, and ends the line.
+/// Writes the bounds of a program after the text that says what is accepted, and ends the line.
 pub fn put_bounds<O: Sink>(out: &mut O, label: &[u8], b: &Bounds) -> Result<(), SinkFault>
     ensures ok { OnOk result (Appends (O.taken out.old) (O.taken out.new) (bounds_part label.now b.now)) }
     ensures stopped { OnErr result (StopsWithin (O.taken out.old) (O.taken out.new) (bounds_part label.now b.now)) }
@@ -151,7 +151,7 @@ pub fn put_bounds<O: Sink>(out: &mut O, label: &[u8], b: &Bounds) -> Result<(), 
     put_depths(out, b.calls, u128::from(b.bytes))
 }
 
-/// Writes the number of a condition behind the text that says of which kind it is, and its place, and ends the line.
+/// Writes the number of a condition after the text that says of which kind it is, and its place, and ends the line.
 pub fn put_condition<O: Sink>(
     out: &mut O,
     label: &[u8],
@@ -168,7 +168,7 @@ pub fn put_condition<O: Sink>(
     put_at(out, s, at)
 }
 
-/// Writes a place behind a blank, and ends the line.
+/// Writes a place after a blank, and ends the line.
 pub fn put_at<O: Sink>(out: &mut O, s: &Sources, at: Span) -> Result<(), SinkFault>
     ensures ok { OnOk result (Appends (O.taken out.old) (O.taken out.new) (at_part s.now at)) }
     ensures stopped { OnErr result (StopsWithin (O.taken out.old) (O.taken out.new) (at_part s.now at)) }

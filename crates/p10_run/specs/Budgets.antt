@@ -3,7 +3,7 @@ use Rattle.std.specs.Prelude.{ℕ, Some, None}
 use Rattle.p10_base.specs.declared.report.Bounds.{Bounds}
 use Rattle.p10_run.specs.declared.budget.Budget.{Budget}
 
--- so many steps for `main` or the part before its task loop, and afresh as many in each turn
+-- `steps` steps for `main` or the part before its task loop, and afresh as many in each turn
 abbrev pub budget_of_steps : ℕ → ℕ → ℕ → Budget
 budget_of_steps steps turns denied = record { prefix = steps; turn = steps; turns = turns; denied = denied; room = None }
 

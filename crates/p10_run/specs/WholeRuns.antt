@@ -31,7 +31,7 @@ outcome_of (AssertionFailed span) = Ended (HasFailed span)
 outcome_of (Undefined stop span) = Ended (IsUndefined stop span)
 outcome_of StepsSpent = Ended HasSpent
 
--- what was told of a run is what it gives, and the sink took all of its output
+-- what is known of a finished run is what the run gives, and the sink took all of its output
 pub record IsRun (run : FinishedRun) (taken taken_after : Option (List ℕ)) (r : Ran) : Type 0 where
   pub outcome : r.outcome ≡ outcome_of run.outcome
   pub calls : r.calls ≡ run.calls

@@ -21,7 +21,8 @@ pub struct Budget {
 }
 
 impl Budget {
-    /// So many steps, and afresh as many in each turn of the task loop.
+    /// `steps` steps for the part before the task loop, and afresh as many for each turn; at most `turns` turns. The request for memory with
+    /// the number `denied`, from 1, is denied, and none at 0.
     pub fn of_steps(steps: u64, turns: u64, denied: u64) -> Budget
         ensures { result ≡ budget_of_steps steps turns denied }
     {
@@ -34,7 +35,8 @@ impl Budget {
         }
     }
 
-    /// The steps of bounds: those of the part before the task loop, and those of each of its turns.
+    /// The steps of bounds, for the part before the task loop and for each of its turns; `turns` and `denied` as in [`Budget::of_steps`]. Room
+    /// for a run within the bounds is made before it.
     pub fn within(bounds: &Bounds, turns: u64, denied: u64) -> Budget
         ensures { result ≡ budget_within bounds.now turns denied }
     {

@@ -8,7 +8,7 @@ use p10_int::Stop;
 pub enum RunOutcome {
     /// `main` has returned this value, or 0 where it ended without `return` (C99 5.1.2.2.3).
     Returned(i64),
-    /// So many turns of the task loop were made.
+    /// This many turns of the task loop were made.
     Turns(u64),
     /// The `assert` with this span has failed (C99 7.2.1.1p2).
     AssertionFailed(Span),

@@ -27,7 +27,7 @@ use std::alloc::{AllocError, Global};
 /// # Errors
 ///
 /// [`RunFault::Read`] and [`RunFault::Write`] only where the count of faults of `input` or `out` rose, and [`RunFault::Memory`]
-/// for want of memory. `out` has then taken a prefix of the output.
+/// where memory is out. `out` has then taken a prefix of the output.
 pub fn run<'p, I: Source, O: Sink>(
     alloc: Global,
     p: &'p Program<'p>,
@@ -43,7 +43,7 @@ pub fn run<'p, I: Source, O: Sink>(
     ensures told { IfOk result (λ done. IfSome (I.left input.old) (λ bytes. IsRun done (O.taken out.old) (O.taken out.new) (run_with (plain_program p.now) budget.now bytes))) }
     ensures run { IfOk result (λ done. ForEachInput (I.left input.old) (I.left input.new) (λ bytes. IsRun done (O.taken out.old) (O.taken out.new) (run_with (plain_program p.now) budget.now bytes))) }
 
-    // The same of a run that was given up.
+    // The same for a run that was given up.
     ensures told_prefix { OnErr result (IfSome (I.left input.old) (λ bytes. TakesFront (O.taken out.old) (O.taken out.new) (run_with (plain_program p.now) budget.now bytes).output)) }
     ensures prefix { OnErr result (ForEachInput (I.left input.old) (I.left input.new) (λ bytes. TakesFront (O.taken out.old) (O.taken out.new) (run_with (plain_program p.now) budget.now bytes).output)) }
 
@@ -133,7 +133,7 @@ fn finished(machine: &Machine<'_>, last: Ended) -> FinishedRun
     }
 }
 
-/// The outcome of a run whose last call of the machine was answered so, after so many turns.
+/// The outcome of a run whose last call of the machine was answered so, after `made` turns.
 fn outcome_after(last: Ended, made: u64) -> RunOutcome
     ensures { result ≡ outcome_after last made }
 {

@@ -1,4 +1,4 @@
--- A run by a certificate that is accepted never ends for want of steps.
+-- A run by a certificate that is accepted never runs out of steps.
 use Rattle.std.proofs.Common.{◌≡◌, ◌≢◌, ℕ, ◌<◌, List, refl, sym, ◌∙◌, subst, arith, Option, Some, None}
 use Rattle.std.specs.List.{All}
 use Rattle.std.proofs.lemmas.List.Elements.{All-nil}
@@ -44,7 +44,7 @@ allowed_leaves law held budget name bytes p b turns denied is whole allows are_b
     let may : Permits held (Certificate name) turns denied p b = subst (λ (a : asked.Budget). Permits held a turns denied p b) is allows in
     steps_left law held name bytes p may.0 b turns denied whole may.1 may.2 are_bytes
 
--- only for want of steps the status is 12
+-- the status is 12 only where steps ran out
 spent : (o : Outcome) → ended_status o ≡ 12 → o ≡ Ended StepsSpent
 spent (Returned z) is = absurd (omega (arith, is))
 spent (Turns n) is = absurd (omega (arith, is))

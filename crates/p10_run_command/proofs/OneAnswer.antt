@@ -1,4 +1,4 @@
--- Where files and input are told, one thing is right to say, but for a read fault and out of memory.
+-- Where files and input are told, one thing is right to say, unless a read fails or memory runs out.
 use Rattle.std.proofs.Common.{◌≡◌, ◌≢◌, ℕ, List, refl, sym, ◌∙◌, ap, subst, Option, Some, None, IsSome}
 use Rattle.p10_base.specs.declared.report.Bounds.{Bounds}
 use Rattle.p10_base.specs.Gathered.{Gathered}

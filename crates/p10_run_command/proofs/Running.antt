@@ -1,4 +1,4 @@
--- What is told of a program that was to run.
+-- What is written of a program that was to run.
 use Rattle.std.proofs.Common.{◌≡◌, ◌≢◌, ℕ, List, [], ◌∷◌, ◌++◌, refl, sym, ap, ◌∙◌, subst, append-nil, Option, Some, None, IfSome, IsSomeAnd, ◌⊎◌, inl, inr, Result, Ok, Err, IfOk}
 use Rattle.std.proofs.KnownBytes.{Appends-nil}
 use Rattle.std.specs.Prelude.{OnErr}
@@ -50,7 +50,7 @@ runs p b (Some bytes) left_after taken taken_after (Err fault) told each front e
 runs p b None left_after taken taken_after (Ok done) told each front each_front = (each.given ++ rest_of each.ended [], tt, each.holds [])
 runs p b None left_after taken taken_after (Err fault) told each front each_front = (each_front.given ++ rest_of each_front.ended [], tt, each_front.holds [])
 
--- the same of the program of a reading, with the budget that it was granted
+-- the same for the program of a reading, with the budget that it was granted
 pub comes_to : (o : Option Program) (program : Program) (request : RunRequest) (b : Budget) (left left_after taken taken_after : Option (List ℕ)) (end : Result FinishedRun RunFault) → o ≡ Some program →
     Grants (plain_program program) request.allowance request.turns request.deny b →
     IfOk end (λ done. IfSome left (λ bytes. IsRun done taken taken_after (run_with (plain_program program) b bytes))) →
@@ -69,7 +69,7 @@ either_rose rises (inr rose) = inr rose
 
 -- ## What is said of it
 
--- the line of a run is that of what was told of it
+-- the line of a run is that of what it has come to
 same_line : (g : Gathered) (done : FinishedRun) (taken taken_after : Option (List ℕ)) (r : HasRun) → IsRun done taken taken_after r → ended_line g (outcome_of done.outcome) done.calls done.bytes ≡ (ended_saying g r).err
 same_line g done taken taken_after r is =
     ap (λ (o : Outcome). ended_line g o done.calls done.bytes) (sym is.outcome)

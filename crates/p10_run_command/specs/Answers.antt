@@ -49,7 +49,7 @@ absent_saying name = line_saying 9 (absent_line name)
 abbrev pub refused_saying : Gathered → Judgement → Saying
 refused_saying g judgement = line_saying (judgement_status judgement) (judgement_line g judgement)
 
--- what is said where a read has failed or memory is out while the program runs, after so much of its output
+-- what is said where a read has failed or memory is out while the program runs, after this much of its output
 abbrev pub troubled_saying : Trouble → List ℕ → Saying
 troubled_saying trouble out = record { status = trouble_status trouble; out = out; err = trouble_line trouble }
 

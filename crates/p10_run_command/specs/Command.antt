@@ -24,6 +24,6 @@ abbrev pub Permits : Option (List Named) → asked.Budget → ℕ → ℕ → Pl
 Permits held (Steps n) turns denied p b = b ≡ budget_of_steps n turns denied
 Permits held (Certificate name) turns denied p b = (bounds : Bounds) × IsJudged held name p (Accepted bounds) × (b ≡ budget_within bounds turns denied)
 
--- a program may run so far by the command
+-- a program may run this far by the command
 abbrev pub IsPermitted : Option (List Named) → RunCommand → PlainProgram → Budget → Type 0
 IsPermitted held run p b = Permits held run.budget run.turns run.deny p b

@@ -9,7 +9,7 @@ use Rattle.p10_words.specs.declared.command.Budget.TheVariants.{Certificate}
 use Rattle.p10_run_command.specs.declared.command.RunCommand.{RunCommand}
 use Rattle.p10_run_command.specs.Answers.{SaysRight}
 
--- Where files and input are told, only one thing may be said to a command, but for a read fault and out of memory. So each answer
+-- Where files and input are told, only one thing may be said to a command, unless a read fails or memory runs out. So each answer
 -- comes exactly where it is right.
 abbrev pub SaysOneThing : Type 0
 SaysOneThing =

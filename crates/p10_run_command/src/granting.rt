@@ -13,7 +13,7 @@ use std::alloc::{AllocError, Global};
 /// What a run is allowed.
 #[derive(Drop)]
 pub enum Allowance {
-    /// So many steps in each part.
+    /// This many steps before the task loop, and in each of its turns.
     Steps(u64),
     /// What these bytes, those of a certificate's file, claim.
     Certificate(Vec<u8>),

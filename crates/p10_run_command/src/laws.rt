@@ -6,7 +6,7 @@ use p10_front::laws::one_reading;
 use p10_judge::laws::one_judgement;
 use p10_soundness::laws::accepted_certificates_bound_every_run;
 
-/// Where files and input are told, only one thing may be said to a command, but for a read fault and out of memory.
+/// Where files and input are told, only one thing may be said to a command, unless a read fails or memory runs out.
 pub fn one_thing_is_said()
     ensures { SaysOneThing }
 {
@@ -14,7 +14,7 @@ pub fn one_thing_is_said()
     one_judgement();
 }
 
-/// A run by a certificate never ends for want of steps, where the input tells its bytes.
+/// A run by a certificate never runs out of steps, where the input tells its bytes.
 pub fn certificates_leave_steps()
     ensures { CertificatesLeaveSteps }
 {

@@ -1,14 +1,14 @@
-//! The command `run` of `p10`: a program runs, and how it has ended is told.
+//! The command `run` of `p10`: a program runs, and how it has ended is reported.
 //!
 //!     run a.c                        p10: returned 0 calls 1 bytes 4
 //!                                    p10: undefined U1 at a.c:4:12
 //!     run --cert a.p10 a.c           refused: K11 a.c:1:5
 //!
-//! Entry point: [`run`]. The sources are gathered, the certificate is loaded where there is one, the sources are read as a program, the
-//! certificate is judged for it, and the program runs: it takes its input from the source,
-//! and its output goes to the sink as it comes. The first of these that gives no program and no budget is what is told, and else the
-//! end of the run. Invariant: the status and both texts are those of a right answer, and where files and input are told at most
-//! one is right, but for faults and out of memory. Which words are this command is left to the crate above.
+//! Entry point: [`run`]. The sources are gathered, the certificate is loaded where there is one, the sources are read as a program,
+//! the certificate is judged for it, and the program runs: it takes its input from the source,
+//! and its output goes to the sink as it comes. The first of these that gives no program and no budget is what is reported, and else
+//! the end of the run. Invariant: the status and both texts are those of a right answer, and where files and input are told at most
+//! one is right, unless a read fails or memory runs out. Which words are this command is left to the crate above.
 #![tactic(auto)]
 
 ghost use Rattle.std.specs.Prelude.{◌≡◌, ◌≢◌, ◌⊎◌, ◌≤◌, ◌^◌, length};
@@ -32,11 +32,11 @@ use program::run_sources;
 use std::alloc::Global;
 use tell::tell_absent;
 
-/// Obeys the command: runs the sources' program on `input` and `out`, and tells on `err` how it has ended, or why there is none.
+/// Obeys the command: runs the sources' program on `input` and `out`, and reports on `err` how it has ended, or why there is none.
 /// Gives the status with which the program exits.
 ///
 /// The statuses: 0 returned or left after its turns, 1 a condition of the certificate doesn't hold, 3 the sources are refused, 4 no
-/// certificate, 5 a read failed, 6 a write failed, 7 out of memory, 8 a limit is passed, 9 a file is absent, 10 an assertion has
+/// certificate, 5 a read failed, 6 a write failed, 7 out of memory, 8 a limit is exceeded, 9 a file is absent, 10 an assertion has
 /// failed, 11 an undefined operation, 12 no step is left.
 pub fn run<F: Files, I: Source, O: Sink, E: Sink>(
     alloc: Global,

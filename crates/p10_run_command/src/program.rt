@@ -33,7 +33,7 @@ pub enum RunEnd {
     OutOfMemory,
 }
 
-/// Runs the program of gathered sources, and tells how it has ended, or why there is none. Gives the status of the program.
+/// Runs the program of gathered sources, and reports how it has ended, or why there is none. Gives the status of the program.
 pub fn run_sources<I: Source, O: Sink, E: Sink>(
     alloc: Global,
     request: &RunRequest,

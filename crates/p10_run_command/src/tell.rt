@@ -1,4 +1,4 @@
-//! What is told on the error output, and the status of the program.
+//! What is written to the error output, and the status of the program.
 
 ghost use Rattle.std.specs.Prelude.{◌≡◌, ◌≢◌, ◌⊎◌, ◌≤◌, OnErr, OnOk, Err};
 ghost use Rattle.std.specs.Io.KnownBytes.{Appends};
@@ -23,7 +23,7 @@ use p10_report::{
 use p10_run::{FinishedRun, RunFault, RunOutcome};
 use p10_world::{Sink, SinkFault};
 
-/// Tells that there is no certificate of this name, and gives the status of the program.
+/// Reports that there is no certificate of this name, and gives the status of the program.
 pub fn tell_absent<E: Sink>(name: &TextBuf, err: &mut E) -> u8
     ensures told { result ≢ 6 → IsTold 9 (absent_line name.now) (E.taken err.old) (E.taken err.new) result }
     ensures stopped { result ≡ 6 → StopsWithin (E.taken err.old) (E.taken err.new) (absent_line name.now) }
@@ -35,8 +35,8 @@ pub fn tell_absent<E: Sink>(name: &TextBuf, err: &mut E) -> u8
     }
 }
 
-/// Tells what has come of a program that was to run, and gives the status of the program. After a failed write nothing more is
-/// told.
+/// Reports what has come of a program that was to run, and gives the status of the program. After a failed write nothing more is
+/// written.
 pub fn tell_end<E: Sink>(sources: &Sources, end: RunEnd, err: &mut E) -> u8
     ensures told { result ≢ 6 → IsTold (end_status end) (end_line sources.now end) (E.taken err.old) (E.taken err.new) result }
     ensures stopped { result ≡ 6 → TakesFront (E.taken err.old) (E.taken err.new) (end_line sources.now end) }
@@ -49,7 +49,7 @@ pub fn tell_end<E: Sink>(sources: &Sources, end: RunEnd, err: &mut E) -> u8
     }
 }
 
-/// Tells what has come of a run, and gives the status of the program. After a failed write nothing more is told.
+/// Reports what has come of a run, and gives the status of the program. After a failed write nothing more is written.
 fn tell_ran<E: Sink>(sources: &Sources, end: Result<FinishedRun, RunFault>, err: &mut E) -> u8
     ensures told { result ≢ 6 → IsTold (ran_status end) (ran_line sources.now end) (E.taken err.old) (E.taken err.new) result }
     ensures stopped { result ≡ 6 → TakesFront (E.taken err.old) (E.taken err.new) (ran_line sources.now end) }
@@ -63,7 +63,7 @@ fn tell_ran<E: Sink>(sources: &Sources, end: Result<FinishedRun, RunFault>, err:
     }
 }
 
-/// Tells what the certificate has come to, and gives the status of the program.
+/// Reports what the certificate has come to, and gives the status of the program.
 fn tell_judgement<E: Sink>(sources: &Sources, judgement: &Judgement, err: &mut E) -> u8
     ensures told { result ≢ 6 → IsTold (judgement_status judgement.now) (judgement_line sources.now judgement.now) (E.taken err.old) (E.taken err.new) result }
     ensures stopped { result ≡ 6 → StopsWithin (E.taken err.old) (E.taken err.new) (judgement_line sources.now judgement.now) }
@@ -75,7 +75,7 @@ fn tell_judgement<E: Sink>(sources: &Sources, judgement: &Judgement, err: &mut E
     }
 }
 
-/// Tells how a run has ended, and gives the status of the program.
+/// Reports how a run has ended, and gives the status of the program.
 fn tell_finished<E: Sink>(sources: &Sources, done: &FinishedRun, err: &mut E) -> u8
     ensures told { result ≢ 6 → IsTold (ended_status (outcome_of done.now.outcome)) (ended_line sources.now (outcome_of done.now.outcome) done.now.calls done.now.bytes) (E.taken err.old) (E.taken err.new) result }
     ensures stopped { result ≡ 6 → StopsWithin (E.taken err.old) (E.taken err.new) (ended_line sources.now (outcome_of done.now.outcome) done.now.calls done.now.bytes) }

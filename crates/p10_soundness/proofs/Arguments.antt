@@ -97,7 +97,7 @@ argument_held (u ∷ vs) (y ∷ xs) w (suc n) v x e d frame = at (argument_held 
     at a b true = a
     at a b false = b
 
--- an argument is as is claimed
+-- an argument is as claimed
 abbrev IsAsClaimed : Scalar → Value → Type 0
 IsAsClaimed x (Number r) = ScalarLies r x
 IsAsClaimed x claim = Unit {0}

@@ -13,7 +13,7 @@ use Rattle.p10_sums.specs.Laws.{Spends, Takes}
 
 -- ## Pieces
 
--- a piece doesn't end for want of steps, and its depths are at most these
+-- a piece doesn't run out of steps, and its depths are at most these
 abbrev pub StaysWithin : {A : Type 0} → ℕ → ℕ → Progress A → Type 0
 StaysWithin C B (gives a w) = (w.calls ≤ C) × (w.bytes ≤ B)
 StaysWithin C B (ends e w) = (e ≢ StepsSpent) × ((w.calls ≤ C) × (w.bytes ≤ B))
@@ -36,7 +36,7 @@ stays n c b C B alloc from (ends StepsSpent to) t few h k i j = absurd (too_few 
 
 -- ## Runs
 
--- a run doesn't end for want of steps, and its depths are at most these
+-- a run doesn't run out of steps, and its depths are at most these
 pub record RunStays (C B : ℕ) (r : Ran) : Type 0 where
   pub steps : r.outcome ≢ Ended StepsSpent
   pub calls : r.calls ≤ C

@@ -16,7 +16,7 @@ none_case : (b : Bool) (n : ℕ) (o : Object) (os : List Object) → cond b (Som
 none_case true n o os e go = absurd (none-some _ (sym e))
 none_case false n o os e go = ap (λ xs. o ∷ xs) (go e)
 
--- no object of a number, so none is closed
+-- no object with a number, so none is closed
 none_closed : (n : ℕ) (os : List Object) → find n os ≡ None → closed n os ≡ os
 none_closed n [] e = refl
 none_closed n (o ∷ os) e = none_case (eqb o.number n) n o os e (none_closed n os)

@@ -58,7 +58,7 @@ put_here s n i cells os c e = case s.live e
 
 -- ## All slots
 
--- where the cells of the live object of a number begin, counted from the first slot's: the object, and what a write of one cell does
+-- where the cells of the live object with a number begin, counted from the first slot's: the object, and what a write of one cell does
 pub record Found (base n : ℕ) (cells : List Cell) (ss : List Slot) (s : Slot) : Type 0 where
   pub k : ℕ
   pub at : s.start ≡ base + k

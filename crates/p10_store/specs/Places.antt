@@ -11,11 +11,11 @@ use Rattle.p10_store.specs.declared.slots.Slot.{Slot}
 use Rattle.p10_store.specs.declared.slots.Provenance.{Provenance}
 use Rattle.p10_store.specs.Ranges.{kind_of, objects_of, AreTiled, kept_slots, width}
 
--- whether a slot has the live object of a number
+-- whether a slot has the live object with a number
 abbrev pub has : ℕ → Slot → Bool
 has n s = s.live && eqb s.number n
 
--- the slot of the live object of a number
+-- the slot of the live object with a number
 abbrev pub slot_at : ℕ → List Slot → Option Slot
 slot_at n [] = None
 slot_at n (s ∷ slots) = if has n s then Some s else slot_at n slots
@@ -48,7 +48,7 @@ abbrev pub Places : List Cell → List Slot → Ptr → Result (ℕ × Provenanc
 Places cells slots pointer (Ok place) = IsCellAt cells slots pointer place.0 (kind_of place.1)
 Places cells slots pointer (Err stop) = IsNoCell cells slots pointer stop
 
--- a slot of a number, live or dead
+-- a slot of the object with a number, live or dead
 pub record HasSlot (slots : List Slot) (n i : ℕ) : Type 0 where
   pub slot : Slot
   pub there : slice_get slots i ≡ Some slot
@@ -78,19 +78,19 @@ pub record IsFreed (cells : List Cell) (slots : List Slot) (pointer : Ptr) (n i 
   pub live : slot.live ≡ true
   pub freed : release (objects_of cells slots) pointer ≡ Ok (closed n (objects_of cells slots))
 
--- the place of the slot of a number, live or dead, or that there is none
+-- the place of the slot of the object with a number, live or dead, or that there is none
 abbrev pub HasPlace : List Slot → ℕ → Option ℕ → Type 0
 HasPlace slots n (Some i) = HasSlot slots n i
 HasPlace slots n None = (i : ℕ) (s : Slot) → slice_get slots i ≡ Some s → s.number ≢ n
 
--- a slot of the live object of a number
+-- a slot of the live object with a number
 pub record HasLiveSlot (slots : List Slot) (n i : ℕ) : Type 0 where
   pub slot : Slot
   pub there : slice_get slots i ≡ Some slot
   pub number : slot.number ≡ n
   pub live : slot.live ≡ true
 
--- the place of the slot of the live object of a number, or that there is none
+-- the place of the slot of the live object with a number, or that there is none
 abbrev pub HasLivePlace : List Slot → ℕ → Option ℕ → Type 0
 HasLivePlace slots n (Some i) = HasLiveSlot slots n i
 HasLivePlace slots n None = slot_at n slots ≡ None

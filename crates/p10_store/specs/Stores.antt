@@ -55,12 +55,12 @@ pub record Opens (old new : Held) (stride count : ℕ) (origin : Origin) : Type 
 
 -- ## Closing
 
--- what a slot has once the object of a number is dead
+-- what a slot has once the object with a number is dead
 abbrev pub left_in : ℕ → Option Handle → Option Handle
 left_in n None = None
 left_in n (Some h) = if eqb h.number n then None else Some h
 
--- the slots without the object of a number
+-- the slots without the object with a number
 abbrev pub vacated : ℕ → List (Option Handle) → List (Option Handle)
 vacated n slots = map (left_in n) slots
 
@@ -75,7 +75,7 @@ abbrev pub trimmed : List (Option Handle) → List (Option Handle)
 trimmed [] = []
 trimmed (slot ∷ slots) = before slot (trimmed slots)
 
--- the object of a number is dead; there is no less room
+-- the object with a number is dead; there is no less room
 pub record Closes (n : ℕ) (old new : Held) : Type 0 where
   pub opened : new.opened ≡ old.opened
   pub objects : new.objects ≡ closed n old.objects
@@ -83,7 +83,7 @@ pub record Closes (n : ℕ) (old new : Held) : Type 0 where
   pub spare_objects : old.spare_objects ≤ new.spare_objects
   pub spare_cells : old.spare_cells ≤ new.spare_cells
 
--- the object of a number is dead; where it was dead before, nothing changes
+-- the object with a number is dead; where it was dead before, nothing changes
 abbrev pub Ends : ℕ → Option Object → Held → Held → Type 0
 Ends n None old new = new ≡ old
 Ends n (Some object) old new = Closes n old new

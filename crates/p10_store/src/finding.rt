@@ -85,7 +85,7 @@ fn place_in(slots: &[Slot], pointer: Ptr) -> Result<(u128, Provenance), Stop>
     }
 }
 
-/// The slot of the live object of a number.
+/// The slot of the live object with a number.
 #[inline(always)]
 pub fn slot_of(slots: &[Slot], number: u128) -> Option<&Slot>
     requires growing { AreGrowing 0 slots.now }
@@ -97,7 +97,7 @@ pub fn slot_of(slots: &[Slot], number: u128) -> Option<&Slot>
     }
 }
 
-/// The place of the slot of the live object of a number.
+/// The place of the slot of the live object with a number.
 #[inline(always)]
 pub fn live_place(slots: &[Slot], number: u128) -> Option<usize>
     requires growing { AreGrowing 0 slots.now }
@@ -109,7 +109,7 @@ pub fn live_place(slots: &[Slot], number: u128) -> Option<usize>
     }
 }
 
-/// The place of the slot of a number, live or dead: its own number where no slot before it was let go, else by a search.
+/// The place of the slot of the object with a number, live or dead: its own number where no slot before it was let go, else by a search.
 #[inline(always)]
 pub fn place_of(slots: &[Slot], number: u128) -> Option<usize>
     requires growing { AreGrowing 0 slots.now }
@@ -121,7 +121,7 @@ pub fn place_of(slots: &[Slot], number: u128) -> Option<usize>
     }
 }
 
-/// The slot of a number, if it stands at this number.
+/// The place of the slot of the object with a number, if that number is its place.
 #[inline(always)]
 fn own_place(slots: &[Slot], number: u128) -> Option<usize>
     ensures { IfSome result (λ place. HasSlot slots.now number place) }
@@ -137,7 +137,7 @@ fn own_place(slots: &[Slot], number: u128) -> Option<usize>
     }
 }
 
-/// The place of the slot of a number, live or dead: a binary search.
+/// The place of the slot of the object with a number, live or dead: a binary search.
 #[inline(never)]
 fn searched_place(slots: &[Slot], number: u128) -> Option<usize>
     requires growing { AreGrowing 0 slots.now }
@@ -160,7 +160,7 @@ fn searched_place(slots: &[Slot], number: u128) -> Option<usize>
     None
 }
 
-/// Whether the object of a number is live.
+/// Whether the object with a number is live.
 pub fn is_live(cells: &[Cell], slots: &[Slot], number: u128) -> bool
     requires growing { AreGrowing 0 slots.now }
     ensures { result ≡ is_some (find number (objects_of cells.now slots.now)) }

@@ -19,7 +19,7 @@ pub struct Shape {
 
 impl Shape {
     /// The shape of a type of a whole program: as many scalars as the type lists. It takes no memory; where their number
-    /// passes that of all addresses, no memory has room for such an object.
+    /// exceeds that of all addresses, no memory has room for such an object.
     pub fn of(alloc: Global, p: &Program<'_>, t: &CType) -> Result<Shape, AllocError>
         requires program { IsWholeProgram (plain_program p.now) }
         requires of_program { IsWholeType (plain_program p.now).structures (plain_type t.now) }

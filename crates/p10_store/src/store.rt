@@ -178,6 +178,10 @@ impl Store {
     }
 
     /// Opens an object of `count` elements of a shape, and gives its slot.
+    ///
+    /// # Errors
+    ///
+    /// Out of memory, which doesn't come within the room that [`Store::reserve`] made; the objects are then as before.
     pub fn open(
         &mut self,
         shape: &Shape,
@@ -237,7 +241,7 @@ impl Store {
         trim(&mut self.cells, &mut self.slots);
     }
 
-    /// The object of a number dies, if it is live.
+    /// The object with a number dies, if it is live.
     pub fn end(&mut self, number: u128)
         ensures objects { self.new.objects ≡ closed number self.old.objects }
         ensures effect { Ends number (find number self.old.objects) self.old self.new }

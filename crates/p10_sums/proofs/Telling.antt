@@ -1,4 +1,4 @@
--- A tally tells of trees what the definitions say: steps up to the least number that is too great, and what callees are claimed to do.
+-- A tally has of trees what the definitions say: steps up to the least number that is too great, and what callees are claimed to do.
 use Rattle.std.proofs.Common.{◌≡◌, ℕ, ◌+◌, ◌*◌, max, Bool, true, false, List, [], ◌∷◌, ◌++◌, map, refl, sym, ◌∙◌, ap, arith, Option, Some, None}
 use Rattle.std.specs.Prelude.{◌||◌, slice_get}
 use Rattle.std.proofs.Math.Bool.{or_assoc}
@@ -199,7 +199,7 @@ module _ (functions : List Func) (n f t h b : ℕ) (fs ts hs bs : List PlainNode
       (tells_turn functions f (n * (b + (h + t))) fs (bs ++ (hs ++ ts)) first _ is_first
       (tells_often functions (b + (h + t)) n (bs ++ (hs ++ ts)) _ (tells_turn functions b (h + t) bs (hs ++ ts) body _ is_body (tells_turn functions h t hs ts third test is_third is_test))))
 
--- nodes in another order tell the same
+-- nodes in another order give the same
 swapped : (g : ℕ → ℕ) (xs ys : List PlainNode) → greatest_number (map g (callees (xs ++ ys))) ≡ greatest_number (map g (callees (ys ++ xs)))
 swapped g xs ys = greatest_of_both g xs ys ∙ (swap (greatest_number (map g (callees xs))) (greatest_number (map g (callees ys))) ∙ sym (greatest_of_both g ys xs))
   where

@@ -1,4 +1,4 @@
--- The tally of each tree tells its cost and its calls, by induction on trees.
+-- The tally of each tree gives its cost and its calls, by induction on trees.
 use Rattle.std.proofs.Common.{◌≡◌, ℕ, ◌+◌, max, Bool, true, false, List, [], ◌∷◌, ◌++◌, refl, sym, ap, arith, Option, Some, None}
 use Rattle.std.specs.Prelude.{◌||◌, slice_get}
 use Rattle.p10_core.specs.declared.typed.Library.{Library}
@@ -25,7 +25,7 @@ swap a b = omega arith
 none : (a : ℕ) → max 0 a ≡ a
 none a = omega arith
 
--- what is told of a call: its own claim and what its arguments do
+-- what a tally has of a call: its own claim and what its arguments do
 tells_call : (functions : List Func) (steps g : ℕ) (ns : List PlainNode) (t : Tally) → Tells functions steps ns t →
     Has (1 + (steps + steps_claimed (slice_get functions g))) (max (calls_claimed (slice_get functions g)) (calls_of functions ns)) (max (bytes_claimed (slice_get functions g)) (bytes_of functions ns))
     (alloc_claimed (slice_get functions g) || have_effect functions ns) (paying (in_turn t (of_callee (slice_get functions g))))
@@ -39,7 +39,7 @@ tells_call functions steps g ns t x =
     (has_turn steps (calls_of functions ns) (bytes_of functions ns) (steps_claimed (slice_get functions g)) (calls_claimed (slice_get functions g)) (bytes_claimed (slice_get functions g))
     (have_effect functions ns) (alloc_claimed (slice_get functions g)) t (of_callee (slice_get functions g)) x (has_callee functions g)))
 
--- what is told of a call of a library function
+-- what a tally has of a call of a library function
 tells_built_in : (functions : List Func) (steps : ℕ) (l : Library) (ns : List PlainNode) (t : Tally) → Tells functions steps ns t →
     Has (1 + steps) (calls_of functions ns) (bytes_of functions ns) ((manages_memory l || false) || have_effect functions ns) (in_turn (of_library l) t)
 tells_built_in functions steps l ns t x =
@@ -48,7 +48,7 @@ tells_built_in functions steps l ns t x =
     refl (none (calls_of functions ns)) (none (bytes_of functions ns)) (ap (λ b. b || have_effect functions ns) (no_effect (manages_memory l)))
     (has_turn 1 0 0 steps (calls_of functions ns) (bytes_of functions ns) (manages_memory l) (have_effect functions ns) (of_library l) t (has_library l) x)
 
--- steps alone beside what a tree tells
+-- steps alone beside what a tree gives
 tells_steps : (functions : List Func) (m n : ℕ) (ns : List PlainNode) (t : Tally) → Tells functions m ns t → Tells functions (m + n) ns (in_turn t (some_steps n))
 tells_steps functions m n ns t x =
     has_same (m + n) (max (calls_of functions ns) 0) (max (bytes_of functions ns) 0) (m + n) (calls_of functions ns) (bytes_of functions ns)

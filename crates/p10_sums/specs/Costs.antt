@@ -69,7 +69,7 @@ abbrev pub variable_width : Counting → Option PlainVariable → ℕ
 variable_width c None = 0
 variable_width c (Some v) = width c.program v.type
 
--- the steps of an initialiser of a variable of so many scalars: those of a value; of a copied structure 1, its place, and 1 a
+-- the steps of an initialiser of a variable of `scalars` scalars: those of a value; of a copied structure 1, its place, and 1 a
 -- scalar; those of listed values, and 1 for each scalar of the variable
 abbrev pub initializer_cost : Counting → ℕ → PlainInitializer → ℕ
 initializer_cost c scalars not_initialized = 0

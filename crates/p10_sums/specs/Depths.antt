@@ -51,7 +51,7 @@ abbrev pub form_manages_memory : PlainForm → Bool
 form_manages_memory (built_in name function arguments) = manages_memory function
 form_manages_memory form = false
 
--- the same of a node
+-- the same for a node
 abbrev pub node_manages_memory : PlainNode → Bool
 node_manages_memory (a_statement s) = false
 node_manages_memory (a_value (value at t form)) = form_manages_memory form

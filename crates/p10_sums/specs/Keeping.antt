@@ -73,7 +73,7 @@ abbrev mutual
   pub ValueKeeps : Setting → (ℕ → List Scalar → State → Type 0) → List Held → PlainValue → State → Type 0
   ValueKeeps s K held (value at t form) w = FormKeeps s K held form w
 
-  -- the same of a form of value
+  -- the same for a form of value
   pub FormKeeps : Setting → (ℕ → List Scalar → State → Type 0) → List Held → PlainForm → State → Type 0
   FormKeeps s K held (constant z) w = Unit {0}
   FormKeeps s K held (read p) w = AfterStep w (λ w. PlaceKeeps s K held p w)
@@ -91,11 +91,11 @@ abbrev mutual
   FormKeeps s K held (call name f arguments) w = AfterStep w (λ w. ValuesKeep s K held arguments w × OnGives (λ xs w. K f xs w) (evaluate_all s held arguments w))
   FormKeeps s K held (built_in name function arguments) w = AfterStep w (λ w. ValuesKeep s K held arguments w)
 
-  -- the same of a place
+  -- the same for a place
   pub PlaceKeeps : Setting → (ℕ → List Scalar → State → Type 0) → List Held → PlainPlace → State → Type 0
   PlaceKeeps s K held (place at t form) w = PlaceFormKeeps s K held form w
 
-  -- the same of a form of place
+  -- the same for a form of place
   pub PlaceFormKeeps : Setting → (ℕ → List Scalar → State → Type 0) → List Held → PlainPlaceForm → State → Type 0
   PlaceFormKeeps s K held (variable n) w = Unit {0}
   PlaceFormKeeps s K held (global n) w = Unit {0}
@@ -104,31 +104,31 @@ abbrev mutual
   PlaceFormKeeps s K held (member p m) w = AfterStep w (λ w. PlaceKeeps s K held p w)
   PlaceFormKeeps s K held (dereference v) w = AfterStep w (λ w. ValueKeeps s K held v w)
 
-  -- the same of arguments
+  -- the same for arguments
   pub ValuesKeep : Setting → (ℕ → List Scalar → State → Type 0) → List Held → PlainValues → State → Type 0
   ValuesKeep s K held no_values w = Unit {0}
   ValuesKeep s K held (more_values v vs) w = ValueKeeps s K held v w × OnGives (λ x w. ValuesKeep s K held vs w) (evaluate s held v w)
 
 -- ## Initialisers
 
--- the same of what is written for scalars
+-- the same for what is written for scalars
 abbrev pub WrittenKeeps : Setting → (ℕ → List Scalar → State → Type 0) → List Held → PlainWritten → State → Type 0
 WrittenKeeps s K held (one_scalar v) w = ValueKeeps s K held v w
 WrittenKeeps s K held (scalars_of_text bytes) w = Unit {0}
 
--- the same of listed values
+-- the same for listed values
 abbrev pub ItemsKeep : Setting → (ℕ → List Scalar → State → Type 0) → List Held → List PlainItem → State → Type 0
 ItemsKeep s K held [] w = Unit {0}
 ItemsKeep s K held (item ∷ items) w = WrittenKeeps s K held item.written w × OnGives (λ xs w. ItemsKeep s K held items w) (written_scalars s held item.scalar item.written w)
 
--- the same of an initialiser
+-- the same for an initialiser
 abbrev pub InitializerKeeps : Setting → (ℕ → List Scalar → State → Type 0) → List Held → PlainInitializer → State → Type 0
 InitializerKeeps s K held not_initialized w = Unit {0}
 InitializerKeeps s K held (single v) w = ValueKeeps s K held v w
 InitializerKeeps s K held (copied p) w = AfterStep w (λ w. PlaceKeeps s K held p w)
 InitializerKeeps s K held (listed at items) w = ItemsKeep s K held items w
 
--- the same of a declaration, whose initialiser sees the variable
+-- the same for a declaration, whose initialiser sees the variable
 abbrev pub DeclarationKeeps : Setting → (ℕ → List Scalar → State → Type 0) → ℕ → Option PlainVariable → PlainInitializer → Frame → State → Type 0
 DeclarationKeeps s K n None initializer frame w = Unit {0}
 DeclarationKeeps s K n (Some v) initializer frame w =
@@ -152,7 +152,7 @@ abbrev mutual
   pub StatementKeeps : Counting → Setting → (ℕ → List Scalar → State → Type 0) → PlainStatement → Frame → State → Type 0
   StatementKeeps c s K (statement at form) frame w = StatementFormKeeps c s K at form frame w
 
-  -- the same of a form of statement
+  -- the same for a form of statement
   pub StatementFormKeeps : Counting → Setting → (ℕ → List Scalar → State → Type 0) → At → PlainStatementForm → Frame → State → Type 0
   StatementFormKeeps c s K at (set p v) frame w = AfterStep w (λ w. PlaceKeeps s K frame.held p w × OnGives (λ target w. ValueKeeps s K frame.held v w) (locate s frame.held p w))
   StatementFormKeeps c s K at (update kind op t p v) frame w =
@@ -181,18 +181,18 @@ abbrev mutual
   StatementFormKeeps c s K at empty frame w = Unit {0}
   StatementFormKeeps c s K at (mark kind) frame w = Unit {0}
 
-  -- the same of statements in order, without the first k
+  -- the same for statements in order, without the first k
   pub StatementsKeep : Counting → Setting → (ℕ → List Scalar → State → Type 0) → ℕ → PlainStatements → Frame → State → Type 0
   StatementsKeep c s K k no_statements frame w = Unit {0}
   StatementsKeep c s K zero (more_statements x rest) frame w =
       StatementKeeps c s K x frame w × OnGives (λ (done : Done) w. OnNormal done.flow (StatementsKeep c s K zero rest done.frame w)) (execute s x frame w)
   StatementsKeep c s K (suc k) (more_statements x rest) frame w = StatementsKeep c s K k rest frame w
 
-  -- the same of the body of a `switch`, from the item with a number on
+  -- the same for the body of a `switch`, from the item with a number on
   pub EnteredKeeps : Counting → Setting → (ℕ → List Scalar → State → Type 0) → Option ℕ → PlainStatement → Frame → State → Type 0
   EnteredKeeps c s K k (statement at form) frame w = EnteredFormKeeps c s K k form frame w
 
-  -- the same of a form
+  -- the same for a form
   pub EnteredFormKeeps : Counting → Setting → (ℕ → List Scalar → State → Type 0) → Option ℕ → PlainStatementForm → Frame → State → Type 0
   EnteredFormKeeps c s K None (block ss) frame w = Unit {0}
   EnteredFormKeeps c s K (Some k) (block ss) frame w = StatementsKeep c s K k ss (record frame { opened = [] }) w

@@ -25,7 +25,7 @@ pub record Spends (n calls bytes : ℕ) (alloc : Bool) (from to : State) : Type 
   pub bytes_at_most : to.bytes ≤ max from.bytes bytes
   pub quiet : alloc ≡ false → to.after_mark ≡ from.after_mark
 
--- a piece ends for want of steps only where fewer than n were left
+-- a piece runs out of steps only where fewer than n were left
 pub record RunsOut (n calls bytes : ℕ) (alloc : Bool) (from to : State) : Type 0 where
   pub too_few : from.left < n
   pub calls_at_most : to.calls ≤ max from.calls calls

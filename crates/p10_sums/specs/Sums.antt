@@ -31,11 +31,11 @@ function_sum p functions n (Some f) = sum_under (counting_of p functions n f) (t
 abbrev pub sum_at : PlainProgram → List Func → ℕ → FuncSum
 sum_at p functions n = function_sum p functions n (slice_get p.functions n)
 
--- whether no sum passes the greatest that is allowed
+-- whether no sum exceeds the greatest that is allowed
 abbrev pub keeps_limit : FuncSum → Bool
 keeps_limit s = (leb s.steps MOST_SUM && leb s.calls MOST_SUM) && (leb s.bytes MOST_SUM && leb s.turn MOST_SUM)
 
--- the sums, or the limit that one of them passes
+-- the sums, or the limit that one of them exceeds
 abbrev pub limited : FuncSum → Result FuncSum Limit
 limited s = if keeps_limit s then Ok s else Err SUM
 
@@ -44,13 +44,13 @@ abbrev pub sums_from : PlainProgram → List Func → ℕ → ℕ → List FuncS
 sums_from p functions k zero = []
 sums_from p functions k (suc n) = sum_at p functions k ∷ sums_from p functions (suc k) n
 
--- one of the sums passes the greatest that is allowed
+-- one of the sums exceeds the greatest that is allowed
 pub record HasPassing (all : List FuncSum) : Type 0 where
   pub sum : FuncSum
   pub among : Contains all sum
   pub passes : keeps_limit sum ≡ false
 
--- why there are no sums: M9, exactly where one of them passes it; or memory
+-- why there are no sums: M9, exactly where one of them exceeds it; or that memory is out
 abbrev pub IsFault : List FuncSum → SumFault → Type 0
 IsFault all (Over limit) = (limit ≡ SUM) × HasPassing all
 IsFault all Memory = Unit {0}

@@ -18,7 +18,7 @@ use Rattle.p10_meaning.specs.Tasks.{letters}
 use Rattle.p10_sums.specs.declared.sum.FuncSum.{FuncSum}
 use Rattle.p10_sums.specs.Sums.{sum_at, all_sums}
 
--- a loop of which so many turns are claimed
+-- a loop of which n turns are claimed
 abbrev pub claimed_loop : ℕ → Loop
 claimed_loop n = record { depth = 0; rank = One; turns = n; vars = [] }
 

@@ -18,7 +18,7 @@ use std::alloc::Global;
 ///
 /// # Errors
 ///
-/// M9 where a sum passes 10^18, and that it is out of memory.
+/// M9 where a sum exceeds 10^18, or out of memory.
 pub fn sums(alloc: Global, program: &Program<'_>, certificate: &Cert) -> Result<Sums, SumFault>
     requires program { IsWholeProgram (plain_program program.now) }
     ensures sums { IfOk result (λ found. found.funcs ≡ all_sums (plain_program program.now) (claims_of certificate.now).funcs) }

@@ -26,7 +26,7 @@ use p10_core::{Func, Program, Stmt, StmtForm, Value, Variable};
 ///
 /// # Errors
 ///
-/// M9 where a sum passes 10^18.
+/// M9 where a sum exceeds 10^18.
 pub fn sum_of(program: &Program<'_>, certificate: &Cert, function: u32) -> Result<FuncSum, Limit>
     requires program { IsWholeProgram (plain_program program.now) }
     ensures { result ≡ limited (sum_at (plain_program program.now) (claims_of certificate.now).funcs function) }

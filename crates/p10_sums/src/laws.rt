@@ -11,7 +11,7 @@ pub fn small_programs_cost()
 
 /// As long as each call that an execution comes to keeps what is claimed of its function, and each loop enters its body at
 /// most as often as is claimed, a value, a statement and a call of a function take at most the steps that they cost, in
-/// every state and with every budget: they end for want of steps only where fewer were left. Calls nest at most as deep as
+/// every state and with every budget: they run out of steps only where fewer were left. Calls nest at most as deep as
 /// the sums say, and memory is allocated or freed only where the effect says so.
 pub fn executions_take_what_they_cost()
     ensures values { ValuesTakeWhatTheyCost }
@@ -19,7 +19,7 @@ pub fn executions_take_what_they_cost()
     ensures calls { CallsTakeWhatTheyCost }
 {}
 
-/// The same of `main` with a task loop: of the part up to that loop's statement step, and of each turn.
+/// The same for `main` with a task loop: of the part up to that loop's statement step, and of each turn.
 pub fn turns_take_what_they_cost()
     ensures first { FirstPartsTakeWhatTheyCost }
     ensures turns { TurnsTakeWhatTheyCost }

@@ -21,7 +21,7 @@ pub struct FuncSum {
 }
 
 impl FuncSum {
-    /// Whether no sum passes the greatest that is allowed.
+    /// Whether no sum exceeds the greatest that is allowed.
     pub(crate) fn keeps_limit(&self) -> bool
         ensures { result ≡ keeps_limit self.now }
     {
@@ -39,7 +39,7 @@ pub struct Sums {
 /// Why there are no sums.
 #[derive(Clone, Copy, Debug, PartialEq, Eq)]
 pub enum SumFault {
-    /// A sum passes a limit, which is M9.
+    /// A sum exceeds a limit, which is M9.
     Over(Limit),
     /// Out of memory.
     Memory,

@@ -35,7 +35,7 @@ fn structure_width(types: &Types<'_>, number: u32) -> u64
     }
 }
 
-/// The structure that stands for one of its number: itself where there is none.
+/// The structure that stands for the one with this number: itself where there is none.
 fn representative(types: &Types<'_>, number: u32) -> u32
     ensures { result ≡ representative_of (plain_types types.now) number }
 {

@@ -25,6 +25,6 @@ abbrev pub with_optional : Scope → Bool → Option Text → Scope
 with_optional names types None = names
 with_optional names types (Some name) = with_name names types name
 
--- the scope in which just these names are typedef names
+-- the scope in which exactly these names are typedef names
 abbrev pub typedefs : List Text → Scope
 typedefs names = map (λ name. (name, true)) names

@@ -11,7 +11,7 @@ use Rattle.p10_syn.specs.Forms.{IsExpression}
 use Rattle.p10_syn.specs.StatementForms.{AreExternals}
 use Rattle.p10_syn.specs.Places.{locate, locate_externals}
 
--- the tree of an expression spells these words, where just these names are typedef names: it is one of the grammar,
+-- the tree of an expression spells these words, where exactly these names are typedef names: it is one of the grammar,
 -- its words are these, and each part of it stands where its words stand
 pub record SpellsExpression (types : List Text) (words : List PlainWord) (t : Expression At) : Type 0 where
   pub formed : IsExpression (typedefs types) (bare t)

@@ -47,7 +47,7 @@ const KEYWORDS: [Sign; 37] = [
     Sign::Imaginary,
 ];
 
-// The keywords that are written with so many bytes.
+// The keywords by the number of bytes with which they are written.
 const OF_TWO: [Sign; 2] = [Sign::Do, Sign::If];
 
 const OF_THREE: [Sign; 2] = [Sign::For, Sign::Int];
@@ -157,7 +157,7 @@ pub fn keyword(text: &[u8]) -> Option<Sign>
     sign_among(keywords_of_length(text.len()), text)
 }
 
-/// The keywords that are written with so many bytes.
+/// The keywords that are written with `bytes` bytes.
 #[tactic(auto, unfolding(crate::specs::Signs::keywords, crate::specs::Signs::spelling))]
 fn keywords_of_length(bytes: usize) -> &'static [Sign]
     ensures { DoForLength bytes result.now }
@@ -183,7 +183,7 @@ fn longer_keywords(bytes: usize) -> &'static [Sign]
     if bytes > 10 { &[] } else { &KEYWORDS }
 }
 
-/// The punctuator that is written so; those of one byte that stand most often in programs are told at once.
+/// The punctuator that is written so; those of one byte that stand most often in programs are found at once.
 #[tactic(auto, unfolding(crate::specs::Signs::punctuators, crate::specs::Signs::spelling))]
 pub fn punctuator(text: &[u8]) -> Option<Sign>
     ensures { result ≡ first_among punctuators text.now }

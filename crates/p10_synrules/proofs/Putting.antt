@@ -131,7 +131,7 @@ block_put s at all items first second is listed one =
 
 -- ## Arguments
 
--- none is the only one where there isn't just one
+-- none is the only one where there isn't exactly one
 pub not_one : (all : List Expr) → (length all ≡ 1 → ⊥) → None ≡ only_one (expression_row (map expression_of all))
 not_one [] other = refl
 not_one (t ∷ []) other = absurd (other refl)

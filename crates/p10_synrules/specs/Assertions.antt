@@ -36,7 +36,7 @@ abbrev pub calls_c_assert : Expression At → Bool
 calls_c_assert (expression p n (Call f ts)) = is_c_assert f
 calls_c_assert t = false
 
--- the only one of these expressions, if there is just one
+-- the only one of these expressions, if there is exactly one
 abbrev pub only_one : Expressions At → Option (Expression At)
 only_one (MoreExpressions t NoExpressions) = Some t
 only_one ts = None
@@ -101,7 +101,7 @@ holds_of test (Some operand) = test operand
 abbrev pub states_call : Expression At → Bool
 states_call t = holds_of has_call (stated_by t)
 
--- whether an assertion states what is no truth value by its top operator
+-- whether an assertion states something whose top operator gives no truth value
 abbrev pub states_no_test : Expression At → Bool
 states_no_test t = holds_of (λ operand. not (is_test operand)) (stated_by t)
 

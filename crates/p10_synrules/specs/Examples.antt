@@ -1,4 +1,4 @@
--- Small trees, by which laws are told by hand. They stand nowhere.
+-- Small trees, by which laws are worked out by hand. They stand nowhere.
 use Rattle.std.specs.Prelude.{List, [], ◌∷◌, false, None, codes}
 use Rattle.p10_base.specs.Words.{Text}
 use Rattle.p10_base.specs.declared.at.At.{At}

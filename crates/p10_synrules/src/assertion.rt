@@ -64,7 +64,7 @@ pub(crate) fn calls_c_assert(e: &Expr<'_>) -> bool
     }
 }
 
-/// The only one of these expressions, if there is just one.
+/// The only one of these expressions, if there is exactly one.
 fn only_one<'t, 's>(all: &'t [Expr<'s>]) -> Option<&'t Expr<'s>>
     ensures { option_map (λ e. expression_of e.now) result ≡ only_one (expression_row (map expression_of all.now)) }
 {
@@ -163,7 +163,7 @@ pub(crate) fn states_call(alloc: Global, e: &Expr<'_>) -> Result<bool, AllocErro
     }
 }
 
-/// Whether an assertion states what is no truth value by its top operator.
+/// Whether an assertion states something whose top operator gives no truth value.
 pub(crate) fn states_no_test(e: &Expr<'_>) -> bool
     ensures { result ≡ states_no_test (expression_of e.now) }
 {

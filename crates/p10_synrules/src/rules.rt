@@ -21,9 +21,9 @@ use p10_base::{Sources, Sub, Violation};
 use p10_syn::Unit;
 use std::alloc::{AllocError, Global};
 
-/// The violations of rules 1, 4, 5 and 9, as far as trees tell, by the declarations and functions of all
+/// The violations of rules 1, 4, 5 and 9, as far as trees show, by the declarations and functions of all
 /// roots, in the order of violations, each once: rows 1.1, 1.2, 4.1, 4.2, 5.1 to 5.5, 9.1, 9.3 and 9.4.
-/// None is in a built-in header. It fails only out of memory.
+/// None is in a built-in header. It fails only where memory runs out.
 ///
 /// The spans of the trees are places in `sources`, which are read for lines. A place beyond a file's end
 /// stands for that end.

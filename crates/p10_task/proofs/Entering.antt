@@ -1,4 +1,4 @@
--- Where a run enters `main`: nothing is known of its variables, which none has been declared of.
+-- Where a run enters `main`: nothing is known of its variables, none of which has been declared.
 use Rattle.std.proofs.Common.{◌≡◌, ℕ, zero, suc, ◌+◌, ◌-◌, ◌<◌, ◌≤◌, ltb, Bool, true, false, List, [], ◌∷◌, length, refl, sym, ◌∙◌, ap, subst, arith, Option, Some, None, slice_get}
 use Rattle.std.specs.Prelude.{nat_eq, ◌||◌, is_some}
 use Rattle.std.proofs.lemmas.Option.{none-some}

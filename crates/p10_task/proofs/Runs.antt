@@ -90,7 +90,7 @@ module _ (p : PlainProgram) (whole : IsWholeProgram p) (c : Claims) (f : PlainFu
   abbrev known : Option Environment
   known = (pass_statements m (items_before i f.body) start_known).normal
 
-  -- at the head of the task loop: a state that is sound, and a frame that fits and is as is claimed
+  -- at the head of the task loop: a state that is sound, and a frame that fits and is as claimed
   pub record AtLoop (e : Environment) (frame : Frame) (w : State) : Type 0 where
     pub kinds : List Kind
     pub sound : Sound p kinds w

@@ -1,4 +1,4 @@
--- A turn of the task loop: it keeps claims, and where it goes on, the frame is as is claimed again.
+-- A turn of the task loop: it keeps claims, and where it goes on, the frame is as claimed again.
 use Rattle.std.proofs.Common.{◌≡◌, ℕ, Bool, true, false, List, [], ◌++◌, refl, sym, ◌∙◌, subst, Option, Some, None, slice_get, inl, inr}
 use Rattle.std.specs.Prelude.{◌⊎◌}
 use Rattle.std.proofs.lemmas.Option.{same_Some, none-some}

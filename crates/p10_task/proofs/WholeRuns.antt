@@ -1,4 +1,4 @@
--- Whole runs: wherever one comes to the task loop its frame is as is claimed, by induction on the turns.
+-- Whole runs: wherever one comes to the task loop its frame is as claimed, by induction on the turns.
 use Rattle.std.proofs.Common.{◌≡◌, ℕ, Bool, List, subst, Some}
 use Rattle.p10_core.specs.Typed.{PlainStatement, PlainFunction, PlainProgram}
 use Rattle.p10_core.specs.WholePrograms.{declared_in, IsWholeStatement, IsWholeProgram}

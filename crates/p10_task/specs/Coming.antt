@@ -31,7 +31,7 @@ item_claimed loops item = no_claim
 abbrev pub task_claimed : PlainProgram → Claims → PlainFunction → ℕ → Loop
 task_claimed p c f i = item_claimed (loops_claimed (slice_get c.funcs p.main)) (slice_get (statements_list f.body) i)
 
--- a frame of `main` at the head of its task loop is as is claimed: each variable that is known there lies in its claimed range
+-- a frame of `main` at the head of its task loop is as claimed: each variable that is known there lies in its claimed range
 pub record IsAsClaimed (p : PlainProgram) (c : Claims) (f : PlainFunction) (i : ℕ) (held : List Held) : Type 0 where
   pub entry : Environment
   pub comes : known_at_task p c f i ≡ Some entry

@@ -25,7 +25,7 @@ says_derived words directories sources line seen input saying (for_none none sai
 says_derived words directories sources line seen input saying (for_command c is says) zero = subst (λ (d : Command). SaysFor d seen input saying) (one_command words c (command.Derive directories sources) is line) says
 says_derived words directories sources line seen input saying (for_any said) zero = absurd (omega (arith, ap (λ (s : Saying). s.status) said, zero))
 
--- what may be said to `verify` is right to say, but out of memory
+-- what may be said to `verify` is right to say, unless memory runs out
 says_verified : (words : List Text) (names : Names) → IsVerifyLine words names → (seen : Seen) (input : SeenInput) (saying : Saying) → MaySay words seen input saying → saying.status ≢ 7 → verifies.SaysRight names seen saying
 says_verified words names line seen input saying (for_none none said) seven = absurd (none (command.Verify names.directories names.clean names.certificate names.sources) line)
 says_verified words names line seen input saying (for_command c is says) seven =

@@ -28,7 +28,7 @@ by_input law words seen input out_old out_new err_old err_new status told line (
     let t = told (λ six. omega (arith, six, twelve)) in
     says_other law words seen input bytes t.saying line is are t.may (sym t.status_is ∙ twelve)
 
--- where the input tells its bytes, a run by a certificate never ends for want of steps
+-- where the input tells its bytes, a run by a certificate never runs out of steps
 pub never_spent : CertificatesLeaveSteps → (words : List Text) (seen : Seen) (input : SeenInput) (out_old out_new err_old err_new : Option (List ℕ)) (status : ℕ) → (status ≢ 6 → Told (MaySay words seen input) out_old out_new err_old err_new status) → IsCertifiedRunLine words →
     IfSome input.left (λ bytes. All (λ byte. byte < 256) bytes → status ≢ 12)
 never_spent law words seen input out_old out_new err_old err_new status told line = by_input law words seen input out_old out_new err_old err_new status told line input.left refl

@@ -19,7 +19,7 @@ use Rattle.p10_top.specs.Told.{MaySay, SaysFor, for_none, for_command, for_any}
 abbrev seen_files : List Named → ℕ → ℕ → Seen
 seen_files files before after = record { held = Some files; faults_before = before; faults_after = after }
 
--- a certificate that is told is accepted, and so it bounds every run
+-- a certificate that is written is accepted, and so it bounds every run
 bounds : DerivedCertificatesBoundRuns → DerivedCertificatesAreAccepted → DerivedCertificatesAreVerified → (directories roots : List Text) (files : List Named) (before after : ℕ) (saying : Saying) (out_old out_new : Option (List ℕ))
     → TellsCertificate (record { directories = directories; sources = roots }) (seen_files files before after) saying → Appends out_old out_new saying.out → TellsBounds directories roots files out_old out_new
 bounds bounding accepting verifying directories roots files before after saying out_old out_new told taken = record {

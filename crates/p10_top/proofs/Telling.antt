@@ -69,7 +69,7 @@ of_verify verify = command.Verify verify.directories verify.clean verify.certifi
 abbrev pub of_run : RunCommand → Command
 of_run run = command.Run run.directories run.budget run.turns run.deny run.sources
 
--- what is told of that one is told of the command
+-- what is written for that one is written for the command
 pub told_of : (c d : Command) (seen : Seen) (input : SeenInput) (out_old out_new err_old err_new : Option (List ℕ)) (status : ℕ) → c ≡ d → Told (SaysFor d seen input) out_old out_new err_old err_new status → Told (SaysFor c seen input) out_old out_new err_old err_new status
 told_of c d seen input out_old out_new err_old err_new status is told = subst (λ (e : Command). Told (SaysFor e seen input) out_old out_new err_old err_new status) (sym is) told
 

@@ -24,7 +24,7 @@ use Rattle.p10_top.specs.Commands.{IsDeriveLine, IsVerifyLine}
 
 -- The sources are read as a program, the certificate's bytes are the text of its claims, and from every input each call of `main`, or
 -- each turn of the task loop and the part before it, returns, fails an assertion or stops at a named undefined operation within the
--- claimed steps; no chain of calls passes the claimed depth, and nothing is allocated or freed after the marked end of initialisation. With
+-- claimed steps; no chain of calls exceeds the claimed depth, and nothing is allocated or freed after the marked end of initialisation. With
 -- `--clean` none stops at an undefined operation.
 pub record BoundsRuns (names : Names) (files : List Named) : Type 0 where
   pub sources : Gathered

@@ -9,8 +9,8 @@ use Rattle.p10_agreement.specs.Laws.{HaveCertificate}
 use Rattle.p10_top.specs.Commands.{IsDeriveLine, IsVerifyLine}
 use Rattle.p10_top.specs.Told.{MaySay}
 
--- Where files and input are told, only one thing may be said to a command line, but for a read fault and want of
--- memory. So each answer comes exactly where it is right.
+-- Where files and input are told, only one thing may be said to a command line, unless a read fails or memory runs out.
+-- So each answer comes exactly where it is right.
 abbrev pub SaysOneThing : Type 0
 SaysOneThing =
     (words : List Text) (files : List Named) (before after : ℕ) (input : SeenInput) (bytes : List ℕ) (some other : Saying) → input.left ≡ Some bytes
@@ -21,7 +21,7 @@ SaysOneThing =
 
 -- Where a text may be said on the output with status 0 to a command line `derive`, and later files hold it under the name of a certificate, and
 -- for the sources all that the earlier ones hold, only with status 0 may be answered to a command line `verify` with that certificate and
--- the same directories and sources, without `--clean`, but for a read fault and out of memory.
+-- the same directories and sources, without `--clean`, unless a read fails or memory runs out.
 abbrev pub VerifyAcceptsWhatDeriveWrites : Type 0
 VerifyAcceptsWhatDeriveWrites =
     (derive verify : List Text) (names : Names) → IsDeriveLine derive names.directories names.sources → IsVerifyLine verify names → names.clean ≡ false

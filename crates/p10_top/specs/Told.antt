@@ -30,7 +30,7 @@ SaysFor (Verify directories clean certificate sources) seen input saying = verif
 SaysFor (Run directories budget turns deny sources) seen input saying = run.SaysRight (record { directories = directories; budget = budget; turns = turns; deny = deny; sources = sources }) seen input saying
 SaysFor (Generate functions) seen input saying = gen.SaysRight functions saying
 
--- what may be said to a command line; out of memory may come at any
+-- what may be said to a command line; running out of memory may come at any
 pub data MaySay (words : List Text) (seen : Seen) (input : SeenInput) (saying : Saying) : Type 0 where
   for_none : IsNoCommand words → saying ≡ usage_saying → MaySay words seen input saying
   for_command : (command : Command) → IsCommandLine words command → SaysFor command seen input saying → MaySay words seen input saying

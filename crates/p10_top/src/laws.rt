@@ -9,8 +9,7 @@ use p10_gen_command::laws::one_answer_is_right as one_program_is_shown;
 use p10_run_command::laws::one_thing_is_said as one_run_is_said;
 use p10_verify_command::laws::one_answer_is_right;
 
-/// Where files and input are told, only one thing may be said to a command line, but for a read fault and want
-/// of memory.
+/// Where files and input are told, only one thing may be said to a command line, unless a read fails or memory runs out.
 pub fn one_thing_is_said()
     ensures { SaysOneThing }
 {
@@ -21,8 +20,8 @@ pub fn one_thing_is_said()
     one_run_is_said();
 }
 
-/// What `derive` has written with status 0, `verify` accepts as a certificate of the same sources, as long as at each name at which these are
-/// looked for the files are as they were, but for a read fault and out of memory.
+/// What `derive` has written with status 0, `verify` accepts as a certificate of the same sources, as long as at each name at which
+/// these are looked for the files are as they were, unless a read fails or memory runs out.
 pub fn verify_accepts_what_derive_writes()
     ensures { VerifyAcceptsWhatDeriveWrites }
 {

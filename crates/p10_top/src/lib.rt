@@ -1,8 +1,8 @@
 //! The top of `p10`: a command line, files, an input and two outputs in; a status and two texts out.
 //!
 //! Entry point: [`p10_main`]. The words are read as a command, which a crate of its own obeys. Invariant: the status and both
-//! texts are those of a right answer. For each command line at most one answer is right where files and input are told, but for
-//! faults and want of memory. What the parts of an answer mean is left to the crates below.
+//! texts are those of a right answer. For each command line at most one answer is right where files and input are told, unless
+//! a read fails or memory runs out. What the parts of an answer mean is left to the crates below.
 #![tactic(auto)]
 
 ghost use Rattle.std.specs.Prelude.{◌≡◌, ◌≢◌, ◌⊎◌, ◌≤◌, ◌<◌, ◌^◌, IfSome, length, map, string_bytes};
@@ -39,24 +39,26 @@ mod tests;
 
 /// Runs `p10` on the words after the program's name, and gives the status with which it exits.
 ///
-/// `check [--include DIRECTORIES] [--format text|json] SOURCE..`, with options and sources in any order, tells on `out` what
-/// breaks a rule in the sources and why they are refused; all else is told on `err`. `DIRECTORIES` are joined by `:`, and
+/// `check [--include DIRECTORIES] [--format text|json] SOURCE..`, with options and sources in any order, reports on `out` what
+/// breaks a rule in the sources and why they are refused; all else is written to `err`. `DIRECTORIES` are joined by `:`, and
 /// included files are looked for in them. Nothing is read of `input` by this command.
 ///
-/// `derive [--include DIRECTORIES] SOURCE..` tells on `out` the certificate that is derived of the sources' program; the violations for
-/// which there is none, and all else, are told on `err`. Nothing is read of `input`.
+/// `derive [--include DIRECTORIES] SOURCE..` writes to `out` the certificate that is derived of the sources' program; the violations
+/// for which there is none, and all else, are written to `err`. Nothing is read of `input`.
 ///
-/// `verify [--include DIRECTORIES] [--clean] --cert CERTIFICATE SOURCE..` tells on `out` whether the certificate bounds every run of the
-/// sources' program, and with `--clean` whether it is clean, too; all else is told on `err`. Nothing is read of `input` by this command either.
+/// `verify [--include DIRECTORIES] [--clean] --cert CERTIFICATE SOURCE..` reports on `out` whether the certificate bounds every run of
+/// the sources' program, and with `--clean` whether it is clean, too; all else is written to `err`. Nothing is read of `input` by this
+/// command either.
 ///
-/// `run [--include DIRECTORIES] [--steps N | --cert CERTIFICATE] [--turns N] [--deny N] SOURCE..` runs the sources' program on `input` and
-/// `out`, and tells on `err` how it has ended, or why there is none. With a certificate it runs only where that is accepted, and by its steps.
+/// `run [--include DIRECTORIES] [--steps N | --cert CERTIFICATE] [--turns N] [--deny N] SOURCE..` runs the sources' program on `input`
+/// and `out`, and reports on `err` how it has ended, or why there is none. With a certificate it runs only where that is accepted, and
+/// by its steps.
 ///
-/// `gen N` makes a program of N functions and `main`, derives its certificate, verifies it and runs the program within it, and tells on
-/// `out` what has come of it; all else is told on `err`. Nothing is read of files or input.
+/// `gen N` makes a program of N functions and `main`, derives its certificate, verifies it and runs the program within it, and reports
+/// on `out` what has come of it; all else is written to `err`. Nothing is read of files or input.
 ///
-/// The statuses: 0 no rule broken, derived, accepted or run to its end, 1 a rule is broken or a condition doesn't hold, 2 no command, 3 the source is refused, 4 no
-/// certificate, 5 a read failed, 6 a write failed, 7 out of memory, 8 a limit is passed, 9 a file is
+/// The statuses: 0 no rule broken, derived, accepted or run to its end, 1 a rule is broken or a condition doesn't hold, 2 no command,
+/// 3 the source is refused, 4 no certificate, 5 a read failed, 6 a write failed, 7 out of memory, 8 a limit is exceeded, 9 a file is
 /// absent, 10 an assertion has failed, 11 an undefined operation, 12 no step is left.
 pub fn p10_main<F: Files, I: Source, O: Sink, E: Sink>(
     alloc: Global,
@@ -69,7 +71,7 @@ pub fn p10_main<F: Files, I: Source, O: Sink, E: Sink>(
     // An accepted certificate bounds every run of the sources' program; one that is accepted as clean excludes every undefined operation.
     ensures headline { result ≡ 0 → IfSome (F.held files.old) (Verified (map string_bytes words.now)) }
 
-    // A run by a certificate never ends for want of steps.
+    // A run by a certificate never runs out of steps.
     ensures steps { IsCertifiedRunLine (map string_bytes words.now) → IfSome (I.left input.old) (λ bytes. All (λ byte. byte < 256) bytes → result ≢ 12) }
 
     // A certificate that is derived is accepted, and bounds every run of the sources' program.
@@ -160,7 +162,7 @@ fn obey<F: Files, I: Source, O: Sink, E: Sink>(
     }
 }
 
-/// Tells why no command was read, and gives the status with which the program exits.
+/// Writes why no command was read, and gives the status with which the program exits.
 fn tell_unread<E: Sink>(fault: Usage, err: &mut E) -> u8
     ensures status { result ≢ 6 → result ≡ (saying_without_command fault).status }
     ensures told { result ≢ 6 → Appends (E.taken err.old) (E.taken err.new) (saying_without_command fault).err }

@@ -1,5 +1,5 @@
 //! What no command can show, over files, an input and outputs in memory: each read of files and of the input and each byte of a
-//! write fails in turn, memory is wanting, and the reads are counted. All else that the program answers is shown by the cases in `tests/`.
+//! write fails in turn, memory is out, and the reads are counted. All else that the program answers is shown by the cases in `tests/`.
 
 ghost use Rattle.std.specs.Prelude.{None};
 
@@ -23,7 +23,7 @@ const TWICE: [&str; 5] = ["verify", "--cert", "a.p10", "a.c", "a.c"];
 /// constant.
 const SOURCE: &str = "int main(void) { return 0; }\n";
 
-/// The certificate that claims just these.
+/// The certificate that claims exactly these.
 const CERTIFICATE: &str = "p10cert 1
 func main rank 0 steps 3 calls 1 bytes 0 alloc 0
 result 0 0
@@ -120,7 +120,7 @@ static ROWS: [Row; 25] = [
     (&CLEAN, BOTH, &[3], 2, 0, ACCEPTED_CLEAN),
     (&CLEAN, QUOTIENT, &[3], 2, 1, UNCLEAN),
     (&CLEAN, ONE_MORE, &[3], 2, 1, TOO_FEW_STEPS),
-    // What the source's words are is told before the certificate is asked for.
+    // What the source's words come to is reported before the certificate is asked for.
     (&VERIFY, OPEN, &[2], 1, 3, NO_END),
     // The second read asks for `no.h`.
     (&VERIFY, INCLUDES, &[], 3, 3, NOT_FOUND),
@@ -157,7 +157,7 @@ struct Want {
     err_fails: Option<u64>,
 }
 
-/// What a row wants of outputs that don't fail.
+/// What a row expects of outputs that don't fail.
 fn wanted(row: &Row) -> Want {
     let (status, text) = (row.4, row.5);
     let (out, err) = if status < 2 { (text, "") } else { ("", text) };
@@ -170,7 +170,7 @@ fn wanted(row: &Row) -> Want {
     }
 }
 
-/// What is wanted where both outputs fail after `count` bytes.
+/// What is expected where both outputs fail after `count` bytes.
 fn cut(want: Want, count: usize) -> Want {
     Want {
         status: 6,
@@ -256,7 +256,7 @@ fn faults_of_writes(rt: HostRuntime) -> Result<(), Fail> {
     Ok(())
 }
 
-/// Files for which memory is wanting at every read.
+/// Files for which memory is out at every read.
 #[derive(Drop)]
 struct NoMemory;
 
@@ -339,7 +339,7 @@ fn check_run(rt: &impl Abort, alloc: Global, row: &Run, want: &Want) -> Result<u
     check(rt, alloc, &RUN, &mut files, input, want)
 }
 
-/// What a run wants, where the outputs fail after these counts of bytes.
+/// What a run expects, where the outputs fail after these counts of bytes.
 fn wanted_of_run(row: &Run, out_fails: Option<u64>, err_fails: Option<u64>) -> Want {
     Want {
         status: row.4,
@@ -359,7 +359,7 @@ fn faults_of_input(rt: HostRuntime) -> Result<(), Fail> {
     Ok(())
 }
 
-// What the program writes is written before the line that tells how it has ended, so where the output fails nothing is told.
+// What the program writes is written before the line that reports how it has ended, so where the output fails nothing is reported.
 #[test]
 fn faults_of_output(rt: HostRuntime) -> Result<(), Fail> {
     for row in &RUNS {

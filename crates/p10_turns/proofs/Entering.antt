@@ -60,7 +60,7 @@ module _ (Tested Entered : ℕ → Frame → State → Type 0) (test : Frame →
 
 -- ## What is kept
 
--- a loop that enters its body at most so often keeps what its tests keep, and what its rounds keep, where something holds at each test and
+-- a loop that enters its body at most this often keeps what its tests keep, and what its rounds keep, where something holds at each test and
 -- at each entrance
 module _ (Tested Entered TestKeeps BodyKeeps : Frame → State → Type 0) (test : Frame → State → Progress Bool) (round : Frame → State → Progress Done)
     (tests : (frame : Frame) (w : State) → Tested frame w → HoldsOf (λ more w. more ≡ true → Entered frame w) (test frame w))

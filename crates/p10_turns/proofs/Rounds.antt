@@ -359,7 +359,7 @@ module _ (p : PlainProgram) (whole : IsWholeProgram p) (n : ℕ) (depth : Depth)
         fine_third : (e : Environment) → on_body ≡ Some e → FineThird e
         fine_third e q = ((some_scoped on_body e q (on_ends Do)).knows, subst (λ t. NoneFails (pass_statements m t e)) (sym no_clause) (record { arguments = refl; results = refl; entries = refl; backs = refl }))
 
-    -- a loop keeps what its parts keep, where it enters its body no more often than so
+    -- a loop keeps what its parts keep, where it enters its body at most k times
     pub keeps_by_parts : (keyword : LoopKeyword) → (keyword ≡ Do → third ≡ no_statements) → PartsHold (turn keyword) → ranges_hold_reached claim f.variables (turn keyword).back ≡ true →
         OnIn (test_entry keyword at_head (turn keyword)) FineTest TestKeeps → OnIn (turn keyword).enters FineBody BodyKeeps → OnIn (third_entry (turn keyword)) FineThird ThirdKeeps →
         (k : ℕ) (frame : Frame) (w : State) → In (Some at_head) frame.held frame w → EntersAtMost keyword k (test s tested) (round s third body) frame w → LoopKeeps keyword k (test s tested) (round s third body) TestKeeps RoundKeeps frame w

@@ -19,12 +19,12 @@ holds_by_ranges variables l entry claim =
     let r : Round = round_under (trial_manner variables) claim l entry in
     (is_ranked claim.rank && has_none (rank_fails claim l.head.span entry r)) && (ranges_hold claim 0 variables entry && ranges_hold_reached claim variables r.back)
 
--- the same of a loop that may be lacking
+-- the same for a loop that may be lacking
 abbrev pub loop_stands : List PlainVariable → Option LoopParts → Environment → Loop → Bool
 loop_stands variables None entry claim = false
 loop_stands variables (Some l) entry claim = holds_by_ranges variables l entry claim
 
--- the same of the loop with a number, of a function that may be lacking
+-- the same for the loop with a number, of a function that may be lacking
 abbrev pub stands_in : Option PlainFunction → ℕ → Environment → Loop → Bool
 stands_in None k entry claim = false
 stands_in (Some f) k entry claim = loop_stands f.variables (slice_get (loops_among f.body) k) entry claim

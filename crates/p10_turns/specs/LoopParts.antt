@@ -24,7 +24,7 @@ abbrev mutual
   pub loops_within : PlainStatement → List LoopParts
   loops_within (statement at form) = loops_within_form form
 
-  -- the same of a form of statement
+  -- the same for a form of statement
   pub loops_within_form : PlainStatementForm → List LoopParts
   loops_within_form (block ss) = loops_among ss
   loops_within_form (if_then v s) = loops_within s
@@ -33,7 +33,7 @@ abbrev mutual
   loops_within_form (switch keyword v labels body) = loops_within body
   loops_within_form form = []
 
-  -- the same of statements, one after the other
+  -- the same for statements, one after the other
   pub loops_among : PlainStatements → List LoopParts
   loops_among no_statements = []
   loops_among (more_statements s rest) = loops_within s ++ loops_among rest

@@ -32,7 +32,7 @@ times_append x (o ∷ a) b = let rest = times_append x a b in omega (arith, rest
 
 -- ## Bounds
 
--- occurrences that are so many lie between two places
+-- k occurrences lie between two places
 abbrev pub Bounded : ℕ → ℕ → Option Spread → ℕ → Type 0
 Bounded from to None k = k ≡ 0
 Bounded from to (Some s) k = (from ≤ s.start) × (s.start < s.end) × (s.end ≤ to) × (0 < k)

@@ -28,7 +28,7 @@ abbrev mutual
   pub blocks_in : PlainStatement → List PlainStatements
   blocks_in (statement at f) = blocks_in_form f
 
-  -- the same of a form of statement
+  -- the same for a form of statement
   pub blocks_in_form : PlainStatementForm → List PlainStatements
   blocks_in_form (block ss) = blocks_among ss ++ ss ∷ []
   blocks_in_form (if_then v s) = blocks_in s
@@ -37,7 +37,7 @@ abbrev mutual
   blocks_in_form (switch span v labels body) = blocks_in body
   blocks_in_form f = []
 
-  -- the same of statements, one after the other
+  -- the same for statements, one after the other
   pub blocks_among : PlainStatements → List PlainStatements
   blocks_among no_statements = []
   blocks_among (more_statements s rest) = blocks_in s ++ blocks_among rest
@@ -51,7 +51,7 @@ abbrev mutual
   pub reached_in : PlainStatement → List PlainStatements
   reached_in (statement at f) = reached_in_form f
 
-  -- the same of a form of statement: a loop is entered for what lies in it
+  -- the same for a form of statement: a loop is entered for what lies in it
   pub reached_in_form : PlainStatementForm → List PlainStatements
   reached_in_form (block ss) = ss ∷ reached_among ss
   reached_in_form (if_then v s) = reached_in s
@@ -59,7 +59,7 @@ abbrev mutual
   reached_in_form (switch span v labels body) = reached_in body
   reached_in_form f = []
 
-  -- the same of statements, one after the other
+  -- the same for statements, one after the other
   pub reached_among : PlainStatements → List PlainStatements
   reached_among no_statements = []
   reached_among (more_statements s rest) = reached_in s ++ reached_among rest

@@ -29,7 +29,7 @@ abbrev mutual
   pub occurrences_in_value : Bool → PlainValue → List Occurrence
   occurrences_in_value checked (value at t f) = occurrences_in_form checked f
 
-  -- the same of a form of value; the operand of an assertion is checked
+  -- the same for a form of value; the operand of an assertion is checked
   pub occurrences_in_form : Bool → PlainForm → List Occurrence
   occurrences_in_form checked (constant z) = []
   occurrences_in_form checked (read p) = occurrences_in_place checked p
@@ -45,11 +45,11 @@ abbrev mutual
   occurrences_in_form checked (call span n arguments) = occurrences_in_values checked arguments
   occurrences_in_form checked (built_in span function arguments) = occurrences_in_values (checked || is_assertion function) arguments
 
-  -- the same of a place
+  -- the same for a place
   pub occurrences_in_place : Bool → PlainPlace → List Occurrence
   occurrences_in_place checked (place at t f) = occurrences_in_place_form checked f
 
-  -- the same of a form of place
+  -- the same for a form of place
   pub occurrences_in_place_form : Bool → PlainPlaceForm → List Occurrence
   occurrences_in_place_form checked (variable n) = occurrence checked (Variable n)
   occurrences_in_place_form checked (global n) = occurrence checked (Object n)
@@ -58,12 +58,12 @@ abbrev mutual
   occurrences_in_place_form checked (member p m) = occurrences_in_place checked p
   occurrences_in_place_form checked (dereference v) = occurrences_in_value checked v
 
-  -- the same of values, one after the other
+  -- the same for values, one after the other
   pub occurrences_in_values : Bool → PlainValues → List Occurrence
   occurrences_in_values checked no_values = []
   occurrences_in_values checked (more_values v vs) = occurrences_in_value checked v ++ occurrences_in_values checked vs
 
--- the same of a value that may be lacking, with nothing round it that checks
+-- the same for a value that may be lacking, with nothing round it that checks
 abbrev pub occurrences_in_maybe : Option PlainValue → List Occurrence
 occurrences_in_maybe None = []
 occurrences_in_maybe (Some v) = occurrences_in_value false v
@@ -106,7 +106,7 @@ abbrev mutual
   pub occurrences_in_statement : List PlainObject → PlainStatement → List Occurrence
   occurrences_in_statement objects (statement at f) = occurrences_in_statement_form objects f
 
-  -- the same of a form of statement
+  -- the same for a form of statement
   pub occurrences_in_statement_form : List PlainObject → PlainStatementForm → List Occurrence
   occurrences_in_statement_form objects (set p v) = occurrences_in_place false p ++ occurrences_in_value false v
   occurrences_in_statement_form objects (update kind op t p v) = occurrences_in_place false p ++ occurrences_in_value false v
@@ -128,7 +128,7 @@ abbrev mutual
   occurrences_in_statement_form objects empty = []
   occurrences_in_statement_form objects (mark kind) = []
 
-  -- the same of statements, one after the other
+  -- the same for statements, one after the other
   pub occurrences_in_statements : List PlainObject → PlainStatements → List Occurrence
   occurrences_in_statements objects no_statements = []
   occurrences_in_statements objects (more_statements s rest) = occurrences_in_statement objects s ++ occurrences_in_statements objects rest

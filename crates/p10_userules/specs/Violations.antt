@@ -50,13 +50,13 @@ drops_result s = false
 
 -- A row of the rules is violated at a place of a program: an object, variable or parameter at its name, and a statement at its place.
 pub data Violates (p : PlainProgram) : Sub → Span → Type 0 where
-  -- 6.1: an object of file scope is used in just one function, and not outside all functions
+  -- 6.1: an object of file scope is used in exactly one function, and not outside all functions
   wide_object : (n : ℕ) (o : PlainObject) (f : PlainFunction) → slice_get p.objects n ≡ Some o → o.owner ≡ None → Contains p.functions f
       → IsUsedOnlyIn (Object n) (occurrences_in_function p f) (occurrences_in_program p) → Violates p (row 6 1) o.span
   -- 6.2: a variable that a block declares is used only in one nested block
   wide_variable : (f : PlainFunction) (n : ℕ) (v : PlainVariable) → Contains p.functions f → slice_get f.variables n ≡ Some v
       → IsTooWide p.objects f (Variable n) (occurrences_in_function p f) → Violates p (row 6 2) v.span
-  -- 6.2: the same of an object of static lifetime
+  -- 6.2: the same for an object of static lifetime
   wide_static : (f : PlainFunction) (n : ℕ) (o : PlainObject) → Contains p.functions f → slice_get p.objects n ≡ Some o
       → IsTooWide p.objects f (Object n) (occurrences_in_program p) → Violates p (row 6 2) o.span
   -- 7.1: an expression statement is a call with a result

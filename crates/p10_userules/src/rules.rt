@@ -21,7 +21,7 @@ use p10_base::{ListBuf, Violation};
 use p10_core::{Func, Global as StaticObject, Program, Variable};
 use std::alloc::{AllocError, Global};
 
-/// The violations of rules 6 and 7 by a program, in the order of violations, each once. It fails only out of memory.
+/// The violations of rules 6 and 7 by a program, in the order of violations, each once. It fails only where memory runs out.
 ///
 /// Nothing of a built-in header is reported: these define types and macros, and no object and no function.
 pub fn use_rules(alloc: Global, program: &Program<'_>) -> Result<Vec<Violation>, AllocError>

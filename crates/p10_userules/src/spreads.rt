@@ -76,7 +76,7 @@ fn note(spreads: &mut Vec<Option<Spread>>, kind: Kind, occurrence: Occurrence, a
     put_first(spreads, number_of_kind(kind, occurrence.referent), first);
 }
 
-/// No occurrences of so many things.
+/// No occurrences of `count` things.
 fn no_spreads(alloc: Global, count: usize) -> Result<Vec<Option<Spread>>, AllocError>
     ensures length { IfOk result (λ spreads. length spreads.items ≡ count) }
     ensures none { IfOk result (λ spreads. (n : ℕ) → n < length spreads.items → slice_get spreads.items n ≡ Some None) }

@@ -13,7 +13,7 @@ use p10_base::ListBuf;
 use p10_core::{Global as StaticObject, LoopKeyword, Stmt, StmtForm};
 use std::alloc::{AllocError, Global};
 
-/// What a walk has found, but for the blocks in the one that it is in.
+/// What a walk has found, except for the blocks in the one that it is in.
 #[derive(Drop)]
 pub(crate) struct Walk {
     pub occurrences: Vec<Occurrence>,

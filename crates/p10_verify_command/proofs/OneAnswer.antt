@@ -165,7 +165,7 @@ one_answer tells once one files before after names g h a b right right' plain pl
       ]
     ]
 
--- an answer that is neither a read fault nor want of memory
+-- an answer that is neither a read fault nor out of memory
 plain_answer : (answer : Answer) → status_of answer ≢ 5 → status_of answer ≢ 7 → number_of answer ≤ 4
 plain_answer (Ungathered u) five seven = omega arith
 plain_answer AbsentCertificate five seven = omega arith

@@ -26,7 +26,7 @@ use Rattle.p10_verify_command.specs.Names.{Names}
 abbrev pub setting_of : Option (List Named) → Names → Setting
 setting_of held names = setting held names.sources names.directories
 
--- a judgement is the whole answer, but that an accepted certificate has to be clean, too, where `--clean` asks for it
+-- a judgement is the whole answer, except that an accepted certificate has to be clean, too, where `--clean` asks for it
 abbrev pub IsEnough : Bool → Judgement → Type 0
 IsEnough clean (Accepted bounds) = clean ≡ false
 IsEnough clean judgement = Unit {0}
@@ -53,5 +53,5 @@ IsRight seen names g (Unread why) = Gathers (setting_of seen.held names) g × Is
 IsRight seen names g (Judged judgement) = (p : PlainProgram) × HasProgram (setting_of seen.held names) g p × IsJudged seen.held names.certificate p judgement × IsEnough names.clean judgement
 IsRight seen names g (Unclean c at) = (bounds : Bounds) × HasCleanness seen.held names g bounds (No c at)
 IsRight seen names g (Clean bounds) = HasCleanness seen.held names g bounds Yes
--- out of memory is the one free answer
+-- running out of memory is the one answer that is right at any time
 IsRight seen names g (Trouble trouble) = HasCause trouble seen.faults_before seen.faults_after

@@ -5,7 +5,7 @@ use Rattle.p10_command.specs.Saying.{Saying}
 use Rattle.p10_verify_command.specs.Names.{Names}
 use Rattle.p10_verify_command.specs.Told.{SaysRight}
 
--- where files are told, only one thing is right to say to `verify` with these names, but for a read fault and want of memory
+-- where files are told, only one thing is right to say to `verify` with these names, unless a read fails or memory runs out
 abbrev pub VerifySaysOneThing : Type 0
 VerifySaysOneThing =
     (names : Names) (files : List Named) (before after : ℕ) (some other : Saying)

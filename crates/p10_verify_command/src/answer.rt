@@ -21,7 +21,7 @@ pub enum Answer {
     Unclean(u8, Span),
     /// The certificate is accepted and clean, and these are the bounds of every run.
     Clean(Bounds),
-    /// A read failed, or memory is wanting.
+    /// A read failed, or memory is out.
     Trouble(Trouble),
 }
 

@@ -27,11 +27,11 @@ pub struct VerifyCommand {
     pub sources: ListBuf<TextBuf>,
 }
 
-/// Obeys the command: tells on `out` whether the certificate bounds every run of the sources' program, and whether it is clean, where
-/// it has to be; all else is told on `err`. Gives the status with which the program exits.
+/// Obeys the command: reports on `out` whether the certificate bounds every run of the sources' program, and whether it is clean, where
+/// it has to be; all else is written to `err`. Gives the status with which the program exits.
 ///
 /// The statuses: 0 accepted, 1 a condition doesn't hold, 3 the sources are refused, 4 no certificate, 5 a read failed, 6 a
-/// write failed, 7 out of memory, 8 a limit is passed, 9 a file is absent.
+/// write failed, 7 out of memory, 8 a limit is exceeded, 9 a file is absent.
 pub fn verify<F: Files, O: Sink, E: Sink>(
     alloc: Global,
     command: &VerifyCommand,

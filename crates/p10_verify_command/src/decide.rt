@@ -145,7 +145,7 @@ fn try_claims(
     requires { IsClaimed (plain_program program.now) certificate.now (verdicts.Accepted bounds) }
     ensures { IfOk result (ComesTo (plain_program program.now) certificate.now true) }
 {
-    // The claims that are read are those that were accepted, as a text tells its claims.
+    // The claims that are read are those that were accepted, as a text determines its claims.
     a_text_tells_its_claims();
     match p10_cert::read(alloc, certificate) {
         Ok(claims) => Ok(cleaned(bounds, clean(alloc, program, &claims)?)),

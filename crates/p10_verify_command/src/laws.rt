@@ -6,7 +6,7 @@ use p10_cert::laws::a_text_tells_its_claims;
 use p10_front::laws::one_reading;
 use p10_judge::laws::one_judgement;
 
-/// Where files are told, only one thing is right to say to `verify`, but for a read fault and want of memory.
+/// Where files are told, only one thing is right to say to `verify`, unless a read fails or memory runs out.
 pub fn one_answer_is_right()
     ensures { VerifySaysOneThing }
 {

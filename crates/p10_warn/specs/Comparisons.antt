@@ -26,7 +26,7 @@ abbrev pub as_written : PlainValue → PlainValue
 as_written (value at t (convert v)) = v
 as_written v = v
 
--- whether two types are integer types of which, once they are promoted, just one is signed
+-- whether two types are integer types of which, once they are promoted, exactly one is signed
 abbrev pub differ_in_sign : PlainType → PlainType → Bool
 differ_in_sign (integer c a) (integer d b) = not (beq (is_signed_of (promoted a)) (is_signed_of (promoted b)))
 differ_in_sign s t = false

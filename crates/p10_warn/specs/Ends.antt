@@ -8,7 +8,7 @@ abbrev mutual
   pub has_break : PlainStatement → Bool
   has_break (statement at f) = has_break_form f
 
-  -- the same of a form of statement
+  -- the same for a form of statement
   pub has_break_form : PlainStatementForm → Bool
   has_break_form break = true
   has_break_form (block ss) = have_break ss
@@ -32,7 +32,7 @@ abbrev mutual
   pub reaches_end : PlainStatement → Bool
   reaches_end (statement at f) = reaches_end_form f
 
-  -- the same of a form of statement
+  -- the same for a form of statement
   pub reaches_end_form : PlainStatementForm → Bool
   reaches_end_form break = false
   reaches_end_form continue = false

@@ -25,7 +25,7 @@ abbrev mutual
   pub blocks_in : List ℕ → PlainStatement → List LabelledBlock
   blocks_in labelled (statement at f) = blocks_in_form labelled f
 
-  -- the same of a form of statement
+  -- the same for a form of statement
   pub blocks_in_form : List ℕ → PlainStatementForm → List LabelledBlock
   blocks_in_form labelled (block ss) = record { items = ss; labelled = labelled } ∷ blocks_among ss
   blocks_in_form labelled (if_then v s) = blocks_in [] s
@@ -34,7 +34,7 @@ abbrev mutual
   blocks_in_form labelled (switch span v labels body) = blocks_in (labelled_places labels) body
   blocks_in_form labelled f = []
 
-  -- the same of statements, one after the other
+  -- the same for statements, one after the other
   pub blocks_among : PlainStatements → List LabelledBlock
   blocks_among no_statements = []
   blocks_among (more_statements s rest) = blocks_in [] s ++ blocks_among rest

@@ -54,7 +54,7 @@ abbrev mutual
   declarations_in objects variables around (statement at f) =
       scoped_declaration around (name_declared objects variables (statement at f)) ++ declarations_in_form objects variables around f
 
-  -- the same of what stands in a form of statement
+  -- the same for what stands in a form of statement
   pub declarations_in_form : List PlainObject → List PlainVariable → List Text → PlainStatementForm → List ScopedDeclaration
   declarations_in_form objects variables around (block ss) = declarations_among objects variables around ss
   declarations_in_form objects variables around (if_then v s) = declarations_in objects variables around s
@@ -65,7 +65,7 @@ abbrev mutual
   declarations_in_form objects variables around (switch span v labels body) = declarations_in objects variables around body
   declarations_in_form objects variables around f = []
 
-  -- the same of statements, each of which sees what those before it declare
+  -- the same for statements, each of which sees what those before it declare
   pub declarations_among : List PlainObject → List PlainVariable → List Text → PlainStatements → List ScopedDeclaration
   declarations_among objects variables around no_statements = []
   declarations_among objects variables around (more_statements s rest) =

@@ -52,7 +52,7 @@ fn as_written(operand: &Value) -> &Value
     }
 }
 
-/// Whether both are integer types, and just one of them is signed once they are promoted.
+/// Whether both are integer types, and exactly one of them is signed once they are promoted.
 fn differ_in_sign(left: &CType, right: &CType) -> bool
     ensures { result ≡ differ_in_sign (plain_type left.now) (plain_type right.now) }
 {

@@ -10,7 +10,7 @@
 //!
 //! Rows on values and on `switch` are read off the nodes of the program one by one; what is never used, by marks for the numbers
 //! that nodes name; hidden names, by a table of the names in scope and one of the objects of file scope; statements after a
-//! jump and ends that are reached, by walks over the statements. Apart from sorting the time is linear in the program, but that
+//! jump and ends that are reached, by walks over the statements. Apart from sorting the time is linear in the program, except that
 //! operands which may be constant are looked through at each conversion and comparison above them.
 //! Nothing is asked of the program: the rows are defined for each. That it has no object or function of a built-in header's text is
 //! left to the sources: built-in headers declare types and macros alone, and a word of a macro has the place of the macro's use.

@@ -14,7 +14,7 @@ use p10_base::{At, Violation};
 use p10_core::{CType, Node, Nodes, Place, StmtForm, UpdateKind, ValueForm};
 use std::alloc::AllocError;
 
-/// Puts the violations by nodes after the others. It passes all nodes.
+/// Puts the violations by nodes after the others. It goes over all nodes.
 pub(crate) fn push_by_nodes(
     nodes: &mut Nodes<'_>,
     violations: &mut Vec<Violation>,

@@ -22,7 +22,7 @@ pub(crate) enum Named {
     Function,
 }
 
-/// The numbers of this kind that nodes name. It passes all nodes.
+/// The numbers of this kind that nodes name. It goes over all nodes.
 pub(crate) fn numbers_named(
     alloc: Global,
     kind: Named,

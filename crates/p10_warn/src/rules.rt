@@ -22,7 +22,7 @@ use p10_base::Violation;
 use p10_core::{Func, Global as StaticObject, Program};
 use std::alloc::{AllocError, Global};
 
-/// The violations of rule 10 by a typed program, in the order of violations, each once. It fails only where it is out of memory.
+/// The violations of rule 10 by a typed program, in the order of violations, each once. It fails only where memory runs out.
 pub fn warnings(alloc: Global, program: &Program<'_>) -> Result<Vec<Violation>, AllocError>
     ensures sorted { IfOk result (λ found. IsStrictlySortedBy violation_cmp found.items) }
     ensures exact { IfOk result (λ found. (v : Violation) → Contains found.items v ↔ Violates (plain_program program.now) v.sub v.span) }

@@ -42,7 +42,7 @@ fn adds_at_target(from: &CType, to: &CType) -> bool
     }
 }
 
-/// Whether a value is a null constant, where a pointer is wanted. No other type asks, so that no constant is folded anew for
+/// Whether a value is a null constant, where a pointer is needed. No other type asks, so that no constant is folded anew for
 /// each conversion round it.
 fn is_null_at(t: &CType, v: &Value) -> bool
     ensures { result ≡ is_null_at (target_type (plain_type t.now)) (is_null (plain_value v.now)) }

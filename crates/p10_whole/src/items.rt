@@ -38,7 +38,7 @@ pub(crate) fn are_whole_items(around: &Around<'_, '_>, t: &CType, items: &[Item]
     true
 }
 
-/// The place past so many scalars, if it is a number of the code.
+/// The place `count` scalars after another one, if a `u64` holds it.
 fn place_past(from: u64, count: u64) -> Option<u64>
     ensures { IfSome result (λ n. n ≡ from + count) }
 {
@@ -95,7 +95,7 @@ fn is_scalar_text(types: &Types<'_>, t: &CType, place: u64, bytes: &[u8]) -> boo
     has_characters(types, t, place, bytes.len() as u64)
 }
 
-/// Whether so many scalars from a place on are characters.
+/// Whether `count` scalars from a place on are characters.
 #[tactic(auto, using(crate::proofs::Showing::shows_none))]
 fn has_characters(types: &Types<'_>, t: &CType, from: u64, count: u64) -> bool
     requires object { IsObjectType (plain_types types.now) (plain_type t.now) }

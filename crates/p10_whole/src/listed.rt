@@ -20,7 +20,7 @@ pub(crate) fn is_literal(around: &Around<'_, '_>, number: u32, bytes: &[u8], t: 
     is_char_array(t, bytes.len()) & is_listed(around.program.literals.as_slice(), number, bytes)
 }
 
-/// Whether a type is an array of so many `char`s.
+/// Whether a type is an array of `count` `char`s.
 #[tactic(auto, using(crate::proofs::Showing::shows_none))]
 fn is_char_array(t: &CType, count: usize) -> bool
     ensures { Shows result (plain_type t.now ≡ array false (integer false Char) count) }

@@ -22,7 +22,7 @@ struct Next {
     task_loop: bool,
 }
 
-/// Whether the variables and loops of a function are in order, and it has each pragma once where it is told to, and none
+/// Whether the variables and loops of a function are in order, and it has each of the two pragmas once where that is asked for, and none
 /// else.
 pub(crate) fn is_in_order(function: &Func<'_>, init_done: bool, task_loop: bool) -> bool
     ensures { Shows result (InOrder (plain_function function.now) init_done task_loop) }
@@ -40,7 +40,7 @@ pub(crate) fn is_in_order(function: &Func<'_>, init_done: bool, task_loop: bool)
     all_declared & (!next.init_done & !next.task_loop)
 }
 
-/// Passes statements one after the other, and tells whether what stands in them is in order.
+/// Passes statements one after the other, and answers whether what stands in them is in order.
 #[cycle(order)]
 fn pass_statements(next: &mut Next, all: &[Stmt]) -> bool
     ensures { Shows result (Passes next.old (declared_of (plain_statements all.now)) (loops_of (plain_statements all.now)) (marks_of (plain_statements all.now)) next.new) }
@@ -53,7 +53,7 @@ fn pass_statements(next: &mut Next, all: &[Stmt]) -> bool
     true
 }
 
-/// Passes a statement, and tells whether what stands in it is in order.
+/// Passes a statement, and answers whether what stands in it is in order.
 #[cycle(order)]
 fn pass_statement(next: &mut Next, s: &Stmt) -> bool
     ensures { Shows result (Passes next.old (declared_in (plain_statement s.now)) (loops_in (plain_statement s.now)) (marks_in (plain_statement s.now)) next.new) }

@@ -2,7 +2,7 @@
 
 ghost use Rattle.std.specs.Prelude.{◌≡◌, ◌≤◌, ◌+◌, ◌<◌, length, take, drop};
 
-/// The first elements, so many of them.
+/// The first `count` elements.
 pub(crate) fn first_of<T>(all: &[T], count: usize) -> &[T]
     requires { count ≤ length all.now }
     ensures { result.now ≡ take count all.now }

@@ -55,7 +55,7 @@ pub enum Command {
 /// What bounds the steps of a run.
 #[derive(Debug, Drop)]
 pub enum Budget {
-    /// `--steps N`: so many before the task loop, and in each of its turns.
+    /// `--steps N`: N before the task loop, and in each of its turns.
     Steps(u64),
     /// `--cert C`: those that the certificate in the file of this name claims.
     Certificate(TextBuf),

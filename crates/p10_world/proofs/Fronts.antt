@@ -1,4 +1,4 @@
--- What a sink took of several writes, one after the other, is the front of what they were to write.
+-- What a sink took of several writes, one after the other, is a prefix of what they were to write.
 use Rattle.std.proofs.Common.{ℕ, List, ◌++◌, sym, ap, ◌∙◌, append_assoc, take, drop, take-append-drop}
 use Rattle.std.specs.Prelude.{Option}
 use Rattle.std.specs.Io.KnownBytes.{Appends}

@@ -7,7 +7,7 @@ use Rattle.std.specs.Prelude.{Option}
 use Rattle.std.specs.Io.KnownBytes.{Appends}
 use Rattle.std.proofs.KnownBytes.{Appends-trans}
 
--- the front of the buffer is the next bytes, and the rest of the list follows them
+-- the beginning of the buffer is the next bytes, and the rest of the list follows them
 pub piece_given : (xs copied others : List ℕ) (given count : ℕ) → copied ≡ take count (drop given xs) → length copied ≡ count
     → drop given xs ≡ take count (copied ++ others) ++ drop (given + count) xs
 piece_given xs copied others given count next whole =

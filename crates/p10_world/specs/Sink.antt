@@ -7,7 +7,7 @@ pub record TakesPart (old new : Option (List ℕ)) (bytes : List ℕ) (wrote : �
   pub fewer : wrote < length bytes
   pub taken : Appends old new (take wrote bytes)
 
--- what the sink took is the front of a text
+-- what the sink took is a prefix of a text
 pub record TakesFront (old new : Option (List ℕ)) (text : List ℕ) : Type 0 where
   pub front : List ℕ
   pub back : List ℕ

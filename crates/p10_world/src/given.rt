@@ -20,7 +20,7 @@ impl Given {
         Given { bytes, given: 0 }
     }
 
-    /// Takes the next bytes into the front of `buf`: as many as it has room for, or all that are left.
+    /// Takes the next bytes into the beginning of `buf`: as many as it has room for, or all that are left.
     pub fn piece(&mut self, buf: &mut [u8]) -> usize
         ensures most { result ≡ min (length buf.old) (length (left_of self.old)) }
         ensures given { left_of self.old ≡ take result buf.new ++ left_of self.new }

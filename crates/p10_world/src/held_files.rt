@@ -36,7 +36,7 @@ impl HeldFiles {
     ///
     /// # Errors
     ///
-    /// Want of memory; the files are then as before.
+    /// Out of memory; the files are then as before.
     pub fn add(&mut self, name: String, bytes: Vec<u8>) -> Result<(), AllocError>
         ensures added { OnOk result (files_of self.new ≡ record { name = string_bytes name; bytes = bytes.items } ∷ files_of self.old) }
         ensures refused { OnErr result (files_of self.new ≡ files_of self.old) }

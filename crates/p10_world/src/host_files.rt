@@ -13,7 +13,7 @@ use std::{fs, rt};
 const PIECE: usize = 4096;
 
 /// The host's files. A name is a path. Only a file of which the host says that there is none is absent;
-/// a want of permission, a directory of which a byte is asked for, and each other refusal of the host
+/// permission that is denied, a directory of which a byte is asked for, and each other refusal of the host
 /// is a fault. What the files hold isn't told.
 #[derive(Drop)]
 pub struct HostFiles<R> {

@@ -49,7 +49,7 @@ impl<R: Read + Drop> Source for HostSource<R> {
         ensures count { source_faults_of self.old ≤ source_faults_of self.new }
         ensures steady { OnOk result (source_faults_of self.new ≡ source_faults_of self.old) }
     {
-        // A read that fails may leave bytes behind, and `buf` is to stay as it is then.
+        // A read that fails may have put bytes into the buffer, and `buf` is to stay as it is then.
         let mut piece = [0u8; PIECE];
         let most = buf.len().min(PIECE);
         match self.stream.read(&mut piece[..most]) {

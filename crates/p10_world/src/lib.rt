@@ -50,7 +50,7 @@ pub trait Files {
     /// # Errors
     ///
     /// [`FileFault::Absent`] only where no such file is held, [`FileFault::Failed`] only where the
-    /// count of faults rose, and [`FileFault::Memory`] for want of memory.
+    /// count of faults rose, and [`FileFault::Memory`] where memory is out.
     fn read(
         &mut self,
         alloc: Global,
@@ -74,7 +74,7 @@ pub enum FileFault {
     Absent,
     /// The read failed.
     Failed,
-    /// Want of memory.
+    /// Out of memory.
     Memory,
 }
 
@@ -86,7 +86,7 @@ pub trait Source {
     // How many calls failed.
     ghost faults: { Self → ℕ };
 
-    /// Takes the next bytes into the front of `buf`, and answers how many, at most `buf.len()`. For a
+    /// Takes the next bytes into the beginning of `buf`, and gives how many, at most `buf.len()`. For a
     /// `buf` that is not empty 0 means the end.
     ///
     /// # Errors

@@ -38,7 +38,7 @@ impl MemFiles {
     ///
     /// # Errors
     ///
-    /// Want of memory; the files are then as before.
+    /// Out of memory; the files are then as before.
     pub fn add(&mut self, name: String, bytes: Vec<u8>) -> Result<(), AllocError>
         ensures added { OnOk result (held_of self.new ≡ record { name = string_bytes name; bytes = bytes.items } ∷ held_of self.old) }
         ensures refused { OnErr result (held_of self.new ≡ held_of self.old) }

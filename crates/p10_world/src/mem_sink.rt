@@ -26,7 +26,7 @@ impl MemSink {
     ///
     /// # Errors
     ///
-    /// Want of memory for `capacity` bytes.
+    /// Out of memory for `capacity` bytes.
     pub fn new(
         alloc: Global,
         capacity: usize,

@@ -34,7 +34,7 @@ pub record IsBranch (room branch : ℕ) (entries : List Entry) (notes : List Not
   pub noted : (n : ℕ) (e : Entry) → slice_get entries n ≡ Some e → e.noted ≡ branch → 0 < branch → IsNotedIn n notes
   pub fits : 0 < branch → length notes + unnoted branch entries ≤ room
 
--- the same of the branches round it, where they were left
+-- the same for the branches round it, where they were left
 abbrev pub AreBranches : ℕ → List Entry → List Note → Type 0
 AreBranches room entries [] = Unit {0}
 AreBranches room entries (Opened branch ∷ notes) = IsBranch room branch entries notes × AreBranches room entries notes

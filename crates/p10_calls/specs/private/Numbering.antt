@@ -5,7 +5,7 @@ use Rattle.p10_graph.specs.Graphs.{Edge}
 use Rattle.p10_calls.specs.declared.sites.CallSite.{CallSite}
 use Rattle.p10_calls.specs.Ranks.{HasRank}
 
--- the edge of a call in a graph of so many functions, if it names two of them
+-- the edge of a call in a graph of `count` functions, if it names two of them
 abbrev pub edge_of : ℕ → CallSite → Option (ℕ × ℕ)
 edge_of count s = if nat_lt s.caller count && nat_lt s.call.function count then Some (s.caller, s.call.function) else None
 

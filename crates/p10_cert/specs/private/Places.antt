@@ -69,12 +69,12 @@ further_at here text = step_at here text >>= λ (line, after, rest). if is_loop 
 unfoldable pub parameter_at : Next → List ℕ → Option (Line × Next × List ℕ)
 parameter_at here text = step_at here text >>= λ (line, after, rest). if is_param after then Some (line, after, rest) else None
 
--- what may come after so many lines of a text, and what stands after them
+-- what may come after `count` lines of a text, and what stands after them
 unfoldable pub after_lines : ℕ → Next → List ℕ → Option (Next × List ℕ)
 after_lines zero here text = Some (here, text)
 after_lines (suc count) here text = step_at here text >>= λ (line, after, rest). after_lines count after rest
 
--- so many lines of a text
+-- the first `count` lines of a text
 unfoldable pub lines_in : ℕ → Next → List ℕ → List Line
 lines_in zero here text = []
 lines_in (suc count) here text = or_else (step_at here text) (λ (line, after, rest). line ∷ lines_in count after rest) []
@@ -195,7 +195,7 @@ pub record HasFunction (from : Place) (part : List ℕ) (line : ℕ) (to : Place
 pub record HasEnd (from : Place) (ending : Ending) : Type 0 where
   pub reads : Reads from.here from.rest (ending_lines ending) next.Over []
 
--- how many of these lines tell a result
+-- how many of these lines claim a result
 abbrev pub results : List Line → ℕ
 results [] = 0
 results (ResultLine v ∷ lines) = suc (results lines)
@@ -221,7 +221,7 @@ is_start (next.Func seen) = true
 is_start (next.Loop main seen deepest least) = true
 is_start _ = false
 
--- a place of a text after so many lines, where no further line of a function comes next
+-- a place of a text after a number of lines, where no further line of a function comes next
 pub record IsPlace (text : List ℕ) (here : Next) (rest : List ℕ) (lines : ℕ) : Type 0 where
   pub reads : after_lines lines next.First text ≡ Some (here, rest)
   pub start : is_start here ≡ true

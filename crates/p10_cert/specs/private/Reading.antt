@@ -23,12 +23,12 @@ or_else (Some x) f other = f x
 unfoldable pub after_front : List ℕ → List ℕ → Option (List ℕ)
 after_front front text = if bytes_eq (take (length front) text) front then Some (drop (length front) text) else None
 
--- what is left after the bytes at the front that pass the test
+-- what is left after the bytes at the beginning that pass the test
 abbrev pub after_run : (ℕ → Bool) → List ℕ → List ℕ
 after_run test [] = []
 after_run test (x ∷ xs) = if test x then after_run test xs else (x ∷ xs)
 
--- what stands in front of the rest of a text
+-- what stands before the rest of a text
 abbrev pub front_of : List ℕ → List ℕ → List ℕ
 front_of text rest = take (length text - length rest) text
 

@@ -1,4 +1,4 @@
--- What the pass over a function tells as failing conditions, by what evidence was found to say of its loops.
+-- What the pass over a function gives as failing conditions, by what evidence was found to say of its loops.
 use Rattle.std.specs.Prelude.{ℕ, Bool, if◌then◌else◌, List, [], ◌∷◌, ◌++◌, map, slice_get}
 use Rattle.p10_base.specs.declared.span.Span.{Span}
 use Rattle.p10_cert.specs.Claims.{Claims}

@@ -3,7 +3,7 @@ use Rattle.std.specs.Prelude.{Option, Some, None}
 use Rattle.p10_meaning.specs.declared.pointers.Scalar.{Scalar}
 use Rattle.p10_meaning.specs.States.{State, End, AssertionFailed, Undefined, StepsSpent, Progress, gives, ends}
 
--- an end that is no undefined operation: an `assert` that fails, or the want of steps
+-- an end that is no undefined operation: an `assert` that fails, or that no steps are left
 abbrev pub IsDefinedEnd : End → Type 0
 IsDefinedEnd (AssertionFailed span) = Unit {0}
 IsDefinedEnd (Undefined stop span) = ⊥

@@ -43,7 +43,7 @@ passed_back Opens place (first, suc closing) = (first, closing)
 passed_back Closes place (first, closing) = (first, suc closing)
 passed_back _ place behind = behind
 
--- the same of lines the first of which has this place
+-- the same for lines the first of which has this place
 abbrev pub read_back : List Mark → ℕ → Option ℕ × ℕ
 read_back [] place = (None, 0)
 read_back (mark ∷ marks) place = passed_back mark place (read_back marks (suc place))

@@ -67,12 +67,12 @@ abbrev pub if_level : ℕ → Option Binary → Option Binary
 if_level level None = None
 if_level level (Some op) = if nat_le level (level_of_binary op) then Some op else None
 
--- the first word is an operator between operands that binds at least so tightly
+-- the first word is an operator between operands that binds at least as tightly as the level says
 abbrev pub operator_at : ℕ → List Token → Option Binary
 operator_at level [] = None
 operator_at level (token ∷ tokens) = if_level level (binary_of token)
 
--- a reader of conditions of at least so high a level
+-- a reader of conditions of at least this level
 abbrev pub Reader : Type 0 → Type 0
 Reader A = ℕ → List Token → Option (Found A)
 
@@ -148,7 +148,7 @@ module _ {A : Type 0} (algebra : Algebra A) where
   abbrev pub behind_left : ℕ → ℕ → Reader A → Found A → Option (Found A)
   behind_left budget level inner f = option_and_then (ended budget level inner) (chain (budget - f.depth) budget level inner f)
 
-  -- a condition of at least so high a level and at most so deep, from the first word on
+  -- a condition of at least this level and at most this depth, from the first word on
   unfoldable pub climb : ℕ → Reader A
   climb zero level tokens = None
   climb (suc budget) level tokens = option_and_then (behind_left (suc budget) level (climb budget)) (operand (climb budget) tokens)

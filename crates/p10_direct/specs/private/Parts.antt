@@ -18,7 +18,7 @@ from place words = tokens_of (map plain_word (drop place words))
 abbrev pub found_of : List Word → Part → Found Value
 found_of words part = record { what = value_read part.value; depth = part.depth; rest = from part.place words }
 
--- how an operand begins, as the code tells it
+-- how an operand begins, as the code has it
 abbrev pub start_read : Coded → Start
 start_read coded.Group = Group
 start_read (coded.Sign op) = Sign op

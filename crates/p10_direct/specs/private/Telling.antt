@@ -1,4 +1,4 @@
--- What an answer of the code tells of a line.
+-- What an answer of the code says of a line.
 use Rattle.std.specs.Prelude.{◌≡◌, Some, Result, Ok, Err}
 use Rattle.p10_base.specs.declared.span.Span.{Span}
 use Rattle.p10_direct.specs.declared.form.Directive.{Directive}

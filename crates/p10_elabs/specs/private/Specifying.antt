@@ -10,17 +10,17 @@ use Rattle.p10_elabd.specs.Shapes.{declares_function, is_plain_name}
 use Rattle.p10_elabs.specs.declared.specifiers.Declares.{Declares}
 use Rattle.p10_elabs.specs.declared.specifiers.Declares.TheVariants.{Plainly, Functions}
 
--- whether it is so of a declarator
+-- whether a declarator is as asked: a plain name, or one that declares a function
 abbrev pub passes_declarator : Declares → InitDeclarator At → Bool
 passes_declarator Plainly i = is_plain_name i.declarator
 passes_declarator Functions i = declares_function i.declarator
 
--- whether it is so of each declarator
+-- whether each declarator is as asked
 abbrev pub all_pass : Declares → List (InitDeclarator At) → Bool
 all_pass asked [] = true
 all_pass asked (d ∷ rest) = passes_declarator asked d && all_pass asked rest
 
--- whether it is so of each declarator, and there is one
+-- whether each declarator is as asked, and there is one
 abbrev pub are_so : Declares → List (InitDeclarator At) → Bool
 are_so asked [] = false
 are_so asked (d ∷ rest) = all_pass asked (d ∷ rest)

@@ -19,7 +19,7 @@ pub data NumberOfBytes : Type 0 where
   of_elements : At → Judged Shape → Judged PlainValue → NumberOfBytes
   of_bytes : NumberOfBytes
 
--- the same of the code
+-- the same for the code
 abbrev pub plain_bytes : Bytes → NumberOfBytes
 plain_bytes (Size t) = of_type (judged_shape t)
 plain_bytes (Sizes a b) = of_sizes a.at (judged_shape a.found) b.at (judged_shape b.found)

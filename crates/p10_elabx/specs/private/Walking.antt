@@ -13,7 +13,7 @@ use Rattle.p10_elabx.specs.Calls.{Callee, of_library, callee_of, library_wants, 
 use Rattle.p10_elabx.specs.TypeNames.{Shape, name_place, parameter_judged, specifiers_judged}
 use Rattle.p10_elabx.specs.Judging.{count_of, judge_arguments, judge_allocation, judge_declarator}
 
--- a call of a name where an operand is wanted
+-- a call of a name where an operand is needed
 abbrev pub named_call : Keep → PlainScope → At → Identifier At → Expressions At → Judged PlainOperand
 named_call h s at f all =
     let callee : Callee = callee_of (named s f.name) f.name in

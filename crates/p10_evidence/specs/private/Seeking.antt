@@ -11,7 +11,7 @@ abbrev pub parts_of : PlainStatement → Option LoopParts
 parts_of (statement at (loop head first tested third body)) = Some (record { head = head; first = first; tested = tested; third = third; body = body })
 parts_of s = None
 
--- the same of a statement, if one was found
+-- the same for a statement, if one was found
 abbrev pub parts_found : Option PlainStatement → Option LoopParts
 parts_found None = None
 parts_found (Some s) = parts_of s

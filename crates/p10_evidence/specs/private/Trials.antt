@@ -15,7 +15,7 @@ rank_holds claim entry r = is_ranked claim.rank && (enters_ranked claim.rank r.e
 abbrev pub round_stands : List PlainVariable → Round → Environment → Loop → Bool
 round_stands variables r entry claim = rank_holds claim entry r && (ranges_hold claim 0 variables entry && ranges_hold_reached claim variables r.back)
 
--- the same of a round that may be lacking
+-- the same for a round that may be lacking
 abbrev pub stands_with : List PlainVariable → Option Round → Environment → Loop → Bool
 stands_with variables None entry claim = false
 stands_with variables (Some r) entry claim = round_stands variables r entry claim

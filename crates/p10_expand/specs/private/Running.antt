@@ -17,7 +17,7 @@ pub record PutsItem (out : List PlainWord) (given : List Text) (line : List Plai
   pub words : (lines : List (List PlainWord)) → new ++ new_words new_given lines ≡ out ++ new_words given (line ∷ lines)
   pub names : (lines : List (List PlainWord)) → given_after new_given lines ≡ given_after given (line ∷ lines)
 
--- a word of a condition was answered, and so many after it with it
+-- a word of a condition was answered, and `more` words after it with it
 pub record PutsAnswer (macros : Table) (out : List PlainWord) (word : PlainWord) (words : List PlainWord) (new : List PlainWord) (more : ℕ) : Type 0 where
   pub within : more ≤ length words
   pub same : new ++ answered macros more words ≡ out ++ answered macros 0 (word ∷ words)

@@ -40,12 +40,12 @@ pub record Keeps (old new : Gathering) : Type 0 where
   pub sources : new.sources ≡ old.sources
   pub known : new.known.items ≡ old.known.items
 
--- files were added behind those that there were
+-- files were added after those that there were
 pub record Grows (old new : Gathering) : Type 0 where
   pub behind : List Known
   pub known : new.known.items ≡ old.known.items ++ behind
 
--- a file was put behind the others, at this place
+-- a file was put after the others, at this place
 pub record AddsFile (old new : Gathering) (place : Place) (depth : ℕ) (text : List ℕ) (number : ℕ) : Type 0 where
   pub words : List WordPlace
   pub includes : List Include
@@ -61,7 +61,7 @@ FailsToRead number text (Over limit) = Answers number text (Err (lexing.Over lim
 FailsToRead number text Read = ⊥
 FailsToRead number text Memory = Unit {0}
 
--- why a file with this text isn't added; a refused one was put behind the others
+-- why a file with this text isn't added; a refused one was put after the others
 abbrev pub FailsToAdd : Gathering → Gathering → Place → List ℕ → Trouble → Type 0
 FailsToAdd old new place text (Refused refusal) = Answers (count_of old.sources) text (Err (lexing.Refused refusal)) × (new.sources ≡ with_file old.sources (name_at place) text (is_header_place place) [])
 FailsToAdd old new place text trouble = FailsToRead (count_of old.sources) text trouble
@@ -141,7 +141,7 @@ StopsAt s m g (Refused refusal) = RefusesNext s m refusal g
 StopsAt s m g (Over limit) = PassesLimit s m limit ⊎ IsOneTooMany s m limit
 StopsAt s m g trouble = Unit {0}
 
--- the gathering stops at this request, whatever its roots are and whatever is asked for behind it
+-- the gathering stops at this request, whatever its roots are and whatever is asked for after it
 abbrev pub Stops : Option (List Named) → List Text → Gathering → Gathering → Request → Trouble → Type 0
 Stops held dirs old new request trouble =
     (roots : List Text) (rest : List Request) → StopsAt (setting held roots dirs) (moment old (request ∷ rest)) new.sources trouble

@@ -65,7 +65,7 @@ pub record StandsIn (text : Text) (place : WordPlace) : Type 0 where
   pub ordered : place.start ≤ place.end
   pub within : place.end ≤ length text
 
--- these are the words of the first files, which are so many (C99 6.4)
+-- these are the words of the first `count` files (C99 6.4)
 pub record AreWords (g : Gathered) (count : ℕ) (all : List (Vec Word Global)) : Type 0 where
   pub many : length all ≡ count
   pub lexed : (number : ℕ) → number < count → Answers number (text_of g number) (Ok (words_among all number))
@@ -75,7 +75,7 @@ pub record IsCut (words : List PlainWord) (cut : Lines) : Type 0 where
   pub cut_so : AreCut words (pieces_of cut)
   pub unbalanced : cut.unbalanced ≡ first_unbalanced (pieces_of cut)
 
--- the lines of the first files with these words, which are so many
+-- the lines of the first `count` files, which have these words
 pub record AreCuts (words : List (Vec Word Global)) (count : ℕ) (cuts : List Lines) : Type 0 where
   pub all : length cuts ≡ count
   pub cut : (number : ℕ) → number < count → IfSome (slice_get cuts number) (IsCut (words_among words number))
@@ -94,7 +94,7 @@ abbrev pub inner_of : Stand → ℕ
 inner_of Obeyed = 0
 inner_of (Skipped chosen inner) = inner
 
--- a file that is entered is one of so many
+-- a file that is entered is one of the first `count`
 abbrev pub EntersBelow : ℕ → Step → Type 0
 EntersBelow count (step.Enter number built_in) = number < count
 EntersBelow count _ = Unit {0}
@@ -107,7 +107,7 @@ Stays _ = ⊥
 
 -- ## Answers
 
--- what comes of a line, as the code tells it, with this state after it
+-- what comes of a line, as the code says it, with this state after it
 abbrev pub next_of : Step → CodedState → Next
 next_of (step.On holds) s = GoesOn holds (state_of s)
 next_of (step.Enter number built_in) s = EntersFile number built_in (state_of s)

@@ -74,7 +74,7 @@ fn answer<'s>(
     Ok(out)
 }
 
-/// Puts a word, or the answer to the question that it begins, behind the others; tells how many of the words behind it are of
+/// Puts a word, or the answer to the question that it begins, after the others; gives how many of the words after it are of
 /// the question.
 fn answer_word<'s>(
     macros: &Macros<'_, 's>,
@@ -115,7 +115,7 @@ fn digit<'s>(word: Word<'s>, truth: bool) -> Word<'s>
     }
 }
 
-/// The name that a word and those behind it ask for, and how many of these that takes.
+/// The name that a word and those after it ask for, and how many of these that takes.
 fn asked_name<'s>(word: &Word<'s>, words: &[Word<'s>]) -> Option<(&'s [u8], usize)>
     ensures value { as_asked result ≡ asked_at (plain_word word.now) (map plain_word words.now) }
     ensures few { IfSome result (λ found. found.1 ≤ length words.now) }
@@ -127,7 +127,7 @@ fn asked_name<'s>(word: &Word<'s>, words: &[Word<'s>]) -> Option<(&'s [u8], usiz
     }
 }
 
-/// The name that the words behind `defined` ask for, and how many words that takes.
+/// The name that the words after `defined` ask for, and how many words that takes.
 fn asked_behind<'s>(words: &[Word<'s>]) -> Option<(&'s [u8], usize)>
     ensures value { as_asked result ≡ asked (map plain_word words.now) }
     ensures few { IfSome result (λ found. found.1 ≤ length words.now) }
@@ -146,7 +146,7 @@ fn asked_behind<'s>(words: &[Word<'s>]) -> Option<(&'s [u8], usize)>
     }
 }
 
-/// The name `X` of `defined(X)`, by the words behind its `(`; the question takes three words behind `defined`.
+/// The name `X` of `defined(X)`, by the words after its `(`; the question takes three words after `defined`.
 fn inside<'s>(words: &[Word<'s>]) -> Option<(&'s [u8], usize)>
     ensures value { as_asked result ≡ asked_inside (map plain_word words.now) }
     ensures few { IfSome result (λ found. found.1 ≤ 1 + length words.now) }

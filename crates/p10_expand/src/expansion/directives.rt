@@ -132,7 +132,7 @@ fn is_text_of(text: &[u8], name: &[u8]) -> bool
     }
 }
 
-/// The place of the word behind the name of a directive.
+/// The place of the word after the name of a directive.
 fn operand(line: &[Word<'_>]) -> Span
     requires { BeginsWithHash (map plain_word line.now) }
     ensures { result ≡ operand_place (map plain_word line.now) }

@@ -9,7 +9,7 @@ pub enum ExpandFault {
     /// Before a refusal there are too many nested includes (M3), words of files and of replacements (M4) or macros that are
     /// defined at once (M6).
     Over(Limit),
-    /// Memory is wanting.
+    /// Out of memory.
     Memory,
 }
 

@@ -15,7 +15,7 @@ use p10_base::{Limit, Refusal};
 use p10_direct::part_of;
 use std::alloc::Global;
 
-/// Expands a file, in which so many includes may be nested. The answer is the first refusal, or none where the end of the
+/// Expands a file, in which this many includes may be nested. The answer is the first refusal, or none where the end of the
 /// file is reached.
 pub fn expand_file<'w, 's>(
     alloc: Global,

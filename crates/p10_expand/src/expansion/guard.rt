@@ -33,7 +33,7 @@ fn begins_guard(first: &Line<'_, '_>, second: &Line<'_, '_>, others: &[Line<'_, 
     }
 }
 
-/// Whether the lines are those of an include guard behind its first line, which asks for this name.
+/// Whether the lines are those of an include guard after its first line, which asks for this name.
 fn closed_guard(name: Option<&[u8]>, define: &[Word<'_>], lines: &[Line<'_, '_>]) -> bool
     ensures { result ≡ guards (option_copied name.entry) (map plain_word define.now) (map piece_of lines.now) }
 {

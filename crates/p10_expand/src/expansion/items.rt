@@ -29,7 +29,7 @@ pub fn new_items<'s>(
     Ok(out)
 }
 
-/// Puts a line behind the words, unless its item was given.
+/// Puts a line after the words, unless its item was given.
 fn put_item<'s>(
     out: &mut Vec<Word<'s>>,
     given: &mut Vec<&'s [u8]>,

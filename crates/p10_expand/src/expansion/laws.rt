@@ -6,7 +6,7 @@ ghost use Rattle.p10_expand.specs.Expands.{ExpandsToOnce};
 use p10_direct::{one_condition, one_cut, one_outcome};
 use p10_macros::{front_gives, one_ending};
 
-/// A program expands to one thing at most: its words and refusal, or a passed limit.
+/// A program expands to one thing at most: its words and refusal, or a limit that is exceeded.
 pub fn expands_to_once()
     ensures { ExpandsToOnce }
 {

@@ -80,7 +80,7 @@ fn expand_before<'w, 's>(
     }
 }
 
-/// Puts the words of a run behind those of its root.
+/// Puts the words of a run after those of its root.
 fn put_run<'s>(words: &mut Vec<Word<'s>>, run: Vec<Word<'s>>) -> Result<(), AllocError>
     ensures { OnOk result (words.new.items ≡ words.old.items ++ run.entry.items) }
 {

@@ -11,7 +11,7 @@ use p10_direct::Mark;
 pub enum Stand {
     /// In no skipped group.
     Obeyed,
-    /// In a skipped group, or at the line where it ends. `chosen` tells whether a group of that conditional was chosen
+    /// In a skipped group, or at the line where it ends. `chosen` says whether a group of that conditional was chosen
     /// before, and `inner` how many conditionals have begun in the group and are open.
     Skipped { chosen: bool, inner: usize },
 }
@@ -33,7 +33,7 @@ pub fn is_followed(stand: Stand, part: Mark) -> bool
     }
 }
 
-/// Where the line after one with this part stands; `holds` tells whether its condition holds.
+/// Where the line after one with this part stands; `holds` says whether its condition holds.
 pub fn after(stand: Stand, part: Mark, holds: bool) -> Stand
     requires { inner_of stand + 1 < 2 ^ 64 }
     ensures value { result ≡ stand_after stand part holds }

@@ -30,7 +30,7 @@ unsummed p c n rank f = record {
   loops = (loops_of p c n f).claims;
 }
 
--- the same of all functions
+-- the same for all functions
 pub record AreUnsummed (p : PlainProgram) (c : Claims) (ranks : List ℕ) (funcs : List Func) : Type 0 where
   pub each : length funcs ≡ length p.functions
   pub claims : (n : ℕ) (f : PlainFunction) → slice_get p.functions n ≡ Some f → slice_get funcs n ≡ Some (unsummed p c n (slice_index ranks n) f)

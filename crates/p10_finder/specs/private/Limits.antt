@@ -1,4 +1,4 @@
--- Which limit a certificate passes.
+-- Which limit a certificate exceeds.
 use Rattle.std.specs.Prelude.{◌≡◌, ◌⊎◌, nat_lt, Bool, false, ◌||◌, List, [], ◌∷◌}
 use Rattle.p10_base.specs.declared.report.TheConstants.Limit.{SUM, MOST_SUM, CERTIFICATE_BYTES}
 use Rattle.p10_core.specs.Typed.{PlainProgram}
@@ -17,7 +17,7 @@ abbrev pub long_among : List Func → Bool
 long_among [] = false
 long_among (f ∷ rest) = long_in f.loops || long_among rest
 
--- the limit is the first that the certificate passes, or it is out of memory
+-- the limit is the first that the certificate exceeds, or it is out of memory
 abbrev pub IsPassed : PlainProgram → Claims → FinderFault → Type 0
 IsPassed p c (Over limit) = ((limit ≡ SUM) × PassesSum p c) ⊎ ((limit ≡ CERTIFICATE_BYTES) × (PassesSum p c → ⊥) × PassesText c)
 IsPassed p c Memory = Unit {0}

@@ -18,7 +18,7 @@ use Rattle.p10_finder.specs.Functions.{search_in, known_at_start}
 abbrev pub search_by : CodeSearch → Search
 search_by s = record { calls = claims_of s.calls.now; variables = map plain_variable s.variables.now; task = s.task }
 
--- which of so many variables a statement assigns
+-- which of the first `count` variables a statement assigns
 abbrev pub assigned_below : ℕ → PlainStatement → ℕ → Bool
 assigned_below count x n = nat_lt n count && assigns n x
 

@@ -31,7 +31,7 @@ abbrev pub back_edges : ℕ → ℕ → List (ℕ × ℕ)
 back_edges memory zero = []
 back_edges memory (suc u) = (memory, u) ∷ back_edges memory u
 
--- numbers that tell which functions allocate or free: those with the number of the memory
+-- numbers that say which functions allocate or free: those with the number of the memory
 pub record TellsAllocating (p : PlainProgram) (numbers : List ℕ) : Type 0 where
   pub each : length numbers ≡ length p.functions + 1
   pub exact : (u : ℕ) → u < length p.functions → (slice_index numbers u ≡ slice_index numbers (length p.functions)) ↔ AllocatesOrFrees p u

@@ -36,7 +36,7 @@ abbrev pub Begin : List ℕ → ℕ → Type 0
 Begin [] n = n ≡ 0
 Begin (start ∷ groups) n = (start < n) × Begin groups start
 
--- the group of p doesn't stand behind that of q: each group that begins at or before p begins at or before q
+-- the group of p doesn't stand after that of q: each group that begins at or before p begins at or before q
 abbrev pub IsUpTo : List ℕ → ℕ → ℕ → Type 0
 IsUpTo [] p q = Unit {0}
 IsUpTo (start ∷ groups) p q = (start ≤ p → start ≤ q) × IsUpTo groups p q
@@ -112,7 +112,7 @@ pub record IsSearch (g : List (List ℕ)) (s : State) : Type 0 where
   pub stands : (u place : ℕ) → mark_of s.marks u ≡ Open place → slice_get s.open_nodes place ≡ Some u
   -- no edge of an unseen node is done
   pub fresh : (u : ℕ) → mark_of s.marks u ≡ Unseen → done_of s.done u ≡ 0
-  -- an open node reaches those of its own group and of the groups behind
+  -- an open node reaches those of its own group and of the groups after it
   pub reaches : (p q u v : ℕ) → slice_get s.open_nodes p ≡ Some u → slice_get s.open_nodes q ≡ Some v → IsUpTo s.groups p q → Reaches g u v
   -- where the edges of open nodes lead that are done
   pub settles : (u place v : ℕ) → mark_of s.marks u ≡ Open place → IsDone g s.done u v → Settles s.groups place (mark_of s.marks v)

@@ -32,7 +32,7 @@ abbrev pub tables_upto : ℕ → List Head → List (List (Text × ℕ))
 tables_upto zero heads = []
 tables_upto (suc n) heads = tables_upto n heads ++ first_numbers (Own n) heads ∷ []
 
--- how many roots there are, as far as definitions tell
+-- how many roots there are, as far as definitions say
 abbrev pub roots_in : List Head → ℕ
 roots_in [] = 0
 roots_in (f ∷ rest) = max (f.root + 1) (roots_in rest)

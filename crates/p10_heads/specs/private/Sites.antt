@@ -11,7 +11,7 @@ use Rattle.p10_syn.specs.Trees.{External, Outer, Defines}
 use Rattle.p10_heads.specs.Heads.{Outline, is_fully, is_tentative, at_or, begins_at, outlines_in, Head, heads_in_all}
 use Rattle.p10_heads.specs.private.Firsts.{firsts}
 
--- whether it is so of an outline
+-- whether that holds for an outline
 abbrev pub passes : Asked → Outline → Bool
 passes Full o = is_fully o
 passes Tentative o = is_tentative o

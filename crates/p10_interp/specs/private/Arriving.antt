@@ -1,4 +1,4 @@
--- Where the acts of the machine arrive: all work is done, or the outside is wanted before the next act.
+-- Where the acts of the machine arrive: all work is done, or the outside is needed before the next act.
 use Rattle.std.specs.Prelude.{◌≡◌, ℕ, ◌<◌, ◌≤◌, ◌⊎◌, Result, Ok, Err}
 use Rattle.p10_core.specs.Typed.{PlainProgram}
 use Rattle.p10_meaning.specs.States.{State, AssertionFailed, Undefined as IsUndefined, StepsSpent, Progress, gives, ends}
@@ -18,7 +18,7 @@ abbrev pub paused_at : PlainProgram → ℕ → Stacks → Pause → State → P
 paused_at p n s (Over flow) w = gives (record { flow = flow_of flow; operands = s.operands; calls = calls_in s.calls }) w
 paused_at p n s (Held flow) w = proceed p n (rig_of (flow_of flow) s) w
 
--- what the machine comes to is what its stacks come to where it arrives, or it ends as the answer says, but for want of memory
+-- what the machine comes to is what its stacks come to where it arrives, or it ends as the answer says, unless memory runs out
 abbrev pub Arrives : PlainProgram → ℕ → Progress Left → Result Pause Halt → Stacks → State → Type 0
 Arrives p n o (Ok pause) new w = o ≡ paused_at p n new pause w
 Arrives p n o (Err (Failed span)) new w = o ≡ ends (AssertionFailed span) w

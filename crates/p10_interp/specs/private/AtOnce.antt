@@ -18,16 +18,16 @@ use Rattle.p10_meaning.specs.Values.{Setting, Held, Element, width, is_void, eva
 use Rattle.p10_interp.specs.declared.surroundings.Surroundings.{Surroundings}
 use Rattle.p10_interp.specs.private.Standing.{held_of}
 
--- where a step is left, this is what a piece gives in each state with these objects and so many steps, and it leaves all but the
+-- where a step is left, this is what a piece gives in each state with these objects and `before` steps, and it leaves all but the
 -- steps as it was
 abbrev pub Finds : {A : Type 0} → (State → Progress A) → List Object → ℕ → A → ℕ → Type 0
 Finds run objects before x after = 0 < after → (w : State) → w.objects ≡ objects → run (record w { left = before }) ≡ gives x (record w { left = after })
 
--- the same of a tree in the innermost call of a program
+-- the same for a tree in the innermost call of a program
 abbrev pub Settles : {A : Type 0} → Surroundings → (Setting → List Held → State → Progress A) → ℕ → A → ℕ → Type 0
 Settles around run before x after = (s : Setting) → s.program ≡ plain_program around.p.now → Finds (run s (map held_of around.held.now)) around.store.now.objects before x after
 
--- the same of a form of a value, wherever it stands
+-- the same for a form of a value, wherever it stands
 abbrev pub Performs : Surroundings → PlainType → PlainForm → ℕ → Scalar → ℕ → Type 0
 Performs around t form before x after = (at : At) → Settles around (λ s held. perform s held at t form) before (Some x) after
 
@@ -49,7 +49,7 @@ Pays false before after = after ≡ 0
 abbrev pub IsFound : {A : Type 0} → Result A Stop → ℕ → A → ℕ → Type 0
 IsFound r before x after = 0 < after → (after ≡ before) × (r ≡ Ok x)
 
--- the same of a form of a place, wherever it stands
+-- the same for a form of a place, wherever it stands
 abbrev pub Locates : Surroundings → PlainType → PlainPlaceForm → ℕ → Ptr → ℕ → Type 0
 Locates around t form before q after = (at : At) → Settles around (λ s held. find_place s held at t form) before (Element q) after
 
@@ -69,7 +69,7 @@ LocatesObject around q n = (s : Setting) → s.program ≡ plain_program around.
 abbrev pub Starts : Setting → List Held → PlainValue → Ptr → Type 0
 Starts s held v start = (w : State) (object : Object) → reach w.objects start ≡ Ok object → evaluate s held v w ≡ step w (λ w. gives (Pointer start) w)
 
--- the same of a tree in the innermost call of a program
+-- the same for a tree in the innermost call of a program
 abbrev pub StartsArray : Surroundings → PlainValue → Ptr → Type 0
 StartsArray around v start = (s : Setting) → s.program ≡ plain_program around.p.now → Starts s (map held_of around.held.now) v start
 
@@ -78,11 +78,11 @@ abbrev pub IsNoSensor : Option PlainObject → Type 0
 IsNoSensor None = ⊥
 IsNoSensor (Some object) = object.sensor ≡ false
 
--- the array of so many elements of so many scalars that an object is as a whole
+-- the array that an object is as a whole, by the scalars of an element and the number of elements
 abbrev pub array_window : ℕ → ℕ → Window
 array_window stride count = record { start = 0; stride = stride; count = count; inside = true; whole = false }
 
--- a pointer stands so many elements after another one in its array, where their object is live
+-- a pointer stands `by` elements after another one in its array, where their object is live
 abbrev pub IsMoved : Ptr → ℤ → Ptr → Type 0
 IsMoved start by there = (objects : List Object) (object : Object) → reach objects there ≡ Ok object → shift objects start by ≡ Ok there
 

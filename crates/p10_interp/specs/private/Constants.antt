@@ -15,7 +15,7 @@ use Rattle.p10_interp.specs.private.Tasks.{Task, Operand, Open}
 abbrev pub nothing_around : Around
 nothing_around = record { out = []; rest = [] }
 
--- a state is that in which constant expressions are evaluated, but for the steps that are left
+-- a state is that in which constant expressions are evaluated, except for the steps that are left
 abbrev pub IsConstantState : PlainProgram → State → Type 0
 IsConstantState p w = w ≡ record (constant_state p) { left = w.left }
 
@@ -34,7 +34,7 @@ abbrev pub scalars_if : Bool → List PlainItem → List Scalar → List (ℕ ×
 scalars_if true items xs = scalars_of_items items xs
 scalars_if false items xs = []
 
--- whether a run ended by itself, and not for want of steps or memory
+-- whether a run ended by itself, and not because it ran out of steps or memory
 abbrev pub is_ended : Halt → Bool
 is_ended (Failed span) = true
 is_ended (Undefined stop span) = true

@@ -20,7 +20,7 @@ pub record IsDeclared (p : PlainProgram) (n : ℕ) (v : PlainVariable) (f : Open
   pub here : now ≡ call ∷ calls
   pub same : (span : Span) (i : PlainInitializer) (k : List Task) (operands : List Operand) → declared_by p span n (Some v) i k operands f calls w ≡ initialized span v.type (target_of target) i k operands call calls new
 
--- a declaration of a variable makes it a place, but for want of memory
+-- a declaration of a variable makes it a place, unless memory runs out
 abbrev pub Declares : PlainProgram → ℕ → PlainVariable → Open → List Open → State → Result Aim Halt → List Open → State → Type 0
 Declares p n v f calls w (Ok target) now new = IsDeclared p n v f calls w target now new
 Declares p n v f calls w (Err (Failed span)) now new = ⊥
@@ -28,7 +28,7 @@ Declares p n v f calls w (Err (Undefined stop span)) now new = ⊥
 Declares p n v f calls w (Err Spent) now new = ⊥
 Declares p n v f calls w (Err Memory) now new = Unit {0}
 
--- an object of a type was opened, which has so many scalars, but for want of memory
+-- an object of a type was opened, and this is the number of its scalars, unless memory runs out
 abbrev pub OpensObject : PlainProgram → PlainType → State → Result ℕ Halt → State → Type 0
 OpensObject p t w (Ok n) new = (new ≡ open_object declared (unset_cells (scalars p t)) w) × (n ≡ width p t)
 OpensObject p t w (Err (Failed span)) new = ⊥

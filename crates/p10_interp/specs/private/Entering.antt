@@ -13,8 +13,8 @@ use Rattle.p10_interp.specs.private.Tasks.{Operand, Open}
 use Rattle.p10_interp.specs.private.Operations.{with_frame}
 use Rattle.p10_interp.specs.private.Resuming.{depth_of}
 
--- the values that are taken from operands, and the operands that are left, but for want of memory; as for want of steps where
--- they aren't there
+-- the values that are taken from operands, and the operands that are left, unless memory runs out; where they aren't there, it
+-- is answered as out of steps
 abbrev pub Takes : {B : Type 0} → Option (List Scalar × List Operand) → Result B Halt → List Scalar → List Operand → Type 0
 Takes taken (Ok done) xs operands = taken ≡ Some (xs, operands)
 Takes taken (Err (Failed span)) xs operands = ⊥

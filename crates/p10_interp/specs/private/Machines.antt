@@ -33,11 +33,11 @@ state_of s io = record {
   after_mark = s.after;
 }
 
--- the machine, but for its state
+-- the machine, except for its state
 abbrev pub rig_of : Flow → Stacks → Rig
 rig_of flow s = record { flow = flow; tasks = tasks_in s.tasks; operands = s.operands; calls = calls_in s.calls }
 
--- an answer of the code is what comes of an act, with how execution goes on, but for want of memory
+-- an answer of the code is what comes of an act, with how execution goes on, unless memory runs out
 abbrev pub Moves : Progress Rig → Result Way Halt → Stacks → State → Type 0
 Moves o (Ok flow) new w = o ≡ gives (rig_of (flow_of flow) new) w
 Moves o (Err (Failed span)) new w = o ≡ ends (AssertionFailed span) w

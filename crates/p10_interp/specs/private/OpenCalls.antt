@@ -60,7 +60,7 @@ owning frame object = record frame { opened = object ∷ frame.opened }
 abbrev pub standing_at : Frame → ℕ → ℕ → Frame
 standing_at frame n object = owning (holding_at frame n (stands object)) object
 
--- where what stands for a variable is among so many, where those of its call begin at a place
+-- where what stands for a variable is one of the first `most`, where those of its call begin at a place
 abbrev pub IsPlaced : ℕ → ℕ → ℕ → Option ℕ → Type 0
 IsPlaced from most n (Some place) = (place ≡ from + n) × (place < most)
 IsPlaced from most n None = most ≤ from + n
@@ -106,7 +106,7 @@ abbrev pub last_own_of : List Base → List (Option ℕ) → Option ℕ
 last_own_of [] marks = None
 last_own_of (b ∷ bases) marks = first_own (reverse (drop b.marks marks))
 
--- the innermost call has a mark among so many
+-- the innermost call has a mark among the first n
 abbrev pub has_mark_of : List Base → ℕ → Bool
 has_mark_of [] n = false
 has_mark_of (b ∷ bases) n = ltb b.marks n

@@ -1,5 +1,5 @@
 -- What each operation does: to the operands on top, the innermost open call and the state, by the meaning of what it stands for.
--- Where an operand or an open call that it needs isn't there, it ends as for want of steps, in the code too; that never comes.
+-- Where an operand or an open call that it needs isn't there, it ends as if steps had run out, in the code too; that never comes.
 use Rattle.std.specs.Prelude.{ℕ, zero, suc, List, [], ◌∷◌, ◌++◌, Option, Some, None}
 use Rattle.p10_core.specs.Types.{bare}
 use Rattle.p10_core.specs.Typed.{PlainValues, no_values, more_values, PlainWritten, one_scalar, scalars_of_text, PlainItem, PlainProgram}
@@ -38,7 +38,7 @@ abbrev pub below : List Operand → List Operand
 below [] = []
 below (operand ∷ operands) = operands
 
--- on with something, or the end as for want of steps
+-- on with something, or the end as if steps had run out
 abbrev pub on_some : {A B : Type 0} → Option A → State → (A → Progress B) → Progress B
 on_some None w go = ends StepsSpent w
 on_some (Some x) w go = go x

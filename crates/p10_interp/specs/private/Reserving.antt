@@ -5,7 +5,7 @@ use Rattle.p10_interp.specs.private.Views.{tasks_in}
 use Rattle.p10_interp.specs.private.OpenCalls.{calls_in}
 use Rattle.p10_interp.specs.private.Machines.{Around, state_of}
 
--- a machine is as before but for room
+-- a machine is as before except for room
 pub record StaysButRoom (old new : Engine) : Type 0 where
   pub tasks : tasks_in new.stacks.tasks ≡ tasks_in old.stacks.tasks
   pub operands : new.stacks.operands ≡ old.stacks.operands

@@ -13,7 +13,7 @@ use Rattle.p10_interp.specs.private.OpenCalls.{calls_in}
 abbrev pub left_of : Way → Stacks → Left
 left_of flow s = record { flow = flow_of flow; operands = s.operands; calls = calls_in s.calls }
 
--- an answer of the code is what work comes to, but for want of memory
+-- an answer of the code is what work comes to, unless memory runs out
 abbrev pub Comes : Progress Left → Result Way Halt → Stacks → State → Type 0
 Comes o (Ok flow) new w = o ≡ gives (left_of flow new) w
 Comes o (Err (Failed span)) new w = o ≡ ends (AssertionFailed span) w

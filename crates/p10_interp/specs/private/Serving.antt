@@ -52,7 +52,7 @@ Comes from old (Err Read) to new = Loses from old new.left new.taken
 Comes from old (Err Write) to new = Loses from old new.left new.taken
 Comes from old (Err Memory) to new = Loses from old new.left new.taken
 
--- where the outside isn't asked: what comes of a state is what comes of the state that an answer leaves, but for want of memory
+-- where the outside isn't asked: what comes of a state is what comes of the state that an answer leaves, unless memory runs out
 abbrev pub Yields : {A X : Type 0} → Progress A → Result X Broken → (X → State → Progress A) → State → Type 0
 Yields o (Ok x) to w = o ≡ to x w
 Yields o (Err (Failed span)) to w = o ≡ ends (AssertionFailed span) w

@@ -16,7 +16,7 @@ use Rattle.p10_meaning.specs.Calling.{Depth}
 -- ## Tasks
 
 -- what is done at once with the operands on top, once they are there: a value is used, or dropped; no value is given; a
--- conversion; an operator; the truth of a value; a library function on so many arguments; what a place is read for, the
+-- conversion; an operator; the truth of a value; a library function on a number of arguments; what a place is read for, the
 -- scalar in it, nothing of a structure, its address, the first element of its array; an element, a member, what a pointer
 -- points to; a write; both halves of an update; the copy of a structure; the scalars that a list gives; an `assert`; `return`
 pub data Operation : Type 0 where
@@ -50,7 +50,7 @@ pub record Loop : Type 0 where
   pub body : PlainStatement
 
 -- a task: to evaluate a value that is used, or one that isn't; to find a place; to evaluate arguments, or the values that a
--- list gives; to go on with `&&` or `||` after its left operand, with `?:` after its condition; to call a function on so many
+-- list gives; to go on with `&&` or `||` after its left operand, with `?:` after its condition; to call a function on a number of
 -- arguments; to execute a statement, or statements in order; to copy a structure into the place on top; to go on with `if`
 -- after its condition; to begin a loop; its test; what follows the test; what follows the body; the end of a block; to go on
 -- with `switch` after its value; the end of a `switch`; the end of a function's body; an operation
@@ -98,7 +98,7 @@ pub record Left : Type 0 where
   pub operands : List Operand
   pub calls : List Open
 
--- the machine, but for its state: how execution goes on, its tasks, operands and open calls
+-- the machine, except for its state: how execution goes on, its tasks, operands and open calls
 pub record Rig : Type 0 where
   pub flow : Flow
   pub tasks : List Task

@@ -139,7 +139,7 @@ tasks_of work = map task_of (reverse work)
 abbrev pub tasks_in : Tasks → List Task
 tasks_in t = tasks_of t.items.items
 
--- an answer of the code is what comes of an act, but for want of memory
+-- an answer of the code is what comes of an act, unless memory runs out
 abbrev pub Answers : {A B : Type 0} → Progress A → Result B Halt → A → State → Type 0
 Answers o (Ok done) new w = o ≡ gives new w
 Answers o (Err (Failed span)) new w = o ≡ ends (AssertionFailed span) w
@@ -147,7 +147,7 @@ Answers o (Err (Undefined stop span)) new w = o ≡ ends (IsUndefined stop span)
 Answers o (Err Spent) new w = o ≡ ends StepsSpent w
 Answers o (Err Memory) new w = Unit {0}
 
--- an answer of the code is what a piece gives, with the state that it leaves, but for want of memory
+-- an answer of the code is what a piece gives, with the state that it leaves, unless memory runs out
 abbrev pub Gives : {A : Type 0} → Progress A → Result A Halt → State → Type 0
 Gives o (Ok x) w = o ≡ gives x w
 Gives o (Err (Failed span)) w = o ≡ ends (AssertionFailed span) w
@@ -155,7 +155,7 @@ Gives o (Err (Undefined stop span)) w = o ≡ ends (IsUndefined stop span) w
 Gives o (Err Spent) w = o ≡ ends StepsSpent w
 Gives o (Err Memory) w = Unit {0}
 
--- an answer of the code is what an operation gives, or its stop at the span of a tree, but for want of memory
+-- an answer of the code is what an operation gives, or its stop at the span of a tree, unless memory runs out
 abbrev pub Finds : {A : Type 0} → Result A Stop → Span → Result A Halt → Type 0
 Finds r span (Ok x) = r ≡ Ok x
 Finds r span (Err (Undefined stop at)) = (r ≡ Err stop) × (at ≡ span)

@@ -16,7 +16,7 @@ Changes old new written span (Err (Failed at)) = ⊥
 Changes old new written span (Err Spent) = ⊥
 Changes old new written span (Err Memory) = Unit {0}
 
--- what comes of a piece is what comes of the next one, or it ends with this state, but for want of memory
+-- what comes of a piece is what comes of the next one, or it ends with this state, unless memory runs out
 abbrev pub Continues : {A B : Type 0} → Progress A → Progress A → Result B Halt → State → Type 0
 Continues o next (Ok done) w = o ≡ next
 Continues o next (Err (Failed span)) w = o ≡ ends (AssertionFailed span) w

@@ -1,4 +1,4 @@
--- Reading functions: the piece at the front of a text, and its first refusal.
+-- Reading functions: the piece at the beginning of a text, and its first refusal.
 use Rattle.std.specs.Prelude.{is_some, ℕ, zero, suc, ◌==◌, ◌+◌, nat_lt, Bool, false, ◌&&◌, if◌then◌else◌, List, [], ◌∷◌, length, drop, codes, bytes_eq, Option, Some, None}
 use Rattle.p10_base.specs.declared.word.Kind.{Kind}
 use Rattle.p10_base.specs.declared.word.Kind.TheVariants.{Name, Number, Char, Str, Punct, Mark}
@@ -21,11 +21,11 @@ use Rattle.p10_base.specs.declared.codes.WordCode.TheVariants.{BadByte, CommentW
 unfoldable pub kind_of_quote : ℕ → Kind
 kind_of_quote quote = if quote == 39 then Char else Str
 
--- behind a literal, or behind its line where it has no end
+-- what is left after a literal, or after its line where it has no end
 unfoldable pub literal_at : ℕ → List ℕ → Piece × List ℕ
 literal_at quote body = elim (after_literal quote 0 false body) [ Some rest ↦ (Lexeme (kind_of_quote quote), rest) | None ↦ (OpenLiteral, after_line 0 quote body) ]
 
--- behind a comment that begins with `/*`, or at the file's end where it has no end
+-- what is left after a comment that begins with `/*`, or at the file's end where it has no end
 unfoldable pub comment_at : List ℕ → Piece × List ℕ
 comment_at body = elim (after_comment body) [ Some rest ↦ (Comment, rest) | None ↦ (OpenComment, []) ]
 
@@ -38,7 +38,7 @@ unfoldable pub header_at : List ℕ → Piece × List ℕ
 header_at [] = punctuator_at []
 header_at (c ∷ name) = elim (after_header name) [ Some rest ↦ (Lexeme Str, rest) | None ↦ punctuator_at (c ∷ name) ]
 
--- the piece at the front of a text, and what is left behind it
+-- the piece at the beginning of a text, and what is left after it
 unfoldable pub cut_at : Bool → List ℕ → Piece × List ℕ
 cut_at after_include [] = (Stray, [])
 cut_at after_include (c ∷ rest) =
@@ -56,7 +56,7 @@ cut_at after_include (c ∷ rest) =
 abbrev pub fault_of : WordCode → ℕ → ℕ → Fault
 fault_of code offset extent = record { code = code; offset = offset; extent = extent }
 
--- the first splice or trigraph at the first `count` places of a text, which stands `offset` bytes behind the piece's beginning
+-- the first splice or trigraph at the first `count` places of a text, which stands `offset` bytes after the piece's beginning
 unfoldable pub mark_at : ℕ → ℕ → List ℕ → Option Fault
 mark_at offset zero text = None
 mark_at offset (suc count) [] = None

@@ -1,31 +1,31 @@
--- Reading functions: what is left of a text behind a run of bytes.
+-- Reading functions: what is left of a text after a run of bytes.
 use Rattle.std.specs.Prelude.{take, length, ℕ, zero, suc, ◌==◌, ◌-◌, nat_lt, Bool, false, ◌&&◌, ◌||◌, not, if◌then◌else◌, List, [], ◌∷◌, drop, codes, Option, Some, None}
 use Rattle.std.specs.List.{list_any}
 use Rattle.p10_lex.specs.Splices.{splice_length, is_spliced}
 use Rattle.p10_lex.specs.Lexemes.{goes_on_number, is_punctuator}
 use Rattle.p10_lex.specs.Pieces.{begins_byte}
 
--- behind the bytes that pass
+-- after the bytes at the beginning that pass the test
 unfoldable pub after_run : (ℕ → Bool) → List ℕ → List ℕ
 after_run test [] = []
 after_run test (c ∷ rest) = if test c then after_run test rest else c ∷ rest
 
--- behind a number, whose last byte so far is `old`
+-- after a number, whose last byte so far is `old`
 unfoldable pub after_number : ℕ → List ℕ → List ℕ
 after_number old [] = []
 after_number old (c ∷ rest) = if goes_on_number old c then after_number c rest else c ∷ rest
 
--- behind a line, before the LF that ends it, where the two bytes `older` and `old` stand before the text
+-- after a line, before the LF that ends it, where the two bytes `older` and `old` stand before the text
 unfoldable pub after_line : ℕ → ℕ → List ℕ → List ℕ
 after_line older old [] = []
 after_line older old (c ∷ rest) = if not (c == 10) || is_spliced older old then after_line old c rest else c ∷ rest
 
--- behind the first `*/`
+-- after the first `*/`
 unfoldable pub after_comment : List ℕ → Option (List ℕ)
 after_comment [] = None
 after_comment (c ∷ rest) = if (c == 42) && begins_byte 47 rest then Some (drop 1 rest) else after_comment rest
 
--- behind the closing quote of a literal, of which `skip` bytes of a splice have still to be passed, and
+-- after the closing quote of a literal, of which `skip` bytes of a splice are still to be skipped, and
 -- whose first byte belongs to a backslash before it where `escaped` is true
 unfoldable pub after_literal : ℕ → ℕ → Bool → List ℕ → Option (List ℕ)
 after_literal quote skip escaped [] = None
@@ -37,12 +37,12 @@ after_literal quote zero escaped (c ∷ rest) =
     else (if c == quote then Some rest
     else after_literal quote 0 (c == 92) rest)))
 
--- behind the `>` of an include name
+-- after the `>` of an include name
 unfoldable pub after_header : List ℕ → Option (List ℕ)
 after_header [] = None
 after_header (c ∷ rest) = if c == 62 then Some rest else (if c == 10 then None else after_header rest)
 
--- behind the splices, of which `skip` bytes of the first one have still to be passed
+-- after the splices, of which `skip` bytes of the first one are still to be skipped
 unfoldable pub after_splices : ℕ → List ℕ → List ℕ
 after_splices skip [] = []
 after_splices (suc skip) (c ∷ rest) = after_splices skip rest
@@ -59,7 +59,7 @@ unfoldable pub is_triple : ℕ → ℕ → ℕ → Bool
 is_triple a b c =
     ((a == 60) && ((b == 60) && (c == 61))) || (((a == 62) && ((b == 62) && (c == 61))) || ((a == 46) && ((b == 46) && (c == 46))))
 
--- the length of the longest punctuator at the front of a text, or 0
+-- the length of the longest punctuator at the beginning of a text, or 0
 unfoldable pub punctuator_length : List ℕ → ℕ
 punctuator_length [] = 0
 punctuator_length (a ∷ []) = if is_punctuator (a ∷ []) then 1 else 0

@@ -11,13 +11,13 @@ use Rattle.p10_macros.specs.Uses.{closes, separates, depth_after}
 abbrev pub word_of : Pending → PlainWord
 word_of pending = plain_word pending.traced.word
 
--- the place of the first comma or `)` in no parentheses, where so many are open
+-- the place of the first comma or `)` in no parentheses, where `depth` are open
 abbrev pub argument_end : ℕ → List Pending → ℕ
 argument_end depth [] = 0
 argument_end depth (pending ∷ items) =
     if (closes (word_of pending) || separates (word_of pending)) && (depth == 0) then length items + 1 else argument_end (depth_after depth (word_of pending)) items
 
--- the place of the first `)` in no parentheses, where so many are open
+-- the place of the first `)` in no parentheses, where `depth` are open
 abbrev pub call_end : ℕ → List Pending → ℕ
 call_end depth [] = 0
 call_end depth (pending ∷ items) = if closes (word_of pending) && (depth == 0) then length items + 1 else call_end (depth_after depth (word_of pending)) items
@@ -30,7 +30,7 @@ commas depth (pending ∷ items) =
     else if separates (word_of pending) && (depth == 0) then suc (commas 0 items)
     else commas (depth_after depth (word_of pending)) items
 
--- the words stand in front of these ends
+-- the words stand before these ends
 pub record HasExits (exits : Exits) (items : List Pending) : Type 0 where
   pub argument : exits.argument ≡ argument_end 0 items
   pub call : exits.call ≡ call_end 0 items
@@ -49,6 +49,6 @@ abbrev pub after_place : List Pending → ℕ → List Pending
 after_place [] place = []
 after_place (pending ∷ items) place = if place == length items + 1 then items else after_place items place
 
--- each word knows the ends in front of which the words after it stand
+-- each word knows the ends before which the words after it stand
 abbrev pub IsLinked : List Pending → Type 0
 IsLinked items = (place : ℕ) → HasExits (exits_past items place) (after_place items place)

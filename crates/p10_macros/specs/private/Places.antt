@@ -42,7 +42,7 @@ abbrev pub names : ℕ → Option ℕ → Bool
 names parameter None = false
 names parameter (Some found) = found == parameter
 
--- a parameter that is named is one of so many
+-- a parameter that is named is one of the first `count`
 abbrev pub IsBelow : ℕ → Option ℕ → Type 0
 IsBelow count found = (parameter : ℕ) → found ≡ Some parameter → parameter < count
 

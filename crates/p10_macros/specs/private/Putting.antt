@@ -18,7 +18,7 @@ use Rattle.p10_macros.specs.private.Traces.{IsTraced, AreTraced, AreValues}
 abbrev pub fresh : Word → Span → ℕ → Traced
 fresh word at from = record { word = record { kind = word.kind; text = word.text; at = at; first = word.first }; from = from }
 
--- a word was put in front of the pending ones
+-- a word was put before the pending ones
 pub record IsPushed (old new : List Pending) (traced : Traced) : Type 0 where
   pub last : Pending
   pub is : new ≡ old ++ last ∷ []
@@ -37,7 +37,7 @@ pub record Puts (origins : Origins) (before behind : List Pending) (words : List
   pub put : ArePut origins items words
   pub costs : left ≡ length words + remaining
 
--- the same, where the words are told as they are kept
+-- the same, where the words are given as they are kept
 pub record PutsTraced (before behind : List Pending) (words : List Traced) (left remaining : ℕ) : Type 0 where
   pub items : List Pending
   pub pending : reverse behind ≡ items ++ reverse before
@@ -54,7 +54,7 @@ pub record IsJoined (old : Origins) (own : ℕ) (macro' : Text) (name : Sourced)
   pub known : all ≤ count_of new
   pub both : (other : Text) → has_macro new all other ≡ ((bytes_eq other macro' || name.from other) || has_macro old own other)
 
--- a fault that is no refusal: where words were wanting, this holds
+-- a fault that is no refusal: where it is that there are too many words, this holds
 abbrev pub Short : ReplaceFault → Type 0 → Type 0
 Short (fault.Refused refusal) P = ⊥
 Short fault.TooMany P = P

@@ -3,7 +3,7 @@ use Rattle.std.specs.Prelude.{ℕ, ◌≡◌, ◌<◌, ◌≤◌, ◌+◌, ◌/�
 use Rattle.std.specs.Int.{bit_at}
 use Rattle.p10_macros.specs.declared.sets.Part.{Part}
 
--- whether a number is in a set by its first part: for the numbers of its block the bits tell it, for those of lower blocks
+-- whether a number is in a set by its first part: for the numbers of its block the bits say it, for those of lower blocks
 -- `below`, which is whether the set under it has them, and those of higher blocks are not
 abbrev pub in_part : ℕ → ℕ → Bool → ℕ → Bool
 in_part block bits below number = if number / 64 == block then bit_at bits (number % 64) == 1 else nat_lt (number / 64) block && below
@@ -42,6 +42,6 @@ pub record HasAll (old : List Part) (these those : ℕ) (new : List Part) (set :
 abbrev pub AreBelow : ℕ → List Part → Type 0
 AreBelow bound parts = (set number : ℕ) → has parts set number ≡ true → number < bound
 
--- the numbers of a block that these bits tell are
+-- the numbers of a block that these bits say are
 abbrev pub BitsAreBelow : ℕ → ℕ → ℕ → Type 0
 BitsAreBelow bound block bits = (number : ℕ) → number / 64 ≡ block → (bit_at bits (number % 64) == 1) ≡ true → number < bound

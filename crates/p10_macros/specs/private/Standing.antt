@@ -96,7 +96,7 @@ pub record Keeps (origins : Origins) (words : List Word) (those : List Traced) (
   pub outside : NoneOutside state.uses state.done
   pub left : remaining ≡ state.left
 
--- the same of a replacement
+-- the same for a replacement
 abbrev pub KeepsFor : Run → State → Type 0
 KeepsFor run state = Keeps run.origins run.words.items run.done.items run.left state
 

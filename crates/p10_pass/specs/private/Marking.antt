@@ -13,7 +13,7 @@ abbrev mutual
   pub marks_statement : PlainStatement → List Bool → List Bool
   marks_statement (statement at form) marks = marks_form form marks
 
-  -- the same of a form of statement
+  -- the same for a form of statement
   pub marks_form : PlainStatementForm → List Bool → List Bool
   marks_form (set p v) marks = marks_place p marks
   marks_form (update kind op t p v) marks = marks_place p marks
@@ -24,7 +24,7 @@ abbrev mutual
   marks_form (switch keyword v labels body) marks = marks_statement body marks
   marks_form form marks = marks
 
-  -- the same of statements, one after the other
+  -- the same for statements, one after the other
   pub marks_all : PlainStatements → List Bool → List Bool
   marks_all no_statements marks = marks
   marks_all (more_statements s rest) marks = marks_all rest (marks_statement s marks)

@@ -4,7 +4,7 @@ use Rattle.p10_base.specs.declared.at.At.{At}
 use Rattle.p10_syn.specs.Places.{Source, place_at}
 use Rattle.p10_syn.specs.Trees.{Landmarks, External, Outer, Defines}
 
--- those of a function from word `first` up to and without word `past`, with the `{` of its body at word `brace`
+-- those of a function from word `first` up to but not including word `past`, with the `{` of its body at word `brace`
 abbrev pub landmarks_between : Source → ℕ → ℕ → ℕ → Landmarks At
 landmarks_between s first brace past =
     let root : Source = record { words = s.words; before = 0 } in

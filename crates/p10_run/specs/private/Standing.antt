@@ -26,7 +26,7 @@ new_machine p denied = record {
   turns = 0;
 }
 
--- the outcome of a run whose last call of the machine was answered so, after so many turns
+-- the outcome of a run whose last call of the machine was answered so, after this many turns
 abbrev pub outcome_after : Ended → ℕ → RunOutcome
 outcome_after AtLoop made = Turns made
 outcome_after TurnDone made = Turns made

@@ -21,7 +21,7 @@ use Rattle.p10_run_command.specs.Answers.{IsRefusal}
 
 -- ## Requests
 
--- a run is allowed what was asked for: so many steps, or bytes that were loaded of the certificate's file
+-- a run is allowed what was asked for: a number of steps, or bytes that were loaded of the certificate's file
 abbrev pub IsAllowance : Option (List Named) → asked.Budget → Allowance → Type 0
 IsAllowance held (words.Steps n) (Steps m) = m ≡ n
 IsAllowance held (words.Certificate name) (Certificate bytes) = IsLoaded held name bytes.items

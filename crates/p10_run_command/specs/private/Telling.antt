@@ -1,4 +1,4 @@
--- What comes of running a program, and what is told of it.
+-- What comes of running a program, and what is written of it.
 use Rattle.std.specs.Prelude.{◌≡◌, ℕ, List, [], Option, Result, Ok, Err}
 use Rattle.p10_base.specs.Gathered.{Gathered}
 use Rattle.p10_world.specs.Sink.{TakesFront}

@@ -32,7 +32,7 @@ pub record IsBlock (objects : List PlainObject) (start : ℕ) (os : List Occurre
   pub to : ℕ
   pub rises : Rises from b.nested to
 
--- the same of blocks, each of one
+-- the same for blocks, each of one
 abbrev pub AreBlocks : List PlainObject → ℕ → List Occurrence → List BlockParts → List PlainStatements → Type 0
 AreBlocks objects start os [] [] = Unit {0}
 AreBlocks objects start os [] (p ∷ ps) = ⊥
@@ -44,7 +44,7 @@ pub record IsFunction (objects : List PlainObject) (all : List Occurrence) (f : 
   pub stands : Stands 0 all t (occurrences_in_statements objects f.body)
   pub are : AreBlocks objects t.start (occurrences_in_statements objects f.body) blocks (blocks_of f)
 
--- the same of functions, each of one
+-- the same for functions, each of one
 abbrev pub AreFunctions : List PlainObject → List Occurrence → List PlainFunction → List Stretch → List (List BlockParts) → Type 0
 AreFunctions objects all [] [] [] = Unit {0}
 AreFunctions objects all [] [] (b ∷ bs) = ⊥

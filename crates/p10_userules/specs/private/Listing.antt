@@ -56,7 +56,7 @@ abbrev pub name_of : PlainFunction → List PlainObject → Referent → Option 
 name_of f objects (Variable n) = option_map (λ v. v.span) (slice_get f.variables n)
 name_of f objects (Object n) = option_map (λ o. o.span) (slice_get objects n)
 
--- a function and where the occurrences of its variables lie, and the same of all objects
+-- a function and where the occurrences of its variables lie, and the same for all objects
 pub record FunctionUses : Type 0 where
   pub function : PlainFunction
   pub variables : List (Option Spread)
@@ -104,7 +104,7 @@ listed_in_function objects object_spreads all f t blocks =
     flat_map (wide_in_block (record { function = f; variables = variable_spreads all f t; objects = objects; object_spreads = object_spreads })) blocks
     ++ (flat_map dropped_by (nodes_of_statements f.body) ++ unchecked_among (take f.parameters f.variables) (variable_spreads all f t))
 
--- the same of functions, each with its stretch and its blocks
+-- the same for functions, each with its stretch and its blocks
 abbrev pub listed_in_functions : List PlainObject → List (Option Spread) → List Occurrence → List PlainFunction → List Stretch → List (List BlockParts) → List Violation
 listed_in_functions objects object_spreads all [] ts bs = []
 listed_in_functions objects object_spreads all (f ∷ fs) [] bs = []

@@ -50,7 +50,7 @@ numbered Objects n = Object n
 abbrev pub AreSpreads : Kind → ℕ → List Occurrence → List (Option Spread) → Type 0
 AreSpreads kind start os spreads = (n : ℕ) → n < length spreads → slice_get spreads n ≡ Some (spread_of start (numbered kind n) os)
 
--- where the occurrences of so many things of a kind lie, from one on, among those from a place on
+-- where the occurrences of `count` things of a kind lie, from number n on, among those from a place on
 abbrev pub spreads_from : ℕ → Kind → ℕ → List Occurrence → ℕ → List (Option Spread)
 spreads_from n kind start os zero = []
 spreads_from n kind start os (suc count) = spread_of start (numbered kind n) os ∷ spreads_from (n + 1) kind start os count

@@ -11,7 +11,7 @@ use Rattle.p10_userules.specs.declared.parts.BlockParts.{BlockParts}
 use Rattle.p10_userules.specs.Occurrences.{occurrences_in_value, occurrences_in_place, occurrences_in_maybe, occurrences_in_initializer, occurrences_at_object}
 use Rattle.p10_userules.specs.Blocks.{declared_among}
 
--- what was found so far: the occurrences; in the block that is walk_over over, the stretches of the outermost blocks that are
+-- what was found so far: the occurrences; in the block that is walked over, the stretches of the outermost blocks that are
 -- reached without entering a loop; and the blocks that were left
 pub record Walked : Type 0 where
   pub occurrences : List Occurrence

@@ -27,12 +27,12 @@ CanBeTold names (Ungathered why) = gathering.CanBeTold names.sources why
 CanBeTold names (Unread why) = HasCode why
 CanBeTold names answer = Unit {0}
 
--- an answer is right, and can be told
+-- an answer is right, and can be printed
 pub record Answered (seen : Seen) (names : Names) (sources : Gathered) (answer : Answer) : Type 0 where
   pub is_right : IsRight seen names sources answer
   pub can_be_told : CanBeTold names answer
 
--- an answer is right without a fault, and can be told
+-- an answer is right without a fault, and can be printed
 abbrev pub Decides : Option (List Named) → Names → Gathered → Answer → Type 0
 Decides held names sources answer = Answered (unfailing held) names sources answer
 

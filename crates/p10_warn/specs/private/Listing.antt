@@ -74,7 +74,7 @@ abbrev pub unused_objects : List ℕ → ℕ → List PlainObject → List Viola
 unused_objects named n [] = []
 unused_objects named n (o ∷ rest) = listed_if 1 (not (is_among n named)) o.span ++ unused_objects named (n + 1) rest
 
--- the same of variables
+-- the same for variables
 abbrev pub unused_variables : List ℕ → ℕ → List PlainVariable → List Violation
 unused_variables named n [] = []
 unused_variables named n (v ∷ rest) = listed_if 1 (not (is_among n named)) v.span ++ unused_variables named (n + 1) rest

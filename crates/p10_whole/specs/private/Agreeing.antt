@@ -59,7 +59,7 @@ abbrev pub adds_at_target : Option PlainType → Option PlainType → Bool
 adds_at_target (Some s) (Some t) = adds_const s t
 adds_at_target s t = false
 
--- whether a value is a null constant where a pointer is wanted
+-- whether a value is a null constant where a pointer is needed
 abbrev pub is_null_at : Option PlainType → Bool → Bool
 is_null_at None null = false
 is_null_at (Some t) null = null
@@ -124,7 +124,7 @@ is_binary structures Ge r s t = are_compared (integer_kind r) (integer_kind s) (
 is_binary structures Eq r s t = are_compared (integer_kind r) (integer_kind s) (integer_kind t) || are_pointers (integer_kind r) (target_type s) (target_type t)
 is_binary structures Ne r s t = are_compared (integer_kind r) (integer_kind s) (integer_kind t) || are_pointers (integer_kind r) (target_type s) (target_type t)
 
--- the same of `?:`
+-- the same for `?:`
 abbrev pub is_conditional : PlainType → PlainType → PlainType → Bool
 is_conditional r s t = are_usual (integer_kind r) (integer_kind s) (integer_kind t) || are_chosen (target_type r) (target_type s) (target_type t)
 
@@ -133,7 +133,7 @@ abbrev pub is_promoted : Option IntType → Option IntType → Bool
 is_promoted (Some i) (Some j) = same_integer i (promoted j) && same_integer j (promoted j)
 is_promoted i j = false
 
--- the same of a unary operator
+-- the same for a unary operator
 abbrev pub is_unary : UnOp → PlainType → PlainType → Bool
 is_unary Plus r t = is_promoted (integer_kind r) (integer_kind t)
 is_unary Neg r t = is_promoted (integer_kind r) (integer_kind t)

@@ -23,7 +23,7 @@ pub record AreLabels (kind : IntType) (labels : PlainLabels) (body : PlainStatem
   pub in_block : is_block body ≡ false → (labels.cases ≡ []) × (labels.otherwise ≡ None)
   pub declares_nothing : All (λ s. is_declaration s ≡ false) (switch_items body)
 
--- the same of labels of a block with these items
+-- the same for labels of a block with these items
 pub record AreLabelsIn (kind : IntType) (labels : PlainLabels) (items : List PlainStatement) : Type 0 where
   pub cases : AreCases kind 0 (length items) [] labels.cases
   pub otherwise : IfSome labels.otherwise (λ n. n < length items)

@@ -26,7 +26,7 @@ pub record Passes (before : Next) (declared : List ℕ) (loops : List LoopHead) 
   pub numbers : Rise before.of_loop (map (λ h. h.number) loops) after.of_loop
   pub pragmas : marks_left before ≡ marks ++ marks_left after
 
--- the same of the second branch of an `if`, if there is one
+-- the same for the second branch of an `if`, if there is one
 abbrev pub PassesOther : Next → Option PlainStatement → Next → Type 0
 PassesOther before None after = Passes before [] [] [] after
 PassesOther before (Some s) after = Passes before (declared_in s) (loops_in s) (marks_in s) after

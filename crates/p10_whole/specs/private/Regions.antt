@@ -22,11 +22,11 @@ abbrev pub declared_by : PlainStatementForm → List ℕ
 declared_by (declare n i) = n ∷ []
 declared_by f = []
 
--- the same of a statement
+-- the same for a statement
 abbrev pub declared_here : PlainStatement → List ℕ
 declared_here (statement at f) = declared_by f
 
--- the same of statements, one after the other
+-- the same for statements, one after the other
 abbrev pub all_declared_here : PlainStatements → List ℕ
 all_declared_here no_statements = []
 all_declared_here (more_statements s rest) = declared_here s ++ all_declared_here rest
@@ -36,12 +36,12 @@ pub record PassesForm (c : Context) (before : List ℕ) (f : PlainStatementForm)
   pub whole : IsWholeStatementForm (region_in c before) f
   pub scope : after ≡ before ++ declared_by f
 
--- the same of a statement
+-- the same for a statement
 pub record PassesStatement (c : Context) (before : List ℕ) (s : PlainStatement) (after : List ℕ) : Type 0 where
   pub whole : IsWholeStatement (region_in c before) s
   pub scope : after ≡ before ++ declared_here s
 
--- the same of statements, one after the other
+-- the same for statements, one after the other
 pub record PassesStatements (c : Context) (before : List ℕ) (ss : PlainStatements) (after : List ℕ) : Type 0 where
   pub whole : AreWholeStatements (region_in c before) ss
   pub scope : after ≡ before ++ all_declared_here ss
@@ -52,7 +52,7 @@ pub record PassesPart (c : Context) (before : List ℕ) (s : PlainStatement) (af
   pub no_declaration : is_declaration s ≡ false
   pub scope : after ≡ before
 
--- the same of the second branch of an `if`, if there is one
+-- the same for the second branch of an `if`, if there is one
 abbrev pub PassesBranch : Context → List ℕ → Option PlainStatement → List ℕ → Type 0
 PassesBranch c before None after = after ≡ before
 PassesBranch c before (Some s) after = PassesPart c before s after

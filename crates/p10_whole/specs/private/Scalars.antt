@@ -22,6 +22,6 @@ pub record HasCharacter (structures : List PlainStructure) (t : PlainType) (i : 
   pub is : slice_get (scalars_of structures t) i ≡ Some scalar
   pub character : is_character scalar ≡ true
 
--- so many scalars from a place on are characters
+-- `count` scalars from a place on are characters
 pub record HasCharacters (structures : List PlainStructure) (t : PlainType) (from count : ℕ) : Type 0 where
   pub each : (k : ℕ) → k < count → HasCharacter structures t (from + k)

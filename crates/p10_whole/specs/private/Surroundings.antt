@@ -12,7 +12,7 @@ abbrev pub scope_on : List ℕ → List ℕ → List ℕ
 scope_on [] base = base
 scope_on (n ∷ rest) base = scope_on rest (n ∷ base)
 
--- the scope of so many parameters and of variables with these numbers
+-- the scope of a number of parameters and of variables with these numbers
 abbrev pub scope_of : ℕ → List ℕ → List ℕ
 scope_of parameters numbers = scope_on numbers (numbers_from 0 parameters)
 

@@ -100,7 +100,7 @@ IsParse names words (Ok m) = Matched names words m
 IsParse names words (Err Refused) = IsNoSplit names words
 IsParse names words (Err Memory) = Unit {0}
 
--- only want of memory is told as such
+-- running out of memory is never answered as words that are refused
 abbrev pub IsUsage : ErrorKind → Usage → Type 0
 IsUsage kind Memory = Unit {0}
 IsUsage kind Refused = kind ≡ OutOfMemory → ⊥

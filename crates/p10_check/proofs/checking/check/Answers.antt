@@ -1,4 +1,4 @@
--- The earliest failing condition tells the verdict.
+-- The earliest failing condition decides the verdict.
 use Rattle.std.proofs.Common.{◌∙◌, ap}
 use Rattle.std.specs.Prelude.{option_map}
 use Rattle.p10_core.specs.Views.{plain_program}

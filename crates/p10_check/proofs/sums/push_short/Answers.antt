@@ -1,4 +1,4 @@
--- The sums up to the limit tell where claims fall short.
+-- The sums up to the limit decide where claims fall short.
 use Rattle.std.proofs.Common.{◌∙◌, ◌++◌, map, ap}
 use Rattle.p10_core.specs.Views.{plain_function, plain_program}
 use Rattle.p10_cert.specs.Claims.{func_of, claims_of}

@@ -1,7 +1,7 @@
 use Rattle.std.proofs.Common.{◌≡◌, ℕ, ◌+◌, ◌-◌, false, length, slice_index_or}
 use Rattle.p10_elab.proofs.sightings.reach.Given as goal
 
--- it takes as many turns as flags are lacking
+-- as many turns are left as flags are still missing
 abbrev pub decreases-loop-flags : goal.decreases-loop-flags
 decreases-loop-flags l = l.number + 1 - length l.flags.items
 

@@ -1,4 +1,4 @@
--- All claims are told where none is left after the body.
+-- All claims fit where none is left after the body.
 use Rattle.std.proofs.Common.{ap}
 use Rattle.p10_core.specs.Views.{plain_function, plain_statements}
 use Rattle.p10_fit.proofs.Scanning.{told_by_place, told_nowhere}

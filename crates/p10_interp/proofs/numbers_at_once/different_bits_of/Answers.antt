@@ -1,4 +1,4 @@
--- The bits that just one of them has.
+-- The bits that exactly one of them has.
 use Rattle.std.proofs.Common.{◌∙◌, sym, ap, Ok}
 use Rattle.std.specs.Int.{w128}
 use Rattle.std.proofs.lemmas.Int.{to_z-of_z}

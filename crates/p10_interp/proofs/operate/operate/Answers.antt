@@ -1,4 +1,4 @@
--- An operation goes on with the next work, but for `return`.
+-- An operation goes on with the next work, except for `return`.
 use Rattle.std.proofs.Common.{◌∷◌}
 use Rattle.p10_core.specs.Views.{plain_program}
 use Rattle.p10_interp.specs.private.Views.{tasks_in}

@@ -1,4 +1,4 @@
--- The slot of a number is live, or there is no such object.
+-- The slot with a number is live, or there is no such object.
 use Rattle.std.proofs.Common.{sym}
 use Rattle.p10_store.proofs.NumberedSlots.{live_at, found_dead, slot_none}
 use Rattle.p10_store.proofs.finding.live_place.Goals as goal

@@ -1,4 +1,4 @@
--- The slot of a number has its live object, if there is one.
+-- The slot with a number has its live object, if there is one.
 use Rattle.std.proofs.Common.{sym}
 use Rattle.p10_store.proofs.NumberedSlots.{found_at}
 use Rattle.p10_store.proofs.finding.slot_of.Goals as goal

@@ -1,4 +1,4 @@
--- What the buffer held stays at its front, and it grew by what the reader gave, no more than was taken off the limit.
+-- What the buffer held stays at its beginning, and it grew by what the reader gave, no more than was taken off the limit.
 use Rattle.std.proofs.Common.{◌≡◌, ◌≤◌, ◌+◌, take, vec_len}
 use Rattle.p10_world.proofs.Readings.{Appended}
 use Rattle.p10_world.proofs.host_files.append_bytes.Given as goal

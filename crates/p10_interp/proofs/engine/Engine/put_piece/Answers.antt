@@ -1,4 +1,4 @@
--- What waits is put, or its front.
+-- What waits is put, or a prefix of it.
 use Rattle.std.proofs.Common.{refl}
 use Rattle.p10_interp.specs.private.Resuming.{proceed}
 use Rattle.p10_interp.proofs.Served.{proceed_goes_on}

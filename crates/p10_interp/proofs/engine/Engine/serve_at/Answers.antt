@@ -1,4 +1,4 @@
--- Only a pause that goes on wants the outside.
+-- Only a pause that goes on needs the outside.
 use Rattle.p10_interp.proofs.Served.{comes_as, comes_on}
 use Rattle.p10_interp.specs.declared.work.Pause.TheVariants.{Held}
 use Rattle.p10_interp.specs.private.Arriving.{paused_at}

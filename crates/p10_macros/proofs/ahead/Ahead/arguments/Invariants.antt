@@ -2,7 +2,7 @@ use Rattle.std.specs.Prelude.{reverse}
 use Rattle.p10_macros.proofs.Parts.{IsCounting}
 use Rattle.p10_macros.proofs.ahead.Ahead.arguments.Given as goal
 
--- so many arguments were counted
+-- `count` arguments were counted
 abbrev pub invariant-loop-place : goal.invariant-loop-place
 invariant-loop-place l = IsCounting (reverse l.self.words.items) l.exits.call l.place l.count
 

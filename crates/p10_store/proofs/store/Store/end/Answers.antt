@@ -1,4 +1,4 @@
--- The object of a number is closed, if it is live.
+-- The object with a number is closed, if it is live.
 use Rattle.std.proofs.Common.{◌≡◌, ap, subst, Some, None}
 use Rattle.p10_store.specs.Stores.{Held, IsLiveIn}
 use Rattle.p10_store.specs.Places.{HasLiveSlot, slot_at}
