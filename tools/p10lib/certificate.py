@@ -9,7 +9,6 @@ class Loop:
     """A loop's claim: `kind` is up, down, one or task; of a task `turns` is None and `steps` those of a turn."""
 
     kind: str
-    depth: int
     variable: int
     limit: int
     turns: int
@@ -63,11 +62,11 @@ def parse(text, name):
             elif words[0] == "result":
                 claim.result = _range(words[1:])
             elif words[0] == "loop" and words[2] == "one":
-                claim.loops.append(Loop("one", int(words[1]), -1, 0, int(words[4]), 0))
+                claim.loops.append(Loop("one", -1, 0, int(words[4]), 0))
             elif words[0] == "loop":
-                claim.loops.append(Loop(words[2], int(words[1]), int(words[3]), int(words[4]), int(words[6]), 0))
+                claim.loops.append(Loop(words[2], int(words[3]), int(words[4]), int(words[6]), 0))
             elif words[0] == "task":
-                claim.loops.append(Loop("task", 0, -1, 0, None, int(words[2])))
+                claim.loops.append(Loop("task", -1, 0, None, int(words[2])))
             elif words[0] == "var":
                 claim.loops[-1].ranges[int(words[1])] = (int(words[2]), int(words[3]))
             elif words[0] == "total":

@@ -4,6 +4,7 @@ p10 alone decides what a certificate bounds; these sums only share its numbers o
 isn't what the certificate claims of it, its shares aren't told."""
 from dataclasses import dataclass, field
 
+from .expressions import bare
 from .shapes import scalars, type_of
 
 LOOPS = ("while", "do", "for")
@@ -16,12 +17,11 @@ class Unknown(Exception):
 
 @dataclass
 class LoopCost:
-    """A loop of a function: its node, its claim or None, its depth, its steps each time that it is come to, and how often it is
-    come to along the dearest way of a call and of a turn of the task loop."""
+    """A loop of a function: its node, its claim or None, its steps each time that it is come to, and how often it is come to along
+    the dearest way of a call and of a turn of the task loop."""
 
     node: object
     claim: object
-    depth: int
     steps: int = 0
     times: int = 0
     turn_times: int = 0
@@ -49,19 +49,13 @@ class FunctionCost:
         return self.claim is not None and self.sum == self.claim.steps
 
 
-def loops_of(node, depth=0):
-    """The loops of a tree in the order of the text, with the number of loops around each."""
-    found = []
+def loops_of(node):
+    """The loops of a tree in the order of the text."""
     if node is None:
-        return found
-    if node.kind in LOOPS:
-        found.append((node, depth))
-        depth += 1
-    parts = node.parts
-    if node.kind == "do":
-        parts = reversed(parts)  # the body stands before the test
-    for part in parts:
-        found += loops_of(part, depth)
+        return []
+    found = [node] if node.kind in LOOPS else []
+    for part in reversed(node.parts) if node.kind == "do" else node.parts:  # the body of a `do` stands before the test
+        found += loops_of(part)
     return found
 
 
@@ -78,9 +72,7 @@ def called_names(node):
 
 
 def _called(node):
-    target = node.parts[0]
-    while target.kind == "paren":
-        target = target.parts[0]
+    target = bare(node.parts[0])
     return target.text if target.kind == "name" else ""
 
 
@@ -102,7 +94,7 @@ class Counter:
         if result.claim is not None and len(found) != len(claims):
             result.trouble = f"{len(found)} loops are seen here, and the certificate claims {len(claims)}"
             claims = []
-        result.loops = [LoopCost(node, claims[i] if claims else None, depth) for i, (node, depth) in enumerate(found)]
+        result.loops = [LoopCost(node, claims[i] if claims else None) for i, node in enumerate(found)]
         self.loop_of = {id(loop.node): loop for loop in result.loops}
         if result.claim is None or result.trouble:
             return result
@@ -208,8 +200,7 @@ class Counter:
 
     def expression(self, node):
         """An expression as a statement."""
-        while node.kind == "paren":
-            node = node.parts[0]
+        node = bare(node)
         if node.kind == "assign":
             target, value = node.parts
             made = type_of(target, self.names, self.unit)
@@ -256,9 +247,7 @@ class Counter:
 
     def requested(self, node):
         """The number of elements of an allocation; a written sizeof in it costs nothing."""
-        wanted = node.parts[1]
-        while wanted.kind == "paren":
-            wanted = wanted.parts[0]
+        wanted = bare(node.parts[1])
         if _called(node) == "calloc":
             return self.value(wanted)
         if wanted.kind == "sizeof":

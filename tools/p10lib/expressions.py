@@ -33,6 +33,13 @@ class Node:
     type: tuple = ()
 
 
+def bare(node):
+    """An expression without the parentheses around it."""
+    while node.kind == "paren":
+        node = node.parts[0]
+    return node
+
+
 class Expressions:
     """A recursive descent over words; `scopes` tell which names are types. `type_name` is the Parser's."""
 

@@ -4,7 +4,7 @@ p10 tells the first refusal. Here what is refused is then set aside in a copy, a
 again. What is refused because something was set aside isn't told."""
 from dataclasses import dataclass, field, replace
 
-from .copy import MAIN, Copy
+from .copies import MAIN, Copy
 from .lexical import spans
 from .mends import View, grammar
 from .program import Finding
@@ -229,7 +229,7 @@ class Search:
             word = cut_words[unbalanced]
             hints.append(self._hint(name, word.start, f"this `{word.text}` has no partner"))
         near = {w.text for w in view.words[max(first, at - 1):at + 1]}
-        return tuple(hints), grammar(view, at, wanted, first), bool(near & self.gone)
+        return tuple(hints), grammar(view, at, first), bool(near & self.gone)
 
     def _hint(self, name, offset, text):
         kept = self.copy.texts[name]

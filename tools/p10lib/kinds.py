@@ -1,4 +1,5 @@
 """Of which kind a loop is for which p10 finds no bound, in the words of docs/writing-loops.md. A guess by its text."""
+from .expressions import bare
 from .shapes import constant, type_of
 
 ADVICE = {
@@ -14,12 +15,6 @@ ADVICE = {
     "A loop that is meant never to end": "mark it by #pragma p10 task_loop, in main",
 }
 COMPARED = ("<", "<=", ">", ">=", "!=")
-
-
-def bare(node):
-    while node.kind == "paren":
-        node = node.parts[0]
-    return node
 
 
 def parts_of(node, kinds):

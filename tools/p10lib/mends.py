@@ -2,7 +2,7 @@
 
 An edit is (file in the copy, start, end, text). A set is tried, and where p10 then refuses the same place again, the next one is."""
 from .expressions import KEYWORDS
-from .words import partner
+from .words import NESTING, partner
 
 EXTENSIONS = {"__attribute__", "__attribute", "__asm__", "__asm", "asm", "__extension__", "__inline", "__inline__", "__volatile__",
               "__volatile", "__restrict", "__restrict__", "__const", "_Static_assert", "static_assert", "_Noreturn", "_Alignas",
@@ -67,48 +67,33 @@ class View:
         """The index of the nearest bracket of this kind that is open at a word, or None."""
         depth = 0
         for at in range(i - 1, -1, -1):
-            text = self.words[at].text if self.words[at].kind == "punct" else ""
-            if text in (")", "]", "}"):
-                depth += 1
-            elif text in ("(", "[", "{"):
-                if depth == 0 and text == opening:
-                    return at
-                depth = max(0, depth - 1)
+            text = self.words[at].text
+            if text == opening and depth == 0:
+                return at
+            depth = max(0, depth - NESTING.get(text, 0))
         return None
 
 
 def statement_around(view, i, low, high):
     """The span of the simple statement or member around a word, by brackets alone: after `;`, `{` or `}`, up to a `;`."""
-    first = i
-    depth = 0
-    while first > low:
-        text = view.words[first - 1].text if view.words[first - 1].kind == "punct" else ""
-        if text in (")", "]"):
-            depth += 1
-        elif text in ("(", "["):
-            depth -= 1
-        elif text in (";", "{", "}") and depth <= 0:
-            break
+    words, first, depth = view.words, i, 0
+    while first > low and (depth > 0 or words[first - 1].text not in (";", "{", "}")):
         first -= 1
-    end, depth = i, 0
-    while end < high:
-        text = view.words[end].text if view.words[end].kind == "punct" else ""
-        if text in ("(", "[", "{"):
-            depth += 1
-        elif text in (")", "]", "}"):
-            depth -= 1
-            if depth < 0:
-                return first, end
-        elif text == ";" and depth == 0:
+        depth -= NESTING.get(words[first].text, 0)
+    depth = 0
+    for end in range(i, high):
+        depth += NESTING.get(words[end].text, 0)
+        if depth < 0:
+            return first, end
+        if depth == 0 and words[end].text == ";":
             return first, end + 1
-        end += 1
-    return first, end
+    return first, high
 
 
 def body_span(view, first, end):
     """The span between the braces of a function that begins at `first`, by brackets alone, or None."""
     for i in range(first, end):
-        if view.words[i].text == "{" and view.words[i].kind == "punct" and i > first and view.words[i - 1].text == ")":
+        if view.words[i].text == "{" and i > first and view.words[i - 1].text == ")":
             close = partner(view.words, i)
             return (i + 1, close) if close is not None else None
     return None
@@ -124,7 +109,7 @@ def empty_body(view, first, end):
     return view.cover(span[0], span[1], "return 0;" if returns else "")
 
 
-def grammar(view, at, wanted, first):
+def grammar(view, at, first):
     """Sets of edits for a declaration or function from `first` on that goes wrong at `at`."""
     words, end = view.words, view.item(first)[1]
     sets = []

@@ -1,8 +1,8 @@
 """Directives and macros as docs/profile.md says them, leniently: what p10 refuses is dropped here, and goes on."""
 import os
-from dataclasses import dataclass, field
+from dataclasses import dataclass
 
-from .words import Source, Word, cut, file_name
+from .words import NESTING, Source, Word, cut, file_name
 
 INTEGERS = {"int8_t": "signed char", "int16_t": "short", "int32_t": "int", "int64_t": "long", "uint8_t": "unsigned char",
             "uint16_t": "unsigned short", "uint32_t": "unsigned int", "uint64_t": "unsigned long"}
@@ -52,7 +52,6 @@ class Expanded:
     words: list
     sources: list
     macros: dict
-    missing: list = field(default_factory=list)
 
 
 def read_source(name):
@@ -157,13 +156,11 @@ class Preprocessor:
         directory = source.name[: source.name.rfind("/") + 1]
         name = file_name(word)
         found = find_include(directory, name, word.kind == "header", self.includes, self._exists)
-        if found is None:
-            self.result.missing.append(word)
-        elif found == "built-in":
+        if found == "built-in":
             if name not in self.built:
                 self.built.add(name)
                 self._file(Source("<" + name + ">", BUILT_IN[name]), depth, user=False)
-        elif found not in self.once and depth < 64:
+        elif found is not None and found not in self.once and depth < 64:
             self._file(self.load(found), depth + 1)
 
     def _define(self, rest):
@@ -232,13 +229,10 @@ class Preprocessor:
         while rest:
             word = rest.pop()
             taken.append(word)
-            if word.text in "([{" and word.kind == "punct":
-                depth += 1
-            elif word.text in ")]}" and word.kind == "punct":
-                depth -= 1
-                if depth == 0:
-                    return arguments, word
-            if depth == 1 and word.text == "," and word.kind == "punct":
+            depth += NESTING.get(word.text, 0)
+            if depth == 0:
+                return arguments, word
+            if depth == 1 and word.text == ",":
                 arguments.append([])
             elif depth > 1 or len(taken) > 1:
                 arguments[-1].append(word)

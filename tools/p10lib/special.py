@@ -1,16 +1,10 @@
 """What is set aside for refusals of each code: less than the whole expression or statement, where that may do."""
+from .expressions import bare
 from .mends import FLOATING, generic, statement_around
 from .words import partner
 
 EXPRESSIONS = {"name", "number", "char", "string", "index", "call", "member", "arrow", "dereference", "address", "unary", "binary", "logic",
                "conditional", "cast", "sizeof", "assign", "step", "paren", "comma"}
-
-
-def bare(node):
-    """An expression without the parentheses around it."""
-    while node.kind == "paren":
-        node = node.parts[0]
-    return node
 
 
 def starting(view, i, kinds):
@@ -117,13 +111,13 @@ def specifier(view, i):
 
 
 def _same_declaration(view, i, j):
-    return not any(view.words[k].text in ("{", "}", ";", ")") for k in range(min(i, j), max(i, j)) if view.words[k].kind == "punct")
+    return not any(view.words[k].text in ("{", "}", ";", ")") for k in range(min(i, j), max(i, j)))
 
 
 def prototype(view, i):
     """S23: `()` becomes `(void)`, and `...` is dropped."""
     for at in (i, i + 1):
-        if at < len(view.words) and view.words[at].text == "(" and view.words[at].kind == "punct":
+        if at < len(view.words) and view.words[at].text == "(":
             close = partner(view.words, at)
             if close == at + 1:
                 return [view.cover(at, close + 1, "(void)")]

@@ -1,4 +1,5 @@
 """Definitions for what a program declares and uses, and doesn't define."""
+from .words import NESTING
 
 
 def definition(view, i):
@@ -9,12 +10,10 @@ def definition(view, i):
         return ""
     for first, end in view.unit.items:
         words = view.words[first:end]
-        at = next((j for j in range(first, end) if view.words[j].text == name and view.words[j].kind == "name"), None)
-        if at is None or not words or words[-1].text != ";" or any(w.text in ("typedef", "{", "=") for w in words):
+        texts = [word.text for word in words]
+        if not any(word.text == name and word.kind == "name" for word in words) or not _declares_one(texts):
             continue
-        if any(w.text == "," and _depth(view, first, j) == 0 for j, w in enumerate(words, first)):
-            continue
-        text = " ".join(w.text for w in words[:-1] if w.text != "extern")
+        text = " ".join(text for text in texts[:-1] if text != "extern")
         if found[0] != "function":
             return text + ";\n"
         if found[1][2] and not all(parameter for parameter, _, _ in found[1][2]):
@@ -23,9 +22,11 @@ def definition(view, i):
     return ""
 
 
-def _depth(view, first, at):
-    """How many brackets are open at a word."""
+def _declares_one(texts):
+    """Whether words are a declaration of one name without an initialiser, so that they become a definition as they stand."""
     depth = 0
-    for word in view.words[first:at]:
-        depth += {"(": 1, "[": 1, ")": -1, "]": -1}.get(word.text, 0)
-    return depth
+    for text in texts:
+        depth += NESTING.get(text, 0)
+        if text in ("typedef", "{", "=") or text == "," and depth == 0:
+            return False
+    return texts[-1] == ";"

@@ -2,6 +2,7 @@
 from dataclasses import dataclass, field
 
 from .expressions import QUALIFIERS, KEYWORDS, STATEMENTS, STORAGE, TYPE_WORDS, Expressions, Node, ParseError
+from .words import NESTING
 
 
 @dataclass
@@ -359,14 +360,13 @@ def item_end(words, first):
     """The index after the declaration or function that begins at `first`, by brackets alone."""
     depth = 0
     for i in range(first, len(words)):
-        text = words[i].text if words[i].kind == "punct" else ""
-        if text in ("(", "[", "{"):
-            depth += 1
-        elif text in (")", "]", "}"):
-            depth -= 1
-            after = words[i + 1] if i + 1 < len(words) else None
-            if depth <= 0 and text == "}" and (after is None or after.text not in (";", ",", "=") and after.kind == "name" and after.first):
-                return i + 1
-        elif text == ";" and depth <= 0:
+        text = words[i].text
+        depth += NESTING.get(text, 0)
+        if depth <= 0 and (text == ";" or text == "}" and _may_begin_item(words[i + 1:i + 2])):
             return i + 1
     return len(words)
+
+
+def _may_begin_item(after):
+    """Whether a declaration or function may begin with the word after a `}`, if there is one: it begins a line with a name."""
+    return not after or after[0].kind == "name" and after[0].first

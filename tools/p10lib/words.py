@@ -96,33 +96,31 @@ def cut(source):
 
 
 CLOSING = {"(": ")", "[": "]", "{": "}"}
+NESTING = {**dict.fromkeys(CLOSING, 1), **dict.fromkeys(CLOSING.values(), -1)}  # by how much each bracket changes the depth
 
 
 def partner(words, at):
     """The index of the bracket that closes the one at `at`, or None."""
     depth = 0
     for i in range(at, len(words)):
-        if words[i].kind == "punct":
-            if words[i].text in CLOSING:
-                depth += 1
-            elif words[i].text in CLOSING.values():
-                depth -= 1
-                if depth == 0:
-                    return i
+        depth += NESTING.get(words[i].text, 0)
+        if depth == 0:
+            return i
     return None
 
 
 def first_unbalanced(words):
-    """The index of the first word at which brackets go wrong (a closing one without its partner, or else the first opening
-    one that is never closed), or None."""
+    """The index of the first bracket that is seen to have no partner, or None: a closing one that closes nothing open, or the
+    innermost open one where another is closed before it."""
     opened = []
     for i, word in enumerate(words):
-        if word.kind != "punct":
-            continue
         if word.text in CLOSING:
             opened.append(i)
-        elif word.text in CLOSING.values():
-            if not opened or CLOSING[words[opened[-1]].text] != word.text:
+        elif word.text in NESTING:
+            wanted = [CLOSING[words[at].text] for at in opened]
+            if word.text not in wanted:
                 return i
+            if word.text != wanted[-1]:
+                return opened[-1]
             opened.pop()
     return opened[0] if opened else None
