@@ -4,7 +4,7 @@ import os
 import shlex
 from dataclasses import dataclass, field
 
-from .program import FAULT, Trouble, read_text
+from .program import ABSENT, FAULT, Trouble, read_text
 
 TAKES_VALUE = {"-I": "include", "-isystem": "include", "-iquote": "include", "-idirafter": "include", "-D": "define", "-U": "undefine",
                "-include": "before", "-imacros": "before"}
@@ -30,10 +30,10 @@ def define(text):
 
 
 def roots_of_words(files, includes, defines):
-    """The roots of a command line. Trouble where a file is absent or can't be read (status 9 as p10's)."""
+    """The roots of a command line. Trouble where a file is absent or can't be read (as p10 does)."""
     for name in files:
         if not os.path.exists(name):
-            raise Trouble(f"absent: {name}", 9)
+            raise Trouble(f"absent: {name}", ABSENT)
         if not os.path.isfile(name) or not os.access(name, os.R_OK):
             raise Trouble(f"can't read {name}", FAULT)
     return [Root(name, [define(d) for d in defines], list(includes)) for name in files]
@@ -47,7 +47,7 @@ def roots_of_compile_commands(path):
         path = os.path.join(path, "compile_commands.json")
     try:
         entries = json.loads(read_text(path))
-    except ValueError as error:
+    except (ValueError, RecursionError) as error:
         raise Trouble(f"{path} is no JSON: {error}") from error
     if not isinstance(entries, list):
         raise Trouble(f"{path} is no list of commands")
@@ -63,22 +63,17 @@ def roots_of_compile_commands(path):
 
 def _root(entry, where, folder):
     """The root of an entry, or None where it is no C source."""
-    if not isinstance(entry, dict) or not isinstance(entry.get("file"), str):
+    if not isinstance(entry, dict) or not _is_name(entry.get("file")):
         raise Trouble(f"{where} has no `file`")
-    words = entry.get("arguments")
-    if words is None and isinstance(entry.get("command"), str):
-        try:
-            words = shlex.split(entry["command"])
-        except ValueError as error:
-            raise Trouble(f"{where} can't be split into words: {error}") from error
-    if not isinstance(words, list) or not all(isinstance(word, str) for word in words):
-        raise Trouble(f"{where} has neither `command` nor `arguments`")
+    if not _is_name(entry.get("directory", "")):
+        raise Trouble(f"{where} has a `directory` that is no name")
+    words = _words(entry, where)
     if not entry["file"].endswith((".c", ".C", ".i")):
         return None
     directory = os.path.join(folder, entry.get("directory", ""))
     name = _from_here(directory, entry["file"])
     if not os.path.isfile(name):
-        raise Trouble(f"{where} names an absent file: {name}", 9)
+        raise Trouble(f"{where} names an absent file: {name}", ABSENT)
     root = Root(name)
     for kind, value in _options(words):
         if kind == "include":
@@ -91,6 +86,27 @@ def _root(entry, where, folder):
             root.before.append(os.path.normpath(os.path.join(directory, value)))
     root.includes = list(dict.fromkeys(root.includes))
     return root
+
+
+def _words(entry, where):
+    """The words of an entry's command."""
+    words = entry.get("arguments")
+    if words is None and isinstance(entry.get("command"), str):
+        try:
+            words = shlex.split(entry["command"])
+        except ValueError as error:
+            raise Trouble(f"{where} can't be split into words: {error}") from error
+    if not isinstance(words, list) or not all(_is_name(word) for word in words):
+        raise Trouble(f"{where} has neither `command` nor `arguments`")
+    return words
+
+
+def _is_name(value):
+    """Whether a value of JSON is a text that the system can take: JSON can write halves of characters, and NUL."""
+    try:
+        return isinstance(value, str) and b"\0" not in os.fsencode(value)
+    except UnicodeEncodeError:
+        return False
 
 
 def _options(words):

@@ -6,6 +6,7 @@ import urllib.parse
 from xml.sax.saxutils import escape, quoteattr
 
 from . import VERSION
+from .program import readable
 
 SCHEMA = "https://docs.oasis-open.org/sarif/sarif/v2.1.0/errata01/os/schemas/sarif-schema-2.1.0.json"
 
@@ -24,9 +25,9 @@ def lines(findings):
     return "".join(made)
 
 
-def _unpaired(text):
-    """Text for JSON and XML: bytes of names that are no UTF-8 become U+FFFD."""
-    return text.encode("utf-8", "surrogateescape").decode("utf-8", "replace")
+def _json(value):
+    """A value as JSON in UTF-8."""
+    return readable(json.dumps(value, indent=1, ensure_ascii=False)) + "\n"
 
 
 def uri(name):
@@ -70,22 +71,21 @@ def sarif(findings):
                   "message": {"text": f.text}, "locations": [_place(f.file, f.line, f.column)],
                   "partialFingerprints": {"p10/v1": fingerprint(f, seen)}}
         if f.hints:
-            result["relatedLocations"] = [dict(_place(file, line, column), message={"text": _unpaired(text)})
-                                          for file, line, column, text in f.hints]
+            result["relatedLocations"] = [dict(_place(file, line, column), message={"text": text}) for file, line, column, text in f.hints]
         results.append(result)
     driver = {"name": "p10-lint", "version": VERSION, "rules": rules}
     run = {"tool": {"driver": driver}, "columnKind": "utf16CodeUnits", "results": results}
-    return json.dumps({"$schema": SCHEMA, "version": "2.1.0", "runs": [run]}, indent=1) + "\n"
+    return _json({"$schema": SCHEMA, "version": "2.1.0", "runs": [run]})
 
 
 def gitlab(findings):
     """A code quality report of GitLab: a list of issues."""
     seen = {}
-    return json.dumps([{
+    return _json([{
         "description": f"{shown_code(f)}: {f.text}", "check_name": shown_code(f), "fingerprint": fingerprint(f, seen),
         "severity": "major" if f.refused else "minor",
-        "location": {"path": _unpaired(f.file), "lines": {"begin": f.line}},
-    } for f in findings], indent=1) + "\n"
+        "location": {"path": f.file, "lines": {"begin": f.line}},
+    } for f in findings])
 
 
 def junit(findings, files):
@@ -107,4 +107,4 @@ def junit(findings, files):
 
 def _clean(text):
     """Without the characters that XML has no form for."""
-    return "".join(c if c in "\t\n" or c >= " " else "\ufffd" for c in _unpaired(text))
+    return "".join(c if c in "\t\n" or " " <= c and c not in "\ufffe\uffff" else "\ufffd" for c in readable(text))

@@ -6,6 +6,7 @@ from html import escape
 
 from .expressions import KEYWORDS
 from .formats import shown_code
+from .program import readable
 from .words import PIECE
 
 CHUNK = 60
@@ -37,6 +38,11 @@ class Report:
     lines: list  # what p10 has answered
     notes: list = field(default_factory=list)
     unbounded: dict = field(default_factory=dict)
+
+
+def html_of(text):
+    """A text as HTML."""
+    return escape(readable(text))
 
 
 def number(value):
@@ -83,7 +89,7 @@ class Page:
             style = file.read()
         links = "".join(f'<a href="#{name}">{text}</a>' for name, text, _ in parts)
         body = "".join(f'<section id="{name}"><h2>{text}</h2>{inner}</section>' for name, text, inner in parts)
-        title = escape(clean(self.report.title))
+        title = html_of(self.report.title)
         plain = "" if self.program.certificate or self.report.unbounded else ' class="plain"'  # nothing stands in the margin
         return (f'<!DOCTYPE html>\n<html lang="en"><head><meta charset="utf-8"><meta name="viewport" content="width=device-width,initial-scale=1">'
                 f'<title>{title}: p10</title><style>\n{style}</style></head><body{plain}><header><div><h1>{title}</h1>{self.head()}</div></header>'
@@ -92,8 +98,8 @@ class Page:
 
     def head(self):
         made = ["<p>" + "".join(f'<span class="verdict {kind}">{self.verdict(text)}</span>' for kind, text in self.report.verdicts) + "</p>"]
-        made += [f'<p class="mono soft">{escape(clean(line))}</p>' for line in self.report.lines]
-        made += [f'<p class="soft">{escape(clean(note))}</p>' for note in self.report.notes]
+        made += [f'<p class="mono soft">{html_of(line)}</p>' for line in self.report.lines]
+        made += [f'<p class="soft">{html_of(note)}</p>' for note in self.report.notes]
         certificate, program = self.program.certificate, self.program
         loops = sum(len(function.loops) for function in program.functions)
         totals = []
@@ -110,14 +116,14 @@ class Page:
     def verdict(self, text):
         """A verdict; the place at its end is a link."""
         place = re.search(r"(?s) at ((.*):(\d+):\d+)$", text)
-        return escape(text[:place.start()]) + " at " + self.link(place[2], int(place[3]), place[1]) if place else escape(clean(text))
+        return escape(text[:place.start()]) + " at " + self.link(place[2], int(place[3]), place[1]) if place else html_of(text)
 
     # Places.
 
     def link(self, name, line, text=None):
         """A link to a line of the source, or its name where that isn't shown."""
-        shown = escape(clean(text or f"{name}:{line}"))
-        return f'<a href="#f{self.files[name]}L{line}">{shown}</a>' if name in self.files else shown
+        text = html_of(text or f"{name}:{line}")
+        return f'<a href="#f{self.files[name]}L{line}">{text}</a>' if name in self.files else text
 
     def place_of(self, cost, index):
         """The file and line of a word of a function's root."""
@@ -160,7 +166,7 @@ class Page:
                         continue
                     name, line = self.place_of(cost, loop.node.first)
                     rows.append([self.bar(steps, whole), of, f'<span class="place">{self.link(name, line)}</span>', self.name_of(index),
-                                 f'<div class="code">{escape(clean(self.loop_text(cost, loop)))}</div>', (loop.claim.turns, number(loop.claim.turns)),
+                                 f'<div class="code">{html_of(self.loop_text(cost, loop))}</div>', (loop.claim.turns, number(loop.claim.turns)),
                                  (loop.steps, number(loop.steps)), (steps // loop.steps, number(steps // loop.steps)), (steps, number(steps))])
         rows.sort(key=lambda row: (-row[0][0], row[2]))
         heads = ["share", "of the", "place", "function", "loop", "#turns", "#steps each", "#times", "#steps in all"]
@@ -255,7 +261,7 @@ class Page:
         for f in self.report.findings:
             kind = "bad" if f.refused else "warn"
             said = f'<div class="say {kind}">{shown_code(f)}: {escape(f.text)}</div>'
-            said += "".join(f'<div class="say {kind}">{escape(clean(f"{line}:{column}: {text}"))}</div>' for _, line, column, text in f.hints)
+            said += "".join(f'<div class="say {kind}">{html_of(f"{line}:{column}: {text}")}</div>' for _, line, column, text in f.hints)
             sayings.setdefault((f.file, f.line), []).append(said)
         for key, text in self.report.unbounded.items():
             sayings.setdefault(key, []).append(f'<div class="say bad">{text}</div>')
@@ -294,20 +300,15 @@ class Page:
         for n, code in enumerate(coloured(source.text), 1):
             key = (source.name, n)
             own = margins.get(key, [])
-            claims = "".join(f'<div class="say rng">{escape(clean(said))}</div>' for _, said in own if said)
+            claims = "".join(f'<div class="say rng">{html_of(said)}</div>' for _, said in own if said)
             red = key in self.report.unbounded
             margin = "<b>no bound</b>" if red else own[0][0] if own else ""
             shown.append(f'<div class="l{" un" if red else ""}" id="f{at}L{n}"><span class="m{" un" if red else ""}">{margin}</span>'
                          f'<a href="#f{at}L{n}">{n}</a><span class="c">{code}</span></div>{claims}' + "".join(sayings.get(key, [])))
         chunks = "".join(f'<div class="chunk">{"".join(shown[i:i + CHUNK])}</div>' for i in range(0, len(shown), CHUNK))
         count = source.text.count("\n") + (not source.text.endswith("\n"))
-        return (f'<details class="file" open><summary><h3>{escape(clean(source.name))}</h3> <span class="soft">{number(count)} lines</span></summary>'
+        return (f'<details class="file" open><summary><h3>{html_of(source.name)}</h3> <span class="soft">{number(count)} lines</span></summary>'
                 f'<div class="lines">{chunks}</div></details>')
-
-
-def clean(text):
-    """Names as they can be shown: bytes that are no UTF-8 become U+FFFD."""
-    return text.encode("utf-8", "surrogateescape").decode("utf-8", "replace")
 
 
 def coloured(text):

@@ -10,10 +10,11 @@ from dataclasses import dataclass
 
 from . import VERSION
 
-USAGE, FAULT = 2, 5
+USAGE, FAULT, LIMIT, ABSENT = 2, 5, 8, 9  # statuses, as p10's
 REFUSED = re.compile(r"(?s)(.*):(\d+):(\d+): refused ([XDGS]\d+): (.*)")
 CONDITION = re.compile(r"(?s)refused: ([KC]\d+) (.*):(\d+):(\d+)\n?")
 STACK = 80 << 20  # what the script p10 gives the program, too
+DEPTH = 10_000  # calls of Python that are open at once: a level of nesting in C takes some eight, and Python's own limit is 1,000
 
 
 class Trouble(Exception):
@@ -126,6 +127,11 @@ def tail(text):
     return lines[-1] if lines else "(nothing)"
 
 
+def readable(text):
+    """Text as others can read it: bytes of names that are no UTF-8 become U+FFFD."""
+    return text.encode("utf-8", "surrogateescape").decode("utf-8", "replace")
+
+
 def reason(error):
     """What an OSError says, without its number."""
     return getattr(error, "strerror", None) or str(error)
@@ -141,7 +147,7 @@ def read_text(name, status=FAULT):
 
 
 def write_whole(name, text):
-    """Writes a file at once, or leaves what was there; `-` is standard output. Trouble where it can't be written."""
+    """Writes a file at once, or leaves what was there; `-` is standard output. A link stays one. Trouble where it can't be written."""
     raw = text.encode("utf-8", "surrogateescape")
     try:
         if name == "-":
@@ -153,14 +159,15 @@ def write_whole(name, text):
             with open(name, "wb") as file:
                 file.write(raw)
             return
-        made, beside = tempfile.mkstemp(prefix=".p10-", dir=os.path.dirname(os.path.abspath(name)))
+        real = os.path.realpath(name)
+        made, beside = tempfile.mkstemp(prefix=".p10-", dir=os.path.dirname(real))
         try:
             with os.fdopen(made, "wb") as file:
                 file.write(raw)
             mask = os.umask(0)
             os.umask(mask)
             os.chmod(beside, 0o666 & ~mask)
-            os.replace(beside, name)
+            os.replace(beside, real)
         except BaseException:
             os.unlink(beside)
             raise
@@ -170,6 +177,7 @@ def write_whole(name, text):
 
 def main_of(tool, main):
     """Runs a tool's `main(words)`, and ends with its status; trouble is told in a line on standard error."""
+    sys.setrecursionlimit(DEPTH)
     for stream in (sys.stdout, sys.stderr):
         stream.reconfigure(encoding="utf-8", errors="surrogateescape")
     try:
@@ -178,6 +186,9 @@ def main_of(tool, main):
     except Trouble as trouble:
         print(f"{tool}: {trouble.text}", file=sys.stderr)
         status = trouble.status
+    except RecursionError:
+        print(f"{tool}: the sources are nested too deeply for this tool", file=sys.stderr)
+        status = LIMIT
     except BrokenPipeError:
         os.dup2(os.open(os.devnull, os.O_WRONLY), sys.stdout.fileno())
         status = FAULT
