@@ -21,7 +21,7 @@ class Completions(Case):
              ("p10 run --t", {"--turns"}), ("p10-lint --format s", {"sarif"}), ("p10-lint --fo", {"--format"}), ("p10-report --ti", {"--title"}),
              ("p10-stack --no", {"--no-interrupts"}), ("p10-stack m", {"main.c"}), ("p10-lint --include i", {"inc"})]
 
-    @unittest.skipUnless(shutil.which("bash"), "bash isn't installed")
+    @unittest.skipUnless(shutil.which("bash"), "no bash")
     def test_bash(self):
         for line, wanted in self.CASES:
             words = line.split(" ")
@@ -31,7 +31,7 @@ class Completions(Case):
             offered = set(done.stdout.decode().split())
             self.assertEqual({o for o in offered if o != "inc"} if wanted != {"inc"} else offered, wanted, line + done.stderr.decode())
 
-    @unittest.skipUnless(shutil.which("zsh"), "zsh isn't installed")
+    @unittest.skipUnless(shutil.which("zsh"), "no zsh")
     def test_zsh(self):
         """In a terminal of zsh's own: each line, a tab, and the words that are offered then."""
         self.put("look.zsh", LOOK)

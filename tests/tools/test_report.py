@@ -122,7 +122,7 @@ class Pages(Case):
     def test_refusals_and_violations_in_place(self):
         self.write(a_c="int main(void) {\n    int x = 1;\n    x = x++;\n    return x;\n}\n")
         out, _, _ = self.run_tool("p10-report", "a.c", status=0)
-        self.assertIn("Refused: 1 places", out)
+        self.assertIn("Refused: 1 place isn&#x27;t in p10&#x27;s language", out)
         self.assertRegex(out, r'id="f0L3">.*?</div><div class="say bad">S7: assignment or step as an operand</div>')
         self.assertRegex(out, r'id="f0L1">.*?</div><div class="say warn">rule 5.1: fewer than two assertions per function</div>')
 
@@ -186,15 +186,16 @@ class Pages(Case):
 
 
 class InABrowser(Case):
-    @unittest.skipUnless(shutil.which("chromium"), "chromium isn't installed (Debian: apt-get install chromium)")
-    def test_it_fits_at_three_widths_in_light_and_dark(self):
-        """Chromium shows the page in frames of three widths: no part is wider than its frame, and the colours are of the scheme."""
+    @unittest.skipUnless(shutil.which("chromium"), "no chromium (Debian: apt-get install chromium)")
+    def test_it_fits_at_three_widths_in_light_and_dark_and_printed(self):
+        """Chromium shows the page in frames of three widths, and as it is printed on A4: no part is wider than its frame, and the
+        colours are of the scheme."""
         page, _, _ = self.run_tool("p10-report", "--cert", "flight/downlink.p10", "flight/downlink.c", "flight/queue.c", folder=EXAMPLES, status=0)
-        frames = "".join(f'<iframe style="width:{width}px;height:900px;border:0" srcdoc="{html.escape(page)}"></iframe>' for width in (400, 900, 1500))
+        shown = [(width, page) for width in (400, 900, 1500)] + [(718, page.replace("@media print", "@media all").replace("@media screen", "@media none"))]
+        frames = "".join(f'<iframe style="width:{width}px;height:900px;border:0" srcdoc="{html.escape(text)}"></iframe>' for width, text in shown)
         script = """<script>onload = () => { document.title = JSON.stringify([...document.querySelectorAll('iframe')].map(f => {
             const d = f.contentDocument, e = d.documentElement, s = f.contentWindow.getComputedStyle(d.body);
-            return [e.scrollWidth, e.clientWidth, s.backgroundColor, d.querySelectorAll('.l').length,
-                    getComputedStyle(d.querySelector('.m')).display]; })); };</script>"""
+            return [e.scrollWidth, e.clientWidth, s.backgroundColor, d.querySelectorAll('.l').length]; })); };</script>"""
         outer = self.put("frames.html", f"<!DOCTYPE html><title>no</title>{script}{frames}")
         for scheme, background in ((1, "rgb(255, 255, 255)"), (0, "rgb(20, 24, 29)")):
             done = subprocess.run(["chromium", "--headless", "--no-sandbox", "--disable-gpu", "--hide-scrollbars", "--window-size=1600,1000",
@@ -203,10 +204,10 @@ class InABrowser(Case):
             title = re.search(r"<title>(\[.*?\])</title>", done.stdout.decode())
             self.assertIsNotNone(title, "chromium has shown nothing")
             shown = json.loads(html.unescape(title[1]))
-            self.assertEqual([frame[1] for frame in shown], [400, 900, 1500])
-            for scroll, client, colour, lines, _ in shown:
+            self.assertEqual([frame[1] for frame in shown], [400, 900, 1500, 718])
+            for scroll, client, colour, lines in shown:
                 self.assertLessEqual(scroll, client)
-                self.assertEqual(colour, background)
+                self.assertEqual(colour, background if client != 718 else "rgb(255, 255, 255)")
                 self.assertGreater(lines, 80)
 
 

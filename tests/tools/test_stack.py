@@ -85,7 +85,7 @@ class Chains(Case):
         self.put("a.su", FRAMES.replace(":leaf\t24", ":leaf.constprop.0\t80") + "a.c:8:12:deep.part.0\t8\tstatic\n")
         self.assertIn("main: 160 bytes\n", self.told("--library", "putchar=10", "--runtime", "0", "--no-interrupts"))  # 32 + 40 + 8 + 80
 
-    @unittest.skipUnless(shutil.which("gcc"), "gcc isn't installed")
+    @unittest.skipUnless(shutil.which("gcc"), "no gcc")
     def test_what_gcc_writes(self):
         subprocess.run(["gcc", "-O0", "-fstack-usage", "-c", "a.c", "-o", "x.o"], cwd=self.folder, check=True)
         frames = {line.split("\t")[0].split(":")[3]: int(line.split("\t")[1]) for line in (self.folder / "x.su").read_text().strip().split("\n")}

@@ -6,7 +6,7 @@ from html import escape
 
 from .expressions import KEYWORDS
 from .formats import shown_code
-from .program import readable
+from .program import counted, readable
 from .words import PIECE
 
 CHUNK = 60
@@ -48,11 +48,6 @@ def html_of(text):
 def number(value):
     """A number with commas between thousands."""
     return f"{value:,}".replace("-", "\u2212")
-
-
-def counted(value, what):
-    """A number of things."""
-    return f"{number(value)} {what}{'' if value == 1 else 's'}"
 
 
 def percent(part, whole):

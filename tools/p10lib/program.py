@@ -127,6 +127,11 @@ def tail(text):
     return lines[-1] if lines else "(nothing)"
 
 
+def counted(number, what):
+    """A number of things, with commas between thousands."""
+    return f"{number:,} {what}{'' if number == 1 else 's'}"
+
+
 def readable(text):
     """Text as others can read it: bytes of names that are no UTF-8 become U+FFFD."""
     return text.encode("utf-8", "surrogateescape").decode("utf-8", "replace")
