@@ -36,7 +36,7 @@ class Completions(Case):
         """In a terminal of zsh's own: each line, a tab, and the words that are offered then."""
         self.put("look.zsh", LOOK)
         done = subprocess.run(["zsh", "-f", "look.zsh", str(FOLDER)] + [line for line, _ in self.CASES], cwd=self.folder, stdout=subprocess.PIPE,
-                              stderr=subprocess.PIPE, timeout=300, check=False)
+                              stderr=subprocess.PIPE, timeout=900, check=False)
         offers = done.stdout.decode().split("\n")
         for (line, wanted), words in zip(self.CASES, offers):
             offered = {word.rstrip("/") for word in words.split()}

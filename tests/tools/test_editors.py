@@ -58,7 +58,7 @@ class Editor(Case):
     def edit(self, *words):
         """Runs an editor in the folder without a terminal; gives what it writes."""
         done = subprocess.run(words, cwd=self.folder, env=self.environment, stdin=subprocess.DEVNULL, stdout=subprocess.PIPE, stderr=subprocess.PIPE,
-                              timeout=300, check=False)
+                              timeout=900, check=False)
         return done.stdout.decode("utf-8", "replace") + done.stderr.decode("utf-8", "replace")
 
 
@@ -192,7 +192,7 @@ class VsCode(Editor):
     @staticmethod
     def by_node(expression, lines):
         script = "const [e, l] = JSON.parse(process.argv[1]); console.log(JSON.stringify(l.map(x => new RegExp(e).exec(x)).filter(x => x)))"
-        done = subprocess.run(["node", "-e", script, json.dumps([expression, lines])], stdout=subprocess.PIPE, check=True, timeout=300)
+        done = subprocess.run(["node", "-e", script, json.dumps([expression, lines])], stdout=subprocess.PIPE, check=True, timeout=900)
         return json.loads(done.stdout)
 
 

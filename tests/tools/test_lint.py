@@ -256,7 +256,12 @@ class CompileCommands(Case):
     def test_broken_ones(self):
         self.put("build/compile_commands.json", "[{")
         self.one_line(self.run_tool("p10-lint", "-p", "build", status=2)[1], "compile_commands.json is no JSON")
-        for entries, said in (({}, "is no list"), ([{}], "command 1 has no `file`"), ([{"file": "a.c"}], "neither `command` nor"),
+        self.put("build/compile_commands.json", "[" * 100000)
+        self.one_line(self.run_tool("p10-lint", "-p", "build", status=2)[1], "compile_commands.json is no JSON")
+        command = {"command": "cc -c a.c"}
+        for entries, said in (({}, "is no list"), ([{"file": "a\0.c", **command}], "command 1 has no `file`"),
+                              ([{"file": "\ud800.c", **command}], "command 1 has no `file`"),
+                              ([{"directory": 5, "file": "a.c", **command}], "`directory` that is no name"), ([{}], "command 1 has no `file`"), ([{"file": "a.c"}], "neither `command` nor"),
                               ([{"file": "a.c", "command": "cc 'a"}], "can't be split"), ([], "names no C source")):
             self.put("build/compile_commands.json", json.dumps(entries))
             self.one_line(self.run_tool("p10-lint", "-p", "build", status=2)[1], said)
@@ -291,6 +296,18 @@ class BadInput(Case):
         self.put("kept", "as it was")
         self.one_line(self.run_tool("p10-lint", "-o", "/dev/full", "a.c", status=5)[1], "can't write /dev/full")
         self.assertEqual(sorted(p.name for p in self.folder.iterdir()), ["a.c", "kept"])
+
+    def test_an_output_that_is_a_link_stays_one(self):
+        self.put("kept", "as it was")
+        (self.folder / "link").symlink_to("kept")
+        self.run_tool("p10-lint", "-o", "link", "a.c", status=3)
+        self.assertTrue((self.folder / "link").is_symlink())
+        self.assertIn("error: [S7]", (self.folder / "kept").read_text())
+
+    def test_deep_nesting(self):
+        """300 pairs of parentheses, which p10 takes, and the trees here too."""
+        self.put("deep.c", "int main(void) { int i = 0; i = " + "(" * 300 + "i++" + ")" * 300 + "; return i; }\nfloat x;\n")
+        self.assertEqual([f[4] for f in found(self.run_tool("p10-lint", "deep.c", status=3)[0]) if f[3] == "error"], ["S7", "S19"])
 
     def test_names_with_blanks_quotes_colons_and_other_letters(self):
         for name in ("two words.c", "it's \"quoted\".c", "größe:1:2.c", "-begins.c", "日本.c"):

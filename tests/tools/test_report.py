@@ -200,7 +200,7 @@ class InABrowser(Case):
         for scheme, background in ((1, "rgb(255, 255, 255)"), (0, "rgb(20, 24, 29)")):
             done = subprocess.run(["chromium", "--headless", "--no-sandbox", "--disable-gpu", "--hide-scrollbars", "--window-size=1600,1000",
                                    f"--user-data-dir={self.folder / 'profile'}", f"--blink-settings=preferredColorScheme={scheme}", "--dump-dom",
-                                   outer.as_uri()], stdout=subprocess.PIPE, stderr=subprocess.DEVNULL, timeout=300, check=False)
+                                   outer.as_uri()], stdout=subprocess.PIPE, stderr=subprocess.DEVNULL, timeout=900, check=False)
             title = re.search(r"<title>(\[.*?\])</title>", done.stdout.decode())
             self.assertIsNotNone(title, "chromium has shown nothing")
             shown = json.loads(html.unescape(title[1]))

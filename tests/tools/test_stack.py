@@ -124,6 +124,9 @@ class BadInput(Case):
         self.bad("no .su file in empty", "--su", "empty", "a.c")
         self.put("b.su", "a.c:3:12:leaf 24 static\n")
         self.bad("b.su:1: no line of -fstack-usage", "--su", "b.su", "a.c")
+        self.put("big.c", "/*" + "x" * (1 << 20) + "*/\n")
+        self.bad("limit M1", "--su", "a.su", "big.c", status=8)
+        self.bad("read fault", "--su", "a.su", "--cert", ".", "a.c", status=5)
         self.run_tool("p10-stack", "a.c", status=2)
 
     def test_lines_of_other_sources(self):
