@@ -97,6 +97,11 @@ class P10:
         return found, refused, answer
 
 
+def includes_of(given):
+    """The directories that the command line names by --include."""
+    return [directory for directories in given.include for directory in directories.split(":")]
+
+
 def include_words(includes):
     """The option --include for these directories."""
     for directory in includes:
@@ -206,7 +211,9 @@ def main_of(tool, main):
 
 
 def add_common(parser, tool):
-    """The options that all tools have: --p10 and --version."""
+    """The options that all tools have: --include, --p10 and --version."""
+    parser.add_argument("--include", action="append", default=[], metavar="DIRECTORIES", help="search includes here, as p10 does: "
+                        "directories between `:`; may be given again")
     parser.add_argument("--p10", metavar="PROGRAM", help="the p10 to ask; without it that of the environment's P10, of the PATH, or "
                         "the one that ./p10 has built")
     parser.add_argument("--version", action="version", version=f"{tool} {VERSION}, a companion of p10 (unproved)")
