@@ -1,0 +1,4 @@
+-- Lemmas by subject.
+pub mod Taking
+pub mod Values
+pub mod Statements

@@ -1,0 +1,5 @@
+-- The definitions that the laws of this crate cite.
+pub mod Operators
+pub mod Moves
+pub mod Causes
+pub mod Names
