@@ -38,7 +38,7 @@ use Rattle.p10_walk.specs.Walking.{Ends, nowhere, reached, hull_reached, where_g
 use Rattle.p10_walk.specs.Soundness.{Maybe, LeavesAs, IsSound}
 use Rattle.p10_walk.specs.Laws.{WalksAreSound}
 use Rattle.p10_walk.proofs.Simple.{simple_goes}
-use Rattle.p10_walk.proofs.Ends.{left_kept, right_kept, followed_left, followed_right, beside_left, beside_right, block_as, after_as, past_as}
+use Rattle.p10_walk.proofs.KeptEnds.{left_kept, right_kept, followed_left, followed_right, beside_left, beside_right, block_as, after_as, past_as}
 
 -- a frame in which marked variables alone may have changed
 abbrev pub Unmarked : (ℕ → Bool) → Frame → Done → State → Type 0

@@ -26,7 +26,7 @@ use Rattle.p10_walk.specs.Operations.{Operations}
 use Rattle.p10_walk.specs.Walking.{Ends, reached, hull_reached, where_going, walk, walk_all, Round, test_holds, round_of}
 use Rattle.p10_walk.specs.Soundness.{Maybe, LeavesAs, IsSound}
 use Rattle.p10_walk.specs.Turns.{Ranks, RanksBoundTurns}
-use Rattle.p10_walk.proofs.Ends.{left_kept, right_kept}
+use Rattle.p10_walk.proofs.KeptEnds.{left_kept, right_kept}
 use Rattle.p10_walk.proofs.Sound.{Went, Tested as TestedValue, tested as value_tested, statement_goes, statements_go}
 
 -- a turn of k is left where the rank is at least 1 and at most k

@@ -1,6 +1,6 @@
 -- The walk over statements, over any domain: what is known after them, for each way in which they end. Nothing is claimed of inner loops
 -- and of calls: what an inner loop may change is forgotten.
-use Rattle.std.specs.Prelude.{ℕ, suc, Bool, true, false, if◌then◌else◌, is_none, Option, Some, None}
+use Rattle.std.specs.Prelude.{ℕ, suc, true, false, if◌then◌else◌, is_none, Option, Some, None}
 use Rattle.std.specs.Option.{option_map, option_and_then}
 use Rattle.p10_core.specs.declared.statements.LoopKeyword.{LoopKeyword}
 use Rattle.p10_core.specs.declared.statements.LoopKeyword.TheVariants.{Do}
