@@ -15,6 +15,7 @@ pub mod Members
 pub mod Nulls
 pub mod ParameterRows
 pub mod Refusing
+pub mod Seen
 pub mod SpecifierTrees
 pub mod Strings
 pub mod Ties

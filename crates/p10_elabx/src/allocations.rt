@@ -13,6 +13,7 @@ ghost use Rattle.p10_elabx.specs.Built.{plain_shape, ruled_operand, ruled_value,
 
 use crate::judged::{Judged, also_operand, joined};
 use crate::operand::Operand;
+use crate::parts::both;
 use crate::problem::Problem;
 use crate::shape::Shape;
 use crate::sizes::known_size;
@@ -247,18 +248,13 @@ fn counted_found(
 ) -> Result<Result<Operand, Option<Problem>>, AllocError>
     ensures { IfOk result (λ r. lift (ruled_operand r) ≡ on (pair only_first (lift (ruled_shape found)) (pair only_first (lift (ruled_type a)) (lift (ruled_value b)))) (λ (s, (e, n)). shape_allocation site function s e (Some n))) }
 {
-    match (found, a, b) {
-        (Ok(shape), Ok(element), Ok(count)) => {
+    match both(found, both(a, b)) {
+        Ok(parts) => {
+            let (shape, (element, count)) = parts;
             let found = shape_allocation(alloc, site, function, shape, &element, Some(count))?;
             Ok(found)
         }
-        (Ok(_), Ok(_), Err(q)) => Ok(Err(q)),
-        (Ok(_), Err(r), Ok(_)) => Ok(Err(r)),
-        (Ok(_), Err(r), Err(q)) => Ok(Err(joined(r, q))),
-        (Err(p), Ok(_), Ok(_)) => Ok(Err(p)),
-        (Err(p), Ok(_), Err(q)) => Ok(Err(joined(p, q))),
-        (Err(p), Err(r), Ok(_)) => Ok(Err(joined(p, r))),
-        (Err(p), Err(r), Err(q)) => Ok(Err(joined(p, joined(r, q)))),
+        Err(r) => Ok(Err(r)),
     }
 }
 
@@ -407,18 +403,13 @@ fn two_found(
 ) -> Result<Result<Operand, Option<Problem>>, AllocError>
     ensures { IfOk result (λ r. lift (ruled_operand r) ≡ on (pair only_first (lift (ruled_shape found)) (pair only_first (lift (ruled_size a)) (lift (ruled_size b)))) (λ (s, (a, b)). either_shape site s a b)) }
 {
-    match (found, a, b) {
-        (Ok(shape), Ok(left), Ok(right)) => {
+    match both(found, both(a, b)) {
+        Ok(parts) => {
+            let (shape, (left, right)) = parts;
             let found = either_shape(alloc, site, shape, left, right)?;
             Ok(found)
         }
-        (Ok(_), Ok(_), Err(q)) => Ok(Err(q)),
-        (Ok(_), Err(r), Ok(_)) => Ok(Err(r)),
-        (Ok(_), Err(r), Err(q)) => Ok(Err(joined(r, q))),
-        (Err(p), Ok(_), Ok(_)) => Ok(Err(p)),
-        (Err(p), Ok(_), Err(q)) => Ok(Err(joined(p, q))),
-        (Err(p), Err(r), Ok(_)) => Ok(Err(joined(p, r))),
-        (Err(p), Err(r), Err(q)) => Ok(Err(joined(p, joined(r, q)))),
+        Err(r) => Ok(Err(r)),
     }
 }
 

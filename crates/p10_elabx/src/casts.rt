@@ -12,6 +12,7 @@ use crate::forms::valued;
 use crate::judged::{Judged, Listed, also_operand, joined};
 use crate::operand::Operand;
 use crate::operators::{cast_value, size_value};
+use crate::parts::unused;
 use crate::problem::Problem;
 use crate::shape::Shape;
 use crate::values::{any_value, as_value};
@@ -141,10 +142,7 @@ pub fn cast_judged(
 fn no_operand(found: Result<Vec<Value>, Option<Problem>>) -> Result<Operand, Option<Problem>>
     ensures { lift (ruled_operand result) ≡ on (lift (ruled_values found)) (λ vs. nothing_said) }
 {
-    match found {
-        Ok(_) => Err(None),
-        Err(r) => Err(r),
-    }
+    unused(found)
 }
 
 /// What is found in operands of the comma operator.

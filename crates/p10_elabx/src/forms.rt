@@ -12,6 +12,7 @@ ghost use Rattle.p10_elabx.specs.Built.{judged_operand, judged_value, ruled_oper
 use crate::judged::{Judged, also_operand, joined, unordered};
 use crate::operand::Operand;
 use crate::operators::{binary_value, conditional_value, logic_value, unary_value};
+use crate::parts::both;
 use crate::places::{
     address_found, arrow_found, dereferenced, indexed, member_found, operand_size,
 };
@@ -204,15 +205,13 @@ fn conditional_found(
 ) -> Result<Result<Operand, Option<Problem>>, AllocError>
     ensures { IfOk result (λ r. lift (ruled_operand r) ≡ on (pair only_first (lift (ruled_value test)) (pair only_first (lift (ruled_value a)) (lift (ruled_value b)))) (λ (v, (x, y)). valued (conditional_value at v x y))) }
 {
-    match (test, a, b) {
-        (Ok(v), Ok(x), Ok(y)) => Ok(valued(conditional_value(alloc, at, v, x, y)?)),
-        (Ok(_), Ok(_), Err(q)) => Ok(Err(q)),
-        (Ok(_), Err(r), Ok(_)) => Ok(Err(r)),
-        (Ok(_), Err(r), Err(q)) => Ok(Err(joined(r, q))),
-        (Err(p), Ok(_), Ok(_)) => Ok(Err(p)),
-        (Err(p), Ok(_), Err(q)) => Ok(Err(joined(p, q))),
-        (Err(p), Err(r), Ok(_)) => Ok(Err(joined(p, r))),
-        (Err(p), Err(r), Err(q)) => Ok(Err(joined(p, joined(r, q)))),
+    match both(test, both(a, b)) {
+        Ok(parts) => {
+            let (v, (x, y)) = parts;
+            let found = conditional_value(alloc, at, v, x, y)?;
+            Ok(valued(found))
+        }
+        Err(r) => Ok(Err(r)),
     }
 }
 

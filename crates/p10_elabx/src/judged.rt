@@ -5,6 +5,7 @@ ghost use Rattle.p10_elabx.specs.First.{only_first, problems, joined, also, if_e
 ghost use Rattle.p10_elabx.specs.Built.{judged_operand, judged_value, judged_target, judged_form, ruled_operand, ruled_target, ruled_form, ruled_shape};
 
 use crate::operand::{Operand, PlaceKind};
+use crate::parts::refused;
 use crate::problem::{Problem, least};
 use crate::shape::Shape;
 use p10_base::{At, SubsetCode};
@@ -99,10 +100,7 @@ fn operand_refused(
 ) -> Result<Operand, Option<Problem>>
     ensures { lift (ruled_operand result) ≡ refused_where only_first holds own.code own.at (lift (ruled_operand found)) }
 {
-    match found {
-        Ok(operand) => { if holds { Err(Some(own)) } else { Ok(operand) } }
-        Err(r) => Err(refusal(holds, own, r)),
-    }
+    refused(holds, own, found)
 }
 
 /// A row on the form of a target.
@@ -130,10 +128,7 @@ fn target_refused(
 ) -> Result<(PlaceKind, Place), Option<Problem>>
     ensures { lift (ruled_target result) ≡ refused_where only_first holds own.code own.at (lift (ruled_target found)) }
 {
-    match found {
-        Ok(target) => { if holds { Err(Some(own)) } else { Ok(target) } }
-        Err(r) => Err(refusal(holds, own, r)),
-    }
+    refused(holds, own, found)
 }
 
 /// A row on the form of an assignment.
@@ -156,10 +151,7 @@ fn form_refused(
 ) -> Result<StmtForm, Option<Problem>>
     ensures { lift (ruled_form result) ≡ refused_where only_first holds own.code own.at (lift (ruled_form found)) }
 {
-    match found {
-        Ok(form) => { if holds { Err(Some(own)) } else { Ok(form) } }
-        Err(r) => Err(refusal(holds, own, r)),
-    }
+    refused(holds, own, found)
 }
 
 /// A type, where a row on its form may hold.
@@ -170,8 +162,5 @@ pub fn shape_refused(
 ) -> Result<Shape, Option<Problem>>
     ensures { lift (ruled_shape result) ≡ refused_where only_first holds own.code own.at (lift (ruled_shape found)) }
 {
-    match found {
-        Ok(shape) => { if holds { Err(Some(own)) } else { Ok(shape) } }
-        Err(r) => Err(refusal(holds, own, r)),
-    }
+    refused(holds, own, found)
 }

@@ -34,6 +34,7 @@ mod names;
 mod operand;
 mod operators;
 mod parameters;
+mod parts;
 mod places;
 mod problem;
 mod rows;

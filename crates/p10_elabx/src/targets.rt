@@ -13,6 +13,7 @@ ghost use Rattle.p10_core.specs.declared.statements.UpdateKind.TheVariants as ki
 use crate::assignment::{assigned, updated};
 use crate::judged::{Judged, also_form, also_operand, also_target, joined, unordered};
 use crate::operand::{Operand, PlaceKind};
+use crate::parts::unused;
 use crate::places::target_found;
 use crate::problem::Problem;
 use p10_base::{At, SubsetCode};
@@ -230,10 +231,7 @@ pub fn by_sign(
 fn no_operand(found: Result<StmtForm, Option<Problem>>) -> Result<Operand, Option<Problem>>
     ensures { lift (ruled_operand result) ≡ on (lift (ruled_form found)) (λ form. nothing_said) }
 {
-    match found {
-        Ok(_) => Err(None),
-        Err(r) => Err(r),
-    }
+    unused(found)
 }
 
 /// An assignment or a step where an operand is needed.

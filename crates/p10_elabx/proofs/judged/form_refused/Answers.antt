@@ -1,6 +1,7 @@
-use Rattle.p10_core.specs.Typed.{PlainStatementForm}
-use Rattle.p10_elabx.proofs.Refusing.{refused_err}
+use Rattle.p10_core.specs.Views.{plain_statement_form}
+use Rattle.p10_elabx.specs.Built.{ruled_form}
+use Rattle.p10_elabx.proofs.Seen.{refused_as, forms}
 use Rattle.p10_elabx.proofs.judged.form_refused.Goals as goal
 
-pub returns-in-Err : goal.returns-in-Err
-returns-in-Err c = rw c.in-Err.is (refused_err PlainStatementForm _ _ _ _ c.refusal.ensures)
+pub returns : goal.returns
+returns c = refused_as plain_statement_form ruled_form forms c.args.holds c.args.own c.args.found _ c.refused.ensures

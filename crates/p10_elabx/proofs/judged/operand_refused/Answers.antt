@@ -1,6 +1,6 @@
-use Rattle.p10_elabx.specs.Operands.{PlainOperand}
-use Rattle.p10_elabx.proofs.Refusing.{refused_err}
+use Rattle.p10_elabx.specs.Built.{plain_operand, ruled_operand}
+use Rattle.p10_elabx.proofs.Seen.{refused_as, operands}
 use Rattle.p10_elabx.proofs.judged.operand_refused.Goals as goal
 
-pub returns-in-Err : goal.returns-in-Err
-returns-in-Err c = rw c.in-Err.is (refused_err PlainOperand _ _ _ _ c.refusal.ensures)
+pub returns : goal.returns
+returns c = refused_as plain_operand ruled_operand operands c.args.holds c.args.own c.args.found _ c.refused.ensures

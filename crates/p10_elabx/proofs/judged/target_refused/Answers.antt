@@ -1,7 +1,6 @@
-use Rattle.p10_core.specs.Typed.{PlainPlace}
-use Rattle.p10_elabx.specs.declared.operand.PlaceKind.{PlaceKind}
-use Rattle.p10_elabx.proofs.Refusing.{refused_err}
+use Rattle.p10_elabx.specs.Built.{ruled_target}
+use Rattle.p10_elabx.proofs.Seen.{plain_target, refused_as, targets}
 use Rattle.p10_elabx.proofs.judged.target_refused.Goals as goal
 
-pub returns-in-Err : goal.returns-in-Err
-returns-in-Err c = rw c.in-Err.is (refused_err (PlaceKind × PlainPlace) _ _ _ _ c.refusal.ensures)
+pub returns : goal.returns
+returns c = refused_as plain_target ruled_target targets c.args.holds c.args.own c.args.found _ c.refused.ensures
