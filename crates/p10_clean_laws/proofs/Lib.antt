@@ -1,0 +1,4 @@
+-- Lemmas by subject.
+pub mod Testing
+pub mod Arithmetic
+pub mod Shifting
