@@ -10,6 +10,7 @@
 //! How C's trees come to typed ones, and what typed ones mean, are left to the crates above.
 #![tactic(auto)]
 
+mod boxes;
 mod c_type;
 mod constants;
 pub mod laws;

@@ -5,6 +5,7 @@ ghost use Rattle.p10_core.specs.Types.{plain_type};
 ghost use Rattle.p10_core.specs.Typed.{value, constant, read, sense, address, decay, convert, cast, unary, binary, logic, conditional, call, built_in, place, variable, global, literal, index, member, dereference};
 ghost use Rattle.p10_core.specs.Views.{plain_value, plain_place, plain_values};
 
+use crate::boxes::{boxed, boxed_pair, boxed_triple};
 use crate::c_type::CType;
 use crate::typed::{Library, LogicOp, Place, PlaceForm, Value, ValueForm};
 use p10_base::{At, ListBuf, Span};
@@ -30,7 +31,7 @@ impl Value {
         Ok(Value {
             at,
             ty,
-            form: ValueForm::Read(Box::new(alloc, from)?),
+            form: ValueForm::Read(boxed(alloc, from)?),
         })
     }
 
@@ -52,7 +53,7 @@ impl Value {
         Ok(Value {
             at,
             ty,
-            form: ValueForm::Addr(Box::new(alloc, of)?),
+            form: ValueForm::Addr(boxed(alloc, of)?),
         })
     }
 
@@ -63,7 +64,7 @@ impl Value {
         Ok(Value {
             at,
             ty,
-            form: ValueForm::Decay(Box::new(alloc, of)?),
+            form: ValueForm::Decay(boxed(alloc, of)?),
         })
     }
 
@@ -74,7 +75,7 @@ impl Value {
         Ok(Value {
             at,
             ty,
-            form: ValueForm::Convert(Box::new(alloc, from)?),
+            form: ValueForm::Convert(boxed(alloc, from)?),
         })
     }
 
@@ -85,7 +86,7 @@ impl Value {
         Ok(Value {
             at,
             ty,
-            form: ValueForm::Cast(Box::new(alloc, from)?),
+            form: ValueForm::Cast(boxed(alloc, from)?),
         })
     }
 
@@ -102,7 +103,7 @@ impl Value {
         Ok(Value {
             at,
             ty,
-            form: ValueForm::Unary(op, Box::new(alloc, operand)?),
+            form: ValueForm::Unary(op, boxed(alloc, operand)?),
         })
     }
 
@@ -117,10 +118,11 @@ impl Value {
     ) -> Result<Value, AllocError>
         ensures { IfOk result (λ v. plain_value v ≡ value at (plain_type ty) (binary op (plain_value left) (plain_value right))) }
     {
+        let (left, right) = boxed_pair(alloc, left, right)?;
         Ok(Value {
             at,
             ty,
-            form: ValueForm::Binary(op, Box::new(alloc, left)?, Box::new(alloc, right)?),
+            form: ValueForm::Binary(op, left, right),
         })
     }
 
@@ -135,10 +137,11 @@ impl Value {
     ) -> Result<Value, AllocError>
         ensures { IfOk result (λ v. plain_value v ≡ value at (plain_type ty) (logic op (plain_value left) (plain_value right))) }
     {
+        let (left, right) = boxed_pair(alloc, left, right)?;
         Ok(Value {
             at,
             ty,
-            form: ValueForm::Logic(op, Box::new(alloc, left)?, Box::new(alloc, right)?),
+            form: ValueForm::Logic(op, left, right),
         })
     }
 
@@ -153,14 +156,11 @@ impl Value {
     ) -> Result<Value, AllocError>
         ensures { IfOk result (λ v. plain_value v ≡ value at (plain_type ty) (conditional (plain_value test) (plain_value left) (plain_value right))) }
     {
+        let (test, left, right) = boxed_triple(alloc, test, left, right)?;
         Ok(Value {
             at,
             ty,
-            form: ValueForm::Cond(
-                Box::new(alloc, test)?,
-                Box::new(alloc, left)?,
-                Box::new(alloc, right)?,
-            ),
+            form: ValueForm::Cond(test, left, right),
         })
     }
 
@@ -237,10 +237,11 @@ impl Place {
     ) -> Result<Place, AllocError>
         ensures { IfOk result (λ p. plain_place p ≡ place at (plain_type ty) (index (plain_value pointer) (plain_value by))) }
     {
+        let (pointer, by) = boxed_pair(alloc, pointer, by)?;
         Ok(Place {
             at,
             ty,
-            form: PlaceForm::Index(Box::new(alloc, pointer)?, Box::new(alloc, by)?),
+            form: PlaceForm::Index(pointer, by),
         })
     }
 
@@ -257,7 +258,7 @@ impl Place {
         Ok(Place {
             at,
             ty,
-            form: PlaceForm::Member(Box::new(alloc, whole)?, number),
+            form: PlaceForm::Member(boxed(alloc, whole)?, number),
         })
     }
 
@@ -273,7 +274,7 @@ impl Place {
         Ok(Place {
             at,
             ty,
-            form: PlaceForm::Deref(Box::new(alloc, pointer)?),
+            form: PlaceForm::Deref(boxed(alloc, pointer)?),
         })
     }
 }

@@ -5,6 +5,7 @@ ghost use Rattle.p10_core.specs.Types.{plain_type};
 ghost use Rattle.p10_core.specs.Typed.{statement, set, update, copy, evaluate, asserts, declare, declare_static, block, if_then, if_else, loop, switch, break, continue, return, empty, mark};
 ghost use Rattle.p10_core.specs.Views.{plain_value, plain_place, plain_initializer, plain_labels, plain_statement, plain_statement_form, plain_statements};
 
+use crate::boxes::{boxed, boxed_pair};
 use crate::c_type::CType;
 use crate::statements::{Initializer, Labels, LoopHead, MarkKind, Stmt, StmtForm, UpdateKind};
 use crate::typed::{Place, Value};
@@ -114,7 +115,7 @@ impl Stmt {
     {
         Ok(Stmt {
             at,
-            form: StmtForm::If(test, Box::new(alloc, then)?, None),
+            form: StmtForm::If(test, boxed(alloc, then)?, None),
         })
     }
 
@@ -128,8 +129,7 @@ impl Stmt {
     ) -> Result<Stmt, AllocError>
         ensures { IfOk result (λ s. plain_statement s ≡ statement at (if_else (plain_value test) (plain_statement then) (plain_statement otherwise))) }
     {
-        let then = Box::new(alloc, then)?;
-        let otherwise = Box::new(alloc, otherwise)?;
+        let (then, otherwise) = boxed_pair(alloc, then, otherwise)?;
         Ok(Stmt {
             at,
             form: StmtForm::If(test, then, Some(otherwise)),
@@ -147,7 +147,7 @@ impl Stmt {
         ensures { IfOk result (λ s. plain_statement s ≡ statement at (loop head (plain_statements clauses.first.items) (option_map plain_value clauses.test) (plain_statements clauses.third.items) (plain_statement body))) }
     {
         let Clauses { first, test, third } = clauses;
-        let body = Box::new(alloc, body)?;
+        let body = boxed(alloc, body)?;
         let form = loop_form(head, ListBuf::of(first), test, ListBuf::of(third), body);
         Ok(Stmt { at, form })
     }
@@ -165,7 +165,7 @@ impl Stmt {
     {
         Ok(Stmt {
             at,
-            form: StmtForm::Switch(keyword, value, labels, Box::new(alloc, body)?),
+            form: StmtForm::Switch(keyword, value, labels, boxed(alloc, body)?),
         })
     }
 

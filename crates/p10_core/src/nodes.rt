@@ -1,6 +1,7 @@
 //! A walk over typed trees: their statements, values and places, one after the other in text order, without recursion.
 //! A walk over a program is a loop over [`Nodes`], and its contract speaks of the list of the nodes that are left.
 
+use crate::boxes::push_one;
 use crate::statements::{Initializer, Item, LoopKeyword, Stmt, StmtForm, Written};
 use crate::typed::{Place, PlaceForm, Value, ValueForm};
 use std::alloc::{AllocError, Global};
@@ -222,7 +223,7 @@ impl<'p> Nodes<'p> {
     fn put_value(&mut self, value: &'p Value) -> Result<(), AllocError>
         ensures { IfOk result (λ _. nodes_ahead self.new.ahead.items ≡ nodes_of_value (plain_value value.now) ++ nodes_ahead self.old.ahead.items) }
     {
-        self.ahead.push(Node::Value(value))?;
+        push_one(&mut self.ahead, Node::Value(value))?;
         Ok(())
     }
 
@@ -230,7 +231,7 @@ impl<'p> Nodes<'p> {
     fn put_place(&mut self, place: &'p Place) -> Result<(), AllocError>
         ensures { IfOk result (λ _. nodes_ahead self.new.ahead.items ≡ nodes_of_place (plain_place place.now) ++ nodes_ahead self.old.ahead.items) }
     {
-        self.ahead.push(Node::Place(place))?;
+        push_one(&mut self.ahead, Node::Place(place))?;
         Ok(())
     }
 
@@ -238,7 +239,7 @@ impl<'p> Nodes<'p> {
     fn put_statement(&mut self, statement: &'p Stmt) -> Result<(), AllocError>
         ensures { IfOk result (λ _. nodes_ahead self.new.ahead.items ≡ nodes_of_statement (plain_statement statement.now) ++ nodes_ahead self.old.ahead.items) }
     {
-        self.ahead.push(Node::Stmt(statement))?;
+        push_one(&mut self.ahead, Node::Stmt(statement))?;
         Ok(())
     }
 

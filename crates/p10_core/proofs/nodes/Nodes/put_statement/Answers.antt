@@ -5,4 +5,4 @@ use Rattle.p10_core.proofs.Walking.{ahead_last}
 use Rattle.p10_core.proofs.nodes.Nodes.put_statement.Goals as goal
 
 pub returns : goal.returns
-returns c = ap nodes_ahead c.in_ok-push.ensures.items ∙ ahead_last c.args.self.now.ahead.items (Stmt c.args.statement)
+returns c = ap nodes_ahead c.in_ok-push_one.ensures ∙ ahead_last c.args.self.now.ahead.items (Stmt c.args.statement)
