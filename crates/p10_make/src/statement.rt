@@ -6,7 +6,7 @@ ghost use Rattle.p10_syn.specs.Bare.{no_landmarks};
 ghost use Rattle.p10_syn.specs.Built.{bare_of, bare_specifier_of, bare_declarator_of, bare_optional_of, named};
 ghost use Rattle.p10_syn.specs.BuiltStatements.{bare_initializer_of, bare_init_declarator_of, bare_declaration_of, bare_statement_of, bare_external_of, bare_initial_of};
 
-use crate::boxes::{boxed, boxed_pair};
+use crate::boxes::{boxed, boxed_pair, stopped, stopped_after_two};
 use p10_syn::{
     Decl, Declarator, Expr, Function, Identifier, Init, InitDeclarator, Landmarks, Spec, Stmt,
     Unit, nowhere,
@@ -75,8 +75,10 @@ pub fn block<'s>(all: Vec<Stmt<'s>>) -> Stmt<'s>
 pub fn if_then<'s>(alloc: Global, test: Expr<'s>, then: Stmt<'s>) -> Result<Stmt<'s>, AllocError>
     ensures { IfOk result (λ s. bare_statement_of s ≡ If tt (bare_of test.entry) (bare_statement_of then.entry)) }
 {
-    let then = boxed(alloc, then)?;
-    Ok(Stmt::If(nowhere(), test, then))
+    match boxed(alloc, then) {
+        Ok(then) => Ok(Stmt::If(nowhere(), test, then)),
+        Err(trouble) => stopped(test, trouble),
+    }
 }
 
 /// An `if` with `else`.
@@ -88,32 +90,40 @@ pub fn if_else<'s>(
 ) -> Result<Stmt<'s>, AllocError>
     ensures { IfOk result (λ s. bare_statement_of s ≡ IfElse tt (bare_of test.entry) (bare_statement_of then.entry) (bare_statement_of other.entry)) }
 {
-    let (then, other) = boxed_pair(alloc, then, other)?;
-    Ok(Stmt::IfElse(nowhere(), test, then, other))
+    match boxed_pair(alloc, then, other) {
+        Ok((then, other)) => Ok(Stmt::IfElse(nowhere(), test, then, other)),
+        Err(trouble) => stopped(test, trouble),
+    }
 }
 
 /// A `switch`.
 pub fn switch<'s>(alloc: Global, value: Expr<'s>, body: Stmt<'s>) -> Result<Stmt<'s>, AllocError>
     ensures { IfOk result (λ s. bare_statement_of s ≡ Switch tt tt (bare_of value.entry) (bare_statement_of body.entry)) }
 {
-    let body = boxed(alloc, body)?;
-    Ok(Stmt::Switch(nowhere(), nowhere(), value, body))
+    match boxed(alloc, body) {
+        Ok(body) => Ok(Stmt::Switch(nowhere(), nowhere(), value, body)),
+        Err(trouble) => stopped(value, trouble),
+    }
 }
 
 /// A `while`.
 pub fn while_loop<'s>(alloc: Global, test: Expr<'s>, body: Stmt<'s>) -> Result<Stmt<'s>, AllocError>
     ensures { IfOk result (λ s. bare_statement_of s ≡ While tt tt (bare_of test.entry) (bare_statement_of body.entry)) }
 {
-    let body = boxed(alloc, body)?;
-    Ok(Stmt::While(nowhere(), nowhere(), test, body))
+    match boxed(alloc, body) {
+        Ok(body) => Ok(Stmt::While(nowhere(), nowhere(), test, body)),
+        Err(trouble) => stopped(test, trouble),
+    }
 }
 
 /// A `do`.
 pub fn do_loop<'s>(alloc: Global, body: Stmt<'s>, test: Expr<'s>) -> Result<Stmt<'s>, AllocError>
     ensures { IfOk result (λ s. bare_statement_of s ≡ Do tt tt (bare_statement_of body.entry) (bare_of test.entry)) }
 {
-    let body = boxed(alloc, body)?;
-    Ok(Stmt::Do(nowhere(), nowhere(), body, test))
+    match boxed(alloc, body) {
+        Ok(body) => Ok(Stmt::Do(nowhere(), nowhere(), body, test)),
+        Err(trouble) => stopped(test, trouble),
+    }
 }
 
 /// A `for`.
@@ -126,16 +136,20 @@ pub fn for_loop<'s>(
 ) -> Result<Stmt<'s>, AllocError>
     ensures { IfOk result (λ s. bare_statement_of s ≡ For tt tt (bare_statement_of start.entry) (bare_optional_of test.entry) (bare_optional_of step.entry) (bare_statement_of body.entry)) }
 {
-    let (start, body) = boxed_pair(alloc, start, body)?;
-    Ok(Stmt::For(nowhere(), nowhere(), start, test, step, body))
+    match boxed_pair(alloc, start, body) {
+        Ok((start, body)) => Ok(Stmt::For(nowhere(), nowhere(), start, test, step, body)),
+        Err(trouble) => stopped_after_two(test, step, trouble),
+    }
 }
 
 /// A `case`.
 pub fn case<'s>(alloc: Global, value: Expr<'s>, body: Stmt<'s>) -> Result<Stmt<'s>, AllocError>
     ensures { IfOk result (λ s. bare_statement_of s ≡ Case tt (bare_of value.entry) (bare_statement_of body.entry)) }
 {
-    let body = boxed(alloc, body)?;
-    Ok(Stmt::Case(nowhere(), value, body))
+    match boxed(alloc, body) {
+        Ok(body) => Ok(Stmt::Case(nowhere(), value, body)),
+        Err(trouble) => stopped(value, trouble),
+    }
 }
 
 /// A `default`.

@@ -3,6 +3,6 @@ use Rattle.p10_syn.specs.BuiltStatements.{bare_statement_of}
 use Rattle.p10_make.proofs.StatementRows.{if_tree}
 use Rattle.p10_make.proofs.statement.if_then.Goals as goal
 
-pub returns : goal.returns
+pub returns-in-Ok : goal.returns-in-Ok
 unfolding bare_of bare_statement_of
-returns c = if_tree c.args.test _ _ c.in_ok-then.ensures
+returns-in-Ok c = if_tree c.args.test _ _ c.in-Ok.ensures
