@@ -10,6 +10,7 @@ ghost use Rattle.p10_place.specs.private.Lists.{initializers_in};
 
 use crate::declarator::set_declarator;
 use crate::expression::{comma_before, set_expression};
+use crate::put::put;
 use crate::root::{NOWHERE, Root};
 use crate::specifier::set_specifiers;
 use p10_syn::{Decl, Expr, Form, Init, InitDeclarator};
@@ -24,7 +25,7 @@ fn set_initializer(root: &Root<'_, '_>, first: usize, init: &mut Init<'_>) -> us
 {
     let taken = replace(init, Init::Value(nothing()));
     let (placed, past) = set_parts(root, first, taken);
-    *init = placed;
+    put(init, placed);
     past
 }
 

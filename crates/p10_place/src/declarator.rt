@@ -9,6 +9,7 @@ ghost use Rattle.p10_place.specs.Roots.{source_of};
 ghost use Rattle.p10_place.specs.private.Lists.{parameters_in};
 
 use crate::expression::{comma_before, set_name, set_optional};
+use crate::put::put;
 use crate::root::{NOWHERE, Root};
 use crate::specifier::set_specifiers;
 use p10_syn::{Declarator, Parameter, Qualifier};
@@ -27,7 +28,7 @@ pub(crate) fn set_declarator(
 {
     let taken = replace(declarator, Declarator::Unnamed(NOWHERE));
     let (placed, past) = set_parts(root, first, taken);
-    *declarator = placed;
+    put(declarator, placed);
     past
 }
 

@@ -10,6 +10,7 @@ ghost use Rattle.p10_place.specs.private.Lists.{expressions_in, boxed_of};
 
 use crate::declarator::set_declarator;
 use crate::form::set_form;
+use crate::put::put;
 use crate::root::Root;
 use crate::specifier::set_specifiers;
 use p10_syn::{Expr, Form, Identifier, TypeName};
@@ -26,7 +27,7 @@ pub(crate) fn set_expression(root: &Root<'_, '_>, first: usize, e: &mut Expr<'_>
     let form = replace(&mut e.form, Form::Number(&[]));
     let (form, past) = set_form(root, first + e.parens, form);
     let past = past + e.parens;
-    e.form = form;
+    put(&mut e.form, form);
     e.at = root.place_between(first, past);
     past
 }

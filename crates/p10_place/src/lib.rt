@@ -16,6 +16,7 @@ mod external;
 mod form;
 pub mod laws;
 mod place;
+mod put;
 mod root;
 mod specifier;
 mod statement;

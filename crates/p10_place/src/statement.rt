@@ -12,6 +12,7 @@ ghost use Rattle.p10_place.specs.private.Lists.{statements_in};
 
 use crate::declaration::set_declaration;
 use crate::expression::{set_expression, set_name};
+use crate::put::put;
 use crate::root::{NOWHERE, Root};
 use p10_syn::{Expr, Identifier, Stmt};
 use std::mem::replace;
@@ -25,7 +26,7 @@ fn set_statement(root: &Root<'_, '_>, first: usize, statement: &mut Stmt<'_>) ->
 {
     let taken = replace(statement, Stmt::Empty(NOWHERE));
     let (placed, past) = set_parts(root, first, taken);
-    *statement = placed;
+    put(statement, placed);
     past
 }
 
