@@ -17,6 +17,7 @@ use crate::expression::expression;
 use crate::next::{is_qualifier, opens_parameters};
 use crate::scope::Scope;
 use crate::specifier::specifiers;
+use crate::stopping::{push_one, stopped, stopped_after_two};
 use crate::trouble::Trouble;
 use p10_syn::{Declarator, Naming, Parameter, Qualifier, Setting, Sign, Token, TypeName};
 use std::alloc::Global;
@@ -179,8 +180,10 @@ fn wrapped<'s>(
     ensures scope { OnOk result (scope.new ≡ scope.old) }
 {
     let inner = declarator(alloc, budget, scope, setting, naming, cursor)?;
-    cursor.expect(Sign::Close)?;
-    Ok(p10_make::parenthesised(alloc, inner)?)
+    match cursor.expect(Sign::Close) {
+        Ok(()) => Ok(p10_make::parenthesised(alloc, inner)?),
+        Err(trouble) => stopped(inner, trouble),
+    }
 }
 
 /// Reads the brackets and parameters after a declarator.
@@ -207,7 +210,7 @@ fn suffixes<'s>(
         fuel -= 1;
         whole = suffix(alloc, fuel, scope, setting, whole, cursor)?;
     }
-    Err(Trouble::Refused)
+    stopped(whole, Trouble::Refused)
 }
 
 /// Whether `[` or `(` stands next.
@@ -274,9 +277,14 @@ fn sized<'s>(
     ensures refused { IsErrOf result Refused → sized_at (readers budget) scope.old (bare_declarator_of inner.entry) cursor.old ≡ None }
     ensures scope { OnOk result (scope.new ≡ scope.old) }
 {
-    let length = expression(alloc, budget, scope, 3, cursor)?;
-    cursor.expect(Sign::CloseSquare)?;
-    Ok(p10_make::array(alloc, inner, Some(length))?)
+    let length = match expression(alloc, budget, scope, 3, cursor) {
+        Ok(length) => length,
+        Err(trouble) => return stopped(inner, trouble),
+    };
+    match cursor.expect(Sign::CloseSquare) {
+        Ok(()) => Ok(p10_make::array(alloc, inner, Some(length))?),
+        Err(trouble) => stopped_after_two(inner, length, trouble),
+    }
 }
 
 /// Reads what stands after the `(` of a function.
@@ -315,8 +323,10 @@ fn with_parameters<'s>(
     ensures refused { IsErrOf result Refused → with_parameters_at (readers budget) scope.old setting (bare_declarator_of inner.entry) cursor.old ≡ None }
     ensures scope { OnOk result (scope.new ≡ scope.old) }
 {
-    let (all, has_ellipsis) = parameters(alloc, budget, scope, setting, cursor)?;
-    Ok(p10_make::function(alloc, inner, all, has_ellipsis)?)
+    match parameters(alloc, budget, scope, setting, cursor) {
+        Ok((all, has_ellipsis)) => Ok(p10_make::function(alloc, inner, all, has_ellipsis)?),
+        Err(trouble) => stopped(inner, trouble),
+    }
 }
 
 /// Reads parameters, whether `...` stands after the last, and the `)`. Their names are in scope up to it.
@@ -339,7 +349,7 @@ fn parameters<'s>(
     while fuel > 0 {
         fuel -= 1;
         let next = parameter(alloc, fuel, scope, setting, cursor)?;
-        all.push(next)?;
+        push_one(&mut all, next)?;
         if ends_parameters(cursor) {
             let has_ellipsis = end_of_parameters(cursor)?;
             scope.forget(count);
@@ -388,6 +398,8 @@ fn parameter<'s>(
 {
     let specs = specifiers(alloc, budget, scope, setting, cursor)?;
     let declarator = declarator(alloc, budget, scope, setting, Naming::Allowed, cursor)?;
-    scope.declare(specs.as_slice(), &declarator)?;
-    Ok(p10_make::parameter(specs, declarator))
+    match scope.declare(specs.as_slice(), &declarator) {
+        Ok(()) => Ok(p10_make::parameter(specs, declarator)),
+        Err(_) => stopped_after_two(specs, declarator, Trouble::Memory),
+    }
 }

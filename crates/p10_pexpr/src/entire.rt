@@ -17,6 +17,7 @@ use crate::expression::expression;
 use crate::fault::ParseFault;
 use crate::names::Names;
 use crate::scope::Scope;
+use crate::stopping::stopped;
 use crate::tokens::tokens_of;
 use crate::trouble::Trouble;
 use p10_base::{Limit, Refusal, Span, Word};
@@ -108,7 +109,7 @@ fn read_all<'s>(
             if cursor.is_at_end() {
                 Ok(tree)
             } else {
-                Err(Trouble::Refused)
+                stopped(tree, Trouble::Refused)
             }
         }
     }

@@ -11,6 +11,7 @@ use crate::cursor::Cursor;
 use crate::next::Next;
 use crate::operand::operand;
 use crate::scope::Scope;
+use crate::stopping::{push_one, stopped, stopped_after_two};
 use crate::trouble::Trouble;
 use p10_syn::{Expr, Side, Sign, binary_level};
 use std::alloc::Global;
@@ -36,7 +37,7 @@ pub fn expression<'s>(
     }
     let left = operand(alloc, budget - 1, scope, cursor)?;
     if p10_syn::level(&left) < level {
-        return Err(Trouble::Refused);
+        return stopped(left, Trouble::Refused);
     }
     chain(alloc, budget - 1, scope, level, left, cursor)
 }
@@ -68,7 +69,7 @@ fn chain<'s>(
         cursor.advance();
         whole = part(alloc, fuel, scope, whole, next, cursor)?;
     }
-    Err(Trouble::Refused)
+    stopped(whole, Trouble::Refused)
 }
 
 /// Reads one further part of an expression, after the word that goes on with it.
@@ -96,8 +97,8 @@ fn part<'s>(
         Next::Selects => member(alloc, left, cursor),
         Next::Points => arrow(alloc, left, cursor),
         Next::Counts(sign) => Ok(p10_make::step(alloc, Side::After, sign, left)?),
-        Next::Quotes => Err(Trouble::Refused),
-        Next::Ends => Err(Trouble::Refused),
+        Next::Quotes => stopped(left, Trouble::Refused),
+        Next::Ends => stopped(left, Trouble::Refused),
     }
 }
 
@@ -116,8 +117,10 @@ fn join<'s>(
     ensures scope { OnOk result (scope.new ≡ scope.old) }
     ensures few { IfOk result (λ t. t.parens ≡ 0) }
 {
-    let right = expression(alloc, budget, scope, binary_level(sign) + 1, cursor)?;
-    Ok(p10_make::binary(alloc, sign, left, right)?)
+    match expression(alloc, budget, scope, binary_level(sign) + 1, cursor) {
+        Ok(right) => Ok(p10_make::binary(alloc, sign, left, right)?),
+        Err(trouble) => stopped(left, trouble),
+    }
 }
 
 /// Reads the value of an assignment.
@@ -135,8 +138,10 @@ fn assign<'s>(
     ensures scope { OnOk result (scope.new ≡ scope.old) }
     ensures few { IfOk result (λ t. t.parens ≡ 0) }
 {
-    let right = expression(alloc, budget, scope, 2, cursor)?;
-    Ok(p10_make::assign(alloc, sign, left, right)?)
+    match expression(alloc, budget, scope, 2, cursor) {
+        Ok(right) => Ok(p10_make::assign(alloc, sign, left, right)?),
+        Err(trouble) => stopped(left, trouble),
+    }
 }
 
 /// Reads what stands after `?`.
@@ -153,10 +158,17 @@ fn conditional<'s>(
     ensures scope { OnOk result (scope.new ≡ scope.old) }
     ensures few { IfOk result (λ t. t.parens ≡ 0) }
 {
-    let first = expression(alloc, budget, scope, 1, cursor)?;
-    cursor.expect(Sign::Colon)?;
-    let second = expression(alloc, budget, scope, 3, cursor)?;
-    Ok(p10_make::conditional(alloc, left, first, second)?)
+    let first = match expression(alloc, budget, scope, 1, cursor) {
+        Ok(first) => first,
+        Err(trouble) => return stopped(left, trouble),
+    };
+    if let Err(trouble) = cursor.expect(Sign::Colon) {
+        return stopped_after_two(left, first, trouble);
+    }
+    match expression(alloc, budget, scope, 3, cursor) {
+        Ok(second) => Ok(p10_make::conditional(alloc, left, first, second)?),
+        Err(trouble) => stopped_after_two(left, first, trouble),
+    }
 }
 
 /// Reads the further operands of a comma.
@@ -173,8 +185,10 @@ fn comma<'s>(
     ensures scope { OnOk result (scope.new ≡ scope.old) }
     ensures few { IfOk result (λ t. t.parens ≡ 0) }
 {
-    let others = list(alloc, budget, scope, cursor)?;
-    Ok(p10_make::comma(left, others)?)
+    match list(alloc, budget, scope, cursor) {
+        Ok(others) => Ok(p10_make::comma(left, others)?),
+        Err(trouble) => stopped(left, trouble),
+    }
 }
 
 /// Reads what stands after `[`.
@@ -191,9 +205,14 @@ fn index<'s>(
     ensures scope { OnOk result (scope.new ≡ scope.old) }
     ensures few { IfOk result (λ t. t.parens ≡ 0) }
 {
-    let inner = expression(alloc, budget, scope, 1, cursor)?;
-    cursor.expect(Sign::CloseSquare)?;
-    Ok(p10_make::index(alloc, left, inner)?)
+    let inner = match expression(alloc, budget, scope, 1, cursor) {
+        Ok(inner) => inner,
+        Err(trouble) => return stopped(left, trouble),
+    };
+    match cursor.expect(Sign::CloseSquare) {
+        Ok(()) => Ok(p10_make::index(alloc, left, inner)?),
+        Err(trouble) => stopped_after_two(left, inner, trouble),
+    }
 }
 
 /// Reads what stands after the `(` of a call.
@@ -232,9 +251,14 @@ fn arguments<'s>(
     ensures scope { OnOk result (scope.new ≡ scope.old) }
     ensures few { IfOk result (λ t. t.parens ≡ 0) }
 {
-    let all = list(alloc, budget, scope, cursor)?;
-    cursor.expect(Sign::Close)?;
-    Ok(p10_make::call(alloc, left, all)?)
+    let all = match list(alloc, budget, scope, cursor) {
+        Ok(all) => all,
+        Err(trouble) => return stopped(left, trouble),
+    };
+    match cursor.expect(Sign::Close) {
+        Ok(()) => Ok(p10_make::call(alloc, left, all)?),
+        Err(trouble) => stopped_after_two(left, all, trouble),
+    }
 }
 
 /// Reads the name of a member after `.`.
@@ -247,8 +271,10 @@ fn member<'s>(
     ensures refused { IsErrOf result Refused → member_of no_readers (bare_of left.entry) cursor.old ≡ None }
     ensures few { IfOk result (λ t. t.parens ≡ 0) }
 {
-    let name = cursor.name()?;
-    Ok(p10_make::member(alloc, left, name)?)
+    match cursor.name() {
+        Ok(name) => Ok(p10_make::member(alloc, left, name)?),
+        Err(trouble) => stopped(left, trouble),
+    }
 }
 
 /// Reads the name of a member after `->`.
@@ -261,8 +287,10 @@ fn arrow<'s>(
     ensures refused { IsErrOf result Refused → arrow_of no_readers (bare_of left.entry) cursor.old ≡ None }
     ensures few { IfOk result (λ t. t.parens ≡ 0) }
 {
-    let name = cursor.name()?;
-    Ok(p10_make::arrow(alloc, left, name)?)
+    match cursor.name() {
+        Ok(name) => Ok(p10_make::arrow(alloc, left, name)?),
+        Err(trouble) => stopped(left, trouble),
+    }
 }
 
 /// Reads expressions with commas between them.
@@ -283,7 +311,7 @@ fn list<'s>(
     while fuel > 0 {
         fuel -= 1;
         let next = expression(alloc, fuel, scope, 2, cursor)?;
-        all.push(next)?;
+        push_one(&mut all, next)?;
         if !cursor.heads(Sign::Comma) {
             return Ok(all);
         }

@@ -18,6 +18,7 @@ mod next;
 mod operand;
 mod scope;
 pub mod specifier;
+mod stopping;
 mod tokens;
 mod trouble;
 

@@ -15,6 +15,7 @@ use crate::declarator::type_name;
 use crate::expression::expression;
 use crate::next::{Start, begins_after, begins_specifiers};
 use crate::scope::Scope;
+use crate::stopping::stopped;
 use crate::trouble::Trouble;
 use p10_syn::{Expr, Side, Sign, Token};
 use std::alloc::Global;
@@ -132,9 +133,13 @@ fn cast<'s>(
     ensures few { IfOk result (λ t. t.parens ≡ 0) }
 {
     let kind = type_name(alloc, budget, scope, cursor)?;
-    cursor.expect(Sign::Close)?;
-    let operand = expression(alloc, budget, scope, 14, cursor)?;
-    Ok(p10_make::cast(alloc, kind, operand)?)
+    if let Err(trouble) = cursor.expect(Sign::Close) {
+        return stopped(kind, trouble);
+    }
+    match expression(alloc, budget, scope, 14, cursor) {
+        Ok(operand) => Ok(p10_make::cast(alloc, kind, operand)?),
+        Err(trouble) => stopped(kind, trouble),
+    }
 }
 
 /// Reads an expression and the `)` after it.
@@ -152,8 +157,10 @@ fn parenthesised<'s>(
     ensures few { IfOk result (λ t. t.parens ≤ budget + 1) }
 {
     let inner = expression(alloc, budget, scope, 1, cursor)?;
-    cursor.expect(Sign::Close)?;
-    Ok(p10_make::grouped(inner))
+    match cursor.expect(Sign::Close) {
+        Ok(()) => Ok(p10_make::grouped(inner)),
+        Err(trouble) => stopped(inner, trouble),
+    }
 }
 
 /// Reads the operand of an operator before it.
@@ -234,8 +241,10 @@ fn sizeof_type<'s>(
     ensures few { IfOk result (λ t. t.parens ≡ 0) }
 {
     let kind = type_name(alloc, budget, scope, cursor)?;
-    cursor.expect(Sign::Close)?;
-    Ok(p10_make::sizeof_type(alloc, kind)?)
+    match cursor.expect(Sign::Close) {
+        Ok(()) => Ok(p10_make::sizeof_type(alloc, kind)?),
+        Err(trouble) => stopped(kind, trouble),
+    }
 }
 
 /// Reads the operand of `sizeof`.

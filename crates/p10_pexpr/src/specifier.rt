@@ -17,6 +17,7 @@ use crate::declarator::declarator;
 use crate::expression::expression;
 use crate::next::{Specifying, may_have_body};
 use crate::scope::Scope;
+use crate::stopping::{push_one, stopped};
 use crate::trouble::Trouble;
 use p10_syn::{Enumerator, Expr, Field, Member, Naming, Said, Setting, Sign, Spec, said_after};
 use std::alloc::Global;
@@ -68,7 +69,7 @@ fn all_specifiers<'s>(
         fuel -= 1;
         let spec = specifier(alloc, fuel, scope, setting, next, cursor)?;
         said = said_after(said, &spec);
-        all.push(spec)?;
+        push_one(&mut all, spec)?;
     }
     Err(Trouble::Refused)
 }
@@ -162,7 +163,7 @@ fn members<'s>(
     while fuel > 0 {
         fuel -= 1;
         let next = member(alloc, fuel, scope, cursor)?;
-        all.push(next)?;
+        push_one(&mut all, next)?;
         if cursor.heads(Sign::CloseBrace) {
             cursor.advance();
             return Ok(all);
@@ -206,7 +207,7 @@ fn fields<'s>(
     while fuel > 0 {
         fuel -= 1;
         let next = field(alloc, fuel, scope, cursor)?;
-        all.push(next)?;
+        push_one(&mut all, next)?;
         if !cursor.heads(Sign::Comma) {
             cursor.expect(Sign::Semicolon)?;
             return Ok(all);
@@ -236,8 +237,10 @@ fn field<'s>(
         Naming::Required,
         cursor,
     )?;
-    let width = valued(alloc, budget, scope, Sign::Colon, cursor)?;
-    Ok(p10_make::field(alloc, declarator, width)?)
+    match valued(alloc, budget, scope, Sign::Colon, cursor) {
+        Ok(width) => Ok(p10_make::field(alloc, declarator, width)?),
+        Err(trouble) => stopped(declarator, trouble),
+    }
 }
 
 /// Reads a sign and the value after it, if the sign stands next.
@@ -306,7 +309,7 @@ fn enumerators<'s>(
     while fuel > 0 {
         fuel -= 1;
         let next = enumerator(alloc, fuel, scope, cursor)?;
-        all.push(next)?;
+        push_one(&mut all, next)?;
         if ends_enumerators(cursor) {
             let ends_with_comma = end_of_enumerators(cursor)?;
             return Ok((all, ends_with_comma));
@@ -352,6 +355,8 @@ fn enumerator<'s>(
 {
     let name = cursor.name()?;
     let value = valued(alloc, budget, scope, Sign::Assign, cursor)?;
-    scope.add(name, false)?;
-    Ok(p10_make::enumerator(alloc, name, value)?)
+    match scope.add(name, false) {
+        Ok(()) => Ok(p10_make::enumerator(alloc, name, value)?),
+        Err(_) => stopped(value, Trouble::Memory),
+    }
 }
