@@ -14,7 +14,7 @@ ghost use Rattle.p10_parse.specs.DeclarationReading.{braced_at, value_of, initia
 ghost use Rattle.p10_parse.specs.ExternalReading.{builders};
 
 use crate::initializer::initializer;
-use crate::stopping::stopped;
+use crate::stopping::{push_one, stopped};
 use p10_pexpr::declarator::declarator;
 use p10_pexpr::specifier::specifiers;
 use p10_pexpr::{Cursor, Scope, Trouble};
@@ -73,7 +73,7 @@ pub fn further<'s>(
     ensures scope { IfOk result (λ t. (names : Names) → scope.old ≡ after_declarator names (specifier_row (map bare_specifier_of specs.now)) (bare_init_declarator_of first.entry).declarator → scope.new ≡ after_init_declarators names (specifier_row (map bare_specifier_of specs.now)) (map bare_init_declarator_of t.items)) }
 {
     let mut all = Vec::new(alloc);
-    if all.push(first).is_err() {
+    if push_one(&mut all, first).is_err() {
         return stopped(all, Trouble::Memory);
     }
     match all_further(alloc, budget, scope, specs, &mut all, cursor) {
@@ -105,7 +105,7 @@ fn all_further<'s>(
         }
         cursor.advance();
         let next = init_declarator(alloc, fuel, scope, specs, cursor)?;
-        all.push(next)?;
+        push_one(all, next)?;
     }
     Err(Trouble::Refused)
 }

@@ -9,7 +9,7 @@ ghost use Rattle.p10_parse.specs.private.Cut.{no_initializer, initializers_end};
 ghost use Rattle.p10_parse.specs.DeclarationReading.{braced_at, value_of};
 ghost use Rattle.p10_parse.specs.ExternalReading.{builders};
 
-use crate::stopping::stopped;
+use crate::stopping::{push_one, stopped};
 use p10_pexpr::expression::expression;
 use p10_pexpr::{Cursor, Scope, Trouble};
 use p10_syn::{Init, Sign};
@@ -107,7 +107,7 @@ fn all_initializers<'s>(
     while fuel > 0 {
         fuel -= 1;
         let next = initializer(alloc, fuel, scope, cursor)?;
-        all.push(next)?;
+        push_one(all, next)?;
         if ends_initializers(cursor) {
             let ends_with_comma = end_of_initializers(cursor)?;
             return Ok(ends_with_comma);

@@ -75,7 +75,10 @@ fn done_while<'s>(
     ensures refused { IsErrOf result Refused → closed_by {A = Statement Bare} Semicolon (Do tt tt (bare_statement_of body.entry) (bare_of test.entry)) cursor.old ≡ None }
 {
     match cursor.expect(Sign::Semicolon) {
-        Ok(()) => Ok(p10_make::do_loop(alloc, body, test)?),
+        Ok(()) => match p10_make::do_loop(alloc, body, test) {
+            Ok(made) => Ok(made),
+            Err(_) => Err(Trouble::Memory),
+        },
         Err(trouble) => stopped_after_two(body, test, trouble),
     }
 }

@@ -8,6 +8,7 @@ ghost use Rattle.p10_parse.specs.Roots.{next_external};
 ghost use Rattle.p10_parse.specs.private.Root.{AreRead, IsStuck, IsUnread};
 
 use crate::external::external;
+use crate::stopping::push_one;
 use p10_base::{Refusal, Word};
 use p10_pexpr::{Cursor, ParseFault, Scope, Trouble, tokens_of};
 use p10_syn::Unit;
@@ -27,7 +28,7 @@ pub fn read_root<'s>(alloc: Global, words: &[Word<'s>]) -> Result<Vec<Unit<'s>>,
             Ok(unit) => unit,
             Err(fault) => return Err(fault),
         };
-        all.push(unit)?;
+        push_one(&mut all, unit)?;
     }
     Ok(all)
 }

@@ -14,7 +14,7 @@ use crate::declaration::declaration;
 use crate::part::{
     do_while, evaluate, give_back, go_on, goto, leave, optional_then, start, test, value_then,
 };
-use crate::stopping::{stopped, stopped_after_three, stopped_after_two};
+use crate::stopping::{push_one, stopped, stopped_after_three, stopped_after_two};
 use crate::way::{Way, begins_declaration};
 use p10_pexpr::{Cursor, Scope, Trouble};
 use p10_syn::{Expr, Sign, Stmt};
@@ -145,11 +145,17 @@ fn if_else<'s>(
     if cursor.heads(Sign::Else) {
         cursor.advance();
         match statement(alloc, budget, scope, cursor) {
-            Ok(other) => Ok(p10_make::if_else(alloc, test, then, other)?),
+            Ok(other) => match p10_make::if_else(alloc, test, then, other) {
+                Ok(made) => Ok(made),
+                Err(_) => Err(Trouble::Memory),
+            },
             Err(trouble) => stopped_after_two(test, then, trouble),
         }
     } else {
-        Ok(p10_make::if_then(alloc, test, then)?)
+        match p10_make::if_then(alloc, test, then) {
+            Ok(made) => Ok(made),
+            Err(_) => Err(Trouble::Memory),
+        }
     }
 }
 
@@ -168,7 +174,10 @@ fn switch<'s>(
     cursor.advance();
     let test = test(alloc, budget, scope, cursor)?;
     match statement(alloc, budget, scope, cursor) {
-        Ok(body) => Ok(p10_make::switch(alloc, test, body)?),
+        Ok(body) => match p10_make::switch(alloc, test, body) {
+            Ok(made) => Ok(made),
+            Err(_) => Err(Trouble::Memory),
+        },
         Err(trouble) => stopped(test, trouble),
     }
 }
@@ -188,7 +197,10 @@ fn while_loop<'s>(
     cursor.advance();
     let test = test(alloc, budget, scope, cursor)?;
     match statement(alloc, budget, scope, cursor) {
-        Ok(body) => Ok(p10_make::while_loop(alloc, test, body)?),
+        Ok(body) => match p10_make::while_loop(alloc, test, body) {
+            Ok(made) => Ok(made),
+            Err(_) => Err(Trouble::Memory),
+        },
         Err(trouble) => stopped(test, trouble),
     }
 }
@@ -206,8 +218,10 @@ fn do_loop<'s>(
     ensures scope { OnOk result (scope.new ≡ scope.old) }
 {
     cursor.advance();
-    let body = statement(alloc, budget, scope, cursor)?;
-    do_while(alloc, budget, scope, body, cursor)
+    match statement(alloc, budget, scope, cursor) {
+        Ok(body) => do_while(alloc, budget, scope, body, cursor),
+        Err(trouble) => Err(trouble),
+    }
 }
 
 /// Reads a `for`. What its first part declares is in scope in it.
@@ -225,10 +239,16 @@ fn for_loop<'s>(
     cursor.advance();
     cursor.expect(Sign::Open)?;
     let count = scope.count();
-    let start = start(alloc, budget, scope, cursor)?;
-    let all = for_test(alloc, budget, scope, start, cursor)?;
-    scope.forget(count);
-    Ok(all)
+    match start(alloc, budget, scope, cursor) {
+        Ok(start) => match for_test(alloc, budget, scope, start, cursor) {
+            Ok(all) => {
+                scope.forget(count);
+                Ok(all)
+            }
+            Err(trouble) => Err(trouble),
+        },
+        Err(trouble) => Err(trouble),
+    }
 }
 
 /// Reads a `for` after its first part.
@@ -269,7 +289,10 @@ fn for_step<'s>(
         Err(trouble) => return stopped_after_two(start, test, trouble),
     };
     match statement(alloc, budget, scope, cursor) {
-        Ok(body) => Ok(p10_make::for_loop(alloc, start, test, step, body)?),
+        Ok(body) => match p10_make::for_loop(alloc, start, test, step, body) {
+            Ok(made) => Ok(made),
+            Err(_) => Err(Trouble::Memory),
+        },
         Err(trouble) => stopped_after_three(start, test, step, trouble),
     }
 }
@@ -289,7 +312,10 @@ fn case<'s>(
     cursor.advance();
     let value = value_then(alloc, budget, scope, 3, Sign::Colon, cursor)?;
     match statement(alloc, budget, scope, cursor) {
-        Ok(body) => Ok(p10_make::case(alloc, value, body)?),
+        Ok(body) => match p10_make::case(alloc, value, body) {
+            Ok(made) => Ok(made),
+            Err(_) => Err(Trouble::Memory),
+        },
         Err(trouble) => stopped(value, trouble),
     }
 }
@@ -308,8 +334,13 @@ fn default<'s>(
 {
     cursor.advance();
     cursor.expect(Sign::Colon)?;
-    let body = statement(alloc, budget, scope, cursor)?;
-    Ok(p10_make::default(alloc, body)?)
+    match statement(alloc, budget, scope, cursor) {
+        Ok(body) => match p10_make::default(alloc, body) {
+            Ok(made) => Ok(made),
+            Err(_) => Err(Trouble::Memory),
+        },
+        Err(trouble) => Err(trouble),
+    }
 }
 
 /// Reads a label and its statement.
@@ -342,8 +373,13 @@ fn labelled<'s>(
     ensures scope { OnOk result (scope.new ≡ scope.old) }
 {
     cursor.expect(Sign::Colon)?;
-    let body = statement(alloc, budget, scope, cursor)?;
-    Ok(p10_make::label(alloc, name, body)?)
+    match statement(alloc, budget, scope, cursor) {
+        Ok(body) => match p10_make::label(alloc, name, body) {
+            Ok(made) => Ok(made),
+            Err(_) => Err(Trouble::Memory),
+        },
+        Err(trouble) => Err(trouble),
+    }
 }
 
 /// Reads the items of a block, and the `}`. Their names are in scope up to it.
@@ -388,8 +424,10 @@ fn all_items<'s>(
             return Ok(());
         }
         fuel -= 1;
-        let next = item(alloc, fuel, scope, cursor)?;
-        all.push(next)?;
+        match item(alloc, fuel, scope, cursor) {
+            Ok(next) => push_one(all, next)?,
+            Err(trouble) => return Err(trouble),
+        }
     }
     Err(Trouble::Refused)
 }

@@ -11,7 +11,7 @@ pub loop-cursor-smaller : goal.loop-cursor-smaller
 loop-cursor-smaller c = shorter _ _ _ _ c.in-Ok.ensures.ok
 
 pub loop-cursor-preserved : goal.loop-cursor-preserved
-loop-cursor-preserved c = reached_next _ _ _ _ _ _ _ _ c.loop-cursor.invariant c.in-Ok.ensures.ok c.in-Ok.ensures.scope (sym (added _ _ _ _ c.in_ok-push.ensures.items))
+loop-cursor-preserved c = reached_next _ _ _ _ _ _ _ _ c.loop-cursor.invariant c.in-Ok.ensures.ok c.in-Ok.ensures.scope (sym (added _ _ _ _ c.in_ok-push_one.ensures))
 
 pub returns-clause-read : goal.returns-clause-read
 returns-clause-read c = reached_end (plain_words c.args.words.now) _ _ _ c.loop-cursor.invariant (none_left _ (sym c.loop-cursor-test.ensures))
