@@ -7,7 +7,7 @@ ghost use Rattle.p10_synrules.specs.Parts.{declared_parts, declarator_parts, par
 ghost use Rattle.p10_synrules.specs.private.Views.{plain_parts};
 
 use crate::expression::put_boxed;
-use crate::part::{Part, put_name};
+use crate::part::{Part, push_one, put_name};
 use crate::specifier::{make_types, put_specifiers};
 use p10_syn::{Declarator, Parameter};
 use std::alloc::AllocError;
@@ -22,7 +22,7 @@ pub(crate) fn put_declared<'t, 's>(
 ) -> Result<(), AllocError>
     ensures { IfOk result (λ done. plain_parts into.new ≡ plain_parts into.old ++ declared_parts typedef within (declarator_of declarator.now)) }
 {
-    into.push(Part::Declarator(typedef, declarator))?;
+    push_one(into, Part::Declarator(typedef, declarator))?;
     put_declarator(declarator, within, into)?;
     Ok(())
 }

@@ -8,7 +8,7 @@ ghost use Rattle.p10_synrules.specs.Parts.{expression_parts, form_parts, list_pa
 ghost use Rattle.p10_synrules.specs.private.Views.{plain_parts, boxed_of};
 
 use crate::declarator::put_declared;
-use crate::part::{Part, put_name};
+use crate::part::{Part, push_one, put_name};
 use crate::specifier::put_specifiers;
 use p10_syn::{Expr, Form, TypeName};
 use std::alloc::AllocError;
@@ -22,7 +22,7 @@ pub(crate) fn put_expression<'t, 's>(
 ) -> Result<(), AllocError>
     ensures { IfOk result (λ done. plain_parts into.new ≡ plain_parts into.old ++ expression_parts within (expression_of e.now)) }
 {
-    into.push(Part::Expression(within, e))?;
+    push_one(into, Part::Expression(within, e))?;
     put_form(&e.form, within, into)?;
     Ok(())
 }

@@ -1,6 +1,6 @@
 //! Parts of trees.
 
-ghost use Rattle.std.specs.Prelude.{◌≡◌, ◌++◌, ◌∷◌, [], IfOk, Option};
+ghost use Rattle.std.specs.Prelude.{◌≡◌, ◌++◌, ◌∷◌, [], IfOk, OnOk, Option};
 ghost use Rattle.p10_syn.specs.Built.{identifier_of, tag_of};
 ghost use Rattle.p10_synrules.specs.Parts.{tag_parts, NamePart};
 ghost use Rattle.p10_synrules.specs.private.Views.{plain_parts};
@@ -21,6 +21,15 @@ pub(crate) enum Part<'t, 's> {
     Name(Identifier<'s>),
 }
 
+/// Puts an element at the end of a list. It is generic, since each step of a proof writes out the type of what it moves, and that of a
+/// part is long.
+pub(crate) fn push_one<T: Drop>(all: &mut Vec<T>, one: T) -> Result<(), AllocError>
+    ensures { OnOk result (all.new.items ≡ all.old.items ++ one ∷ []) }
+{
+    all.push(one)?;
+    Ok(())
+}
+
 /// Puts down a name.
 pub(crate) fn put_name<'s>(
     name: &Identifier<'s>,
@@ -28,7 +37,7 @@ pub(crate) fn put_name<'s>(
 ) -> Result<(), AllocError>
     ensures { IfOk result (λ done. plain_parts into.new ≡ plain_parts into.old ++ NamePart (identifier_of name.now) ∷ []) }
 {
-    into.push(Part::Name(*name))?;
+    push_one(into, Part::Name(*name))?;
     Ok(())
 }
 

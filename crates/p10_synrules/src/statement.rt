@@ -8,7 +8,7 @@ ghost use Rattle.p10_synrules.specs.private.Views.{plain_parts};
 
 use crate::declaration::put_declaration;
 use crate::expression::{put_expression, put_optional};
-use crate::part::{Part, put_name};
+use crate::part::{Part, push_one, put_name};
 use p10_syn::Stmt;
 use std::alloc::AllocError;
 
@@ -17,7 +17,7 @@ use std::alloc::AllocError;
 fn put_statement<'t, 's>(s: &'t Stmt<'s>, into: &mut Vec<Part<'t, 's>>) -> Result<(), AllocError>
     ensures { IfOk result (λ done. plain_parts into.new ≡ plain_parts into.old ++ (StatementPart (statement_of s.now) ∷ statement_parts (statement_of s.now))) }
 {
-    into.push(Part::Statement(s))?;
+    push_one(into, Part::Statement(s))?;
     put_within(s, into)?;
     Ok(())
 }
@@ -39,7 +39,7 @@ fn put_head_part<'t, 's>(s: &'t Stmt<'s>, into: &mut Vec<Part<'t, 's>>) -> Resul
 {
     match s {
         Stmt::Decl(_) => {
-            into.push(Part::Statement(s))?;
+            push_one(into, Part::Statement(s))?;
             Ok(())
         }
         _ => Ok(()),
