@@ -1,5 +1,5 @@
 -- What is found in parts of the code, as the definitions see it.
-use Rattle.std.specs.Prelude.{◌≡◌, refl, Bool, true, false, Ok, Err, Option, Vec}
+use Rattle.std.specs.Prelude.{◌≡◌, refl, Bool, true, false, Ok, Err, Option, Vec, Result, IfOk}
 use Rattle.std.specs.declared.alloc.Global.{Global}
 use Rattle.std.proofs.Common.{ap, sym, ◌∙◌}
 use Rattle.p10_core.specs.declared.typed.Value.{Value}
@@ -87,7 +87,7 @@ pub unused_as : {A B C D : Type 0} (f : A → B) (view : Ruled A → Ruled B) �
 unused_as f view alike g made as_made found r e =
     as_made r ∙ ap (seen g) e ∙ nothing_seen f g (lift found) ∙ ap (λ x. on x (λ b. nothing_said)) (sym (alike found))
 
--- ## Three parts
+-- ## Two parts
 
 -- a view of two parts
 abbrev pub two : {A B X Y : Type 0} → (A → X) → (B → Y) → A × B → X × Y
@@ -98,6 +98,36 @@ pair_seen f g (Ok a) (Ok b) = refl
 pair_seen f g (Ok a) (Err qs) = refl
 pair_seen f g (Err rs) (Ok b) = refl
 pair_seen f g (Err rs) (Err qs) = refl
+
+both_seen : {A B X Y : Type 0} (f : A → X) (g : B → Y) (u : Ruled A → Ruled X) (v : Ruled B → Ruled Y) → Views f u → Views g v → (a : Ruled A) (b : Ruled B) (r : Ruled (A × B)) →
+    lift r ≡ pair only_first (lift a) (lift b) → pair only_first (lift (u a)) (lift (v b)) ≡ seen (two f g) (lift r)
+both_seen f g u v one other a b r is =
+    ap (λ x. pair only_first x (lift (v b))) (one a) ∙ ap (pair only_first (seen f (lift a))) (other b) ∙ pair_seen f g (lift a) (lift b) ∙ ap (seen (two f g)) (sym is)
+
+-- both are found
+pub both_found : {A B X Y D : Type 0} (f : A → X) (g : B → Y) (u : Ruled A → Ruled X) (v : Ruled B → Ruled Y) → Views f u → Views g v → (a : Ruled A) (b : Ruled B) (p : A × B) (go : X × Y → Ruled D) (x : Ruled D) →
+    lift {A = A × B} (Ok p) ≡ pair only_first (lift a) (lift b) → x ≡ go (f p.0, g p.1) → lift x ≡ on (pair only_first (lift (u a)) (lift (v b))) go
+both_found f g u v one other a b p go x is e = ap lift e ∙ sym (ap (λ y. on y go) (both_seen f g u v one other a b (Ok p) is))
+
+-- both are found, where what is made of them may lack memory
+pub both_made : {A B X Y C D E : Type 0} (f : A → X) (g : B → Y) (u : Ruled A → Ruled X) (v : Ruled B → Ruled Y) → Views f u → Views g v → (a : Ruled A) (b : Ruled B) (p : A × B) (go : X × Y → Ruled D) (made : C → Ruled D)
+    (r : Result C E) → lift {A = A × B} (Ok p) ≡ pair only_first (lift a) (lift b) → IfOk r (λ x. made x ≡ go (f p.0, g p.1)) → IfOk r (λ x. lift (made x) ≡ on (pair only_first (lift (u a)) (lift (v b))) go)
+both_made f g u v one other a b p go made (Ok x) is e = both_found f g u v one other a b p go (made x) is e
+both_made f g u v one other a b p go made (Err trouble) is e = tt
+
+-- one of them is refused
+pub both_refused : {A B X Y D : Type 0} (f : A → X) (g : B → Y) (u : Ruled A → Ruled X) (v : Ruled B → Ruled Y) → Views f u → Views g v → (a : Ruled A) (b : Ruled B) (r : Option Problem) (go : X × Y → Ruled D) →
+    lift {A = A × B} (Err r) ≡ pair only_first (lift a) (lift b) → lift {A = D} (Err r) ≡ on (pair only_first (lift (u a)) (lift (v b))) go
+both_refused f g u v one other a b r go is = sym (ap (λ y. on y go) (both_seen f g u v one other a b (Err r) is))
+
+-- nothing is made of both
+pub none_of_both : {A B C D X Y : Type 0} (f : A → X) (h : B → Y) (u : Ruled A → Ruled X) (v : Ruled B → Ruled Y) → Views f u → Views h v → (g : C → D) (made : Ruled C → Ruled D) → Views g made →
+    (a : Ruled A) (b : Ruled B) (q : Ruled (A × B)) (r : Ruled C) → lift q ≡ pair only_first (lift a) (lift b) → lift r ≡ on (lift q) (λ p. nothing_said) →
+    lift (made r) ≡ on (pair only_first (lift (u a)) (lift (v b))) (λ p. nothing_said)
+none_of_both f h u v one other g made as_made a b q r is e =
+    as_made r ∙ ap (seen g) e ∙ nothing_seen (two f h) g (lift q) ∙ ap (λ x. on x (λ p. nothing_said)) (sym (both_seen f h u v one other a b q is))
+
+-- ## Three parts
 
 three_seen : {A B C X Y Z : Type 0} (f : A → X) (g : B → Y) (h : C → Z) (u : Ruled A → Ruled X) (v : Ruled B → Ruled Y) (w : Ruled C → Ruled Z) → Views f u → Views g v → Views h w →
     (a : Ruled A) (b : Ruled B) (c : Ruled C) (q : Ruled (B × C)) (r : Ruled (A × (B × C))) → lift q ≡ pair only_first (lift b) (lift c) → lift r ≡ pair only_first (lift a) (lift q) →

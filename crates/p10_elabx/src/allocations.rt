@@ -13,7 +13,7 @@ ghost use Rattle.p10_elabx.specs.Built.{plain_shape, ruled_operand, ruled_value,
 
 use crate::judged::{Judged, also_operand, joined};
 use crate::operand::Operand;
-use crate::parts::both;
+use crate::parts::{both, stopped_after_two, without};
 use crate::problem::Problem;
 use crate::shape::Shape;
 use crate::sizes::known_size;
@@ -356,8 +356,8 @@ fn either_size(
             Library::Malloc,
             &right_type,
             Some(left_size),
-        )?;
-        Ok(found)
+        );
+        without(right_size, found)
     } else {
         let found = allocation(
             alloc,
@@ -366,8 +366,8 @@ fn either_size(
             Library::Malloc,
             &left_type,
             Some(right_size),
-        )?;
-        Ok(found)
+        );
+        without(left_size, found)
     }
 }
 
@@ -386,10 +386,13 @@ fn either_shape(
             let found = either_size(alloc, site, ty, left, right)?;
             Ok(found)
         }
-        Shape::OpenArray(_) | Shape::Function(_, _) => Ok(Err(Some(Problem {
-            code: SubsetCode::BadAllocation,
-            at: site.call_at,
-        }))),
+        Shape::OpenArray(_) | Shape::Function(_, _) => {
+            let own = Problem {
+                code: SubsetCode::BadAllocation,
+                at: site.call_at,
+            };
+            Ok(stopped_after_two(left, right, Some(own)))
+        }
     }
 }
 
@@ -450,11 +453,12 @@ fn other_found(
 ) -> Result<Operand, Option<Problem>>
     ensures { lift (ruled_operand result) ≡ on (pair only_first (lift (ruled_shape found)) (lift (ruled_operand call))) (λ both. Ok both.1) }
 {
-    match (found, call) {
-        (Ok(_), Ok(operand)) => Ok(operand),
-        (Ok(_), Err(q)) => Err(q),
-        (Err(r), Ok(_)) => Err(r),
-        (Err(r), Err(q)) => Err(joined(r, q)),
+    match both(found, call) {
+        Ok(parts) => {
+            let (shape, operand) = parts;
+            without(shape, Ok(operand))
+        }
+        Err(r) => Err(r),
     }
 }
 

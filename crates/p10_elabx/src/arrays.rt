@@ -11,7 +11,8 @@ ghost use Rattle.p10_elabx.specs.TypeNames.{an_open_array, element, array_length
 ghost use Rattle.p10_elabx.specs.Built.{ruled_shape, ruled_type, ruled_value, judged_shape, judged_value, plain_shape};
 
 use crate::declarators::is_of_function;
-use crate::judged::{Judged, joined, shape_refused};
+use crate::judged::{Judged, shape_refused};
+use crate::parts::{both, without};
 use crate::problem::Problem;
 use crate::shape::{Made, Shape};
 use crate::sizes::known_size;
@@ -172,14 +173,13 @@ fn array_found(
     requires { AreWholeStructures (plain_types types.now) }
     ensures { IfOk result (λ r. lift (ruled_shape r) ≡ on (pair only_first (lift (ruled_type a)) (lift (ruled_value b))) (λ (t, v). array_of (plain_types types.now) t v)) }
 {
-    match (a, b) {
-        (Ok(ty), Ok(length)) => {
-            let shape = array_of(alloc, types, ty, &length)?;
-            Ok(shape)
+    match both(a, b) {
+        Ok(parts) => {
+            let (ty, length) = parts;
+            let shape = array_of(alloc, types, ty, &length);
+            without(length, shape)
         }
-        (Ok(_), Err(q)) => Ok(Err(q)),
-        (Err(r), Ok(_)) => Ok(Err(r)),
-        (Err(r), Err(q)) => Ok(Err(joined(r, q))),
+        Err(r) => Ok(Err(r)),
     }
 }
 

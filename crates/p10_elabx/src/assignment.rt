@@ -7,6 +7,7 @@ ghost use Rattle.p10_elabx.specs.Operators.{copied_from, assigned, updated_by, u
 ghost use Rattle.p10_elabx.specs.Built.{plain_row, ruled_form};
 
 use crate::operators::{fitted, null_beside};
+use crate::parts::{stopped, stopped_after_two};
 use crate::problem::Problem;
 use crate::rows::{Row, binary_row, fits};
 use crate::values::converted;
@@ -25,9 +26,10 @@ pub fn assigned(
     ensures { IfOk result (λ r. ruled_form r ≡ assigned at (plain_place p) (plain_value v)) }
 {
     if p.ty.is_scalar() {
-        match fitted(alloc, at, v, &p.ty)? {
-            Ok(v) => Ok(Ok(StmtForm::Set(p, v))),
-            Err(problem) => Ok(Err(problem)),
+        match fitted(alloc, at, v, &p.ty) {
+            Ok(Ok(v)) => Ok(Ok(StmtForm::Set(p, v))),
+            Ok(Err(problem)) => Ok(stopped(p, problem)),
+            Err(trouble) => stopped(p, trouble),
         }
     } else {
         copied_from(alloc, at, p, v)
@@ -43,25 +45,25 @@ fn copied_from(
 ) -> Result<Result<StmtForm, Option<Problem>>, AllocError>
     ensures { IfOk result (λ r. ruled_form r ≡ copied_from at (plain_place p) (plain_value v)) }
 {
-    let target = p.ty.copy(alloc)?.unqualified();
+    let target = match p.ty.copy(alloc) {
+        Ok(target) => target.unqualified(),
+        Err(trouble) => return stopped_after_two(p, v, trouble),
+    };
     let Value { at: _, ty, form } = v;
     let same = target.is_same(&ty);
+    let own = Problem {
+        code: SubsetCode::TypesDiffer,
+        at,
+    };
     match form {
         ValueForm::Read(q) => {
-            let q = Box::into_inner(q);
             if same {
-                Ok(Ok(StmtForm::Copy(p, q)))
+                Ok(Ok(StmtForm::Copy(p, Box::into_inner(q))))
             } else {
-                Ok(Err(Some(Problem {
-                    code: SubsetCode::TypesDiffer,
-                    at,
-                })))
+                Ok(stopped_after_two(p, q, Some(own)))
             }
         }
-        _other => Ok(Err(Some(Problem {
-            code: SubsetCode::TypesDiffer,
-            at,
-        }))),
+        other => Ok(stopped_after_two(p, other, Some(own))),
     }
 }
 
@@ -78,10 +80,15 @@ pub fn updated(
 ) -> Result<Result<StmtForm, Option<Problem>>, AllocError>
     ensures { IfOk result (λ r. ruled_form r ≡ updated (plain_types types.now) at kind op (plain_place p) (plain_value v)) }
 {
-    let target = p.ty.copy(alloc)?.unqualified();
+    let target = match p.ty.copy(alloc) {
+        Ok(target) => target.unqualified(),
+        Err(trouble) => return stopped_after_two(p, v, trouble),
+    };
     let nulls = (false, null_beside(&v, &target));
-    let row = binary_row(alloc, types, op, nulls, &target, &v.ty)?;
-    updated_by(alloc, at, (kind, op), p, v, row)
+    match binary_row(alloc, types, op, nulls, &target, &v.ty) {
+        Ok(row) => updated_by(alloc, at, (kind, op), p, v, row),
+        Err(trouble) => stopped_after_two(p, v, trouble),
+    }
 }
 
 /// An update by the row of its operator.
@@ -96,19 +103,25 @@ fn updated_by(
     ensures { IfOk result (λ r. ruled_form r ≡ updated_by at written.0 written.1 (plain_place p) (plain_value v) (option_map plain_row row)) }
 {
     match row {
-        None => Ok(Err(Some(Problem {
-            code: SubsetCode::OperandTypes,
-            at,
-        }))),
+        None => {
+            let own = Problem {
+                code: SubsetCode::OperandTypes,
+                at,
+            };
+            Ok(stopped_after_two(p, v, Some(own)))
+        }
         Some(row) => {
             if fits(false, &row.result, &p.ty) {
-                let v = converted(alloc, v, row.right)?;
-                Ok(Ok(StmtForm::Update(written.0, written.1, row.left, p, v)))
+                match converted(alloc, v, row.right) {
+                    Ok(v) => Ok(Ok(StmtForm::Update(written.0, written.1, row.left, p, v))),
+                    Err(trouble) => stopped_after_two(p, row.left, trouble),
+                }
             } else {
-                Ok(Err(Some(Problem {
+                let own = Problem {
                     code: SubsetCode::TypesDiffer,
                     at,
-                })))
+                };
+                Ok(stopped_after_two(p, v, Some(own)))
             }
         }
     }

@@ -18,6 +18,7 @@ use crate::named::Named;
 use crate::names::library_named;
 use crate::operand::Operand;
 use crate::operators::fitted;
+use crate::parts::{both, stopped, unused};
 use crate::problem::Problem;
 use crate::situation::Situation;
 use crate::values::converted;
@@ -142,13 +143,16 @@ fn pointer_value(alloc: Global, v: Value) -> Result<Result<Value, Option<Problem
         return Ok(Ok(v));
     }
     if is_null(&v) {
-        let ty = CType::pointer(alloc, CType::integer(IntType::Char))?;
-        Ok(Ok(converted(alloc, v, ty)?))
+        match CType::pointer(alloc, CType::integer(IntType::Char)) {
+            Ok(ty) => Ok(Ok(converted(alloc, v, ty)?)),
+            Err(trouble) => stopped(v, trouble),
+        }
     } else {
-        Ok(Err(Some(Problem {
+        let own = Problem {
             code: SubsetCode::TypesDiffer,
             at: v.at,
-        })))
+        };
+        Ok(stopped(v, Some(own)))
     }
 }
 
@@ -174,10 +178,11 @@ fn wanted_value(
             if v.ty.is_scalar() {
                 Ok(Ok(v))
             } else {
-                Ok(Err(Some(Problem {
+                let own = Problem {
                     code: SubsetCode::TypesDiffer,
                     at: v.at,
-                })))
+                };
+                Ok(stopped(v, Some(own)))
             }
         }
         Some(Wanted::Pointer) => {
@@ -427,12 +432,7 @@ fn both_refused(
 ) -> Result<Operand, Option<Problem>>
     ensures { lift (ruled_operand result) ≡ on (pair only_first (lift (ruled_operand called)) (lift (ruled_values arguments))) (λ both. nothing_said) }
 {
-    match (called, arguments) {
-        (Ok(_), Ok(_)) => Err(None),
-        (Ok(_), Err(q)) => Err(q),
-        (Err(r), Ok(_)) => Err(r),
-        (Err(r), Err(q)) => Err(joined(r, q)),
-    }
+    unused(both(called, arguments))
 }
 
 /// The library function for memory that is called by a name, if it is one, and the place of the name.

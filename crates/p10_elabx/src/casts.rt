@@ -9,10 +9,10 @@ ghost use Rattle.p10_elabx.specs.Judging.{shape_size, type_size_judged, cast_fou
 ghost use Rattle.p10_elabx.specs.Built.{plain_shape, plain_listed, ruled_operand, ruled_value, ruled_values, ruled_shape, judged_operand, judged_value, judged_shape};
 
 use crate::forms::valued;
-use crate::judged::{Judged, Listed, also_operand, joined};
+use crate::judged::{Judged, Listed, also_operand};
 use crate::operand::Operand;
 use crate::operators::{cast_value, size_value};
-use crate::parts::unused;
+use crate::parts::{both, stopped, unused};
 use crate::problem::Problem;
 use crate::shape::Shape;
 use crate::values::{any_value, as_value};
@@ -66,10 +66,13 @@ fn cast_found(
 {
     match shape {
         Shape::Plain(ty) => Ok(valued(cast_value(alloc, at, &ty, v)?)),
-        Shape::OpenArray(_) | Shape::Function(_, _) => Ok(Err(Some(Problem {
-            code: SubsetCode::BadCast,
-            at,
-        }))),
+        Shape::OpenArray(_) | Shape::Function(_, _) => {
+            let own = Problem {
+                code: SubsetCode::BadCast,
+                at,
+            };
+            Ok(stopped(v, Some(own)))
+        }
     }
 }
 
@@ -82,14 +85,13 @@ fn both_cast(
 ) -> Result<Result<Operand, Option<Problem>>, AllocError>
     ensures { IfOk result (λ r. lift (ruled_operand r) ≡ on (pair only_first (lift (ruled_shape a)) (lift (ruled_value b))) (λ (t, v). cast_found at t v)) }
 {
-    match (a, b) {
-        (Ok(shape), Ok(v)) => {
+    match both(a, b) {
+        Ok(parts) => {
+            let (shape, v) = parts;
             let found = cast_found(alloc, at, shape, v)?;
             Ok(found)
         }
-        (Ok(_), Err(q)) => Ok(Err(q)),
-        (Err(r), Ok(_)) => Ok(Err(r)),
-        (Err(r), Err(q)) => Ok(Err(joined(r, q))),
+        Err(r) => Ok(Err(r)),
     }
 }
 

@@ -9,7 +9,7 @@ ghost use Rattle.p10_elabx.specs.Operators.{indexed, member_found, arrow_found, 
 ghost use Rattle.p10_elabx.specs.Judging.{valued, unary_found, unary_judged, is_and, unary_by_sign, address_judged, values_judged, truth_judged, binary_judged, conditional_judged, index_judged, member_judged, arrow_judged, size_judged};
 ghost use Rattle.p10_elabx.specs.Built.{judged_operand, judged_value, ruled_operand, ruled_value};
 
-use crate::judged::{Judged, also_operand, joined, unordered};
+use crate::judged::{Judged, also_operand, unordered};
 use crate::operand::Operand;
 use crate::operators::{binary_value, conditional_value, logic_value, unary_value};
 use crate::parts::both;
@@ -106,11 +106,13 @@ fn values_found(
 ) -> Result<Result<Operand, Option<Problem>>, AllocError>
     ensures { IfOk result (λ r. lift (ruled_operand r) ≡ on (pair only_first (lift (ruled_value a)) (lift (ruled_value b))) (λ (x, y). valued (binary_value (plain_types types.now) at op x y))) }
 {
-    match (a, b) {
-        (Ok(x), Ok(y)) => Ok(valued(binary_value(alloc, types, at, op, x, y)?)),
-        (Ok(_), Err(q)) => Ok(Err(q)),
-        (Err(r), Ok(_)) => Ok(Err(r)),
-        (Err(r), Err(q)) => Ok(Err(joined(r, q))),
+    match both(a, b) {
+        Ok(parts) => {
+            let (x, y) = parts;
+            let found = binary_value(alloc, types, at, op, x, y)?;
+            Ok(valued(found))
+        }
+        Err(r) => Ok(Err(r)),
     }
 }
 
@@ -148,11 +150,13 @@ fn truth_found(
 ) -> Result<Result<Operand, Option<Problem>>, AllocError>
     ensures { IfOk result (λ r. lift (ruled_operand r) ≡ on (pair only_first (lift (ruled_value a)) (lift (ruled_value b))) (λ (x, y). valued (logic_value at op x y))) }
 {
-    match (a, b) {
-        (Ok(x), Ok(y)) => Ok(valued(logic_value(alloc, at, op, x, y)?)),
-        (Ok(_), Err(q)) => Ok(Err(q)),
-        (Err(r), Ok(_)) => Ok(Err(r)),
-        (Err(r), Err(q)) => Ok(Err(joined(r, q))),
+    match both(a, b) {
+        Ok(parts) => {
+            let (x, y) = parts;
+            let found = logic_value(alloc, at, op, x, y)?;
+            Ok(valued(found))
+        }
+        Err(r) => Ok(Err(r)),
     }
 }
 
@@ -242,14 +246,13 @@ fn index_found(
 ) -> Result<Result<Operand, Option<Problem>>, AllocError>
     ensures { IfOk result (λ r. lift (ruled_operand r) ≡ on (pair only_first (lift (ruled_value a)) (lift (ruled_value b))) (λ (x, y). indexed (plain_types types.now) at x y)) }
 {
-    match (a, b) {
-        (Ok(x), Ok(y)) => {
+    match both(a, b) {
+        Ok(parts) => {
+            let (x, y) = parts;
             let found = indexed(alloc, types, at, x, y)?;
             Ok(found)
         }
-        (Ok(_), Err(q)) => Ok(Err(q)),
-        (Err(r), Ok(_)) => Ok(Err(r)),
-        (Err(r), Err(q)) => Ok(Err(joined(r, q))),
+        Err(r) => Ok(Err(r)),
     }
 }
 

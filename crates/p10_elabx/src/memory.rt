@@ -22,6 +22,7 @@ use crate::casts::cast_judged;
 use crate::judged::Judged;
 use crate::names::called_name;
 use crate::operand::Operand;
+use crate::parts::{stopped, stopped_after_two};
 use crate::problem::Problem;
 use crate::scope::Scope;
 use crate::shape::Shape;
@@ -172,7 +173,10 @@ fn judge_cleared(
                 },
                 size_at: last.at,
             };
-            let count = judge_value(alloc, situation, number)?;
+            let count = match judge_value(alloc, situation, number) {
+                Ok(count) => count,
+                Err(trouble) => return stopped_after_two(shape, element, trouble),
+            };
             let seen = counted_elements(
                 alloc,
                 &situation.scope.types,
@@ -261,7 +265,10 @@ fn judge_number(
             let b = &**b;
             if is_star(*sign) {
                 let left = judge_size(alloc, situation.scope, a)?;
-                let right = judge_size(alloc, situation.scope, b)?;
+                let right = match judge_size(alloc, situation.scope, b) {
+                    Ok(right) => right,
+                    Err(trouble) => return stopped(left, trouble),
+                };
                 match (left, right) {
                     (Some(left), Some(right)) => {
                         let left = SizeOf {
@@ -275,12 +282,16 @@ fn judge_number(
                         Ok(Bytes::Sizes(left, right))
                     }
                     (None, Some(element)) => {
-                        let count = judge_value(alloc, situation, a)?;
-                        Ok(Bytes::Elements(b.at, element, count))
+                        match judge_value(alloc, situation, a) {
+                            Ok(count) => Ok(Bytes::Elements(b.at, element, count)),
+                            Err(trouble) => stopped(element, trouble),
+                        }
                     }
                     (Some(element), None) => {
-                        let count = judge_value(alloc, situation, b)?;
-                        Ok(Bytes::Elements(a.at, element, count))
+                        match judge_value(alloc, situation, b) {
+                            Ok(count) => Ok(Bytes::Elements(a.at, element, count)),
+                            Err(trouble) => stopped(element, trouble),
+                        }
                     }
                     (None, None) => Ok(Bytes::Other),
                 }

@@ -6,10 +6,12 @@ ghost use Rattle.p10_core.specs.Views.{plain_types, plain_value};
 ghost use Rattle.p10_core.specs.Rows.{is_pointer};
 ghost use Rattle.p10_core.specs.Constants.{is_null};
 ghost use Rattle.p10_core.specs.WholePrograms.{AreWholeStructures};
+ghost use Rattle.p10_elabx.specs.Operands.{converted};
 ghost use Rattle.p10_elabx.specs.Operators.{unary_by, unary_value, binary_by, binary_value, logic_value, conditional_by, conditional_value, fitted, cast_value, size_value};
 ghost use Rattle.p10_elabx.specs.Built.{plain_row, plain_unary_row, ruled_value, ruled_operand};
 
 use crate::operand::Operand;
+use crate::parts::{stopped, stopped_after_three, stopped_after_two};
 use crate::problem::Problem;
 use crate::rows::{Row, UnaryRow, binary_row, conditional_row, fits, may_cast, unary_row};
 use crate::sizes::known_size;
@@ -36,8 +38,10 @@ pub fn unary_value(
 ) -> Result<Result<Value, Option<Problem>>, AllocError>
     ensures { IfOk result (λ r. ruled_value r ≡ unary_value at op (plain_value v)) }
 {
-    let row = unary_row(alloc, op, &v.ty)?;
-    unary_by(alloc, at, op, v, row)
+    match unary_row(alloc, op, &v.ty) {
+        Ok(row) => unary_by(alloc, at, op, v, row),
+        Err(trouble) => stopped(v, trouble),
+    }
 }
 
 /// A unary operator by its row.
@@ -51,10 +55,13 @@ fn unary_by(
     ensures { IfOk result (λ r. ruled_value r ≡ unary_by at op (plain_value v) (option_map plain_unary_row row)) }
 {
     match row {
-        None => Ok(Err(Some(Problem {
-            code: SubsetCode::OperandTypes,
-            at,
-        }))),
+        None => {
+            let own = Problem {
+                code: SubsetCode::OperandTypes,
+                at,
+            };
+            Ok(stopped(v, Some(own)))
+        }
         Some(row) => {
             let operand = converted(alloc, v, row.operand)?;
             Ok(Ok(Value::unary(alloc, at, row.result, op, operand)?))
@@ -75,8 +82,10 @@ pub fn binary_value(
     ensures { IfOk result (λ r. ruled_value r ≡ binary_value (plain_types types.now) at op (plain_value left) (plain_value right)) }
 {
     let nulls = (null_beside(&left, &right.ty), null_beside(&right, &left.ty));
-    let row = binary_row(alloc, types, op, nulls, &left.ty, &right.ty)?;
-    binary_by(alloc, at, op, left, right, row)
+    match binary_row(alloc, types, op, nulls, &left.ty, &right.ty) {
+        Ok(row) => binary_by(alloc, at, op, left, right, row),
+        Err(trouble) => stopped_after_two(left, right, trouble),
+    }
 }
 
 /// A binary operator by its row.
@@ -91,15 +100,37 @@ fn binary_by(
     ensures { IfOk result (λ r. ruled_value r ≡ binary_by at op (plain_value left) (plain_value right) (option_map plain_row row)) }
 {
     match row {
-        None => Ok(Err(Some(Problem {
-            code: SubsetCode::OperandTypes,
-            at,
-        }))),
+        None => {
+            let own = Problem {
+                code: SubsetCode::OperandTypes,
+                at,
+            };
+            Ok(stopped_after_two(left, right, Some(own)))
+        }
         Some(row) => {
-            let left = converted(alloc, left, row.left)?;
-            let right = converted(alloc, right, row.right)?;
+            let (left, right) = converted_pair(alloc, left, right, row.left, row.right)?;
             Ok(Ok(Value::binary(alloc, at, row.result, op, left, right)?))
         }
+    }
+}
+
+/// Two values with the conversions that aren't written.
+fn converted_pair(
+    alloc: Global,
+    left: Value,
+    right: Value,
+    left_type: CType,
+    right_type: CType,
+) -> Result<(Value, Value), AllocError>
+    ensures left { IfOk result (λ p. plain_value p.0 ≡ converted (plain_value left) (plain_type left_type)) }
+    ensures right { IfOk result (λ p. plain_value p.1 ≡ converted (plain_value right) (plain_type right_type)) }
+{
+    match converted(alloc, left, left_type) {
+        Ok(left) => match converted(alloc, right, right_type) {
+            Ok(right) => Ok((left, right)),
+            Err(trouble) => stopped(left, trouble),
+        },
+        Err(trouble) => stopped_after_two(right, right_type, trouble),
     }
 }
 
@@ -116,10 +147,11 @@ pub fn logic_value(
     if left.ty.is_scalar() && right.ty.is_scalar() {
         Ok(Ok(Value::logic(alloc, at, CType::integer(IntType::Int), op, left, right)?))
     } else {
-        Ok(Err(Some(Problem {
+        let own = Problem {
             code: SubsetCode::OperandTypes,
             at,
-        })))
+        };
+        Ok(stopped_after_two(left, right, Some(own)))
     }
 }
 
@@ -136,13 +168,16 @@ pub fn conditional_value(
 {
     if test.ty.is_scalar() {
         let nulls = (null_beside(&left, &right.ty), null_beside(&right, &left.ty));
-        let row = conditional_row(alloc, nulls, &left.ty, &right.ty)?;
-        conditional_by(alloc, at, test, left, right, row)
+        match conditional_row(alloc, nulls, &left.ty, &right.ty) {
+            Ok(row) => conditional_by(alloc, at, test, left, right, row),
+            Err(trouble) => stopped_after_three(test, left, right, trouble),
+        }
     } else {
-        Ok(Err(Some(Problem {
+        let own = Problem {
             code: SubsetCode::OperandTypes,
             at,
-        })))
+        };
+        Ok(stopped_after_three(test, left, right, Some(own)))
     }
 }
 
@@ -158,15 +193,19 @@ fn conditional_by(
     ensures { IfOk result (λ r. ruled_value r ≡ conditional_by at (plain_value test) (plain_value left) (plain_value right) (option_map plain_row row)) }
 {
     match row {
-        None => Ok(Err(Some(Problem {
-            code: SubsetCode::OperandTypes,
-            at,
-        }))),
-        Some(row) => {
-            let left = converted(alloc, left, row.left)?;
-            let right = converted(alloc, right, row.right)?;
-            Ok(Ok(Value::conditional(alloc, at, row.result, test, left, right)?))
+        None => {
+            let own = Problem {
+                code: SubsetCode::OperandTypes,
+                at,
+            };
+            Ok(stopped_after_three(test, left, right, Some(own)))
         }
+        Some(row) => match converted_pair(alloc, left, right, row.left, row.right) {
+            Ok((left, right)) => Ok(Ok(Value::conditional(
+                alloc, at, row.result, test, left, right,
+            )?)),
+            Err(trouble) => stopped_after_two(test, row.result, trouble),
+        },
     }
 }
 
@@ -181,13 +220,16 @@ pub fn fitted(
     ensures { IfOk result (λ r. ruled_value r ≡ fitted at (plain_value v) (plain_type ty.now)) }
 {
     if fits(null_beside(&v, ty), &v.ty, ty) {
-        let ty = ty.copy(alloc)?.unqualified();
-        Ok(Ok(converted(alloc, v, ty)?))
+        match ty.copy(alloc) {
+            Ok(ty) => Ok(Ok(converted(alloc, v, ty.unqualified())?)),
+            Err(trouble) => stopped(v, trouble),
+        }
     } else {
-        Ok(Err(Some(Problem {
+        let own = Problem {
             code: SubsetCode::TypesDiffer,
             at,
-        })))
+        };
+        Ok(stopped(v, Some(own)))
     }
 }
 
@@ -202,13 +244,16 @@ pub fn cast_value(
     ensures { IfOk result (λ r. ruled_value r ≡ cast_value at (plain_type ty.now) (plain_value v)) }
 {
     if may_cast(null_beside(&v, ty), &v.ty, ty) {
-        let ty = ty.copy(alloc)?.unqualified();
-        Ok(Ok(Value::cast(alloc, at, ty, v)?))
+        match ty.copy(alloc) {
+            Ok(ty) => Ok(Ok(Value::cast(alloc, at, ty.unqualified(), v)?)),
+            Err(trouble) => stopped(v, trouble),
+        }
     } else {
-        Ok(Err(Some(Problem {
+        let own = Problem {
             code: SubsetCode::BadCast,
             at,
-        })))
+        };
+        Ok(stopped(v, Some(own)))
     }
 }
 

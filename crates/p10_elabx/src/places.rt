@@ -11,6 +11,7 @@ ghost use Rattle.p10_elabx.specs.Built.{plain_operand, ruled_operand, ruled_targ
 
 use crate::operand::{Operand, PlaceKind};
 use crate::operators::size_value;
+use crate::parts::{stopped, stopped_after_two, without};
 use crate::problem::Problem;
 use crate::rows::pointer_to;
 use crate::values::converted;
@@ -32,13 +33,21 @@ pub fn dereferenced(
 {
     match &v.ty.form {
         TypeForm::Pointer(target) => {
-            let ty = target.copy(alloc)?;
-            Ok(Ok(Operand::Place(PlaceKind::Object, Place::dereference(alloc, at, ty, v)?)))
+            match target.copy(alloc) {
+                Ok(ty) => Ok(Ok(Operand::Place(
+                    PlaceKind::Object,
+                    Place::dereference(alloc, at, ty, v)?,
+                ))),
+                Err(trouble) => stopped(v, trouble),
+            }
         }
-        _ => Ok(Err(Some(Problem {
-            code: SubsetCode::OperandTypes,
-            at,
-        }))),
+        _ => {
+            let own = Problem {
+                code: SubsetCode::OperandTypes,
+                at,
+            };
+            Ok(stopped(v, Some(own)))
+        }
     }
 }
 
@@ -54,14 +63,22 @@ pub fn indexed(
 {
     match (&a.ty.form, &i.ty.form) {
         (TypeForm::Pointer(target), TypeForm::Int(kind)) => {
-            let ty = target.copy(alloc)?;
-            let i = promoted_value(alloc, *kind, i)?;
-            element_of(alloc, types, at, ty, a, i)
+            let ty = match target.copy(alloc) {
+                Ok(ty) => ty,
+                Err(trouble) => return stopped_after_two(a, i, trouble),
+            };
+            match promoted_value(alloc, *kind, i) {
+                Ok(i) => element_of(alloc, types, at, ty, a, i),
+                Err(trouble) => stopped_after_two(a, ty, trouble),
+            }
         }
-        _ => Ok(Err(Some(Problem {
-            code: SubsetCode::OperandTypes,
-            at,
-        }))),
+        _ => {
+            let own = Problem {
+                code: SubsetCode::OperandTypes,
+                at,
+            };
+            Ok(stopped_after_two(a, i, Some(own)))
+        }
     }
 }
 
@@ -86,10 +103,11 @@ fn element_of(
     if types.is_complete(&ty) {
         Ok(Ok(Operand::Place(PlaceKind::Object, Place::index(alloc, at, ty, a, i)?)))
     } else {
-        Ok(Err(Some(Problem {
+        let own = Problem {
             code: SubsetCode::OperandTypes,
             at,
-        })))
+        };
+        Ok(stopped_after_two(a, i, Some(own)))
     }
 }
 
@@ -102,17 +120,25 @@ pub fn address_found(
     ensures { IfOk result (λ r. ruled_operand r ≡ address_found at (plain_operand operand)) }
 {
     match operand {
-        Operand::Value(_) => Ok(Err(Some(Problem {
-            code: SubsetCode::NoAddress,
-            at,
-        }))),
-        Operand::Place(PlaceKind::Sensor, _) => Ok(Err(Some(Problem {
-            code: SubsetCode::NoAddress,
-            at,
-        }))),
+        Operand::Value(v) => {
+            let own = Problem {
+                code: SubsetCode::NoAddress,
+                at,
+            };
+            Ok(stopped(v, Some(own)))
+        }
+        Operand::Place(PlaceKind::Sensor, p) => {
+            let own = Problem {
+                code: SubsetCode::NoAddress,
+                at,
+            };
+            Ok(stopped(p, Some(own)))
+        }
         Operand::Place(PlaceKind::Frame | PlaceKind::Object, p) => {
-            let ty = pointer_to(alloc, &p.ty)?;
-            Ok(Ok(Operand::Value(Value::address(alloc, at, ty, p)?)))
+            match pointer_to(alloc, &p.ty) {
+                Ok(ty) => Ok(Ok(Operand::Value(Value::address(alloc, at, ty, p)?))),
+                Err(trouble) => stopped(p, trouble),
+            }
         }
         Operand::Function(_) => Ok(Err(Some(Problem {
             code: SubsetCode::BadPointer,
@@ -135,13 +161,21 @@ pub fn target_found(
             if types.is_modifiable(&p.ty) {
                 Ok((kind, p))
             } else {
-                Err(Some(Problem {
+                let own = Problem {
                     code: SubsetCode::FixedTarget,
                     at,
-                }))
+                };
+                stopped(p, Some(own))
             }
         }
-        Operand::Value(_) | Operand::Function(_) => Err(Some(Problem {
+        Operand::Value(v) => {
+            let own = Problem {
+                code: SubsetCode::FixedTarget,
+                at,
+            };
+            stopped(v, Some(own))
+        }
+        Operand::Function(_) => Err(Some(Problem {
             code: SubsetCode::FixedTarget,
             at,
         })),
@@ -165,10 +199,13 @@ fn member_in(
             let found = structure_member(alloc, types, at, name, number, p)?;
             Ok(found)
         }
-        _ => Ok(Err(Some(Problem {
-            code: SubsetCode::OperandTypes,
-            at,
-        }))),
+        _ => {
+            let own = Problem {
+                code: SubsetCode::OperandTypes,
+                at,
+            };
+            Ok(stopped(p, Some(own)))
+        }
     }
 }
 
@@ -190,10 +227,13 @@ fn structure_member(
             let found = member_by(alloc, at, p, body.members.as_slice(), place)?;
             Ok(found)
         }
-        None => Ok(Err(Some(Problem {
-            code: SubsetCode::UnknownMember,
-            at,
-        }))),
+        None => {
+            let own = Problem {
+                code: SubsetCode::UnknownMember,
+                at,
+            };
+            Ok(stopped(p, Some(own)))
+        }
     }
 }
 
@@ -214,15 +254,21 @@ fn member_by(
                 let found = member_there(alloc, at, p, place, member)?;
                 Ok(found)
             }
-            None => Ok(Err(Some(Problem {
+            None => {
+                let own = Problem {
+                    code: SubsetCode::UnknownMember,
+                    at,
+                };
+                Ok(stopped(p, Some(own)))
+            }
+        },
+        None => {
+            let own = Problem {
                 code: SubsetCode::UnknownMember,
                 at,
-            }))),
-        },
-        None => Ok(Err(Some(Problem {
-            code: SubsetCode::UnknownMember,
-            at,
-        }))),
+            };
+            Ok(stopped(p, Some(own)))
+        }
     }
 }
 
@@ -239,14 +285,18 @@ fn member_there(
 {
     if place <= LAST_MEMBER {
         let mark = p.ty.is_const;
-        let ty = qualified(alloc, mark, &member.ty)?;
+        let ty = match qualified(alloc, mark, &member.ty) {
+            Ok(ty) => ty,
+            Err(trouble) => return stopped(p, trouble),
+        };
         let whole = Place::member(alloc, at, ty, p, place as u32)?;
         Ok(Ok(Operand::Place(PlaceKind::Object, whole)))
     } else {
-        Ok(Err(Some(Problem {
+        let own = Problem {
             code: SubsetCode::UnknownMember,
             at,
-        })))
+        };
+        Ok(stopped(p, Some(own)))
     }
 }
 
@@ -265,10 +315,13 @@ pub fn member_found(
             let found = member_in(alloc, types, at, name, p)?;
             Ok(found)
         }
-        Operand::Value(_) => Ok(Err(Some(Problem {
-            code: SubsetCode::OperandTypes,
-            at,
-        }))),
+        Operand::Value(v) => {
+            let own = Problem {
+                code: SubsetCode::OperandTypes,
+                at,
+            };
+            Ok(stopped(v, Some(own)))
+        }
         Operand::Function(at) => Ok(Err(Some(Problem {
             code: SubsetCode::BadPointer,
             at,
@@ -289,20 +342,29 @@ pub fn arrow_found(
     match &v.ty.form {
         TypeForm::Pointer(target) => match &target.form {
             TypeForm::Struct(_) => {
-                let ty = target.copy(alloc)?;
+                let ty = match target.copy(alloc) {
+                    Ok(ty) => ty,
+                    Err(trouble) => return stopped(v, trouble),
+                };
                 let whole = Place::dereference(alloc, at, ty, v)?;
                 let found = member_in(alloc, types, at, name, whole)?;
                 Ok(found)
             }
-            _ => Ok(Err(Some(Problem {
+            _ => {
+                let own = Problem {
+                    code: SubsetCode::OperandTypes,
+                    at,
+                };
+                Ok(stopped(v, Some(own)))
+            }
+        },
+        _ => {
+            let own = Problem {
                 code: SubsetCode::OperandTypes,
                 at,
-            }))),
-        },
-        _ => Ok(Err(Some(Problem {
-            code: SubsetCode::OperandTypes,
-            at,
-        }))),
+            };
+            Ok(stopped(v, Some(own)))
+        }
     }
 }
 
@@ -335,8 +397,14 @@ pub fn operand_size(types: &Types<'_>, at: At, operand: Operand) -> Result<Opera
     ensures { ruled_operand result ≡ operand_size (plain_types types.now) at (plain_operand operand) }
 {
     match operand {
-        Operand::Value(v) => size_value(types, at, &v.ty),
-        Operand::Place(_, p) => size_value(types, at, &p.ty),
+        Operand::Value(v) => {
+            let size = size_value(types, at, &v.ty);
+            without(v, size)
+        }
+        Operand::Place(_, p) => {
+            let size = size_value(types, at, &p.ty);
+            without(p, size)
+        }
         Operand::Function(_) => Err(Some(Problem {
             code: SubsetCode::NoSize,
             at,

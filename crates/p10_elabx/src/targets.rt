@@ -11,9 +11,9 @@ ghost use Rattle.p10_elabx.specs.Built.{judged_operand, judged_value, judged_tar
 ghost use Rattle.p10_core.specs.declared.statements.UpdateKind.TheVariants as kind;
 
 use crate::assignment::{assigned, updated};
-use crate::judged::{Judged, also_form, also_operand, also_target, joined, unordered};
+use crate::judged::{Judged, also_form, also_operand, also_target, unordered};
 use crate::operand::{Operand, PlaceKind};
-use crate::parts::unused;
+use crate::parts::{both, unused};
 use crate::places::target_found;
 use crate::problem::Problem;
 use p10_base::{At, SubsetCode};
@@ -54,15 +54,13 @@ fn assignment_found(
 ) -> Result<Result<StmtForm, Option<Problem>>, AllocError>
     ensures { IfOk result (λ r. lift (ruled_form r) ≡ on (pair only_first (lift (ruled_target a)) (lift (ruled_value b))) (λ (x, v). assigned at x.1 v)) }
 {
-    match (a, b) {
-        (Ok(target), Ok(v)) => {
+    match both(a, b) {
+        Ok(parts) => {
+            let (target, v) = parts;
             let (_, p) = target;
-            let form = assigned(alloc, at, p, v)?;
-            Ok(form)
+            assigned(alloc, at, p, v)
         }
-        (Ok(_), Err(q)) => Ok(Err(q)),
-        (Err(r), Ok(_)) => Ok(Err(r)),
-        (Err(r), Err(q)) => Ok(Err(joined(r, q))),
+        Err(r) => Ok(Err(r)),
     }
 }
 
@@ -132,15 +130,13 @@ fn update_found(
 ) -> Result<Result<StmtForm, Option<Problem>>, AllocError>
     ensures { IfOk result (λ r. lift (ruled_form r) ≡ on (pair only_first (lift (ruled_target a)) (lift (ruled_value b))) (λ (x, v). updated (plain_types types.now) at kind.Compound op x.1 v)) }
 {
-    match (a, b) {
-        (Ok(target), Ok(v)) => {
+    match both(a, b) {
+        Ok(parts) => {
+            let (target, v) = parts;
             let (_, p) = target;
-            let form = updated(alloc, types, at, UpdateKind::Compound, op, p, v)?;
-            Ok(form)
+            updated(alloc, types, at, UpdateKind::Compound, op, p, v)
         }
-        (Ok(_), Err(q)) => Ok(Err(q)),
-        (Err(r), Ok(_)) => Ok(Err(r)),
-        (Err(r), Err(q)) => Ok(Err(joined(r, q))),
+        Err(r) => Ok(Err(r)),
     }
 }
 

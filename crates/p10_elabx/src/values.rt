@@ -9,6 +9,7 @@ ghost use Rattle.p10_elabx.specs.Built.{plain_operand, ruled_value, ruled_operan
 
 use crate::judged::Judged;
 use crate::operand::{Operand, PlaceKind};
+use crate::parts::stopped;
 use crate::problem::Problem;
 use crate::rows::pointer_to;
 use p10_base::SubsetCode;
@@ -47,9 +48,11 @@ fn place_value(
 {
     match &p.ty.form {
         TypeForm::Array(element, _) => {
-            let ty = pointer_to(alloc, element)?;
             let at = p.at;
-            Ok(Ok(Value::decay(alloc, at, ty, p)?))
+            match pointer_to(alloc, element) {
+                Ok(ty) => Ok(Ok(Value::decay(alloc, at, ty, p)?)),
+                Err(trouble) => stopped(p, trouble),
+            }
         }
         _ => {
             let found = read_value(alloc, types, kind, p)?;
@@ -68,7 +71,10 @@ fn read_value(
     ensures { IfOk result (λ r. ruled_value r ≡ read_value (plain_types types.now) kind (plain_place p)) }
 {
     if types.is_complete(&p.ty) {
-        let ty = p.ty.copy(alloc)?.unqualified();
+        let ty = match p.ty.copy(alloc) {
+            Ok(ty) => ty.unqualified(),
+            Err(trouble) => return stopped(p, trouble),
+        };
         let at = p.at;
         Ok(Ok(Value {
             at,
@@ -76,10 +82,11 @@ fn read_value(
             form: read_form(alloc, kind, p)?,
         }))
     } else {
-        Ok(Err(Some(Problem {
+        let own = Problem {
             code: SubsetCode::OperandTypes,
             at: p.at,
-        })))
+        };
+        Ok(stopped(p, Some(own)))
     }
 }
 
@@ -108,10 +115,11 @@ pub fn not_void(v: Value) -> Result<Value, Option<Problem>>
     ensures { ruled_value result ≡ not_void (plain_value v) }
 {
     if v.ty.is_void() {
-        Err(Some(Problem {
+        let own = Problem {
             code: SubsetCode::VoidValue,
             at: v.at,
-        }))
+        };
+        stopped(v, Some(own))
     } else {
         Ok(v)
     }

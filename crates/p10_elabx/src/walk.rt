@@ -32,6 +32,7 @@ use crate::operand::{Operand, PlaceKind};
 use crate::parameters::{
     FunctionSite, function_judged, is_alone, lacks_prototype, parameter_judged, with_parameter,
 };
+use crate::parts::{stopped, stopped_after_two};
 use crate::problem::Problem;
 use crate::scope::Scope;
 use crate::shape::{Made, Shape};
@@ -93,34 +94,45 @@ pub fn judge(
         }
         Form::Binary(sign, a, b) => {
             let left = judge_value(alloc, situation, a)?;
-            let right = judge_value(alloc, situation, b)?;
-            binary_judged(
-                alloc,
-                &situation.scope.types,
-                at,
-                operation_of(*sign),
-                left,
-                right,
-            )
+            match judge_value(alloc, situation, b) {
+                Ok(right) => binary_judged(
+                    alloc,
+                    &situation.scope.types,
+                    at,
+                    operation_of(*sign),
+                    left,
+                    right,
+                ),
+                Err(trouble) => stopped(left, trouble),
+            }
         }
         Form::Assign(sign, a, b) => {
             let target = judge_target(alloc, situation, a)?;
-            let value = judge_value(alloc, situation, b)?;
-            let form = by_sign(
-                alloc,
-                &situation.scope.types,
-                at,
-                assignment_of(*sign),
-                target,
-                value,
-            )?;
-            Ok(nested(at, form))
+            match judge_value(alloc, situation, b) {
+                Ok(value) => {
+                    let form = by_sign(
+                        alloc,
+                        &situation.scope.types,
+                        at,
+                        assignment_of(*sign),
+                        target,
+                        value,
+                    )?;
+                    Ok(nested(at, form))
+                }
+                Err(trouble) => stopped(target, trouble),
+            }
         }
         Form::Cond(c, a, b) => {
             let test = judge_value(alloc, situation, c)?;
-            let left = judge_value(alloc, situation, a)?;
-            let right = judge_value(alloc, situation, b)?;
-            conditional_judged(alloc, at, test, left, right)
+            let left = match judge_value(alloc, situation, a) {
+                Ok(left) => left,
+                Err(trouble) => return stopped(test, trouble),
+            };
+            match judge_value(alloc, situation, b) {
+                Ok(right) => conditional_judged(alloc, at, test, left, right),
+                Err(trouble) => stopped_after_two(test, left, trouble),
+            }
         }
         Form::Call(f, all) => match called_name(f) {
             Some(name) => {
@@ -129,14 +141,18 @@ pub fn judge(
             }
             None => {
                 let called = judge(alloc, situation, f)?;
-                let list = judge_arguments(alloc, situation, all, Wants::Nothing)?;
-                Ok(other_call(at, called, list))
+                match judge_arguments(alloc, situation, all, Wants::Nothing) {
+                    Ok(list) => Ok(other_call(at, called, list)),
+                    Err(trouble) => stopped(called, trouble),
+                }
             }
         },
         Form::Index(a, b) => {
             let base = judge_value(alloc, situation, a)?;
-            let index = judge_value(alloc, situation, b)?;
-            index_judged(alloc, &situation.scope.types, at, base, index)
+            match judge_value(alloc, situation, b) {
+                Ok(index) => index_judged(alloc, &situation.scope.types, at, base, index),
+                Err(trouble) => stopped(base, trouble),
+            }
         }
         Form::Member(a, name) => {
             let whole = judge(alloc, situation, a)?;
@@ -293,14 +309,14 @@ pub fn judge_declarator(
             judge_declarator(alloc, scope, inner, name_at, Made::Array, shape)
         }
         Declarator::Array(_, inner, _, Some(length)) => {
-            let length = judge_value(
-                alloc,
-                Situation {
-                    scope,
-                    evaluated: true,
-                },
-                length,
-            )?;
+            let evaluated = Situation {
+                scope,
+                evaluated: true,
+            };
+            let length = match judge_value(alloc, evaluated, length) {
+                Ok(length) => length,
+                Err(trouble) => return stopped(shape, trouble),
+            };
             let shape = array_judged(alloc, &scope.types, name_at, made, length, shape)?;
             judge_declarator(alloc, scope, inner, name_at, Made::Array, shape)
         }
@@ -312,7 +328,10 @@ pub fn judge_declarator(
                 lacking: lacks_prototype(parameters, *dots),
                 made,
             };
-            let types = judge_parameters(alloc, scope, parameters, is_alone(parameters))?;
+            let types = match judge_parameters(alloc, scope, parameters, is_alone(parameters)) {
+                Ok(types) => types,
+                Err(trouble) => return stopped(shape, trouble),
+            };
             let shape = function_judged(site, types, shape);
             let inside = judge_declarator(alloc, scope, inner, name_at, Made::Function, shape)?;
             Ok(inside)

@@ -61,7 +61,7 @@ memory::judge_cast-returns-in_ok-seen-in-None t c =
 pub memory::judge_cleared-returns-in_ok-seen-in-Some : goal.memory::judge_cleared-returns-in_ok-seen-in-Some
 memory::judge_cleared-returns-in_ok-seen-in-Some t c =
     cleared_size (scope_in c.args.situation) c.args.site (judged_shape c.args.shape) c.args.all.now c.index-all-0.result c.index-all-1.result _ (judged_shape c.in-Some.element) _ _
-    c.requires.two c.index-all-0.is c.index-all-1.is c.in_ok-size.ensures (ap (option_map judged_shape) c.in-Some.is) c.in_ok-count-in-Some.ensures c.in_ok-seen-in-Some.ensures
+    c.requires.two c.index-all-0.is c.index-all-1.is c.in_ok-size.ensures (ap (option_map judged_shape) c.in-Some.is) c.in-Ok.ensures c.in_ok-seen-in-Some.ensures
 
 pub memory::judge_cleared-returns-in_ok-seen-in-None : goal.memory::judge_cleared-returns-in_ok-seen-in-None
 memory::judge_cleared-returns-in_ok-seen-in-None t c =
@@ -75,24 +75,24 @@ memory::judge_number-returns-in_ok-element-in-SizeofType t c =
 pub memory::judge_number-returns-in-Some-Some : goal.memory::judge_number-returns-in-Some-Some
 memory::judge_number-returns-in-Some-Some t c =
     product_bytes (scope_in c.args.situation) c.args.e.now c.in-Binary.sign c.in-Binary.a c.in-Binary.b c.deref-a.result.now c.deref-b.result.now _ _ _ _ _ c.in-Binary.is c.deref-a.ensures c.deref-b.ensures
-    c.is_star.ensures c.if-is_star.true c.in_ok-left-in-Binary.ensures (ap (option_map judged_shape) c.in-Some-Some.is-0) c.in_ok-right-in-Binary.ensures (ap (option_map judged_shape) c.in-Some-Some.is-1)
+    c.is_star.ensures c.if-is_star.true c.in_ok-left-in-Binary.ensures (ap (option_map judged_shape) c.in-Some-Some.is-0) c.in-Ok.ensures (ap (option_map judged_shape) c.in-Some-Some.is-1)
 
-pub memory::judge_number-returns-in_ok-count-in-None-Some : goal.memory::judge_number-returns-in_ok-count-in-None-Some
-memory::judge_number-returns-in_ok-count-in-None-Some t c =
-    ap (of_elements c.deref-b.result.now.at (judged_shape c.in-None-Some.element)) c.in_ok-count-in-None-Some.ensures
+pub memory::judge_number-returns-in-Ok-judge_value-2 : goal.memory::judge_number-returns-in-Ok-judge_value-2
+memory::judge_number-returns-in-Ok-judge_value-2 t c =
+    ap (of_elements c.deref-b.result.now.at (judged_shape c.in-None-Some.element)) c.in-Ok-judge_value-2.ensures
     ∙ product_bytes (scope_in c.args.situation) c.args.e.now c.in-Binary.sign c.in-Binary.a c.in-Binary.b c.deref-a.result.now c.deref-b.result.now _ _ _ _ _ c.in-Binary.is c.deref-a.ensures c.deref-b.ensures
-    c.is_star.ensures c.if-is_star.true c.in_ok-left-in-Binary.ensures (ap (option_map judged_shape) c.in-None-Some.is-0) c.in_ok-right-in-Binary.ensures (ap (option_map judged_shape) c.in-None-Some.is-1)
+    c.is_star.ensures c.if-is_star.true c.in_ok-left-in-Binary.ensures (ap (option_map judged_shape) c.in-None-Some.is-0) c.in-Ok.ensures (ap (option_map judged_shape) c.in-None-Some.is-1)
 
-pub memory::judge_number-returns-in_ok-count-in-Some-None : goal.memory::judge_number-returns-in_ok-count-in-Some-None
-memory::judge_number-returns-in_ok-count-in-Some-None t c =
-    ap (of_elements c.deref-a.result.now.at (judged_shape c.in-Some-None.element)) c.in_ok-count-in-Some-None.ensures
+pub memory::judge_number-returns-in-Ok-judge_value : goal.memory::judge_number-returns-in-Ok-judge_value
+memory::judge_number-returns-in-Ok-judge_value t c =
+    ap (of_elements c.deref-a.result.now.at (judged_shape c.in-Some-None.element)) c.in-Ok-judge_value.ensures
     ∙ product_bytes (scope_in c.args.situation) c.args.e.now c.in-Binary.sign c.in-Binary.a c.in-Binary.b c.deref-a.result.now c.deref-b.result.now _ _ _ _ _ c.in-Binary.is c.deref-a.ensures c.deref-b.ensures
-    c.is_star.ensures c.if-is_star.true c.in_ok-left-in-Binary.ensures (ap (option_map judged_shape) c.in-Some-None.is-0) c.in_ok-right-in-Binary.ensures (ap (option_map judged_shape) c.in-Some-None.is-1)
+    c.is_star.ensures c.if-is_star.true c.in_ok-left-in-Binary.ensures (ap (option_map judged_shape) c.in-Some-None.is-0) c.in-Ok.ensures (ap (option_map judged_shape) c.in-Some-None.is-1)
 
 pub memory::judge_number-returns-in-None-None : goal.memory::judge_number-returns-in-None-None
 memory::judge_number-returns-in-None-None t c =
     product_bytes (scope_in c.args.situation) c.args.e.now c.in-Binary.sign c.in-Binary.a c.in-Binary.b c.deref-a.result.now c.deref-b.result.now _ _ _ _ _ c.in-Binary.is c.deref-a.ensures c.deref-b.ensures
-    c.is_star.ensures c.if-is_star.true c.in_ok-left-in-Binary.ensures (ap (option_map judged_shape) c.in-None-None.is-0) c.in_ok-right-in-Binary.ensures (ap (option_map judged_shape) c.in-None-None.is-1)
+    c.is_star.ensures c.if-is_star.true c.in_ok-left-in-Binary.ensures (ap (option_map judged_shape) c.in-None-None.is-0) c.in-Ok.ensures (ap (option_map judged_shape) c.in-None-None.is-1)
 
 pub memory::judge_number-returns-else-is_star : goal.memory::judge_number-returns-else-is_star
 memory::judge_number-returns-else-is_star t c =
@@ -120,11 +120,11 @@ walk::judge-returns-in_ok-seen-in-Some t c =
     call_named (scope_in c.args.situation) c.args.e.now c.in-Call.f c.in-Call.all c.deref-in-Some.result.now (identifier_of c.in-Some.name) _ c.in-Call.is c.deref-in-Some.ensures.value
     (sym (ap (option_map identifier_of) c.in-Some.is) ∙ c.called_name.ensures ∙ ap (λ x. called_name (expression_of x)) c.deref-in-Call.ensures) c.in_ok-seen-in-Some.ensures
 
-pub walk::judge-returns-in_ok-list-in-None : goal.walk::judge-returns-in_ok-list-in-None
-walk::judge-returns-in_ok-list-in-None t c =
+pub walk::judge-returns-in-Ok-judge_arguments : goal.walk::judge-returns-in-Ok-judge_arguments
+walk::judge-returns-in-Ok-judge_arguments t c =
     call_other (scope_in c.args.situation) c.args.e.now c.in-Call.f c.in-Call.all c.deref-in-None-2.result.now _ _ _ c.in-Call.is c.deref-in-None-2.ensures.value
     (sym (ap (option_map identifier_of) c.in-None.is) ∙ c.called_name.ensures ∙ ap (λ x. called_name (expression_of x)) c.deref-in-Call.ensures)
-    (c.in_ok-called-in-None.ensures ∙ ap (λ x. judge only_first (scope_in c.args.situation) (expression_of x)) c.deref-in-None.ensures) c.in_ok-list-in-None.ensures c.other_call.ensures
+    (c.in_ok-called-in-None.ensures ∙ ap (λ x. judge only_first (scope_in c.args.situation) (expression_of x)) c.deref-in-None.ensures) c.in-Ok-judge_arguments.ensures c.other_call.ensures
 
 pub walk::judge-returns-in_ok-list-in-Comma : goal.walk::judge-returns-in_ok-list-in-Comma
 walk::judge-returns-in_ok-list-in-Comma t c =
@@ -151,7 +151,7 @@ walk::judge_declarator-returns-in_ok-inside-in-Function t c =
     let parts = c.in-Function in
     function_arm (plain_scope c.args.scope.now) c.args.name_at c.args.made c.args.d.now parts.at parts.inner parts.parentheses parts.parameters parts.dots _ _ _ _ _ _ _ _ _ _
     parts.is c.deref-in-Function.ensures.value c.deref-in-Function-2.ensures.value c.deref-in-Function-3.ensures.value c.deref-in-Function-4.ensures
-    c.lacks_prototype.ensures c.is_alone.ensures c.in_ok-types-in-Function.ensures c.function_judged-shape.ensures c.in_ok-inside-in-Function.ensures
+    c.lacks_prototype.ensures c.is_alone.ensures c.in-Ok-judge_parameters.ensures c.function_judged-shape.ensures c.in_ok-inside-in-Function.ensures
 
 pub walk::judge_parameters-loop-parameter-preserved : goal.walk::judge_parameters-loop-parameter-preserved
 walk::judge_parameters-loop-parameter-preserved t c =
