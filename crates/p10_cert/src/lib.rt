@@ -28,8 +28,6 @@ mod record;
 mod sealed;
 mod sections;
 mod state;
-#[cfg(test)]
-mod tests;
 mod texts;
 mod writing;
 mod writing_sealed;

@@ -10,8 +10,6 @@
 mod functions;
 pub mod laws;
 mod outside;
-#[cfg(test)]
-mod tests;
 mod whole;
 mod words;
 
