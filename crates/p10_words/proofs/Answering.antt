@@ -8,11 +8,11 @@ use Rattle.p10_words.specs.declared.command.Usage.{Usage}
 use Rattle.p10_words.specs.declared.command.Usage.TheVariants.{Refused, Memory}
 use Rattle.p10_base.specs.Words.{Text}
 use Rattle.p10_words.specs.CommandLines.{value_of}
-use Rattle.p10_words.specs.Commands.{check_options, derive_options, verify_options, run_options, IsRestOf}
+use Rattle.p10_words.specs.Commands.{check_options, derive_options, migrate_options, verify_options, run_options, IsRestOf}
 use Rattle.p10_words.specs.private.Parsing.{file_id, some_list, Matched, IsParse}
-use Rattle.p10_words.specs.private.Deciding.{is_given, has_files, IsCheckOf, IsDeriveOf, IsVerifyOf, IsRunOf, IsGenerateOf, Answers}
+use Rattle.p10_words.specs.private.Deciding.{is_given, has_files, IsCheckOf, IsDeriveOf, IsMigrateOf, IsVerifyOf, IsRunOf, IsGenerateOf, Answers}
 use Rattle.p10_words.proofs.Named.{Known, known, flag_value}
-use Rattle.p10_words.proofs.Deciding.{check_is, check_from, no_check, derive_is, derive_from, no_derive, verify_is, verify_from, no_verify, run_is, run_from, no_run, generate_is, generate_from, no_generate}
+use Rattle.p10_words.proofs.Deciding.{check_is, check_from, no_check, derive_is, derive_from, no_derive, migrate_is, migrate_from, no_migrate, verify_is, verify_from, no_verify, run_is, run_from, no_run, generate_is, generate_from, no_generate}
 
 -- an answer by another condition that is the same
 carried : (P Q : Command → Type 0) (r : Result Command Usage) → ((c : Command) → P c → Q c) → ((c : Command) → Q c → P c) → Answers P r → Answers Q r
@@ -51,16 +51,17 @@ check_lost words Refused n = λ c v. no_check words c n v
 check_lost words Memory n = tt
 
 -- ---- `derive`
-pub derive_done : (words : List Text) (m : ArgMatches) (include : Option Text) (files : List Text) (r : Result Command Usage) → Matched derive_options words m
-    → include ≡ first_value (found_of m) (codes "include") → Some files ≡ option_map raw_values (matched_of (found_of m) file_id)
-    → Answers (IsDeriveOf include files) r → Answers (λ c. IsRestOf c (codes "derive") words) r
-derive_done words m include files r h i k a =
+pub derive_done : (words : List Text) (m : ArgMatches) (include version : Option Text) (files : List Text) (r : Result Command Usage) → Matched derive_options words m
+    → include ≡ first_value (found_of m) (codes "include") → version ≡ first_value (found_of m) (codes "cert-version") → Some files ≡ option_map raw_values (matched_of (found_of m) file_id)
+    → Answers (IsDeriveOf include version files) r → Answers (λ c. IsRestOf c (codes "derive") words) r
+derive_done words m include version files r h i j k a =
     let s = h.split in
-    let there : IsDeriveOf include files ≡ IsDeriveOf (value_of s.options (codes "include")) s.files =
-    ap (λ (o : Option Text). IsDeriveOf o files) (i ∙ h.reads.options (codes "include") refl refl)
-    ∙ ap (λ (l : List Text). IsDeriveOf (value_of s.options (codes "include")) l) (sym (some_files s.files files (sym (k ∙ h.reads.files)))) in
-    carried (IsDeriveOf (value_of s.options (codes "include")) s.files) (λ c. IsRestOf c (codes "derive") words) r
-    (λ c v. derive_is words s c h.scanned h.once v) (λ c v. derive_from words s c h.scanned v) (subst (λ (P : Command → Type 0). Answers P r) there a)
+    let includes = i ∙ h.reads.options (codes "include") refl refl in
+    let versions = j ∙ h.reads.options (codes "cert-version") refl refl in
+    let files_are = sym (some_files s.files files (sym (k ∙ h.reads.files))) in
+    carried (IsDeriveOf (value_of s.options (codes "include")) (value_of s.options (codes "cert-version")) s.files) (λ c. IsRestOf c (codes "derive") words) r
+    (λ c v. derive_is words s c h.scanned h.once v) (λ c v. derive_from words s c h.scanned v)
+    (subst (λ (P : Command → Type 0). Answers P r) (λ n. IsDeriveOf (includes n) (versions n) (files_are n)) a)
 
 pub derive_without : (words : List Text) (m : ArgMatches) → Matched derive_options words m → None ≡ option_map raw_values (matched_of (found_of m) file_id) → (c : Command) → IsRestOf c (codes "derive") words → ⊥
 derive_without words m h k c v =
@@ -71,6 +72,33 @@ derive_without words m h k c v =
 pub derive_lost : (words : List Text) (u : Usage) → IsParse derive_options words (Err u) → Answers (λ c. IsRestOf c (codes "derive") words) (Err u)
 derive_lost words Refused n = λ c v. no_derive words c n v
 derive_lost words Memory n = tt
+
+-- ---- `migrate`
+pub migrate_done : (words : List Text) (m : ArgMatches) (include cert : Option Text) (files : List Text) (r : Result Command Usage) → Matched migrate_options words m
+    → include ≡ first_value (found_of m) (codes "include") → cert ≡ first_value (found_of m) (codes "cert") → Some files ≡ option_map raw_values (matched_of (found_of m) file_id)
+    → Answers (IsMigrateOf include cert files) r → Answers (λ c. IsRestOf c (codes "migrate") words) r
+migrate_done words m include cert files r h i j k a =
+    let s = h.split in
+    let includes = i ∙ h.reads.options (codes "include") refl refl in
+    let certs = j ∙ h.reads.options (codes "cert") refl refl in
+    let files_are = sym (some_files s.files files (sym (k ∙ h.reads.files))) in
+    carried (IsMigrateOf (value_of s.options (codes "include")) (value_of s.options (codes "cert")) s.files) (λ c. IsRestOf c (codes "migrate") words) r
+    (λ c v. migrate_is words s c h.scanned h.once v) (λ c v. migrate_from words s c h.scanned v)
+    (subst (λ (P : Command → Type 0). Answers P r) (λ n. IsMigrateOf (includes n) (certs n) (files_are n)) a)
+
+pub migrate_without : (words : List Text) (m : ArgMatches) → Matched migrate_options words m → None ≡ option_map raw_values (matched_of (found_of m) file_id) → (c : Command) → IsRestOf c (codes "migrate") words → ⊥
+migrate_without words m h k c v =
+    let none = no_files h.split.files (sym (k ∙ h.reads.files)) in
+    let some = subst (λ (l : List Text). has_files l ≡ true) none (migrate_from words h.split c h.scanned v).some in
+    cc
+
+pub migrate_lost : (words : List Text) (u : Usage) → IsParse migrate_options words (Err u) → Answers (λ c. IsRestOf c (codes "migrate") words) (Err u)
+migrate_lost words Refused n = λ c v. no_migrate words c n v
+migrate_lost words Memory n = tt
+
+pub migrated_given : (include : Option Text) (o : Option (Bor Text)) (cert : Bor Text) (files : List Text) (r : Result Command Usage) → o ≡ Some cert
+    → Answers (IsMigrateOf include (Some cert.now) files) r → Answers (IsMigrateOf include (option_map (λ w. w.now) o) files) r
+migrated_given include o cert files r e a = subst (λ (p : Option (Bor Text)). Answers (IsMigrateOf include (option_map (λ w. w.now) p) files) r) (sym e) a
 
 -- ---- `verify`
 flag_given : (o : Option Text) → ((v : Text) → o ≡ Some v → bytes_eq v (codes "true") ≡ true) → is_given (Some (unwrap_or o (codes "false"))) ≡ is_some o
@@ -104,21 +132,23 @@ verify_lost words Refused n = λ c v. no_verify words c n v
 verify_lost words Memory n = tt
 
 -- ---- `run`
-pub run_done : (words : List Text) (m : ArgMatches) (include steps turns deny cert : Option Text) (files : List Text) (r : Result Command Usage) → Matched run_options words m
+pub run_done : (words : List Text) (m : ArgMatches) (include steps turns deny cert sensors : Option Text) (files : List Text) (r : Result Command Usage) → Matched run_options words m
     → include ≡ first_value (found_of m) (codes "include") → steps ≡ first_value (found_of m) (codes "steps") → turns ≡ first_value (found_of m) (codes "turns") → deny ≡ first_value (found_of m) (codes "deny")
-    → cert ≡ first_value (found_of m) (codes "cert") → Some files ≡ option_map raw_values (matched_of (found_of m) file_id)
-    → Answers (IsRunOf include steps turns deny cert files) r → Answers (λ c. IsRestOf c (codes "run") words) r
-run_done words m include steps turns deny cert files r h i t u d q k a =
+    → cert ≡ first_value (found_of m) (codes "cert") → sensors ≡ first_value (found_of m) (codes "sensors") → Some files ≡ option_map raw_values (matched_of (found_of m) file_id)
+    → Answers (IsRunOf include steps turns deny cert sensors files) r → Answers (λ c. IsRestOf c (codes "run") words) r
+run_done words m include steps turns deny cert sensors files r h i t u d q v k a =
     let s = h.split in
     let includes = i ∙ h.reads.options (codes "include") refl refl in
     let steps_are = t ∙ h.reads.options (codes "steps") refl refl in
     let turns_are = u ∙ h.reads.options (codes "turns") refl refl in
     let denied = d ∙ h.reads.options (codes "deny") refl refl in
     let certs = q ∙ h.reads.options (codes "cert") refl refl in
+    let values = v ∙ h.reads.options (codes "sensors") refl refl in
     let files_are = sym (some_files s.files files (sym (k ∙ h.reads.files))) in
-    carried (IsRunOf (value_of s.options (codes "include")) (value_of s.options (codes "steps")) (value_of s.options (codes "turns")) (value_of s.options (codes "deny")) (value_of s.options (codes "cert")) s.files)
+    carried
+    (IsRunOf (value_of s.options (codes "include")) (value_of s.options (codes "steps")) (value_of s.options (codes "turns")) (value_of s.options (codes "deny")) (value_of s.options (codes "cert")) (value_of s.options (codes "sensors")) s.files)
     (λ c. IsRestOf c (codes "run") words) r (λ c v. run_is words s c h.scanned h.once v) (λ c v. run_from words s c h.scanned v)
-    (subst (λ (P : Command → Type 0). Answers P r) (λ n. IsRunOf (includes n) (steps_are n) (turns_are n) (denied n) (certs n) (files_are n)) a)
+    (subst (λ (P : Command → Type 0). Answers P r) (λ n. IsRunOf (includes n) (steps_are n) (turns_are n) (denied n) (certs n) (values n) (files_are n)) a)
 
 pub run_without : (words : List Text) (m : ArgMatches) → Matched run_options words m → None ≡ option_map raw_values (matched_of (found_of m) file_id) → (c : Command) → IsRestOf c (codes "run") words → ⊥
 run_without words m h k c v =

@@ -2,22 +2,25 @@
 use Rattle.std.proofs.Common.{◌≡◌, refl, codes, true, []}
 use Rattle.clap.specs.Simple.{App, with_rule}
 use Rattle.clap.proofs.OnLiterals.{clap_on_literals}
-use Rattle.p10_words.specs.Commands.{check_options, derive_options, verify_options, run_options}
+use Rattle.p10_words.specs.Commands.{check_options, derive_options, migrate_options, verify_options, run_options}
 use Rattle.p10_words.specs.private.Parsing.{bare, option_asked, flag_asked, files_asked, IsAsked, are_askable}
 
 abbrev pub check_app : App
 check_app = with_rule (with_rule (with_rule (bare (codes "check")) (option_asked (codes "include"))) (option_asked (codes "format"))) files_asked
 
 abbrev pub derive_app : App
-derive_app = with_rule (with_rule (bare (codes "derive")) (option_asked (codes "include"))) files_asked
+derive_app = with_rule (with_rule (with_rule (bare (codes "derive")) (option_asked (codes "include"))) (option_asked (codes "cert-version"))) files_asked
+
+abbrev pub migrate_app : App
+migrate_app = with_rule (with_rule (with_rule (bare (codes "migrate")) (option_asked (codes "include"))) (option_asked (codes "cert"))) files_asked
 
 abbrev pub verify_app : App
 verify_app = with_rule (with_rule (with_rule (with_rule (bare (codes "verify")) (option_asked (codes "include"))) (flag_asked (codes "clean"))) (option_asked (codes "cert"))) files_asked
 
 abbrev pub run_app : App
 run_app =
-    with_rule (with_rule (with_rule (with_rule (with_rule (with_rule (bare (codes "run")) (option_asked (codes "include"))) (option_asked (codes "steps"))) (option_asked (codes "turns")))
-    (option_asked (codes "deny"))) (option_asked (codes "cert"))) files_asked
+    with_rule (with_rule (with_rule (with_rule (with_rule (with_rule (with_rule (bare (codes "run")) (option_asked (codes "include"))) (option_asked (codes "steps"))) (option_asked (codes "turns")))
+    (option_asked (codes "deny"))) (option_asked (codes "cert"))) (option_asked (codes "sensors"))) files_asked
 
 abbrev pub generate_app : App
 generate_app = with_rule (bare (codes "gen")) files_asked
@@ -29,6 +32,10 @@ check_asked = record { simple = refl; free = refl; no_binary_name = refl; subs =
 pub derive_asked : IsAsked derive_app derive_options
 unfolding clap_on_literals
 derive_asked = record { simple = refl; free = refl; no_binary_name = refl; subs = refl; rules = refl; overrides = refl; wants_help = refl; wants_subcommand = refl }
+
+pub migrate_asked : IsAsked migrate_app migrate_options
+unfolding clap_on_literals
+migrate_asked = record { simple = refl; free = refl; no_binary_name = refl; subs = refl; rules = refl; overrides = refl; wants_help = refl; wants_subcommand = refl }
 
 pub verify_asked : IsAsked verify_app verify_options
 unfolding clap_on_literals
@@ -47,6 +54,9 @@ check_askable = refl
 
 pub derive_askable : are_askable derive_options ≡ true
 derive_askable = refl
+
+pub migrate_askable : are_askable migrate_options ≡ true
+migrate_askable = refl
 
 pub verify_askable : are_askable verify_options ≡ true
 verify_askable = refl

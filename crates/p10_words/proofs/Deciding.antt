@@ -6,20 +6,20 @@ use Rattle.std.specs.Char.{digit_value}
 use Rattle.std.specs.Str.Parse.{IsNumeral}
 use Rattle.std.proofs.lemmas.Fmt.{decimal_is_IsNumeral}
 use Rattle.p10_words.specs.declared.command.Command.{Command}
-use Rattle.p10_words.specs.declared.command.Command.TheVariants.{Check, Derive, Verify, Run}
+use Rattle.p10_words.specs.declared.command.Command.TheVariants.{Check, Derive, Migrate, Verify, Run}
 use Rattle.p10_words.specs.declared.command.Budget.{Budget}
 use Rattle.p10_words.specs.declared.command.Budget.TheVariants.{Steps, Certificate}
 use Rattle.p10_base.specs.Words.{Text}
-use Rattle.p10_words.specs.CommandLines.{Given, AreGivenOnce, value_of, directories_in, HasNumber, HasFormat}
-use Rattle.p10_words.specs.Commands.{check_options, derive_options, verify_options, run_options, IsSplit, AreDirectories, IsCheck, IsDerive, HasBudget, IsRun, IsRestOf}
+use Rattle.p10_words.specs.CommandLines.{Given, AreGivenOnce, value_of, directories_in, HasNumber, HasFormat, HasVersion}
+use Rattle.p10_words.specs.Commands.{check_options, derive_options, migrate_options, verify_options, run_options, IsSplit, AreDirectories, IsCheck, IsDerive, IsMigrate, HasBudget, IsRun, IsRestOf}
 use Rattle.p10_words.specs.private.Scanning.{Split, is_among, is_name, scan}
 use Rattle.p10_words.specs.private.Parsing.{are_askable, IsNoSplit}
-use Rattle.p10_words.specs.private.Deciding.{is_given_name, has_directories, has_files, IsCheckOf, IsDeriveOf, IsVerifyOf, IsRunOf, IsGenerateOf}
+use Rattle.p10_words.specs.private.Deciding.{is_given_name, has_directories, has_files, IsCheckOf, IsDeriveOf, IsMigrateOf, IsVerifyOf, IsRunOf, IsGenerateOf}
 use Rattle.p10_words.proofs.Rows.{same_text}
-use Rattle.p10_words.proofs.Asked.{check_askable, derive_askable, verify_askable, run_askable, none_askable}
+use Rattle.p10_words.proofs.Asked.{check_askable, derive_askable, migrate_askable, verify_askable, run_askable, none_askable}
 use Rattle.p10_words.proofs.Splitting.{and_left, and_right, all_named, all_names, read_so, split_so}
 use Rattle.p10_words.proofs.Named.{and_both, are_among, Known, known, all_pass, value_passes, flag_value, files_some, files_named, files_have}
-use Rattle.p10_words.proofs.Naming.{checks, derives, verifies, runs, generates}
+use Rattle.p10_words.proofs.Naming.{checks, derives, migrates, verifies, runs, generates}
 
 -- ---- `check`
 by_check : (n : Text) (P : Text → Type 0) → is_among check_options n ≡ true → P (codes "include") → P (codes "format") → P n
@@ -56,20 +56,28 @@ check_is words sp c e g v =
     )
 
 -- ---- `derive`
-by_derive : (n : Text) (P : Text → Type 0) → is_among derive_options n ≡ true → P (codes "include") → P n
-by_derive n P a i = by_test (bytes_eq (codes "include") n) refl a
+by_derive : (n : Text) (P : Text → Type 0) → is_among derive_options n ≡ true → P (codes "include") → P (codes "cert-version") → P n
+by_derive n P a i v = by_tests (bytes_eq (codes "include") n) (bytes_eq (codes "cert-version") n) refl refl a
   where
-    by_test : (x : Bool) → bytes_eq (codes "include") n ≡ x → x || false ≡ true → P n
-    by_test true p e = subst P (same_text (codes "include") n p) i
-    by_test false p e = absurd cc
+    by_tests : (x y : Bool) → bytes_eq (codes "include") n ≡ x → bytes_eq (codes "cert-version") n ≡ y → x || (y || false) ≡ true → P n
+    by_tests true y p q e = subst P (same_text (codes "include") n p) i
+    by_tests false true p q e = subst P (same_text (codes "cert-version") n q) v
+    by_tests false false p q e = absurd cc
+
+-- a version is a name
+version_named : (o : Option Text) (version : ℕ) → HasVersion o version → is_given_name o ≡ true
+version_named None version h = refl
+version_named (Some value) version (inl one) = ap is_name one.0
+version_named (Some value) version (inr two) = ap is_name two.0
 
 pub derive_is : (words : List Text) (sp : Split) (c : Command) → scan derive_options None words ≡ Some sp → AreGivenOnce [] sp.options
-    → IsDeriveOf (value_of sp.options (codes "include")) sp.files c → IsRestOf c (codes "derive") words
+    → IsDeriveOf (value_of sp.options (codes "include")) (value_of sp.options (codes "cert-version")) sp.files c → IsRestOf c (codes "derive") words
 unfolding Known
 derive_is words sp c e g v =
     let value = and_left (is_given_name (value_of sp.options (codes "include"))) (list_all is_name (directories_in (value_of sp.options (codes "include")))) v.directories in
     let parts = and_right (is_given_name (value_of sp.options (codes "include"))) (list_all is_name (directories_in (value_of sp.options (codes "include")))) v.directories in
-    let options = all_pass derive_options [] sp.options g ((known derive_options words).0 sp e) (λ n a. by_derive n (λ m. is_given_name (value_of sp.options m) ≡ true) a value) in
+    let options = all_pass derive_options [] sp.options g ((known derive_options words).0 sp e)
+    (λ n a. by_derive n (λ m. is_given_name (value_of sp.options m) ≡ true) a value (version_named _ _ v.has_version)) in
     let names = and_both (list_all (λ (o : Given). is_name o.1) sp.options) (list_all is_name sp.files) options (files_named sp.files v.some) in
     subst (λ (x : Command). IsRestOf x (codes "derive") words) (sym v.is) (
       refl,
@@ -77,6 +85,35 @@ derive_is words sp c e g v =
         options = sp.options;
         split = record { splits = split_so derive_options words sp e names; once = g; some = files_some sp.files v.some };
         include = record { are = refl; names = all_names (directories_in (value_of sp.options (codes "include"))) parts };
+        has_version = v.has_version;
+      },
+    )
+
+-- ---- `migrate`
+by_migrate : (n : Text) (P : Text → Type 0) → is_among migrate_options n ≡ true → P (codes "include") → P (codes "cert") → P n
+by_migrate n P a i c = by_tests (bytes_eq (codes "include") n) (bytes_eq (codes "cert") n) refl refl a
+  where
+    by_tests : (x y : Bool) → bytes_eq (codes "include") n ≡ x → bytes_eq (codes "cert") n ≡ y → x || (y || false) ≡ true → P n
+    by_tests true y p q e = subst P (same_text (codes "include") n p) i
+    by_tests false true p q e = subst P (same_text (codes "cert") n q) c
+    by_tests false false p q e = absurd cc
+
+pub migrate_is : (words : List Text) (sp : Split) (c : Command) → scan migrate_options None words ≡ Some sp → AreGivenOnce [] sp.options
+    → IsMigrateOf (value_of sp.options (codes "include")) (value_of sp.options (codes "cert")) sp.files c → IsRestOf c (codes "migrate") words
+unfolding Known
+migrate_is words sp c e g v =
+    let value = and_left (is_given_name (value_of sp.options (codes "include"))) (list_all is_name (directories_in (value_of sp.options (codes "include")))) v.directories in
+    let parts = and_right (is_given_name (value_of sp.options (codes "include"))) (list_all is_name (directories_in (value_of sp.options (codes "include")))) v.directories in
+    let options = all_pass migrate_options [] sp.options g ((known migrate_options words).0 sp e)
+    (λ n a. by_migrate n (λ m. is_given_name (value_of sp.options m) ≡ true) a value (ap is_given_name v.given ∙ v.name)) in
+    let names = and_both (list_all (λ (o : Given). is_name o.1) sp.options) (list_all is_name sp.files) options (files_named sp.files v.some) in
+    subst (λ (x : Command). IsRestOf x (codes "migrate") words) (sym v.is) (
+      refl,
+      record {
+        options = sp.options;
+        split = record { splits = split_so migrate_options words sp e names; once = g; some = files_some sp.files v.some };
+        include = record { are = refl; names = all_names (directories_in (value_of sp.options (codes "include"))) parts };
+        cert = v.given;
       },
     )
 
@@ -183,20 +220,54 @@ check_from words sp c e r =
 pub no_check : (words : List Text) (c : Command) → IsNoSplit check_options words → IsRestOf c (codes "check") words → ⊥
 no_check words c n r = let v = checks words c r in not_split check_options words v.rest.options v.files check_askable n v.rest.split
 
-derive_of : (words directories files : List Text) (r : IsDerive words directories files) → IsDeriveOf (value_of r.options (codes "include")) files (Derive directories files)
-derive_of words directories files r =
+derive_of : (words directories : List Text) (version : ℕ) (files : List Text) (r : IsDerive words directories version files)
+    → IsDeriveOf (value_of r.options (codes "include")) (value_of r.options (codes "cert-version")) files (Derive directories version files)
+derive_of words directories version files r =
     let q = read derive_options words r.options files derive_askable r.split in
-    record { directories = has_all r.options directories q.options_named r.include; some = q.files_are; is = ap (λ (l : List Text). Derive l files) r.include.are }
+    record {
+      version = version;
+      directories = has_all r.options directories q.options_named r.include;
+      has_version = r.has_version;
+      some = q.files_are;
+      is = ap (λ (l : List Text). Derive l version files) r.include.are;
+    }
 
-pub derive_from : (words : List Text) (sp : Split) (c : Command) → scan derive_options None words ≡ Some sp → IsRestOf c (codes "derive") words → IsDeriveOf (value_of sp.options (codes "include")) sp.files c
+pub derive_from : (words : List Text) (sp : Split) (c : Command) → scan derive_options None words ≡ Some sp → IsRestOf c (codes "derive") words
+    → IsDeriveOf (value_of sp.options (codes "include")) (value_of sp.options (codes "cert-version")) sp.files c
 derive_from words sp c e r =
     let v = derives words c r in
     let same = same_split _ _ _ (read derive_options words v.rest.options v.files derive_askable v.rest.split).scanned e in
-    subst (λ (d : Command). IsDeriveOf (value_of sp.options (codes "include")) sp.files d) (sym v.is)
-    (subst (λ (x : Split). IsDeriveOf (value_of x.options (codes "include")) x.files (Derive v.directories v.files)) same (derive_of words v.directories v.files v.rest))
+    subst (λ (d : Command). IsDeriveOf (value_of sp.options (codes "include")) (value_of sp.options (codes "cert-version")) sp.files d) (sym v.is)
+    (subst (λ (x : Split). IsDeriveOf (value_of x.options (codes "include")) (value_of x.options (codes "cert-version")) x.files (Derive v.directories v.version v.files)) same
+    (derive_of words v.directories v.version v.files v.rest))
 
 pub no_derive : (words : List Text) (c : Command) → IsNoSplit derive_options words → IsRestOf c (codes "derive") words → ⊥
 no_derive words c n r = let v = derives words c r in not_split derive_options words v.rest.options v.files derive_askable n v.rest.split
+
+migrate_of : (words directories : List Text) (certificate : Text) (files : List Text) (r : IsMigrate words directories certificate files)
+    → IsMigrateOf (value_of r.options (codes "include")) (value_of r.options (codes "cert")) files (Migrate directories certificate files)
+migrate_of words directories certificate files r =
+    let q = read migrate_options words r.options files migrate_askable r.split in
+    record {
+      certificate = certificate;
+      directories = has_all r.options directories q.options_named r.include;
+      given = r.cert;
+      name = subst (λ (v : Option Text). is_given_name v ≡ true) r.cert (value_passes r.options (codes "cert") q.options_named);
+      some = q.files_are;
+      is = ap (λ (l : List Text). Migrate l certificate files) r.include.are;
+    }
+
+pub migrate_from : (words : List Text) (sp : Split) (c : Command) → scan migrate_options None words ≡ Some sp → IsRestOf c (codes "migrate") words
+    → IsMigrateOf (value_of sp.options (codes "include")) (value_of sp.options (codes "cert")) sp.files c
+migrate_from words sp c e r =
+    let v = migrates words c r in
+    let same = same_split _ _ _ (read migrate_options words v.rest.options v.files migrate_askable v.rest.split).scanned e in
+    subst (λ (d : Command). IsMigrateOf (value_of sp.options (codes "include")) (value_of sp.options (codes "cert")) sp.files d) (sym v.is)
+    (subst (λ (x : Split). IsMigrateOf (value_of x.options (codes "include")) (value_of x.options (codes "cert")) x.files (Migrate v.directories v.certificate v.files)) same
+    (migrate_of words v.directories v.certificate v.files v.rest))
+
+pub no_migrate : (words : List Text) (c : Command) → IsNoSplit migrate_options words → IsRestOf c (codes "migrate") words → ⊥
+no_migrate words c n r = let v = migrates words c r in not_split migrate_options words v.rest.options v.files migrate_askable n v.rest.split
 
 pub verify_from : (words : List Text) (sp : Split) (c : Command) → scan verify_options None words ≡ Some sp → IsRestOf c (codes "verify") words
     → IsVerifyOf (value_of sp.options (codes "include")) (is_some (value_of sp.options (codes "clean"))) (value_of sp.options (codes "cert")) sp.files c
@@ -211,17 +282,19 @@ pub no_verify : (words : List Text) (c : Command) → IsNoSplit verify_options w
 no_verify words c n r = let v = verifies words c r in not_split verify_options words v.rest.options v.files verify_askable n v.rest.split
 
 -- ---- `run`
-by_run : (n : Text) (P : Text → Type 0) → is_among run_options n ≡ true → P (codes "include") → P (codes "steps") → P (codes "turns") → P (codes "deny") → P (codes "cert") → P n
-by_run n P a i s t d c = by_tests (bytes_eq (codes "include") n) (bytes_eq (codes "steps") n) (bytes_eq (codes "turns") n) (bytes_eq (codes "deny") n) (bytes_eq (codes "cert") n) refl refl refl refl refl a
+by_run : (n : Text) (P : Text → Type 0) → is_among run_options n ≡ true → P (codes "include") → P (codes "steps") → P (codes "turns") → P (codes "deny") → P (codes "cert") → P (codes "sensors") → P n
+by_run n P a i s t d c f =
+    by_tests (bytes_eq (codes "include") n) (bytes_eq (codes "steps") n) (bytes_eq (codes "turns") n) (bytes_eq (codes "deny") n) (bytes_eq (codes "cert") n) (bytes_eq (codes "sensors") n) refl refl refl refl refl refl a
   where
-    by_tests : (v w x y z : Bool) → bytes_eq (codes "include") n ≡ v → bytes_eq (codes "steps") n ≡ w → bytes_eq (codes "turns") n ≡ x → bytes_eq (codes "deny") n ≡ y → bytes_eq (codes "cert") n ≡ z
-        → v || (w || (x || (y || (z || false)))) ≡ true → P n
-    by_tests true w x y z p q r u l e = subst P (same_text (codes "include") n p) i
-    by_tests false true x y z p q r u l e = subst P (same_text (codes "steps") n q) s
-    by_tests false false true y z p q r u l e = subst P (same_text (codes "turns") n r) t
-    by_tests false false false true z p q r u l e = subst P (same_text (codes "deny") n u) d
-    by_tests false false false false true p q r u l e = subst P (same_text (codes "cert") n l) c
-    by_tests false false false false false p q r u l e = absurd cc
+    by_tests : (v w x y z k : Bool) → bytes_eq (codes "include") n ≡ v → bytes_eq (codes "steps") n ≡ w → bytes_eq (codes "turns") n ≡ x → bytes_eq (codes "deny") n ≡ y → bytes_eq (codes "cert") n ≡ z
+        → bytes_eq (codes "sensors") n ≡ k → v || (w || (x || (y || (z || (k || false))))) ≡ true → P n
+    by_tests true w x y z k p q r u l m e = subst P (same_text (codes "include") n p) i
+    by_tests false true x y z k p q r u l m e = subst P (same_text (codes "steps") n q) s
+    by_tests false false true y z k p q r u l m e = subst P (same_text (codes "turns") n r) t
+    by_tests false false false true z k p q r u l m e = subst P (same_text (codes "deny") n u) d
+    by_tests false false false false true k p q r u l m e = subst P (same_text (codes "cert") n l) c
+    by_tests false false false false false true p q r u l m e = subst P (same_text (codes "sensors") n m) f
+    by_tests false false false false false false p q r u l m e = absurd cc
 
 -- a number is a name: its first byte is a digit
 numeral_named : (digits : Text) → IsNumeral 10 digits → is_name digits ≡ true
@@ -242,13 +315,14 @@ steps_named steps cert (Steps n) h = number_named steps 10000000 n h.1
 steps_named steps cert (Certificate name) h = ap is_given_name h.0
 
 pub run_is : (words : List Text) (sp : Split) (c : Command) → scan run_options None words ≡ Some sp → AreGivenOnce [] sp.options
-    → IsRunOf (value_of sp.options (codes "include")) (value_of sp.options (codes "steps")) (value_of sp.options (codes "turns")) (value_of sp.options (codes "deny")) (value_of sp.options (codes "cert")) sp.files c → IsRestOf c (codes "run") words
+    → IsRunOf (value_of sp.options (codes "include")) (value_of sp.options (codes "steps")) (value_of sp.options (codes "turns")) (value_of sp.options (codes "deny")) (value_of sp.options (codes "cert")) (value_of sp.options (codes "sensors")) sp.files c
+    → IsRestOf c (codes "run") words
 unfolding Known
 run_is words sp c e g v =
     let value = and_left (is_given_name (value_of sp.options (codes "include"))) (list_all is_name (directories_in (value_of sp.options (codes "include")))) v.directories in
     let parts = and_right (is_given_name (value_of sp.options (codes "include"))) (list_all is_name (directories_in (value_of sp.options (codes "include")))) v.directories in
     let options = all_pass run_options [] sp.options g ((known run_options words).0 sp e)
-    (λ n a. by_run n (λ m. is_given_name (value_of sp.options m) ≡ true) a value (steps_named _ _ _ v.has_budget.has) (number_named _ _ _ v.has_turns) (number_named _ _ _ v.has_deny) v.has_budget.name) in
+    (λ n a. by_run n (λ m. is_given_name (value_of sp.options m) ≡ true) a value (steps_named _ _ _ v.has_budget.has) (number_named _ _ _ v.has_turns) (number_named _ _ _ v.has_deny) v.has_budget.name v.named) in
     let names = and_both (list_all (λ (o : Given). is_name o.1) sp.options) (list_all is_name sp.files) options (files_named sp.files v.some) in
     subst (λ (x : Command). IsRestOf x (codes "run") words) (sym v.is) (
       refl,
@@ -259,13 +333,14 @@ run_is words sp c e g v =
         has_budget = v.has_budget.has;
         has_turns = v.has_turns;
         has_deny = v.has_deny;
+        has_sensors = refl;
       },
     )
 
-run_of : (words directories : List Text) (budget : Budget) (turns deny : ℕ) (files : List Text) (r : IsRun words directories budget turns deny files)
-    → IsRunOf (value_of r.options (codes "include")) (value_of r.options (codes "steps")) (value_of r.options (codes "turns")) (value_of r.options (codes "deny")) (value_of r.options (codes "cert")) files
-    (Run directories budget turns deny files)
-run_of words directories budget turns deny files r =
+run_of : (words directories : List Text) (budget : Budget) (turns deny : ℕ) (sensors : Option Text) (files : List Text) (r : IsRun words directories budget turns deny sensors files)
+    → IsRunOf (value_of r.options (codes "include")) (value_of r.options (codes "steps")) (value_of r.options (codes "turns")) (value_of r.options (codes "deny")) (value_of r.options (codes "cert")) (value_of r.options (codes "sensors")) files
+    (Run directories budget turns deny sensors files)
+run_of words directories budget turns deny sensors files r =
     let q = read run_options words r.options files run_askable r.split in
     record {
       budget = budget;
@@ -275,19 +350,25 @@ run_of words directories budget turns deny files r =
       has_budget = record { has = r.has_budget; name = value_passes r.options (codes "cert") q.options_named };
       has_turns = r.has_turns;
       has_deny = r.has_deny;
+      named = value_passes r.options (codes "sensors") q.options_named;
       some = q.files_are;
-      is = ap (λ (l : List Text). Run l budget turns deny files) r.include.are;
+      is = λ i. Run (r.include.are i) budget turns deny (sym r.has_sensors i) files;
     }
 
 pub run_from : (words : List Text) (sp : Split) (c : Command) → scan run_options None words ≡ Some sp → IsRestOf c (codes "run") words
-    → IsRunOf (value_of sp.options (codes "include")) (value_of sp.options (codes "steps")) (value_of sp.options (codes "turns")) (value_of sp.options (codes "deny")) (value_of sp.options (codes "cert")) sp.files c
+    → IsRunOf (value_of sp.options (codes "include")) (value_of sp.options (codes "steps")) (value_of sp.options (codes "turns")) (value_of sp.options (codes "deny")) (value_of sp.options (codes "cert")) (value_of sp.options (codes "sensors")) sp.files c
 run_from words sp c e r =
     let v = runs words c r in
     let same = same_split _ _ _ (read run_options words v.rest.options v.files run_askable v.rest.split).scanned e in
-    subst (λ (d : Command). IsRunOf (value_of sp.options (codes "include")) (value_of sp.options (codes "steps")) (value_of sp.options (codes "turns")) (value_of sp.options (codes "deny")) (value_of sp.options (codes "cert")) sp.files d) (sym v.is)
-    (subst (λ (x : Split). IsRunOf (value_of x.options (codes "include")) (value_of x.options (codes "steps")) (value_of x.options (codes "turns")) (value_of x.options (codes "deny")) (value_of x.options (codes "cert")) x.files
-    (Run v.directories v.budget v.turns v.deny v.files)) same
-    (run_of words v.directories v.budget v.turns v.deny v.files v.rest))
+    subst
+    (λ (d : Command).
+    IsRunOf (value_of sp.options (codes "include")) (value_of sp.options (codes "steps")) (value_of sp.options (codes "turns")) (value_of sp.options (codes "deny")) (value_of sp.options (codes "cert")) (value_of sp.options (codes "sensors")) sp.files d)
+    (sym v.is)
+    (subst
+    (λ (x : Split).
+    IsRunOf (value_of x.options (codes "include")) (value_of x.options (codes "steps")) (value_of x.options (codes "turns")) (value_of x.options (codes "deny")) (value_of x.options (codes "cert")) (value_of x.options (codes "sensors")) x.files
+    (Run v.directories v.budget v.turns v.deny v.sensors v.files)) same
+    (run_of words v.directories v.budget v.turns v.deny v.sensors v.files v.rest))
 
 pub no_run : (words : List Text) (c : Command) → IsNoSplit run_options words → IsRestOf c (codes "run") words → ⊥
 no_run words c n r = let v = runs words c r in not_split run_options words v.rest.options v.files run_askable n v.rest.split

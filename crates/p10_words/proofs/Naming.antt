@@ -1,14 +1,15 @@
 -- Which command a line is, by its first word.
-use Rattle.std.proofs.Common.{◌≡◌, ℕ, Bool, true, false, refl, subst, List, codes}
+use Rattle.std.proofs.Common.{◌≡◌, ℕ, Bool, true, false, refl, subst, List, Option, codes}
 use Rattle.std.specs.Prelude.{bytes_eq}
 use Rattle.p10_words.specs.declared.command.Command.{Command}
-use Rattle.p10_words.specs.declared.command.Command.TheVariants.{Check, Derive, Verify, Run, Generate}
+use Rattle.p10_words.specs.declared.command.Command.TheVariants.{Check, Derive, Migrate, Verify, Run, Generate}
 use Rattle.p10_words.specs.declared.command.Budget.{Budget}
 use Rattle.p10_base.specs.Words.{Text}
-use Rattle.p10_words.specs.Commands.{IsCheck, IsDerive, IsVerify, IsRun, IsGenerate, IsRestOf}
+use Rattle.p10_words.specs.Commands.{IsCheck, IsDerive, IsMigrate, IsVerify, IsRun, IsGenerate, IsRestOf}
 use Rattle.p10_words.proofs.Rows.{text_same}
 
-apart : (v w : Text) → bytes_eq v w ≡ false → v ≡ w → ⊥
+-- texts that a test tells apart are two
+pub apart : (v w : Text) → bytes_eq v w ≡ false → v ≡ w → ⊥
 apart v w d same = let t : bytes_eq v w ≡ true = subst (λ (x : Text). bytes_eq v x ≡ true) same (text_same v) in cc
 
 pub record Checks (words : List Text) (c : Command) : Type 0 where
@@ -20,23 +21,41 @@ pub record Checks (words : List Text) (c : Command) : Type 0 where
 
 pub checks : (words : List Text) (c : Command) → IsRestOf c (codes "check") words → Checks words c
 checks words (Check directories json files) r = record { directories = directories; json = json; files = files; rest = r.1; is = refl }
-checks words (Derive directories files) r = absurd (apart (codes "check") (codes "derive") refl r.0)
+checks words (Derive directories version files) r = absurd (apart (codes "check") (codes "derive") refl r.0)
+checks words (Migrate directories certificate files) r = absurd (apart (codes "check") (codes "migrate") refl r.0)
 checks words (Verify directories clean certificate files) r = absurd (apart (codes "check") (codes "verify") refl r.0)
-checks words (Run directories budget turns deny files) r = absurd (apart (codes "check") (codes "run") refl r.0)
+checks words (Run directories budget turns deny sensors files) r = absurd (apart (codes "check") (codes "run") refl r.0)
 checks words (Generate functions) r = absurd (apart (codes "check") (codes "gen") refl r.0)
 
 pub record Derives (words : List Text) (c : Command) : Type 0 where
   pub directories : List Text
+  pub version : ℕ
   pub files : List Text
-  pub rest : IsDerive words directories files
-  pub is : c ≡ Derive directories files
+  pub rest : IsDerive words directories version files
+  pub is : c ≡ Derive directories version files
 
 pub derives : (words : List Text) (c : Command) → IsRestOf c (codes "derive") words → Derives words c
 derives words (Check directories json files) r = absurd (apart (codes "derive") (codes "check") refl r.0)
-derives words (Derive directories files) r = record { directories = directories; files = files; rest = r.1; is = refl }
+derives words (Derive directories version files) r = record { directories = directories; version = version; files = files; rest = r.1; is = refl }
+derives words (Migrate directories certificate files) r = absurd (apart (codes "derive") (codes "migrate") refl r.0)
 derives words (Verify directories clean certificate files) r = absurd (apart (codes "derive") (codes "verify") refl r.0)
-derives words (Run directories budget turns deny files) r = absurd (apart (codes "derive") (codes "run") refl r.0)
+derives words (Run directories budget turns deny sensors files) r = absurd (apart (codes "derive") (codes "run") refl r.0)
 derives words (Generate functions) r = absurd (apart (codes "derive") (codes "gen") refl r.0)
+
+pub record Migrates (words : List Text) (c : Command) : Type 0 where
+  pub directories : List Text
+  pub certificate : Text
+  pub files : List Text
+  pub rest : IsMigrate words directories certificate files
+  pub is : c ≡ Migrate directories certificate files
+
+pub migrates : (words : List Text) (c : Command) → IsRestOf c (codes "migrate") words → Migrates words c
+migrates words (Check directories json files) r = absurd (apart (codes "migrate") (codes "check") refl r.0)
+migrates words (Derive directories version files) r = absurd (apart (codes "migrate") (codes "derive") refl r.0)
+migrates words (Migrate directories certificate files) r = record { directories = directories; certificate = certificate; files = files; rest = r.1; is = refl }
+migrates words (Verify directories clean certificate files) r = absurd (apart (codes "migrate") (codes "verify") refl r.0)
+migrates words (Run directories budget turns deny sensors files) r = absurd (apart (codes "migrate") (codes "run") refl r.0)
+migrates words (Generate functions) r = absurd (apart (codes "migrate") (codes "gen") refl r.0)
 
 pub record Verifies (words : List Text) (c : Command) : Type 0 where
   pub directories : List Text
@@ -48,9 +67,10 @@ pub record Verifies (words : List Text) (c : Command) : Type 0 where
 
 pub verifies : (words : List Text) (c : Command) → IsRestOf c (codes "verify") words → Verifies words c
 verifies words (Check directories json files) r = absurd (apart (codes "verify") (codes "check") refl r.0)
-verifies words (Derive directories files) r = absurd (apart (codes "verify") (codes "derive") refl r.0)
+verifies words (Derive directories version files) r = absurd (apart (codes "verify") (codes "derive") refl r.0)
+verifies words (Migrate directories certificate files) r = absurd (apart (codes "verify") (codes "migrate") refl r.0)
 verifies words (Verify directories clean certificate files) r = record { directories = directories; clean = clean; certificate = certificate; files = files; rest = r.1; is = refl }
-verifies words (Run directories budget turns deny files) r = absurd (apart (codes "verify") (codes "run") refl r.0)
+verifies words (Run directories budget turns deny sensors files) r = absurd (apart (codes "verify") (codes "run") refl r.0)
 verifies words (Generate functions) r = absurd (apart (codes "verify") (codes "gen") refl r.0)
 
 pub record Runs (words : List Text) (c : Command) : Type 0 where
@@ -58,15 +78,17 @@ pub record Runs (words : List Text) (c : Command) : Type 0 where
   pub budget : Budget
   pub turns : ℕ
   pub deny : ℕ
+  pub sensors : Option Text
   pub files : List Text
-  pub rest : IsRun words directories budget turns deny files
-  pub is : c ≡ Run directories budget turns deny files
+  pub rest : IsRun words directories budget turns deny sensors files
+  pub is : c ≡ Run directories budget turns deny sensors files
 
 pub runs : (words : List Text) (c : Command) → IsRestOf c (codes "run") words → Runs words c
 runs words (Check directories json files) r = absurd (apart (codes "run") (codes "check") refl r.0)
-runs words (Derive directories files) r = absurd (apart (codes "run") (codes "derive") refl r.0)
+runs words (Derive directories version files) r = absurd (apart (codes "run") (codes "derive") refl r.0)
+runs words (Migrate directories certificate files) r = absurd (apart (codes "run") (codes "migrate") refl r.0)
 runs words (Verify directories clean certificate files) r = absurd (apart (codes "run") (codes "verify") refl r.0)
-runs words (Run directories budget turns deny files) r = record { directories = directories; budget = budget; turns = turns; deny = deny; files = files; rest = r.1; is = refl }
+runs words (Run directories budget turns deny sensors files) r = record { directories = directories; budget = budget; turns = turns; deny = deny; sensors = sensors; files = files; rest = r.1; is = refl }
 runs words (Generate functions) r = absurd (apart (codes "run") (codes "gen") refl r.0)
 
 pub record Generates (words : List Text) (c : Command) : Type 0 where
@@ -76,7 +98,8 @@ pub record Generates (words : List Text) (c : Command) : Type 0 where
 
 pub generates : (words : List Text) (c : Command) → IsRestOf c (codes "gen") words → Generates words c
 generates words (Check directories json files) r = absurd (apart (codes "gen") (codes "check") refl r.0)
-generates words (Derive directories files) r = absurd (apart (codes "gen") (codes "derive") refl r.0)
+generates words (Derive directories version files) r = absurd (apart (codes "gen") (codes "derive") refl r.0)
+generates words (Migrate directories certificate files) r = absurd (apart (codes "gen") (codes "migrate") refl r.0)
 generates words (Verify directories clean certificate files) r = absurd (apart (codes "gen") (codes "verify") refl r.0)
-generates words (Run directories budget turns deny files) r = absurd (apart (codes "gen") (codes "run") refl r.0)
+generates words (Run directories budget turns deny sensors files) r = absurd (apart (codes "gen") (codes "run") refl r.0)
 generates words (Generate functions) r = record { functions = functions; rest = r.1; is = refl }

@@ -1,10 +1,10 @@
--- Numbers and formats of options.
-use Rattle.std.proofs.Common.{◌≡◌, ℕ, ◌<◌, ◌≤◌, ◌^◌, ap, sym, ◌∙◌, arith, subst, Bool, Bor, Option, Some, None, Result, Ok, Err}
+-- Numbers, formats and versions of options.
+use Rattle.std.proofs.Common.{◌≡◌, ℕ, ◌<◌, ◌≤◌, ◌^◌, ap, sym, ◌∙◌, arith, subst, Bor, Option, Some, None, Result, Ok, Err}
 use Rattle.std.proofs.lemmas.Fmt.{parse-decimal, decimal_is_IsNumeral}
 use Rattle.std.specs.Prelude.{IfNone, option_map}
 use Rattle.std.specs.Str.Parse.{ParsesUnsigned, digits_value}
 use Rattle.p10_base.specs.Words.{Text}
-use Rattle.p10_words.specs.CommandLines.{IsNumber, HasNumber, HasFormat}
+use Rattle.p10_words.specs.CommandLines.{IsNumber, HasNumber}
 
 small : (n : ℕ) → n ≤ 10 ^ 18 → n < 2 ^ 64
 small n h = omega (arith, h)
@@ -28,8 +28,8 @@ pub same_number : (o : Option Text) (standard m n : ℕ) → HasNumber o standar
 same_number None standard m n i j = i ∙ sym j
 same_number (Some value) standard m n i j = one_number value m n i j
 
--- a value that is given is no format
-pub unformatted : (o : Option (Bor Text)) (value : Bor Text) (found : Option Bool) → o ≡ Some value → IfNone found ((json : Bool) → HasFormat (Some value.now) json → ⊥)
-    → IfNone found ((json : Bool) → HasFormat (option_map (λ w. w.now) o) json → ⊥)
-unformatted o value None is none = λ json has. none json (subst (λ (o : Option (Bor Text)). HasFormat (option_map (λ w. w.now) o) json) is has)
-unformatted o value (Some found) is none = tt
+-- a value that is given asks for nothing: for no format, or for no version
+pub asks_for_none : {A : Type 0} (asks : Option Text → A → Type 0) (o : Option (Bor Text)) (value : Bor Text) (found : Option A) → o ≡ Some value → IfNone found ((a : A) → asks (Some value.now) a → ⊥)
+    → IfNone found ((a : A) → asks (option_map (λ w. w.now) o) a → ⊥)
+asks_for_none asks o value None is none = λ a has. none a (subst (λ (o : Option (Bor Text)). asks (option_map (λ w. w.now) o) a) is has)
+asks_for_none asks o value (Some found) is none = tt

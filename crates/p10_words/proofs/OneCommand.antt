@@ -1,20 +1,19 @@
 -- A line is one command.
 use Rattle.std.proofs.Common.{◌≡◌, ℕ, Bool, true, refl, ap, sym, ◌∙◌, subst, List, [], ◌∷◌, Option, Some, None, inl, inr}
-use Rattle.std.specs.Prelude.{codes, bytes_eq, is_some}
+use Rattle.std.specs.Prelude.{codes, ◌⊎◌, is_some}
 use Rattle.p10_words.specs.declared.command.Command.{Command}
-use Rattle.p10_words.specs.declared.command.Command.TheVariants.{Check, Derive, Verify, Run, Generate}
+use Rattle.p10_words.specs.declared.command.Command.TheVariants.{Check, Derive, Migrate, Verify, Run, Generate}
 use Rattle.p10_words.specs.declared.command.Budget.{Budget}
 use Rattle.p10_words.specs.declared.command.Budget.TheVariants.{Steps, Certificate}
 use Rattle.p10_base.specs.Words.{Text}
-use Rattle.p10_words.specs.CommandLines.{Given, value_of, directories_in, IsNumber, HasNumber, HasFormat}
-use Rattle.p10_words.specs.Commands.{check_options, derive_options, verify_options, run_options, IsSplit, IsCheck, IsDerive, IsVerify, HasBudget, IsRun, IsGenerate, IsRestOf}
+use Rattle.p10_words.specs.CommandLines.{Given, value_of, directories_in, IsNumber, HasNumber, HasFormat, HasVersion}
+use Rattle.p10_words.specs.Commands.{check_options, derive_options, migrate_options, verify_options, run_options, IsSplit, IsCheck, IsDerive, IsMigrate, IsVerify, HasBudget, IsRun, IsGenerate, IsRestOf}
 use Rattle.p10_words.specs.Laws.{LinesAreOneCommand}
 use Rattle.p10_words.specs.private.Scanning.{Split}
 use Rattle.p10_words.specs.private.Parsing.{are_askable}
-use Rattle.p10_words.proofs.Rows.{text_same}
-use Rattle.p10_words.proofs.Asked.{check_askable, derive_askable, verify_askable, run_askable, none_askable}
+use Rattle.p10_words.proofs.Asked.{check_askable, derive_askable, migrate_askable, verify_askable, run_askable, none_askable}
 use Rattle.p10_words.proofs.Numbers.{same_number}
-use Rattle.p10_words.proofs.Naming.{Checks, checks, Derives, derives, Verifies, verifies, Runs, runs, Generates, generates}
+use Rattle.p10_words.proofs.Naming.{apart, Checks, checks, Derives, derives, Migrates, migrates, Verifies, verifies, Runs, runs, Generates, generates}
 use Rattle.p10_words.proofs.Deciding.{read, same_split}
 
 split_of : List Given → List Text → Split
@@ -27,16 +26,22 @@ one_split names words os ps fs gs k s t = same_split _ _ _ (read names words os 
 same_value : (o : Option Text) (p : Option Text) (c d : Text) → o ≡ p → o ≡ Some c → p ≡ Some d → c ≡ d
 same_value o p c d e f g = let w = sym f ∙ e ∙ g in cc
 
-two_formats : codes "text" ≡ codes "json" → ⊥
-two_formats same = let t : bytes_eq (codes "json") (codes "text") ≡ true = subst (λ (v : Text). bytes_eq v (codes "text") ≡ true) same (text_same (codes "text")) in absurd cc
+-- of two texts that are apart, a value is one at most
+same_choice : {A : Type 0} (value first second : Text) (a b this that : A) → (first ≡ second → ⊥) → ((value ≡ first) × (this ≡ a)) ⊎ ((value ≡ second) × (this ≡ b)) → ((value ≡ first) × (that ≡ a)) ⊎ ((value ≡ second) × (that ≡ b)) → this ≡ that
+same_choice value first second a b this that two (inl i) (inl j) = i.1 ∙ sym j.1
+same_choice value first second a b this that two (inr i) (inr j) = i.1 ∙ sym j.1
+same_choice value first second a b this that two (inl i) (inr j) = absurd (two (sym i.0 ∙ j.0))
+same_choice value first second a b this that two (inr i) (inl j) = absurd (two (sym j.0 ∙ i.0))
 
 -- a value is one format at most
 same_format : (o : Option Text) (this that : Bool) → HasFormat o this → HasFormat o that → this ≡ that
 same_format None this that i j = i ∙ sym j
-same_format (Some value) this that (inl i) (inl j) = i.1 ∙ sym j.1
-same_format (Some value) this that (inr i) (inr j) = i.1 ∙ sym j.1
-same_format (Some value) this that (inl i) (inr j) = absurd (two_formats (sym i.0 ∙ j.0))
-same_format (Some value) this that (inr i) (inl j) = absurd (two_formats (sym j.0 ∙ i.0))
+same_format (Some value) this that i j = same_choice value (codes "text") (codes "json") _ _ this that (apart (codes "text") (codes "json") refl) i j
+
+-- and one version
+same_version : (o : Option Text) (this that : ℕ) → HasVersion o this → HasVersion o that → this ≡ that
+same_version None this that i j = i ∙ sym j
+same_version (Some value) this that i j = same_choice value (codes "1") (codes "2") 1 2 this that (apart (codes "1") (codes "2") refl) i j
 
 value_in : Text → Split → Option Text
 value_in name s = value_of s.options name
@@ -62,13 +67,23 @@ one_check words d b f v c w =
     let json : b ≡ w.json = same_format (value_of w.rest.options (codes "format")) b w.json (subst (λ (o : Option Text). HasFormat o b) (ap (value_in (codes "format")) same) v.has_format) w.rest.has_format in
     (λ i. Check (dirs i) (json i) (files i)) ∙ sym w.is
 
-one_derive : (words d f : List Text) (v : IsDerive words d f) (c : Command) → Derives words c → Derive d f ≡ c
+one_derive : (words d : List Text) (n : ℕ) (f : List Text) (v : IsDerive words d n f) (c : Command) → Derives words c → Derive d n f ≡ c
 unfolding value_in split_of
-one_derive words d f v c w =
+one_derive words d n f v c w =
     let same = one_split derive_options words v.options w.rest.options f w.files derive_askable v.split w.rest.split in
     let files : f ≡ w.files = ap (λ (x : Split). x.files) same in
     let dirs : d ≡ w.directories = v.include.are ∙ ap (λ (x : Split). directories_in (value_in (codes "include") x)) same ∙ sym w.rest.include.are in
-    (λ i. Derive (dirs i) (files i)) ∙ sym w.is
+    let version : n ≡ w.version = same_version (value_of w.rest.options (codes "cert-version")) n w.version (subst (λ (o : Option Text). HasVersion o n) (ap (value_in (codes "cert-version")) same) v.has_version) w.rest.has_version in
+    (λ i. Derive (dirs i) (version i) (files i)) ∙ sym w.is
+
+one_migrate : (words d : List Text) (k : Text) (f : List Text) (v : IsMigrate words d k f) (c : Command) → Migrates words c → Migrate d k f ≡ c
+unfolding value_in split_of
+one_migrate words d k f v c w =
+    let same = one_split migrate_options words v.options w.rest.options f w.files migrate_askable v.split w.rest.split in
+    let files : f ≡ w.files = ap (λ (x : Split). x.files) same in
+    let dirs : d ≡ w.directories = v.include.are ∙ ap (λ (x : Split). directories_in (value_in (codes "include") x)) same ∙ sym w.rest.include.are in
+    let cert : k ≡ w.certificate = same_value _ _ k w.certificate (ap (value_in (codes "cert")) same) v.cert w.rest.cert in
+    (λ i. Migrate (dirs i) (cert i) (files i)) ∙ sym w.is
 
 one_verify : (words d : List Text) (b : Bool) (k : Text) (f : List Text) (v : IsVerify words d b k f) (c : Command) → Verifies words c → Verify d b k f ≡ c
 unfolding value_in split_of
@@ -80,9 +95,9 @@ one_verify words d b k f v c w =
     let cert : k ≡ w.certificate = same_value _ _ k w.certificate (ap (value_in (codes "cert")) same) v.cert w.rest.cert in
     (λ i. Verify (dirs i) (clean i) (cert i) (files i)) ∙ sym w.is
 
-one_run : (words d : List Text) (b : Budget) (t n : ℕ) (f : List Text) (v : IsRun words d b t n f) (c : Command) → Runs words c → Run d b t n f ≡ c
+one_run : (words d : List Text) (b : Budget) (t n : ℕ) (o : Option Text) (f : List Text) (v : IsRun words d b t n o f) (c : Command) → Runs words c → Run d b t n o f ≡ c
 unfolding value_in split_of
-one_run words d b t n f v c w =
+one_run words d b t n o f v c w =
     let same = one_split run_options words v.options w.rest.options f w.files run_askable v.split w.rest.split in
     let files : f ≡ w.files = ap (λ (x : Split). x.files) same in
     let dirs : d ≡ w.directories = v.include.are ∙ ap (λ (x : Split). directories_in (value_in (codes "include") x)) same ∙ sym w.rest.include.are in
@@ -90,7 +105,8 @@ one_run words d b t n f v c w =
     (subst (λ (x : Split). HasBudget (value_in (codes "steps") x) (value_in (codes "cert") x) b) same v.has_budget) w.rest.has_budget in
     let turns : t ≡ w.turns = same_number (value_of w.rest.options (codes "turns")) 1 t w.turns (subst (λ (o : Option Text). HasNumber o 1 t) (ap (value_in (codes "turns")) same) v.has_turns) w.rest.has_turns in
     let deny : n ≡ w.deny = same_number (value_of w.rest.options (codes "deny")) 0 n w.deny (subst (λ (o : Option Text). HasNumber o 0 n) (ap (value_in (codes "deny")) same) v.has_deny) w.rest.has_deny in
-    (λ i. Run (dirs i) (budget i) (turns i) (deny i) (files i)) ∙ sym w.is
+    let sensors : o ≡ w.sensors = sym v.has_sensors ∙ ap (value_in (codes "sensors")) same ∙ w.rest.has_sensors in
+    (λ i. Run (dirs i) (budget i) (turns i) (deny i) (sensors i) (files i)) ∙ sym w.is
 
 one_generate : (words : List Text) (n : ℕ) (v : IsGenerate words n) (c : Command) → Generates words c → Generate n ≡ c
 unfolding split_of first_of
@@ -102,9 +118,10 @@ one_generate words n v c w =
 
 one_rest : (a b : Command) (word : Text) (words : List Text) → IsRestOf a word words → IsRestOf b word words → a ≡ b
 one_rest (Check d json f) b word words i j = one_check words d json f i.1 b (checks words b (subst (λ (w : Text). IsRestOf b w words) i.0 j))
-one_rest (Derive d f) b word words i j = one_derive words d f i.1 b (derives words b (subst (λ (w : Text). IsRestOf b w words) i.0 j))
+one_rest (Derive d n f) b word words i j = one_derive words d n f i.1 b (derives words b (subst (λ (w : Text). IsRestOf b w words) i.0 j))
+one_rest (Migrate d k f) b word words i j = one_migrate words d k f i.1 b (migrates words b (subst (λ (w : Text). IsRestOf b w words) i.0 j))
 one_rest (Verify d l k f) b word words i j = one_verify words d l k f i.1 b (verifies words b (subst (λ (w : Text). IsRestOf b w words) i.0 j))
-one_rest (Run d g t n f) b word words i j = one_run words d g t n f i.1 b (runs words b (subst (λ (w : Text). IsRestOf b w words) i.0 j))
+one_rest (Run d g t n o f) b word words i j = one_run words d g t n o f i.1 b (runs words b (subst (λ (w : Text). IsRestOf b w words) i.0 j))
 one_rest (Generate n) b word words i j = one_generate words n i.1 b (generates words b (subst (λ (w : Text). IsRestOf b w words) i.0 j))
 
 rest_of : List Text → List Text

@@ -79,3 +79,8 @@ HasNumber (Some value) standard n = IsNumber value n
 abbrev pub HasFormat : Option Text → Bool → Type 0
 HasFormat None json = json ≡ false
 HasFormat (Some value) json = (value ≡ codes "text") × (json ≡ false) ⊎ (value ≡ codes "json") × (json ≡ true)
+
+-- the version of a certificate's text that is asked for: it is 1 or 2, or 1, which is meant where none is given
+abbrev pub HasVersion : Option Text → ℕ → Type 0
+HasVersion None version = version ≡ 1
+HasVersion (Some value) version = (value ≡ codes "1") × (version ≡ 1) ⊎ (value ≡ codes "2") × (version ≡ 2)

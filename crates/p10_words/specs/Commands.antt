@@ -1,24 +1,27 @@
 -- The commands, and the words that are each of them.
 use Rattle.std.specs.Prelude.{◌≡◌, ◌≢◌, ℕ, ◌≤◌, Bool, List, [], ◌∷◌, codes, length, Option, Some, None, is_some}
 use Rattle.p10_words.specs.declared.command.Command.{Command}
-use Rattle.p10_words.specs.declared.command.Command.TheVariants.{Check, Derive, Verify, Run, Generate}
+use Rattle.p10_words.specs.declared.command.Command.TheVariants.{Check, Derive, Migrate, Verify, Run, Generate}
 use Rattle.p10_words.specs.declared.command.Budget.{Budget}
 use Rattle.p10_words.specs.declared.command.Budget.TheVariants.{Steps, Certificate}
 use Rattle.p10_base.specs.Words.{Text}
-use Rattle.p10_words.specs.CommandLines.{Given, AreNames, Splits, AreGivenOnce, value_of, directories_in, IsNumber, HasNumber, HasFormat}
+use Rattle.p10_words.specs.CommandLines.{Given, AreNames, Splits, AreGivenOnce, value_of, directories_in, IsNumber, HasNumber, HasFormat, HasVersion}
 
--- the options of `check`, of `derive`, of `verify` and of `run`; `gen` has none
+-- the options of `check`, of `derive`, of `migrate`, of `verify` and of `run`; `gen` has none
 abbrev pub check_options : List Text
 check_options = codes "include" ∷ codes "format" ∷ []
 
 abbrev pub derive_options : List Text
-derive_options = codes "include" ∷ []
+derive_options = codes "include" ∷ codes "cert-version" ∷ []
+
+abbrev pub migrate_options : List Text
+migrate_options = codes "include" ∷ codes "cert" ∷ []
 
 abbrev pub verify_options : List Text
 verify_options = codes "include" ∷ codes "clean" ∷ codes "cert" ∷ []
 
 abbrev pub run_options : List Text
-run_options = codes "include" ∷ codes "steps" ∷ codes "turns" ∷ codes "deny" ∷ codes "cert" ∷ []
+run_options = codes "include" ∷ codes "steps" ∷ codes "turns" ∷ codes "deny" ∷ codes "cert" ∷ codes "sensors" ∷ []
 
 -- options, each given once at most, and files, of which there is one at least
 pub record IsSplit (names : List Text) (words : List Text) (options : List Given) (files : List Text) : Type 0 where
@@ -38,11 +41,19 @@ pub record IsCheck (words : List Text) (directories : List Text) (json : Bool) (
   pub include : AreDirectories options directories
   pub has_format : HasFormat (value_of options (codes "format")) json
 
--- `derive [--include D] FILE..`
-pub record IsDerive (words : List Text) (directories : List Text) (files : List Text) : Type 0 where
+-- `derive [--include D] [--cert-version 1|2] FILE..`: version 1 where none is given
+pub record IsDerive (words : List Text) (directories : List Text) (version : ℕ) (files : List Text) : Type 0 where
   pub options : List Given
   pub split : IsSplit derive_options words options files
   pub include : AreDirectories options directories
+  pub has_version : HasVersion (value_of options (codes "cert-version")) version
+
+-- `migrate [--include D] --cert C FILE..`
+pub record IsMigrate (words : List Text) (directories : List Text) (certificate : Text) (files : List Text) : Type 0 where
+  pub options : List Given
+  pub split : IsSplit migrate_options words options files
+  pub include : AreDirectories options directories
+  pub cert : value_of options (codes "cert") ≡ Some certificate
 
 -- `verify [--include D] [--clean] --cert C FILE..`
 pub record IsVerify (words : List Text) (directories : List Text) (clean : Bool) (certificate : Text) (files : List Text) : Type 0 where
@@ -57,14 +68,16 @@ abbrev pub HasBudget : Option Text → Option Text → Budget → Type 0
 HasBudget steps cert (Steps n) = (cert ≡ None) × HasNumber steps 10000000 n
 HasBudget steps cert (Certificate name) = (steps ≡ None) × (cert ≡ Some name)
 
--- `run [--include D] [--steps N | --cert C] [--turns N] [--deny N] FILE..`: 1 turn and no denied request where they aren't given
-pub record IsRun (words : List Text) (directories : List Text) (budget : Budget) (turns deny : ℕ) (files : List Text) : Type 0 where
+-- `run [--include D] [--steps N | --cert C] [--turns N] [--deny N] [--sensors V] FILE..`: 1 turn, no denied request and no file of sensor
+-- values where they aren't given
+pub record IsRun (words : List Text) (directories : List Text) (budget : Budget) (turns deny : ℕ) (sensors : Option Text) (files : List Text) : Type 0 where
   pub options : List Given
   pub split : IsSplit run_options words options files
   pub include : AreDirectories options directories
   pub has_budget : HasBudget (value_of options (codes "steps")) (value_of options (codes "cert")) budget
   pub has_turns : HasNumber (value_of options (codes "turns")) 1 turns
   pub has_deny : HasNumber (value_of options (codes "deny")) 0 deny
+  pub has_sensors : value_of options (codes "sensors") ≡ sensors
 
 -- `gen N`: the number stands in the place of the files, and there is no option
 pub record IsGenerate (words : List Text) (functions : ℕ) : Type 0 where
@@ -75,9 +88,10 @@ pub record IsGenerate (words : List Text) (functions : ℕ) : Type 0 where
 -- what follows the command's own word
 abbrev pub IsRestOf : Command → Text → List Text → Type 0
 IsRestOf (Check directories json files) word words = (word ≡ codes "check") × IsCheck words directories json files
-IsRestOf (Derive directories files) word words = (word ≡ codes "derive") × IsDerive words directories files
+IsRestOf (Derive directories version files) word words = (word ≡ codes "derive") × IsDerive words directories version files
+IsRestOf (Migrate directories certificate files) word words = (word ≡ codes "migrate") × IsMigrate words directories certificate files
 IsRestOf (Verify directories clean certificate files) word words = (word ≡ codes "verify") × IsVerify words directories clean certificate files
-IsRestOf (Run directories budget turns deny files) word words = (word ≡ codes "run") × IsRun words directories budget turns deny files
+IsRestOf (Run directories budget turns deny sensors files) word words = (word ≡ codes "run") × IsRun words directories budget turns deny sensors files
 IsRestOf (Generate functions) word words = (word ≡ codes "gen") × IsGenerate words functions
 
 -- the words are the command: the first is its name, and there are at most 65,536

@@ -14,10 +14,21 @@ pub enum Command {
         /// The source files; there is one at least.
         files: ListBuf<TextBuf>,
     },
-    /// `derive [--include D] FILE..`
+    /// `derive [--include D] [--cert-version 1|2] FILE..`
     Derive {
         /// The directories of `--include`, in their order.
         dirs: ListBuf<TextBuf>,
+        /// The version of the certificate's text, 1 or 2; 1 where it isn't given.
+        version: u8,
+        /// The source files; there is one at least.
+        files: ListBuf<TextBuf>,
+    },
+    /// `migrate [--include D] --cert C FILE..`
+    Migrate {
+        /// The directories of `--include`, in their order.
+        dirs: ListBuf<TextBuf>,
+        /// The name of the certificate's file.
+        cert: TextBuf,
         /// The source files; there is one at least.
         files: ListBuf<TextBuf>,
     },
@@ -32,7 +43,7 @@ pub enum Command {
         /// The source files; there is one at least.
         files: ListBuf<TextBuf>,
     },
-    /// `run [--include D] [--steps N | --cert C] [--turns N] [--deny N] FILE..`
+    /// `run [--include D] [--steps N | --cert C] [--turns N] [--deny N] [--sensors V] FILE..`
     Run {
         /// The directories of `--include`, in their order.
         dirs: ListBuf<TextBuf>,
@@ -42,6 +53,8 @@ pub enum Command {
         turns: u64,
         /// The number of the denied request, or 0 for none.
         deny: u64,
+        /// The name of the file of sensor values, where it is given.
+        sensors: Option<TextBuf>,
         /// The source files; there is one at least.
         files: ListBuf<TextBuf>,
     },

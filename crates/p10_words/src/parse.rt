@@ -3,7 +3,7 @@
 ghost use Rattle.std.specs.Prelude.{◌≡◌, [], ◌∷◌, List, ℕ, false, true, map, string_bytes, IfOk, codes};
 ghost use Rattle.clap.specs.Walk.{rule_of};
 ghost use Rattle.clap.specs.Simple.{app_of, with_rule};
-ghost use Rattle.p10_words.specs.Commands.{check_options, derive_options, verify_options, run_options};
+ghost use Rattle.p10_words.specs.Commands.{check_options, derive_options, migrate_options, verify_options, run_options};
 ghost use Rattle.p10_words.specs.private.Parsing.{bare as bare_app, option_asked, flag_asked, files_asked, IsAsked, IsParse, IsUsage, are_askable};
 
 use crate::command::Usage;
@@ -26,6 +26,16 @@ pub fn derive_matches<'w>(alloc: Global, words: &'w [String]) -> Result<ArgMatch
     ensures { IsParse derive_options (map string_bytes words.entry.now) result }
 {
     match derive_command(alloc) {
+        Ok(command) => matches(command, words),
+        Err(_) => Err(Usage::Memory),
+    }
+}
+
+/// What `clap` reads of the words after `migrate`.
+pub fn migrate_matches<'w>(alloc: Global, words: &'w [String]) -> Result<ArgMatches<'w>, Usage>
+    ensures { IsParse migrate_options (map string_bytes words.entry.now) result }
+{
+    match migrate_command(alloc) {
         Ok(command) => matches(command, words),
         Err(_) => Err(Usage::Memory),
     }
@@ -78,6 +88,18 @@ fn derive_command<'w>(alloc: Global) -> Result<Command<'w>, AllocError>
 {
     let command = bare(alloc, "derive")
         .arg(option(alloc, "include"))?
+        .arg(option(alloc, "cert-version"))?
+        .arg(files(alloc))?;
+    Ok(command)
+}
+
+/// The options and files of `migrate`.
+fn migrate_command<'w>(alloc: Global) -> Result<Command<'w>, AllocError>
+    ensures { IfOk result (λ c. IsAsked (app_of c) migrate_options) }
+{
+    let command = bare(alloc, "migrate")
+        .arg(option(alloc, "include"))?
+        .arg(option(alloc, "cert"))?
         .arg(files(alloc))?;
     Ok(command)
 }
@@ -104,6 +126,7 @@ fn run_command<'w>(alloc: Global) -> Result<Command<'w>, AllocError>
         .arg(option(alloc, "turns"))?
         .arg(option(alloc, "deny"))?
         .arg(option(alloc, "cert"))?
+        .arg(option(alloc, "sensors"))?
         .arg(files(alloc))?;
     Ok(command)
 }

@@ -2,18 +2,21 @@
 
 ghost use Rattle.std.specs.Prelude.{◌≡◌, Some, None, Err, map, string_bytes, IfOk, codes, option_map};
 ghost use Rattle.p10_words.specs.declared.command.Command.{Command};
-ghost use Rattle.p10_words.specs.declared.command.Command.TheVariants.{Check, Derive, Verify, Run};
+ghost use Rattle.p10_words.specs.declared.command.Command.TheVariants.{Check, Derive, Migrate, Verify, Run};
 ghost use Rattle.p10_words.specs.declared.command.Budget.{Budget};
 ghost use Rattle.p10_words.specs.CommandLines.{directories_in};
 ghost use Rattle.p10_words.specs.Commands.{IsCommandLine, IsRestOf};
-ghost use Rattle.p10_words.specs.private.Deciding.{IsCheckOf, IsDeriveOf, IsVerifyOf, IsBudgetOf, IsRunOf, IsGenerateOf, Answers};
+ghost use Rattle.p10_words.specs.private.Deciding.{IsCheckOf, IsDeriveOf, IsMigrateOf, IsVerifyOf, IsBudgetOf, IsRunOf, IsGenerateOf, Answers};
 
 use crate::command::{Budget, Command, Usage};
-use crate::parse::{check_matches, derive_matches, generate_matches, run_matches, verify_matches};
-use crate::values::{
-    decimal, directories, is_given, is_json, name_files, names_directories, names_file, number,
-    text, texts,
+use crate::parse::{
+    check_matches, derive_matches, generate_matches, migrate_matches, run_matches, verify_matches,
 };
+use crate::values::{
+    cert_version, decimal, directories, is_given, is_json, name_files, names_directories,
+    names_file, names_given, number, text, texts,
+};
+use p10_base::TextBuf;
 use std::alloc::{AllocError, Global};
 
 /// The most words of a command line.
@@ -36,6 +39,15 @@ struct RunOptions<'w> {
     turns: Option<&'w str>,
     deny: Option<&'w str>,
     cert: Option<&'w str>,
+    sensors: Option<&'w str>,
+}
+
+/// How far a run may go, and what it is denied.
+#[derive(Drop)]
+struct RunBounds {
+    budget: Budget,
+    turns: u64,
+    deny: u64,
 }
 
 /// The command that the words after the program's name are.
@@ -62,6 +74,8 @@ fn by_name(alloc: Global, command: &str, words: &[String]) -> Result<Command, Us
         check(alloc, words)
     } else if command == "derive" {
         derive(alloc, words)
+    } else if command == "migrate" {
+        migrate(alloc, words)
     } else if command == "verify" {
         verify(alloc, words)
     } else if command == "run" {
@@ -97,7 +111,30 @@ fn derive(alloc: Global, words: &[String]) -> Result<Command, Usage>
 {
     match derive_matches(alloc, words) {
         Ok(found) => match found.get_strs("FILE") {
-            Some(files) => derive_of(alloc, found.get_str("include"), files),
+            Some(files) => derive_of(
+                alloc,
+                found.get_str("include"),
+                found.get_str("cert-version"),
+                files,
+            ),
+            None => Err(Usage::Refused),
+        },
+        Err(fault) => Err(fault),
+    }
+}
+
+/// `migrate` with the words after it.
+fn migrate(alloc: Global, words: &[String]) -> Result<Command, Usage>
+    ensures { Answers (λ c. IsRestOf c (codes "migrate") (map string_bytes words.now)) result }
+{
+    match migrate_matches(alloc, words) {
+        Ok(found) => match found.get_strs("FILE") {
+            Some(files) => migrate_of(
+                alloc,
+                found.get_str("include"),
+                found.get_str("cert"),
+                files,
+            ),
             None => Err(Usage::Refused),
         },
         Err(fault) => Err(fault),
@@ -139,6 +176,7 @@ fn run(alloc: Global, words: &[String]) -> Result<Command, Usage>
                     turns: found.get_str("turns"),
                     deny: found.get_str("deny"),
                     cert: found.get_str("cert"),
+                    sensors: found.get_str("sensors"),
                 };
                 run_of(alloc, options, files)
             }
@@ -197,12 +235,20 @@ fn new_check(
     Ok(Command::Check { dirs, json, files })
 }
 
-/// `derive` of this value of its option and files.
-fn derive_of(alloc: Global, include: Option<&str>, files: &[&str]) -> Result<Command, Usage>
-    ensures { Answers (IsDeriveOf (option_map (λ w. w.now) include.entry) (map (λ w. w.now) files.now)) result }
+/// `derive` of these values of options and files.
+fn derive_of(
+    alloc: Global,
+    include: Option<&str>,
+    version: Option<&str>,
+    files: &[&str],
+) -> Result<Command, Usage>
+    ensures { Answers (IsDeriveOf (option_map (λ w. w.now) include.entry) (option_map (λ w. w.now) version.entry) (map (λ w. w.now) files.now)) result }
 {
+    let Some(version) = cert_version(version) else {
+        return Err(Usage::Refused);
+    };
     if names_directories(include) && name_files(files) {
-        match new_derive(alloc, include, files) {
+        match new_derive(alloc, include, version, files) {
             Ok(command) => Ok(command),
             Err(_) => Err(Usage::Memory),
         }
@@ -212,12 +258,70 @@ fn derive_of(alloc: Global, include: Option<&str>, files: &[&str]) -> Result<Com
 }
 
 /// The command `derive`, with texts of its own.
-fn new_derive(alloc: Global, include: Option<&str>, files: &[&str]) -> Result<Command, AllocError>
-    ensures { IfOk result (λ c. c ≡ Derive (directories_in (option_map (λ w. w.now) include.entry)) (map (λ w. w.now) files.now)) }
+fn new_derive(
+    alloc: Global,
+    include: Option<&str>,
+    version: u8,
+    files: &[&str],
+) -> Result<Command, AllocError>
+    ensures { IfOk result (λ c. c ≡ Derive (directories_in (option_map (λ w. w.now) include.entry)) version (map (λ w. w.now) files.now)) }
 {
     let dirs = directories(alloc, include)?;
     let files = texts(alloc, files)?;
-    Ok(Command::Derive { dirs, files })
+    Ok(Command::Derive {
+        dirs,
+        version,
+        files,
+    })
+}
+
+/// `migrate` of these values of options and files.
+fn migrate_of(
+    alloc: Global,
+    include: Option<&str>,
+    cert: Option<&str>,
+    files: &[&str],
+) -> Result<Command, Usage>
+    ensures { Answers (IsMigrateOf (option_map (λ w. w.now) include.entry) (option_map (λ w. w.now) cert.entry) (map (λ w. w.now) files.now)) result }
+{
+    match cert {
+        Some(cert) => migrate_with(alloc, include, cert, files),
+        None => Err(Usage::Refused),
+    }
+}
+
+/// `migrate` of this certificate.
+fn migrate_with(
+    alloc: Global,
+    include: Option<&str>,
+    cert: &str,
+    files: &[&str],
+) -> Result<Command, Usage>
+    ensures { Answers (IsMigrateOf (option_map (λ w. w.now) include.entry) (Some cert.now) (map (λ w. w.now) files.now)) result }
+{
+    if names_directories(include) && names_file(cert) && name_files(files) {
+        match new_migrate(alloc, include, cert, files) {
+            Ok(command) => Ok(command),
+            Err(_) => Err(Usage::Memory),
+        }
+    } else {
+        Err(Usage::Refused)
+    }
+}
+
+/// The command `migrate`, with texts of its own.
+fn new_migrate(
+    alloc: Global,
+    include: Option<&str>,
+    cert: &str,
+    files: &[&str],
+) -> Result<Command, AllocError>
+    ensures { IfOk result (λ c. c ≡ Migrate (directories_in (option_map (λ w. w.now) include.entry)) cert.now (map (λ w. w.now) files.now)) }
+{
+    let dirs = directories(alloc, include)?;
+    let cert = text(alloc, cert)?;
+    let files = texts(alloc, files)?;
+    Ok(Command::Migrate { dirs, cert, files })
 }
 
 /// `verify` of these values of options and files.
@@ -279,15 +383,20 @@ fn new_verify(
 
 /// `run` of these values of options and files.
 fn run_of(alloc: Global, options: RunOptions<'_>, files: &[&str]) -> Result<Command, Usage>
-    ensures { Answers (IsRunOf (option_map (λ w. w.now) options.entry.include) (option_map (λ w. w.now) options.entry.steps) (option_map (λ w. w.now) options.entry.turns) (option_map (λ w. w.now) options.entry.deny) (option_map (λ w. w.now) options.entry.cert) (map (λ w. w.now) files.now)) result }
+    ensures { Answers (IsRunOf (option_map (λ w. w.now) options.entry.include) (option_map (λ w. w.now) options.entry.steps) (option_map (λ w. w.now) options.entry.turns) (option_map (λ w. w.now) options.entry.deny) (option_map (λ w. w.now) options.entry.cert) (option_map (λ w. w.now) options.entry.sensors) (map (λ w. w.now) files.now)) result }
 {
     let (Some(turns), Some(deny)) = (number(options.turns, TURNS), number(options.deny, NONE))
     else {
         return Err(Usage::Refused);
     };
-    if names_directories(options.include) && name_files(files) {
+    if names_directories(options.include) && names_given(options.sensors) && name_files(files) {
         let budget = budget(alloc, options.steps, options.cert)?;
-        match new_run(alloc, options.include, budget, turns, deny, files) {
+        let bounds = RunBounds {
+            budget,
+            turns,
+            deny,
+        };
+        match new_run(alloc, options.include, bounds, options.sensors, files) {
             Ok(command) => Ok(command),
             Err(_) => Err(Usage::Memory),
         }
@@ -327,22 +436,33 @@ fn certificate(alloc: Global, cert: &str) -> Result<Budget, Usage>
 fn new_run(
     alloc: Global,
     include: Option<&str>,
-    budget: Budget,
-    turns: u64,
-    deny: u64,
+    bounds: RunBounds,
+    sensors: Option<&str>,
     files: &[&str],
 ) -> Result<Command, AllocError>
-    ensures { IfOk result (λ c. c ≡ Run (directories_in (option_map (λ w. w.now) include.entry)) budget turns deny (map (λ w. w.now) files.now)) }
+    ensures { IfOk result (λ c. c ≡ Run (directories_in (option_map (λ w. w.now) include.entry)) bounds.budget bounds.turns bounds.deny (option_map (λ w. w.now) sensors.entry) (map (λ w. w.now) files.now)) }
 {
     let dirs = directories(alloc, include)?;
+    let sensors = given_text(alloc, sensors)?;
     let files = texts(alloc, files)?;
     Ok(Command::Run {
         dirs,
-        budget,
-        turns,
-        deny,
+        budget: bounds.budget,
+        turns: bounds.turns,
+        deny: bounds.deny,
+        sensors,
         files,
     })
+}
+
+/// The value of an option as an owned text, where it is given.
+fn given_text(alloc: Global, value: Option<&str>) -> Result<Option<TextBuf>, AllocError>
+    ensures { IfOk result (λ found. found ≡ option_map (λ w. w.now) value.entry) }
+{
+    match value {
+        Some(word) => Ok(Some(text(alloc, word)?)),
+        None => Ok(None),
+    }
 }
 
 /// `gen` of these words in the place of files.

@@ -2,9 +2,9 @@
 
 ghost use Rattle.std.specs.Prelude.{◌≡◌, ◌++◌, ℕ, Bool, map, IfOk, OnOk, IfSome, IfNone, Some, option_map};
 ghost use Rattle.std.specs.List.{list_all};
-ghost use Rattle.p10_words.specs.CommandLines.{cut, directories_in, HasFormat, HasNumber, IsNumber};
+ghost use Rattle.p10_words.specs.CommandLines.{cut, directories_in, HasFormat, HasNumber, HasVersion, IsNumber};
 ghost use Rattle.p10_words.specs.private.Scanning.{is_name};
-ghost use Rattle.p10_words.specs.private.Deciding.{is_given, has_directories, has_files};
+ghost use Rattle.p10_words.specs.private.Deciding.{is_given, is_given_name, has_directories, has_files};
 
 use p10_base::{ListBuf, TextBuf};
 use std::alloc::{AllocError, Global};
@@ -41,6 +41,16 @@ fn all_name_files(words: &[&str]) -> bool
         rest = others;
     }
     true
+}
+
+/// Whether a value is the name of a file, or isn't given.
+pub fn names_given(value: Option<&str>) -> bool
+    ensures { result ≡ is_given_name (option_map (λ w. w.now) value.entry) }
+{
+    match value {
+        None => true,
+        Some(name) => names_file(name),
+    }
 }
 
 /// Whether the value of `--include` has directories, or isn't given.
@@ -179,6 +189,31 @@ fn format_named(name: &str) -> Option<bool>
         Some(true)
     } else if name == "text" {
         Some(false)
+    } else {
+        None
+    }
+}
+
+/// The version of a certificate's text that is asked for; `None` where the value is no version.
+pub fn cert_version(value: Option<&str>) -> Option<u8>
+    ensures some { IfSome result (HasVersion (option_map (λ w. w.now) value.entry)) }
+    ensures none { IfNone result ((version : ℕ) → HasVersion (option_map (λ w. w.now) value.entry) version → ⊥) }
+{
+    match value {
+        None => Some(1),
+        Some(value) => version_named(value),
+    }
+}
+
+/// The version of this name; `None` where no version has it.
+fn version_named(name: &str) -> Option<u8>
+    ensures some { IfSome result (HasVersion (Some name.now)) }
+    ensures none { IfNone result ((version : ℕ) → HasVersion (Some name.now) version → ⊥) }
+{
+    if name == "1" {
+        Some(1)
+    } else if name == "2" {
+        Some(2)
     } else {
         None
     }

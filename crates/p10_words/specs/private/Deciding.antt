@@ -2,12 +2,12 @@
 use Rattle.std.specs.Prelude.{◌≡◌, ℕ, List, [], ◌∷◌, Bool, true, false, ◌&&◌, codes, bytes_eq, Option, Some, None, Result, Ok, Err}
 use Rattle.std.specs.List.{list_all}
 use Rattle.p10_words.specs.declared.command.Command.{Command}
-use Rattle.p10_words.specs.declared.command.Command.TheVariants.{Check, Derive, Verify, Run, Generate}
+use Rattle.p10_words.specs.declared.command.Command.TheVariants.{Check, Derive, Migrate, Verify, Run, Generate}
 use Rattle.p10_words.specs.declared.command.Budget.{Budget}
 use Rattle.p10_words.specs.declared.command.Usage.{Usage}
 use Rattle.p10_words.specs.declared.command.Usage.TheVariants.{Refused, Memory}
 use Rattle.p10_base.specs.Words.{Text}
-use Rattle.p10_words.specs.CommandLines.{directories_in, IsNumber, HasNumber, HasFormat}
+use Rattle.p10_words.specs.CommandLines.{directories_in, IsNumber, HasNumber, HasFormat, HasVersion}
 use Rattle.p10_words.specs.Commands.{HasBudget}
 use Rattle.p10_words.specs.private.Scanning.{is_name}
 
@@ -38,11 +38,22 @@ pub record IsCheckOf (include format : Option Text) (files : List Text) (c : Com
   pub some : has_files files ≡ true
   pub is : c ≡ Check (directories_in include) json files
 
--- `derive` of this value and files
-pub record IsDeriveOf (include : Option Text) (files : List Text) (c : Command) : Type 0 where
+-- `derive` of these values and files
+pub record IsDeriveOf (include cert_version : Option Text) (files : List Text) (c : Command) : Type 0 where
+  pub version : ℕ
   pub directories : has_directories include ≡ true
+  pub has_version : HasVersion cert_version version
   pub some : has_files files ≡ true
-  pub is : c ≡ Derive (directories_in include) files
+  pub is : c ≡ Derive (directories_in include) version files
+
+-- `migrate` of these values and files
+pub record IsMigrateOf (include cert : Option Text) (files : List Text) (c : Command) : Type 0 where
+  pub certificate : Text
+  pub directories : has_directories include ≡ true
+  pub given : cert ≡ Some certificate
+  pub name : is_name certificate ≡ true
+  pub some : has_files files ≡ true
+  pub is : c ≡ Migrate (directories_in include) certificate files
 
 -- `verify` of these values and files, and whether `--clean` is given
 pub record IsVerifyOf (include : Option Text) (clean : Bool) (cert : Option Text) (files : List Text) (c : Command) : Type 0 where
@@ -59,7 +70,7 @@ pub record IsBudgetOf (steps cert : Option Text) (b : Budget) : Type 0 where
   pub name : is_given_name cert ≡ true
 
 -- `run` of these values and files
-pub record IsRunOf (include steps turns deny cert : Option Text) (files : List Text) (c : Command) : Type 0 where
+pub record IsRunOf (include steps turns deny cert sensors : Option Text) (files : List Text) (c : Command) : Type 0 where
   pub budget : Budget
   pub turn_count : ℕ
   pub denied : ℕ
@@ -67,8 +78,9 @@ pub record IsRunOf (include steps turns deny cert : Option Text) (files : List T
   pub has_budget : IsBudgetOf steps cert budget
   pub has_turns : HasNumber turns 1 turn_count
   pub has_deny : HasNumber deny 0 denied
+  pub named : is_given_name sensors ≡ true
   pub some : has_files files ≡ true
-  pub is : c ≡ Run (directories_in include) budget turn_count denied files
+  pub is : c ≡ Run (directories_in include) budget turn_count denied sensors files
 
 -- `gen` of these words in the place of files
 pub record IsGenerateOf (words : List Text) (c : Command) : Type 0 where

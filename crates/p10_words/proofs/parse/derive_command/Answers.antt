@@ -10,6 +10,8 @@ pub returns : goal.returns
 returns c =
     let start : app_of c.bare.result ≡ bare (codes "derive") = search rules in
     let include : rule_of c.option.result ≡ option_asked (codes "include") = search rules in
+    let version : rule_of c.option-2.result ≡ option_asked (codes "cert-version") = search rules in
     let is : app_of c.in_ok-command.command ≡ derive_app =
-    c.in_ok-command.ensures.shape c.files.ensures.local ∙ ap₂ with_rule (c.in_ok-arg.ensures.shape c.option.ensures.local ∙ ap₂ with_rule start include) c.files.ensures.rule in
+    c.in_ok-command.ensures.shape c.files.ensures.local
+    ∙ ap₂ with_rule (c.in_ok-arg-2.ensures.shape c.option-2.ensures.local ∙ ap₂ with_rule (c.in_ok-arg.ensures.shape c.option.ensures.local ∙ ap₂ with_rule start include) version) c.files.ensures.rule in
     subst (λ (a : App). IsAsked a derive_options) (sym is) derive_asked

@@ -14,8 +14,11 @@ returns c =
     let turns : rule_of c.option-3.result ≡ option_asked (codes "turns") = search rules in
     let deny : rule_of c.option-4.result ≡ option_asked (codes "deny") = search rules in
     let cert : rule_of c.option-5.result ≡ option_asked (codes "cert") = search rules in
+    let sensors : rule_of c.option-6.result ≡ option_asked (codes "sensors") = search rules in
     let is : app_of c.in_ok-command.command ≡ run_app =
     c.in_ok-command.ensures.shape c.files.ensures.local
+    ∙ ap₂ with_rule
+    (c.in_ok-arg-6.ensures.shape c.option-6.ensures.local
     ∙ ap₂ with_rule
     (c.in_ok-arg-5.ensures.shape c.option-5.ensures.local
     ∙ ap₂ with_rule
@@ -25,5 +28,6 @@ returns c =
     ∙ ap₂ with_rule (c.in_ok-arg-2.ensures.shape c.option-2.ensures.local ∙ ap₂ with_rule (c.in_ok-arg.ensures.shape c.option.ensures.local ∙ ap₂ with_rule start include) steps) turns)
     deny)
     cert)
+    sensors)
     c.files.ensures.rule in
     subst (λ (a : App). IsAsked a run_options) (sym is) run_asked
