@@ -2,3 +2,4 @@
 pub mod Stopping
 pub mod Written
 pub mod Values
+pub mod Hex

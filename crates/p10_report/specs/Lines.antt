@@ -1,6 +1,6 @@
 -- The lines that report what was found in the sources.
-use Rattle.std.specs.Prelude.{ℕ, ℤ, List, codes, decimal}
-use Rattle.std.specs.Fmt.{signed_decimal}
+use Rattle.std.specs.Prelude.{ℕ, ◌/◌, ◌%◌, false, ℤ, List, [], ◌∷◌, codes, decimal}
+use Rattle.std.specs.Fmt.{signed_decimal, digit_glyph}
 use Rattle.p10_base.specs.Gathered.{Gathered, name_of, text_of}
 use Rattle.p10_base.specs.Places.{column_of, line_of}
 use Rattle.p10_base.specs.declared.report.Bounds.{Bounds}
@@ -65,6 +65,27 @@ condition_part label g condition at = labelled label condition then at_part g at
 -- the line of a condition of the certificate that does not hold: refused: KN FILE:LINE:COLUMN
 unfoldable pub failing_line : Gathered → ℕ → Span → List ℕ
 failing_line g condition at = condition_part (codes "refused: K") g condition at
+
+-- bytes, each as two digits of 0 to 9 and a to f, the high one first, as certificates have them
+abbrev pub hex_text : List ℕ → List ℕ
+hex_text [] = []
+hex_text (byte ∷ bytes) = digit_glyph false (byte / 16) ∷ digit_glyph false (byte % 16) ∷ hex_text bytes
+
+-- a digest after the text that says whose it is
+unfoldable pub labelled_digest : List ℕ → List ℕ → List ℕ
+labelled_digest label digest = label then hex_text digest
+
+-- the digest that a certificate has of a function, and that of its words, which end a line
+unfoldable pub digests_part : List ℕ → List ℕ → List ℕ
+digests_part kept found = labelled_digest (codes " kept ") kept then labelled_digest (codes " found ") found then codes "\n"
+
+-- what stands before the place of a function of whose words a certificate doesn't speak
+unfoldable pub stale_label : List ℕ
+stale_label = codes "refused: K0 "
+
+-- the line of a function of whose words a certificate doesn't speak: refused: K0 FILE:LINE:COLUMN kept DIGEST found DIGEST
+unfoldable pub stale_line : Gathered → Span → List ℕ → List ℕ → List ℕ
+stale_line g at kept found = stale_label then place_text g at then digests_part kept found
 
 -- the line of a condition of clean certificates that does not hold: refused: CN FILE:LINE:COLUMN
 unfoldable pub unclean_line : Gathered → ℕ → Span → List ℕ

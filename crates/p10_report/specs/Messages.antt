@@ -5,7 +5,7 @@ use Rattle.p10_report.specs.Stops.{◌then◌}
 
 -- the command line is that of no command
 unfoldable pub usage_line : List ℕ
-usage_line = codes "p10: usage: p10 (check|derive|verify|run|gen) [options] FILE..\n"
+usage_line = codes "p10: usage: p10 (check|derive|verify|run|gen|migrate) [options] FILE..\n"
 
 -- what stands before the name of a file that isn't there
 unfoldable pub absent_label : List ℕ
@@ -22,6 +22,14 @@ refused_at_label = codes "p10: certificate refused at line "
 -- a text is no certificate's: p10: certificate refused at line N
 unfoldable pub bad_certificate_line : ℕ → List ℕ
 bad_certificate_line line = labelled refused_at_label line then codes "\n"
+
+-- what stands before the number of the line at which a file of sensor values is refused
+unfoldable pub sensors_refused_label : List ℕ
+sensors_refused_label = codes "p10: sensor file refused at line "
+
+-- a text isn't that of sensor values: p10: sensor file refused at line N
+unfoldable pub bad_sensors_line : ℕ → List ℕ
+bad_sensors_line line = labelled sensors_refused_label line then codes "\n"
 
 -- a read failed
 unfoldable pub read_fault_line : List ℕ
