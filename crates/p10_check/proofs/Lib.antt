@@ -4,3 +4,9 @@ pub mod Heads
 pub mod Earliest
 pub mod Functions
 pub mod Holding
+pub mod Alike
+pub mod ByTurn
+pub mod Windows
+pub mod Telling
+pub mod Stales
+pub mod TextVerdicts

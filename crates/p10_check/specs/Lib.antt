@@ -6,5 +6,6 @@ pub mod Passes
 pub mod Conditions
 pub mod Fails
 pub mod Accepting
+pub mod Texts
 pub mod SmallChecks
 pub mod private

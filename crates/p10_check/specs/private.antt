@@ -2,3 +2,6 @@
 pub mod Firsts
 pub mod Shortfalls
 pub mod Ranked
+pub mod ShapesByTurn
+pub mod Windows
+pub mod FirstReadings

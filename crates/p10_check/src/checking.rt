@@ -66,7 +66,7 @@ fn first_failure<E: Evidence>(
 }
 
 /// The verdict by the first condition that fails.
-fn verdict_by(total: Bounds, first: Option<Fail>) -> Verdict
+pub(crate) fn verdict_by(total: Bounds, first: Option<Fail>) -> Verdict
     ensures { result ≡ verdict_by total (option_map failing_of first) }
 {
     match first {
@@ -102,7 +102,7 @@ fn earliest<E: Evidence>(
 }
 
 /// The first of some failing conditions.
-fn first_fail(fails: &[Fail]) -> Option<Fail>
+pub(crate) fn first_fail(fails: &[Fail]) -> Option<Fail>
     ensures { option_map failing_of result ≡ first_failing (failures_of fails.now) }
 {
     match fails {
@@ -112,7 +112,7 @@ fn first_fail(fails: &[Fail]) -> Option<Fail>
 }
 
 /// The first of two failing conditions that may be lacking: the second only where its number is lower.
-fn earlier(found: Option<Fail>, more: Option<Fail>) -> Option<Fail>
+pub(crate) fn earlier(found: Option<Fail>, more: Option<Fail>) -> Option<Fail>
     ensures { option_map failing_of result ≡ earlier (option_map failing_of found) (option_map failing_of more) }
 {
     match more {

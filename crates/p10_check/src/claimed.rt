@@ -5,6 +5,7 @@ ghost use Rattle.p10_core.specs.declared.statements.LoopHead.{LoopHead};
 ghost use Rattle.p10_cert.specs.Claims.{func_of, loop_of};
 ghost use Rattle.p10_sums.specs.Counting.{loops_claimed, steps_claimed, calls_claimed, bytes_claimed, alloc_claimed, turns_claimed};
 ghost use Rattle.p10_check.specs.Shapes.{rank_claimed, turn_claimed};
+ghost use Rattle.p10_check.specs.private.ShapesByTurn.{turn_at};
 
 use p10_cert::{FuncClaim, LoopClaim};
 use p10_core::LoopHead;
@@ -58,6 +59,16 @@ pub(crate) fn turn_claimed(functions: &[FuncClaim], number: usize, head: Option<
 {
     match head {
         Some(head) => turns_claimed(loops_claimed(functions, number), head.number),
+        None => 0,
+    }
+}
+
+/// The steps that claims on loops give a turn of the task loop; 0 where there is none.
+pub(crate) fn turn_at(loops: &[LoopClaim], head: Option<LoopHead>) -> u64
+    ensures { result ≡ turn_at (map loop_of loops.now) head }
+{
+    match head {
+        Some(head) => turns_claimed(loops, head.number),
         None => 0,
     }
 }

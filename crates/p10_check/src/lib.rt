@@ -1,8 +1,10 @@
-//! Whether a certificate for a program is to be believed: the conditions K1 to K14.
+//! Whether a certificate for a program is to be believed: the conditions K0 to K14.
 //!
 //! Entry points: [`check`], the verdict, which is the certificate's total or the first condition that fails, with its place, by number,
 //! then in program order, then in text order (`specs/Conditions.antt`); its parts [`check_shape`], the conditions that speak of no
-//! values and sums, and [`check_one`], those of one function. [`Evidence`] is what may help a loop to K8 to K10. So a certificate for
+//! values and sums, and [`check_one`], those of one function; and [`check_text`], the verdict on a certificate's text, whose claims aren't
+//! all in memory at once, and which comes to K0 first: whether it speaks of the program's words (`specs/Texts.antt`). [`Evidence`] is what
+//! may help a loop to K8 to K10. So a certificate for
 //!
 //! ```c
 //! static int f(int n) { return n + 1; }                    // 5 steps
@@ -19,6 +21,7 @@ mod claimed;
 mod effects;
 mod evidence;
 mod failing;
+mod first_reading;
 mod function;
 pub mod laws;
 mod main_claims;
@@ -27,10 +30,13 @@ mod ranked;
 mod ranks;
 mod shape;
 mod sums;
+mod text;
 mod verdict;
+mod window;
 
 pub use checking::check;
 pub use evidence::Evidence;
 pub use function::check_one;
 pub use shape::check_shape;
-pub use verdict::Verdict;
+pub use text::check_text;
+pub use verdict::{TextVerdict, Verdict};

@@ -2,13 +2,14 @@
 
 ghost use Rattle.std.specs.Prelude.{◌≡◌, IfOk, Some, map, option_copied, option_map, slice_get};
 ghost use Rattle.p10_core.specs.Views.{plain_function, plain_program, plain_statement};
-ghost use Rattle.p10_cert.specs.Claims.{func_of, claims_of};
+ghost use Rattle.p10_cert.specs.Claims.{func_of, loop_of, claims_of};
 ghost use Rattle.p10_absx.specs.Entering.{claims_on};
 ghost use Rattle.p10_check.specs.Shapes.{has_some, is_main_wrong, head_in, head_at, task_head, main_turn, bounds_main};
+ghost use Rattle.p10_check.specs.private.ShapesByTurn.{turn_by_loops};
 
-use crate::claimed::{claim_at, numbers_claimed, turn_claimed};
+use crate::claimed::{claim_at, numbers_claimed, turn_at, turn_claimed};
 use crate::places::function_at;
-use p10_cert::{Cert, FuncClaim};
+use p10_cert::{Cert, FuncClaim, LoopClaim};
 use p10_core::{Func, LoopHead, Program, Stmt, StmtForm};
 use p10_flowrules::task_exits;
 use std::alloc::{AllocError, Global};
@@ -37,24 +38,34 @@ fn has_parameters(functions: &[FuncClaim], number: usize) -> bool
     }
 }
 
-/// Whether the total is at least what is claimed of `main` and of a turn of its task loop.
-pub(crate) fn bounds_main(program: &Program<'_>, certificate: &Cert) -> bool
-    ensures { result ≡ bounds_main (claims_of certificate.now).total (slice_get (claims_of certificate.now).funcs (plain_program program.now).main) (main_turn (plain_program program.now) (claims_of certificate.now).funcs (slice_get (plain_program program.now).functions (plain_program program.now).main)) }
+/// Whether the total is at least what is claimed of `main`, and this many steps of a turn of its task loop.
+pub(crate) fn bounds_main(program: &Program<'_>, certificate: &Cert, turn: u64) -> bool
+    ensures { result ≡ bounds_main (claims_of certificate.now).total (slice_get (claims_of certificate.now).funcs (plain_program program.now).main) turn }
 {
     let claimed = numbers_claimed(certificate.funcs.as_slice(), program.main as usize);
-    let turn = main_turn(program, certificate.funcs.as_slice());
     let total = &certificate.total;
     (claimed.steps <= total.prefix && turn <= total.turn)
         && (claimed.calls <= total.calls && claimed.bytes <= total.bytes)
 }
 
 /// The steps that are claimed of a turn of the task loop; 0 where there is none.
-fn main_turn(program: &Program<'_>, functions: &[FuncClaim]) -> u64
+pub(crate) fn main_turn(program: &Program<'_>, functions: &[FuncClaim]) -> u64
     ensures { result ≡ main_turn (plain_program program.now) (map func_of functions.now) (slice_get (plain_program program.now).functions (plain_program program.now).main) }
 {
     let main = program.main as usize;
     match function_at(program, main) {
         Some(function) => turn_claimed(functions, main, task_head(program, main, function)),
+        None => 0,
+    }
+}
+
+/// The steps that these claims on the loops of `main` give a turn of the task loop; 0 where there is none.
+pub(crate) fn turn_by_loops(program: &Program<'_>, loops: &[LoopClaim]) -> u64
+    ensures { result ≡ turn_by_loops (plain_program program.now) (map loop_of loops.now) (slice_get (plain_program program.now).functions (plain_program program.now).main) }
+{
+    let main = program.main as usize;
+    match function_at(program, main) {
+        Some(function) => turn_at(loops, task_head(program, main, function)),
         None => 0,
     }
 }

@@ -7,10 +7,11 @@ ghost use Rattle.p10_cert.specs.Claims.{claims_of};
 ghost use Rattle.p10_check.specs.Conditions.{AreShapeFailures};
 ghost use Rattle.p10_check.specs.Fails.{failures_of};
 ghost use Rattle.p10_check.specs.private.Firsts.{AreAfterFitting};
+ghost use Rattle.p10_check.specs.private.ShapesByTurn.{AreShapeFailuresBy};
 
 use crate::effects::push_effects;
 use crate::failing::push_if;
-use crate::main_claims::{bounds_main, is_main_wrong};
+use crate::main_claims::{bounds_main, is_main_wrong, main_turn};
 use crate::places::name_at;
 use crate::ranks::push_rising;
 use p10_cert::Cert;
@@ -50,6 +51,20 @@ pub(crate) fn fitting_shape(
     requires program { IsWholeProgram (plain_program program.now) }
     ensures { IfOk result (λ fails. AreAfterFitting (plain_program program.now) (claims_of certificate.now) (failures_of fails.items)) }
 {
+    let turn = main_turn(program, certificate.funcs.as_slice());
+    shape_by_turn(alloc, program, certificate, turn)
+}
+
+/// The same, where this many steps are claimed of a turn of the task loop: of the claims it needs no loops.
+pub(crate) fn shape_by_turn(
+    alloc: Global,
+    program: &Program<'_>,
+    certificate: &Cert,
+    turn: u64,
+) -> Result<Vec<Fail>, AllocError>
+    requires program { IsWholeProgram (plain_program program.now) }
+    ensures { IfOk result (λ fails. AreShapeFailuresBy (plain_program program.now) (claims_of certificate.now) turn (failures_of fails.items)) }
+{
     let late = late_allocations(alloc, program)?;
     let main = name_at(program, program.main as usize);
     let mut failing = Vec::new(alloc);
@@ -57,6 +72,7 @@ pub(crate) fn fitting_shape(
     let wrong = is_main_wrong(alloc, program, certificate)?;
     push_if(wrong, 4, main, &mut failing)?;
     push_effects(program, certificate, late.as_slice(), &mut failing)?;
-    push_if(!bounds_main(program, certificate), 14, main, &mut failing)?;
+    let bounds = bounds_main(program, certificate, turn);
+    push_if(!bounds, 14, main, &mut failing)?;
     Ok(failing)
 }

@@ -51,7 +51,11 @@ pub fn unfit(
 }
 
 /// Whether a claim speaks of the function with a number.
-fn fits_function(
+///
+/// # Errors
+///
+/// Out of memory.
+pub fn fits_function(
     alloc: Global,
     program: &Program<'_>,
     number: usize,
