@@ -33,7 +33,7 @@ use Rattle.p10_front.specs.private.Typing.{IsTyped, IsUntyped}
 -- ## What words are read as
 
 -- the words of the roots, in one step and in two
-same_roots : (all : List (Vec Word Global)) → map (λ root. plain_words root.items) all ≡ map (map plain_word) (lists_of all)
+pub same_roots : (all : List (Vec Word Global)) → map (λ root. plain_words root.items) all ≡ map (map plain_word) (lists_of all)
 same_roots [] = refl
 same_roots (words ∷ all) = ap (λ rest. plain_words words.items ∷ rest) (same_roots all)
 

@@ -1,5 +1,6 @@
 -- The definitions that the contracts of this crate cite: those of public clauses, and in `private` those of private ones alone.
 pub mod Readings
 pub mod Answers
+pub mod Digests
 pub mod Laws
 pub mod private

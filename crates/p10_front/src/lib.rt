@@ -11,13 +11,16 @@
 //! | types (`p10_elab`) | S1 to S30 | M8 | the typed program of all roots |
 //!
 //! The stages are done for all roots together, so a D3 of the second root comes before a G1 of the first. Invariant: there are
-//! trees exactly where expansion and the grammar refuse nothing, and a program exactly where nothing is refused.
+//! trees exactly where expansion and the grammar refuse nothing, and a program exactly where nothing is refused. [`digests`] gives the
+//! digests of the words that were read, by which a certificate is known to speak of them.
 #![tactic(auto)]
 
 mod fault;
+mod hashing;
 pub mod laws;
 mod reading;
 mod typing;
 
 pub use fault::FrontFault;
+pub use hashing::digests;
 pub use reading::{Reading, read};
