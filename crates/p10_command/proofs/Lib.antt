@@ -5,4 +5,5 @@ pub mod Sources
 pub mod OneOutput
 pub mod Once
 pub mod Causes
+pub mod Files
 pub mod Statuses

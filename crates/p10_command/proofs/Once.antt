@@ -10,6 +10,7 @@ use Rattle.p10_expand.specs.declared.fault.GatherFault.{GatherFault}
 use Rattle.p10_expand.specs.declared.fault.GatherFault.TheVariants as fault
 use Rattle.p10_expand.specs.Gathering.{Setting, Gathers, FailsBy}
 use Rattle.p10_expand.proofs.Once.{ends_once}
+use Rattle.p10_front.specs.Digests.{PlainDigests, reading_digests}
 use Rattle.p10_front.specs.Laws.{ReadsOnce}
 use Rattle.p10_front.specs.Readings.{PlainReading, Reads, AreReadAs, AreRefused}
 use Rattle.p10_command.specs.declared.gathering.Ungathered.{Ungathered}
@@ -19,7 +20,7 @@ use Rattle.p10_command.specs.declared.reading.Unread.TheVariants as reading
 use Rattle.p10_command.specs.declared.trouble.Trouble.{Trouble}
 use Rattle.p10_command.specs.declared.trouble.Trouble.TheVariants.{Read, Memory}
 use Rattle.p10_command.specs.Gathering.{AreUngathered}
-use Rattle.p10_command.specs.Programs.{HasProgram}
+use Rattle.p10_command.specs.Programs.{HasProgram, HasProgramWithDigests}
 use Rattle.p10_command.specs.Reading.{AreUnread}
 use Rattle.p10_command.specs.Saying.{Saying, trouble_saying, trouble_status, ungathered_saying, unread_saying}
 
@@ -134,6 +135,23 @@ pub has_once : ReadsOnce → (s : Setting) → IsSome s.held → (g h : Gathered
 has_once once s told g h p q this that =
     let sources : g ≡ h = same_sources s told g h this.gathers that.gathers in
     record { sources_are = sources; program_is = same_program once h this.reading that.reading p q (subst (λ (x : Gathered). AreReadAs x this.reading p) sources this.read) that.read }
+
+-- and one reading
+pub reading_once : ReadsOnce → (s : Setting) → IsSome s.held → (g h : Gathered) (p q : PlainProgram) → (this : HasProgram s g p) → (that : HasProgram s h q) → this.reading ≡ that.reading
+reading_once once s told g h p q this that =
+    same_reading once h this.reading that.reading p q (subst (λ (x : Gathered). AreReadAs x this.reading p) (same_sources s told g h this.gathers that.gathers) this.read) that.read
+
+-- and one list of digests
+pub record SameProgramWithDigests (g h : Gathered) (p q : PlainProgram) (these those : PlainDigests) : Type 0 where
+  pub sources_are : g ≡ h
+  pub program_is : p ≡ q
+  pub digests_are : these ≡ those
+
+pub has_digests_once : ReadsOnce → (s : Setting) → IsSome s.held → (g h : Gathered) (p q : PlainProgram) (these those : PlainDigests) → HasProgramWithDigests s g p these → HasProgramWithDigests s h q those → SameProgramWithDigests g h p q these those
+has_digests_once once s told g h p q these those this that =
+    let same = has_once once s told g h p q this.has that.has in
+    let reading : this.has.reading ≡ that.has.reading = same_reading once h this.has.reading that.has.reading p q (subst (λ (x : Gathered). AreReadAs x this.has.reading p) same.sources_are this.has.read) that.has.read in
+    record { sources_are = same.sources_are; program_is = same.program_is; digests_are = this.are ∙ ap reading_digests reading ∙ sym that.are }
 
 -- gathered sources are a program or none
 pub unread_or_program : ReadsOnce → (s : Setting) → IsSome s.held → (g h : Gathered) (why : Unread) (q : PlainProgram) → Gathers s g → AreUnread g why → HasProgram s h q → ⊥

@@ -1,5 +1,5 @@
 -- What is said: the status of the program, and the texts on its two outputs.
-use Rattle.std.specs.Prelude.{ℕ, List, [], slice_index_or}
+use Rattle.std.specs.Prelude.{◌≡◌, ℕ, List, [], slice_index_or}
 use Rattle.p10_base.specs.declared.report.Limit.{Limit}
 use Rattle.p10_base.specs.Gathered.{Gathered}
 use Rattle.p10_base.specs.Words.{Text}
@@ -49,6 +49,14 @@ trouble_status Memory = 7
 abbrev pub trouble_line : Trouble → List ℕ
 trouble_line Read = read_fault_line
 trouble_line Memory = out_of_memory_line
+
+-- what is said with a text on the output alone
+abbrev pub text_saying : List ℕ → Saying
+text_saying text = record { status = 0; out = text; err = [] }
+
+-- this alone is said
+abbrev pub IsSaid : Saying → Saying → Type 0
+IsSaid wanted saying = saying ≡ wanted
 
 -- ## What is said on the error output alone
 

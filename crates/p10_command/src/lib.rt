@@ -1,7 +1,8 @@
 //! What the commands of `p10` share: their sources, and what is said where these are no program.
 //!
-//! Entry points: [`gather_roots`], which gathers the sources of a command by their names, and [`read_sources`], which reads
-//! what was gathered. Each gives what was asked for, or why there is none, with a status and one line on the error output:
+//! Entry points: [`gather_roots`], which gathers the sources of a command by their names, [`load`], which reads another file that
+//! it names, and [`read_sources`], which reads what was gathered. Each gives what was asked for, or why there is none, with a status
+//! and one line on the error output:
 //!
 //! | Why | Status | Line | Told by |
 //! |---|---|---|---|
@@ -16,12 +17,14 @@
 #![tactic(auto)]
 
 mod gathering;
+mod loading;
 mod reading;
 mod telling;
 mod texts;
 mod trouble;
 
 pub use gathering::{GatheredRoots, Ungathered, gather_roots, put_ungathered};
+pub use loading::load;
 pub use reading::{ReadSources, Unread, put_unread, read_sources, release};
 pub use telling::{tell_limit, tell_trouble, tell_ungathered, tell_unread};
 pub use texts::strings;
