@@ -1,5 +1,5 @@
 -- One thing is right to say, unless memory runs out.
-use Rattle.std.proofs.Common.{◌≡◌, ◌≢◌, ℕ, refl, sym, ◌∙◌, ap, subst, IsSome}
+use Rattle.std.proofs.Common.{◌≡◌, ◌≢◌, ℕ, [], refl, sym, ◌∙◌, ap, subst, IsSome}
 use Rattle.p10_core.specs.Typed.{PlainProgram}
 use Rattle.p10_cert.specs.Certificate.{certificate_text}
 use Rattle.p10_cert.specs.Claims.{Claims}
@@ -38,7 +38,7 @@ one_shown laws p this that (certified c j derived weighed is) (passing m derived
 one_shown laws p this that (certified c j derived weighed is) (certified d k derived' weighed' is') =
     let e : Certified c ≡ Certified d = laws.derives p (Certified c) (Certified d) derived derived' in
     let same : c ≡ d = cc in
-    let judged : j ≡ k = laws.judges p (certificate_text c) j k weighed (subst (λ (x : Claims). IsWeighed p (certificate_text x) k) (sym same) weighed') in
+    let judged : j ≡ k = laws.judges p [] (certificate_text c) j k weighed (subst (λ (x : Claims). IsWeighed p [] (certificate_text x) k) (sym same) weighed') in
     is ∙ ap (λ (x : Judgement). judged_answer p c x) judged ∙ ap (λ (x : Claims). judged_answer p x k) same ∙ sym is'
 
 -- ## All answers

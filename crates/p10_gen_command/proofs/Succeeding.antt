@@ -1,5 +1,5 @@
 -- What the statuses say.
-use Rattle.std.proofs.Common.{◌≡◌, ℕ, sym, ◌∙◌, ap, inl, inr, arith}
+use Rattle.std.proofs.Common.{◌≡◌, ℕ, [], sym, ◌∙◌, ap, inl, inr, arith}
 use Rattle.std.specs.Prelude.{◌⊎◌, ℤ}
 use Rattle.p10_base.specs.declared.report.Bounds.{Bounds}
 use Rattle.p10_core.specs.Typed.{PlainProgram}
@@ -9,7 +9,7 @@ use Rattle.p10_expand.specs.declared.fault.GatherFault.{GatherFault}
 use Rattle.p10_expand.specs.declared.fault.GatherFault.TheVariants as fault
 use Rattle.p10_finder.specs.Answers.{Certified, IsDerived}
 use Rattle.p10_judge.specs.declared.judgement.Judgement.{Judgement}
-use Rattle.p10_judge.specs.declared.judgement.Judgement.TheVariants.{TooLong, BadCertificate, Failing, Accepted}
+use Rattle.p10_judge.specs.declared.judgement.Judgement.TheVariants.{TooLong, BadCertificate, Stale, Failing, Accepted}
 use Rattle.p10_judge.specs.Judging.{IsWeighed}
 use Rattle.p10_command.specs.Programs.{HasProgram}
 use Rattle.p10_meaning.specs.Runs.{Outcome, Returned, Turns, Ended}
@@ -56,10 +56,11 @@ returned_by total other value (Returned v) is = record { same = cc; is = cc }
 returned_by total other value (Turns n) is = absurd (cc)
 returned_by total other value (Ended end) is = absurd (cc)
 
-by_judgement : (n : ℕ) (g : _) (p : PlainProgram) (claims : Claims) (judgement : Judgement) (total : Bounds) (value : ℤ) → HasProgram (setting_of n) g p → IsDerived p (Certified claims) → IsWeighed p (certificate_text claims) judgement
+by_judgement : (n : ℕ) (g : _) (p : PlainProgram) (claims : Claims) (judgement : Judgement) (total : Bounds) (value : ℤ) → HasProgram (setting_of n) g p → IsDerived p (Certified claims) → IsWeighed p [] (certificate_text claims) judgement
     → Returns total value ≡ judged_answer p claims judgement → (saying : Saying) → saying ≡ saying_of n (Returns total value) → TellsReturn n saying
 by_judgement n g p claims TooLong total value has derived weighed is saying said = absurd (cc)
 by_judgement n g p claims (BadCertificate line) total value has derived weighed is saying said = absurd (cc)
+by_judgement n g p claims (Stale at kept found) total value has derived weighed is saying said = absurd (cc)
 by_judgement n g p claims (Failing k at) total value has derived weighed is saying said = absurd (cc)
 by_judgement n g p claims (Accepted bounds) total value has derived weighed is saying said =
     let run = returned_by total claims.total value (outcome_within p bounds) is in

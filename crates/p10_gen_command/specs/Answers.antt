@@ -45,9 +45,9 @@ setting_of n = setting (Some (generated_files n)) (file_name ∷ []) []
 
 -- ## Its run within a certificate
 
--- how a run without input ends, where no request for memory is denied
+-- how a run without input and without values of sensors ends, where no request for memory is denied
 abbrev pub outcome_within : PlainProgram → Bounds → Outcome
-outcome_within p b = (run_with p (budget_within b 1 0) []).outcome
+outcome_within p b = (run_with p (budget_within b 1 0) [] []).outcome
 
 -- ## Answers, stage by stage
 
@@ -79,7 +79,7 @@ pub data IsShown (p : PlainProgram) (answer : Answer) : Type 0 where
   -- a limit of derivation is exceeded (M9, M10)
   passing : (limit : Limit) → IsDerived p (Passing limit) → answer ≡ Over limit → IsShown p answer
   -- a certificate is derived, and its text is judged
-  certified : (claims : Claims) (judgement : Judgement) → IsDerived p (Certified claims) → IsWeighed p (certificate_text claims) judgement → answer ≡ judged_answer p claims judgement → IsShown p answer
+  certified : (claims : Claims) (judgement : Judgement) → IsDerived p (Certified claims) → IsWeighed p [] (certificate_text claims) judgement → answer ≡ judged_answer p claims judgement → IsShown p answer
 
 -- what is right to answer, where the sources are gathered so
 pub data IsRight (s : Setting) (answer : Answer) : Type 0 where

@@ -33,7 +33,7 @@ pub record TellsReturn (n : ℕ) (saying : Saying) : Type 0 where
   pub value : ℤ
   pub has : HasProgram (setting_of n) files program
   pub derived : IsDerived program (Certified claims)
-  pub accepted : IsWeighed program (certificate_text claims) (Accepted bounds)
+  pub accepted : IsWeighed program [] (certificate_text claims) (Accepted bounds)
   pub returned : outcome_within program bounds ≡ Returned value
   pub on_out : saying.out ≡ shown_text n claims.total value
   pub on_err : saying.err ≡ []

@@ -1,6 +1,7 @@
 //! What derivation, verification and a run come to, for a program.
 
-ghost use Rattle.std.specs.Prelude.{◌≡◌, IfOk, IsSomeAnd};
+ghost use Rattle.std.specs.Prelude.{◌≡◌, [], IfOk, IsSomeAnd};
+ghost use Rattle.p10_check.specs.Texts.{digests_of};
 ghost use Rattle.p10_core.specs.Views.{plain_program};
 ghost use Rattle.p10_core.specs.WholePrograms.{IsWholeProgram};
 ghost use Rattle.p10_cert.specs.Claims.{claims_of};
@@ -10,7 +11,7 @@ ghost use Rattle.p10_gen_command.specs.private.Deciding.{IsJudged};
 
 use crate::answer::{Answer, Stage};
 use crate::text::certificate_text;
-use p10_base::Bounds;
+use p10_base::{Bounds, Digest, Digests, ListBuf};
 use p10_cert::Cert;
 use p10_core::Program;
 use p10_finder::{FinderFault, Found, derive};
@@ -70,18 +71,30 @@ fn answer_of_certificate(
     ensures { IfOk result (IsJudged (plain_program program.now) (claims_of certificate.now)) }
 {
     let text = certificate_text(alloc, certificate)?;
-    match weigh(alloc, program, &text)? {
+    // The text is of version 1, which keeps no digests.
+    match weigh(alloc, program, &no_digests(alloc), &text)? {
         Judgement::Accepted(bounds) => {
             let outcome = outcome_within(alloc, program, &bounds)?;
             Ok(ended_answer(certificate.total, outcome))
         }
         Judgement::TooLong => Ok(Answer::Fails(Stage::Verifying)),
         Judgement::BadCertificate(_) => Ok(Answer::Fails(Stage::Verifying)),
+        Judgement::Stale { .. } => Ok(Answer::Fails(Stage::Verifying)),
         Judgement::Failing(..) => Ok(Answer::Fails(Stage::Verifying)),
     }
 }
 
-/// How a run of a program within bounds ends, without input. Neither a read nor a write fails.
+/// No digests of functions.
+fn no_digests(alloc: Global) -> Digests
+    ensures { digests_of result ≡ [] }
+{
+    Digests {
+        funcs: ListBuf::of(Vec::new(alloc)),
+        outside: Digest([0; 32]),
+    }
+}
+
+/// How a run of a program within bounds ends, without input and without values of sensors. Neither a read nor a write fails.
 ///
 /// # Errors
 ///
@@ -100,6 +113,7 @@ fn outcome_within(
         alloc,
         program,
         &Budget::within(bounds, 1, 0),
+        Vec::new(alloc),
         &mut input,
         &mut out,
     ) {

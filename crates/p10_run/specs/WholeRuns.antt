@@ -1,5 +1,5 @@
 -- What a whole run over a source and a sink gives, by what `run_of` says of a run in a world (C99 5.1.2.2, 5.1.2.3).
-use Rattle.std.specs.Prelude.{◌≡◌, ℕ, ◌==◌, if◌then◌else◌, Bool, false, List, [], ◌∷◌, ◌++◌, Option}
+use Rattle.std.specs.Prelude.{◌≡◌, ℕ, ◌==◌, if◌then◌else◌, Bool, false, ℤ, List, [], ◌∷◌, ◌++◌, Option}
 use Rattle.std.specs.Io.KnownBytes.{Appends}
 use Rattle.p10_core.specs.Typed.{PlainProgram}
 use Rattle.p10_meaning.specs.declared.world.World.{World}
@@ -15,13 +15,13 @@ use Rattle.p10_run.specs.declared.finished.FinishedRun.{FinishedRun}
 abbrev pub denied_requests : ℕ → List ℕ
 denied_requests number = if number == 0 then [] else number ∷ []
 
--- the world of a run with this input: there are no sensor values
-abbrev pub world_of : List ℕ → ℕ → World
-world_of input denied = record { input = input; denied = denied_requests denied; sensors = [] }
+-- the world of a run with these values of sensors and this input
+abbrev pub world_of : List ℤ → List ℕ → ℕ → World
+world_of sensors input denied = record { input = input; denied = denied_requests denied; sensors = sensors }
 
--- the run of a program with a budget and this input
-abbrev pub run_with : PlainProgram → Budget → List ℕ → Ran
-run_with p b input = run_of p (world_of input b.denied) b.prefix b.turn b.turns
+-- the run of a program with a budget, these values of sensors and this input
+abbrev pub run_with : PlainProgram → Budget → List ℤ → List ℕ → Ran
+run_with p b sensors input = run_of p (world_of sensors input b.denied) b.prefix b.turn b.turns
 
 -- an outcome, as the meaning has it
 abbrev pub outcome_of : RunOutcome → Outcome

@@ -9,7 +9,7 @@ ghost use Rattle.p10_core.specs.Views.{plain_program};
 ghost use Rattle.p10_interp.specs.Resting.{fresh, is_paused};
 ghost use Rattle.p10_interp.specs.Machines.{resting_of};
 ghost use Rattle.p10_run.specs.WholeRuns.{run_with, denied_requests, IsRun, ForEachInput};
-ghost use Rattle.p10_run.specs.private.Standing.{new_machine, outcome_after, Stands, GivenUp};
+ghost use Rattle.p10_run.specs.private.Standing.{new_machine, run_from, outcome_after, Stands, GivenUp};
 
 use crate::budget::Budget;
 use crate::finished::{FinishedRun, RunOutcome};
@@ -21,8 +21,9 @@ use p10_world::{Sink, Source};
 use std::alloc::{AllocError, Global};
 
 /// Runs a whole program: `main` with `budget.prefix` steps, up to its task loop where it has one, and then at most
-/// `budget.turns` turns of that loop, each with `budget.turn` steps. What the program reads is taken from `input`, and what it
-/// writes is put into `out`, before the answer all of it. Where the budget has bounds, room for them is made before.
+/// `budget.turns` turns of that loop, each with `budget.turn` steps. The program's sensors give the values `sensors`, one after
+/// the other, and then 0. What the program reads is taken from `input`, and what it writes is put into `out`, before the answer
+/// all of it. Where the budget has bounds, room for them is made before.
 ///
 /// # Errors
 ///
@@ -32,6 +33,7 @@ pub fn run<'p, I: Source, O: Sink>(
     alloc: Global,
     p: &'p Program<'p>,
     budget: &Budget,
+    sensors: Vec<i128>,
     input: &mut I,
     out: &mut O,
 ) -> Result<FinishedRun, RunFault>
@@ -40,12 +42,12 @@ pub fn run<'p, I: Source, O: Sink>(
 
     // Where the source tells its bytes, they are the input of the run; in any case what holds, holds for each input that it may
     // have held.
-    ensures told { IfOk result (λ done. IfSome (I.left input.old) (λ bytes. IsRun done (O.taken out.old) (O.taken out.new) (run_with (plain_program p.now) budget.now bytes))) }
-    ensures run { IfOk result (λ done. ForEachInput (I.left input.old) (I.left input.new) (λ bytes. IsRun done (O.taken out.old) (O.taken out.new) (run_with (plain_program p.now) budget.now bytes))) }
+    ensures told { IfOk result (λ done. IfSome (I.left input.old) (λ bytes. IsRun done (O.taken out.old) (O.taken out.new) (run_with (plain_program p.now) budget.now sensors.items bytes))) }
+    ensures run { IfOk result (λ done. ForEachInput (I.left input.old) (I.left input.new) (λ bytes. IsRun done (O.taken out.old) (O.taken out.new) (run_with (plain_program p.now) budget.now sensors.items bytes))) }
 
     // The same for a run that was given up.
-    ensures told_prefix { OnErr result (IfSome (I.left input.old) (λ bytes. TakesFront (O.taken out.old) (O.taken out.new) (run_with (plain_program p.now) budget.now bytes).output)) }
-    ensures prefix { OnErr result (ForEachInput (I.left input.old) (I.left input.new) (λ bytes. TakesFront (O.taken out.old) (O.taken out.new) (run_with (plain_program p.now) budget.now bytes).output)) }
+    ensures told_prefix { OnErr result (IfSome (I.left input.old) (λ bytes. TakesFront (O.taken out.old) (O.taken out.new) (run_with (plain_program p.now) budget.now sensors.items bytes).output)) }
+    ensures prefix { OnErr result (ForEachInput (I.left input.old) (I.left input.new) (λ bytes. TakesFront (O.taken out.old) (O.taken out.new) (run_with (plain_program p.now) budget.now sensors.items bytes).output)) }
 
     ensures read { IsErrOf result RunFault.Read → Rose (I.faults input.old) (I.faults input.new) }
     ensures write { IsErrOf result RunFault.Write → Rose (O.faults out.old) (O.faults out.new) }
@@ -53,7 +55,7 @@ pub fn run<'p, I: Source, O: Sink>(
     ensures sink { O.faults out.old ≤ O.faults out.new }
 {
     match denied_requests(alloc, budget.denied) {
-        Ok(denied) => match machine_for(alloc, p, denied, budget.room) {
+        Ok(denied) => match machine_for(alloc, p, denied, sensors, budget.room) {
             Ok(mut machine) => run_on(&mut machine, budget, input, out),
             Err(_) => Err(RunFault::Memory),
         },
@@ -72,18 +74,21 @@ fn denied_requests(alloc: Global, number: u64) -> Result<Vec<u64>, AllocError>
     Ok(denied)
 }
 
-/// A machine that has run nothing yet, with room for a run that stays within bounds, where there are some.
+/// A machine that has run nothing yet, whose sensors give these values, with room for a run that stays within bounds, where
+/// there are some.
 fn machine_for<'p>(
     alloc: Global,
     p: &'p Program<'p>,
     denied: Vec<u64>,
+    sensors: Vec<i128>,
     room: Option<Bounds>,
 ) -> Result<Machine<'p>, AllocError>
     requires whole { IsWholeProgram (plain_program p.now) }
-    ensures { IfOk result (λ machine. resting_of machine ≡ new_machine (plain_program p.now) denied.items) }
+    ensures { IfOk result (λ machine. resting_of machine ≡ new_machine (plain_program p.now) denied.items sensors.items) }
 {
     let mut machine = Machine::new(alloc, p, denied)?;
     make_room(&mut machine, room)?;
+    machine.sense(sensors);
     Ok(machine)
 }
 
@@ -104,10 +109,10 @@ fn run_on<I: Source, O: Sink>(
     input: &mut I,
     out: &mut O,
 ) -> Result<FinishedRun, RunFault>
-    requires fresh { resting_of machine.old ≡ new_machine (resting_of machine.old).program (denied_requests budget.now.denied) }
+    requires fresh { resting_of machine.old ≡ new_machine (resting_of machine.old).program (denied_requests budget.now.denied) (resting_of machine.old).state.sensors }
     requires turns { budget.now.turns ≤ 10 ^ 18 }
-    ensures run { IfOk result (λ done. ForEachInput (I.left input.old) (I.left input.new) (λ bytes. IsRun done (O.taken out.old) (O.taken out.new) (run_with (resting_of machine.old).program budget.now bytes))) }
-    ensures given_up { OnErr result (GivenUp (resting_of machine.old).program budget.now (I.left input.old) (I.left input.new) (O.taken out.old) (O.taken out.new)) }
+    ensures run { IfOk result (λ done. ForEachInput (I.left input.old) (I.left input.new) (λ bytes. IsRun done (O.taken out.old) (O.taken out.new) (run_from (resting_of machine.old) budget.now bytes))) }
+    ensures given_up { OnErr result (GivenUp (resting_of machine.old).program budget.now (resting_of machine.old).state.sensors (I.left input.old) (I.left input.new) (O.taken out.old) (O.taken out.new)) }
     ensures read { IsErrOf result RunFault.Read → Rose (I.faults input.old) (I.faults input.new) }
     ensures write { IsErrOf result RunFault.Write → Rose (O.faults out.old) (O.faults out.new) }
     ensures source { I.faults input.old ≤ I.faults input.new }

@@ -31,5 +31,5 @@ IsRightFor g answer = (s : Setting) → Gathers s g → IsRight s answer
 -- the answer is that of how the text of these claims is judged for a program
 pub record IsJudged (p : PlainProgram) (claims : Claims) (answer : Answer) : Type 0 where
   pub judgement : Judgement
-  pub weighed : IsWeighed p (certificate_text claims) judgement
+  pub weighed : IsWeighed p [] (certificate_text claims) judgement
   pub is : answer ≡ judged_answer p claims judgement

@@ -1,5 +1,5 @@
 -- How far a whole run has come between two calls of its machine.
-use Rattle.std.specs.Prelude.{◌≡◌, ℕ, ◌+◌, ◌⊎◌, false, List, [], ◌++◌, Option}
+use Rattle.std.specs.Prelude.{◌≡◌, ℕ, ◌+◌, ◌⊎◌, false, ℤ, List, [], ◌++◌, Option}
 use Rattle.std.specs.Io.KnownBytes.{Appends}
 use Rattle.p10_world.specs.Sink.{TakesFront}
 use Rattle.p10_core.specs.Typed.{PlainProgram}
@@ -17,14 +17,18 @@ use Rattle.p10_run.specs.declared.finished.RunOutcome.TheVariants.{Returned as H
 use Rattle.p10_run.specs.WholeRuns.{run_with, ForEachInput}
 
 -- a machine that has run nothing yet
-abbrev pub new_machine : PlainProgram → List ℕ → Resting
-new_machine p denied = record {
+abbrev pub new_machine : PlainProgram → List ℕ → List ℤ → Resting
+new_machine p denied sensors = record {
   program = p;
   position = fresh;
-  state = opening p (record { input = []; denied = denied; sensors = [] }) 0;
+  state = opening p (record { input = []; denied = denied; sensors = sensors }) 0;
   ended = false;
   turns = 0;
 }
+
+-- the run of a machine that has run nothing yet, with a budget and this input
+abbrev pub run_from : Resting → Budget → List ℕ → Ran
+run_from m b input = run_with m.program b m.state.sensors input
 
 -- the outcome of a run whose last call of the machine was answered so, after this many turns
 abbrev pub outcome_after : Ended → ℕ → RunOutcome
@@ -46,7 +50,7 @@ pub record IsAt (whole : Ran) (turn : Frame → State → Progress Stage) (budge
 
 -- from the beginning of a run up to here the source gave bytes and the sink took bytes, and whatever the source has left, what
 -- comes of the machine is the whole run
-pub record Stands (p : PlainProgram) (b : Budget) (answer : Ended) (m : Resting) (left left_now taken taken_now : Option (List ℕ)) : Type 0 where
+pub record Stands (p : PlainProgram) (b : Budget) (sensors : List ℤ) (answer : Ended) (m : Resting) (left left_now taken taken_now : Option (List ℕ)) : Type 0 where
   pub given : List ℕ
   pub put : List ℕ
   pub more : ℕ
@@ -56,8 +60,8 @@ pub record Stands (p : PlainProgram) (b : Budget) (answer : Ended) (m : Resting)
   pub source : Asks false m.ended left left_now given
   pub sink : Appends taken taken_now put
   pub comes : (rest : List ℕ) →
-      IsAt (run_with p b (given ++ rest_of m.ended rest)) (turn_stage p b.turn) b.turn more m.turns answer m.position (reached m (rest_of m.ended rest) put)
+      IsAt (run_with p b sensors (given ++ rest_of m.ended rest)) (turn_stage p b.turn) b.turn more m.turns answer m.position (reached m (rest_of m.ended rest) put)
 
 -- a run was given up: what the sink took is a prefix of its output
-abbrev pub GivenUp : PlainProgram → Budget → Option (List ℕ) → Option (List ℕ) → Option (List ℕ) → Option (List ℕ) → Type 0
-GivenUp p b left left_now taken taken_now = ForEachInput left left_now (λ bytes. TakesFront taken taken_now (run_with p b bytes).output)
+abbrev pub GivenUp : PlainProgram → Budget → List ℤ → Option (List ℕ) → Option (List ℕ) → Option (List ℕ) → Option (List ℕ) → Type 0
+GivenUp p b sensors left left_now taken taken_now = ForEachInput left left_now (λ bytes. TakesFront taken taken_now (run_with p b sensors bytes).output)
