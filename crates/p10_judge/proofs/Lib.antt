@@ -1,4 +1,7 @@
 -- The lemmas of this crate, by subject.
+pub mod Keeping
+pub mod Differing
 pub mod Files
-pub mod Weighed
+pub mod Verdicts
 pub mod Once
+pub mod Claimed

@@ -4,6 +4,6 @@ use Rattle.p10_core.specs.Typed.{PlainProgram}
 use Rattle.p10_judge.specs.declared.judgement.Judgement.{Judgement}
 use Rattle.p10_judge.specs.Judging.{IsWeighed}
 
--- bytes come to one thing, for a program
+-- bytes come to one thing, for a program whose functions have these digests
 abbrev pub OneJudgement : Type 0
-OneJudgement = (p : PlainProgram) (bytes : List ℕ) (this that : Judgement) → IsWeighed p bytes this → IsWeighed p bytes that → this ≡ that
+OneJudgement = (p : PlainProgram) (digests : List (List ℕ)) (bytes : List ℕ) (this that : Judgement) → IsWeighed p digests bytes this → IsWeighed p digests bytes that → this ≡ that

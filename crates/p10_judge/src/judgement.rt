@@ -6,8 +6,8 @@ ghost use Rattle.p10_world.specs.Faults.{Rose};
 ghost use Rattle.p10_report.specs.Stops.{StopsWithin};
 ghost use Rattle.p10_judge.specs.Saying.{judgement_line};
 
-use p10_base::{Bounds, Limit, Sources, Span};
-use p10_report::{put_accepted, put_bad_certificate, put_failing, put_limit};
+use p10_base::{Bounds, Digest, Limit, Sources, Span};
+use p10_report::{put_accepted, put_bad_certificate, put_failing, put_limit, put_stale};
 use p10_world::{Sink, SinkFault};
 
 /// What the bytes of a certificate come to for a program, in the order in which it is tried.
@@ -17,6 +17,12 @@ pub enum Judgement {
     TooLong,
     /// The text is no certificate's, from this line on.
     BadCertificate(u64),
+    /// K0: the words of the function at this place have another digest than the certificate keeps.
+    Stale {
+        at: Span,
+        kept: Digest,
+        found: Digest,
+    },
     /// The condition with this number doesn't hold, and it is the first; it is reported at this place.
     Failing(u8, Span),
     /// All conditions hold, and these are the bounds of every run.
@@ -33,6 +39,7 @@ impl Judgement {
         match self {
             Judgement::TooLong => 8,
             Judgement::BadCertificate(_) => 4,
+            Judgement::Stale { .. } => 1,
             Judgement::Failing(..) => 1,
             Judgement::Accepted(_) => 0,
         }
@@ -59,6 +66,7 @@ pub fn put_judgement<O: Sink>(
     match judgement {
         Judgement::TooLong => put_limit(out, Limit::CERTIFICATE_BYTES),
         Judgement::BadCertificate(line) => put_bad_certificate(out, *line),
+        Judgement::Stale { at, kept, found } => put_stale(out, sources, *at, kept, found),
         Judgement::Failing(condition, at) => put_failing(out, sources, *condition, *at),
         Judgement::Accepted(bounds) => put_accepted(out, bounds),
     }

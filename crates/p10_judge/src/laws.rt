@@ -3,7 +3,7 @@
 ghost use Rattle.p10_judge.specs.Laws.{OneJudgement};
 
 use p10_cert::laws::{
-    a_certificate_has_no_wrong_line, a_text_has_one_wrong_line, a_text_tells_its_claims,
+    a_statement_has_no_wrong_line, a_text_has_one_wrong_line_of_both, a_text_tells_its_statement,
 };
 use p10_check::laws::one_verdict;
 
@@ -11,8 +11,8 @@ use p10_check::laws::one_verdict;
 pub fn one_judgement()
     ensures { OneJudgement }
 {
-    a_text_tells_its_claims();
-    a_text_has_one_wrong_line();
-    a_certificate_has_no_wrong_line();
+    a_text_tells_its_statement();
+    a_text_has_one_wrong_line_of_both();
+    a_statement_has_no_wrong_line();
     one_verdict();
 }

@@ -6,8 +6,8 @@ ghost use Rattle.p10_world.specs.Files.{Lacks};
 ghost use Rattle.p10_judge.specs.Loading.{IsLoaded};
 
 use p10_base::Limit;
-use p10_command::Trouble;
-use p10_world::{FileFault, Files};
+use p10_command::{Trouble, load};
+use p10_world::Files;
 use std::alloc::Global;
 
 /// The bytes of a certificate's file: all of it where it is within the limit M10, else its first bytes, one more than the
@@ -27,11 +27,5 @@ pub fn load_certificate<F: Files>(
     ensures count { F.faults files.old ≤ F.faults files.new }
     ensures held { F.held files.new ≡ F.held files.old }
 {
-    let mut bytes = Vec::new(alloc);
-    match files.read(alloc, name, Limit::MOST_CERTIFICATE_BYTES + 1, &mut bytes) {
-        Ok(()) => Ok(Some(bytes)),
-        Err(FileFault::Absent) => Ok(None),
-        Err(FileFault::Failed) => Err(Trouble::Read),
-        Err(FileFault::Memory) => Err(Trouble::Memory),
-    }
+    load(alloc, files, name, Limit::MOST_CERTIFICATE_BYTES)
 }

@@ -1,20 +1,22 @@
 //! What the bytes of a certificate come to, for a program.
 
-ghost use Rattle.std.specs.Prelude.{◌≡◌, IfOk};
+ghost use Rattle.std.specs.Prelude.{◌≡◌, ◌≤◌, ◌<◌, true, false, length, IfOk};
 ghost use Rattle.p10_core.specs.Views.{plain_program};
 ghost use Rattle.p10_core.specs.WholePrograms.{IsWholeProgram};
-ghost use Rattle.p10_cert.specs.Claims.{claims_of};
+ghost use Rattle.p10_check.specs.Texts.{digests_of};
 ghost use Rattle.p10_judge.specs.Judging.{IsWeighed};
-ghost use Rattle.p10_judge.specs.private.Weighing.{judgement_by, IsTried};
+ghost use Rattle.p10_judge.specs.Loading.{certificate_limit};
+ghost use Rattle.p10_judge.specs.private.Weighing.{judgement_on};
 
 use crate::judgement::Judgement;
-use p10_cert::{Cert, CertFault};
-use p10_check::{Verdict, check};
+use p10_base::{Digests, Limit};
+use p10_check::{TextVerdict, check_text};
 use p10_core::Program;
 use p10_evidence::RangeEvidence;
 use std::alloc::{AllocError, Global};
 
-/// What the bytes of a certificate come to, for a program. Of a file that is over the limit, the first bytes are enough.
+/// What the bytes of a certificate come to, for a program whose functions have these digests. Of a file that is over the limit, the
+/// first bytes are enough.
 ///
 /// # Errors
 ///
@@ -22,44 +24,35 @@ use std::alloc::{AllocError, Global};
 pub fn weigh(
     alloc: Global,
     program: &Program<'_>,
+    digests: &Digests,
     certificate: &[u8],
 ) -> Result<Judgement, AllocError>
     requires { IsWholeProgram (plain_program program.now) }
-    ensures { IfOk result (IsWeighed (plain_program program.now) certificate.now) }
+    ensures { IfOk result (IsWeighed (plain_program program.now) (digests_of digests.now) certificate.now) }
 {
-    match p10_cert::read(alloc, certificate) {
-        Ok(claims) => try_conditions(alloc, program, &claims),
-        Err(fault) => match fault {
-            CertFault::Line(line) => Ok(Judgement::BadCertificate(line)),
-            CertFault::Over(_) => Ok(Judgement::TooLong),
-            CertFault::Memory => Err(AllocError),
-        },
+    if is_too_long(certificate) {
+        return Ok(Judgement::TooLong);
     }
+    let verdict = check_text(alloc, program, digests, certificate, &RangeEvidence)?;
+    Ok(judgement_on(verdict))
 }
 
-/// Whether the conditions of a certificate hold of a program.
-///
-/// # Errors
-///
-/// Out of memory.
-fn try_conditions(
-    alloc: Global,
-    program: &Program<'_>,
-    certificate: &Cert,
-) -> Result<Judgement, AllocError>
-    requires { IsWholeProgram (plain_program program.now) }
-    ensures { IfOk result (IsTried (plain_program program.now) (claims_of certificate.now)) }
+/// Whether there are more bytes than a certificate may have.
+pub fn is_too_long(certificate: &[u8]) -> bool
+    ensures yes { result ≡ true → certificate_limit < length certificate.now }
+    ensures no { result ≡ false → length certificate.now ≤ certificate_limit }
 {
-    let verdict = check(alloc, program, certificate, &RangeEvidence)?;
-    Ok(judgement_by(verdict))
+    certificate.len() as u64 > Limit::MOST_CERTIFICATE_BYTES
 }
 
-/// The judgement by a verdict.
-fn judgement_by(verdict: Verdict) -> Judgement
-    ensures { result ≡ judgement_by verdict }
+/// The judgement by the verdict on a text.
+fn judgement_on(verdict: TextVerdict) -> Judgement
+    ensures { result ≡ judgement_on verdict }
 {
     match verdict {
-        Verdict::Accepted(bounds) => Judgement::Accepted(bounds),
-        Verdict::Refused { k, at } => Judgement::Failing(k, at),
+        TextVerdict::BadLine(line) => Judgement::BadCertificate(line),
+        TextVerdict::Accepted(bounds) => Judgement::Accepted(bounds),
+        TextVerdict::Refused { k, at } => Judgement::Failing(k, at),
+        TextVerdict::Stale { at, kept, found } => Judgement::Stale { at, kept, found },
     }
 }

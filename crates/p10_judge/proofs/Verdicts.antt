@@ -1,0 +1,53 @@
+-- What the bytes of a certificate come to, by the verdict on them.
+use Rattle.std.proofs.Common.{◌≡◌, ℕ, ◌≤◌, List, length, Option, Some, None, refl, subst}
+use Rattle.p10_base.specs.declared.digest.Digest.{Digest}
+use Rattle.p10_base.specs.declared.report.Bounds.{Bounds}
+use Rattle.p10_base.specs.declared.span.Span.{Span}
+use Rattle.p10_core.specs.Typed.{PlainProgram}
+use Rattle.p10_cert.specs.Statements.{Statement, IsStatement, statement_text}
+use Rattle.p10_check.specs.declared.verdict.Verdict.{Verdict}
+use Rattle.p10_check.specs.declared.verdict.Verdict.TheVariants as verdicts
+use Rattle.p10_check.specs.declared.verdict.TextVerdict.{TextVerdict}
+use Rattle.p10_check.specs.declared.verdict.TextVerdict.TheVariants as said
+use Rattle.p10_check.specs.Texts.{StaleAt, claims_in, first_stale, text_verdict, JudgesBy, IsTextVerdict}
+use Rattle.p10_turns.specs.Evidence.{stands_by_ranges}
+use Rattle.p10_judge.specs.declared.judgement.Judgement.TheVariants.{Stale}
+use Rattle.p10_judge.specs.Judging.{HasVerdict, IsCertificateOf, IsClaimed, IsWeighed}
+use Rattle.p10_judge.specs.Loading.{certificate_limit}
+use Rattle.p10_judge.specs.private.Weighing.{judgement_on}
+
+-- a verdict on claims is told as it is
+same_accepted : (v : Verdict) (bounds : Bounds) → said.Accepted bounds ≡ text_verdict v → v ≡ verdicts.Accepted bounds
+same_accepted (verdicts.Accepted b) bounds is = cc
+same_accepted (verdicts.Refused k at) bounds is = cc
+
+same_refused : (v : Verdict) (k : ℕ) (at : Span) → said.Refused k at ≡ text_verdict v → v ≡ verdicts.Refused k at
+same_refused (verdicts.Accepted b) k at is = cc
+same_refused (verdicts.Refused l there) k at is = cc
+
+never_stale : (v : Verdict) (at : Span) (kept found : Digest) → said.Stale at kept found ≡ text_verdict v → ⊥
+never_stale (verdicts.Accepted b) at kept found is = cc
+never_stale (verdicts.Refused k there) at kept found is = cc
+
+module _ (p : PlainProgram) (digests : List (List ℕ)) (bytes : List ℕ) (s : Statement) (read : IsCertificateOf bytes s) where
+  accepted : (o : Option StaleAt) (bounds : Bounds) → first_stale 0 s.entries digests ≡ o → JudgesBy (stands_by_ranges p) p (claims_in s) o (said.Accepted bounds) → IsClaimed p digests bytes (verdicts.Accepted bounds)
+  accepted None bounds words (v, right, is) = record { certificate = s; read = read; words = words; has = subst (HasVerdict p (claims_in s)) (same_accepted v bounds is) right }
+  accepted (Some stale) bounds words tells = absurd tells
+
+  refused : (o : Option StaleAt) (k : ℕ) (at : Span) → first_stale 0 s.entries digests ≡ o → JudgesBy (stands_by_ranges p) p (claims_in s) o (said.Refused k at) → IsClaimed p digests bytes (verdicts.Refused k at)
+  refused None k at words (v, right, is) = record { certificate = s; read = read; words = words; has = subst (HasVerdict p (claims_in s)) (same_refused v k at is) right }
+  refused (Some stale) k at words tells = absurd tells
+
+  of_other_words : (o : Option StaleAt) (at : Span) (kept found : Digest) → first_stale 0 s.entries digests ≡ o → JudgesBy (stands_by_ranges p) p (claims_in s) o (said.Stale at kept found) → IsWeighed p digests bytes (Stale at kept found)
+  of_other_words None at kept found words (v, right, is) = absurd (never_stale v at kept found is)
+  of_other_words (Some stale) at kept found words tells =
+      (stale, record { certificate = s; read = read; words = words }, record { place = tells.0; kept_is = tells.1; found_is = tells.2 })
+
+pub weighed : (p : PlainProgram) (digests : List (List ℕ)) (bytes : List ℕ) (verdict : TextVerdict) → length bytes ≤ certificate_limit → IsTextVerdict (stands_by_ranges p) p digests bytes verdict → IsWeighed p digests bytes (judgement_on verdict)
+weighed p digests bytes (said.BadLine line) short wrong = record { short = short; wrong = wrong }
+weighed p digests bytes (said.Accepted bounds) short has =
+    accepted p digests bytes has.statement (record { short = short; text_is = has.exact; is_certificate = has.good }) (first_stale 0 has.statement.entries digests) bounds refl has.is
+weighed p digests bytes (said.Refused k at) short has =
+    refused p digests bytes has.statement (record { short = short; text_is = has.exact; is_certificate = has.good }) (first_stale 0 has.statement.entries digests) k at refl has.is
+weighed p digests bytes (said.Stale at kept found) short has =
+    of_other_words p digests bytes has.statement (record { short = short; text_is = has.exact; is_certificate = has.good }) (first_stale 0 has.statement.entries digests) at kept found refl has.is
