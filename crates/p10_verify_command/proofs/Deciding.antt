@@ -1,5 +1,5 @@
 -- What an answer rests on: gathered sources, and what they and the certificate come to.
-use Rattle.std.proofs.Common.{◌≡◌, ℕ, ◌+◌, ◌≤◌, zero, suc, min, inl, inr, List, [], ◌∷◌, length, length-take, take, ap, sym, ◌∙◌, refl, subst, arith, Option, Result, Err, true}
+use Rattle.std.proofs.Common.{◌≡◌, ℕ, inl, inr, List, subst, arith, Option, Result, Err, true}
 use Rattle.p10_base.specs.declared.report.Bounds.{Bounds}
 use Rattle.p10_base.specs.Gathered.{Gathered}
 use Rattle.p10_base.specs.Words.{Text}
@@ -13,7 +13,9 @@ use Rattle.p10_command.specs.declared.gathering.Ungathered as why
 use Rattle.p10_command.specs.declared.trouble.Trouble as problem
 use Rattle.p10_command.specs.declared.trouble.Trouble.TheVariants.{Read, Memory}
 use Rattle.p10_command.specs.Gathering.{AreGathered}
+use Rattle.p10_front.specs.Digests.{reading_digests}
 use Rattle.p10_command.proofs.Causes.{has_cause}
+use Rattle.p10_command.proofs.Files.{all_of}
 use Rattle.p10_command.proofs.Sources.{all_gathered, not_gathered}
 use Rattle.p10_core.specs.Typed.{PlainProgram}
 use Rattle.p10_clean.specs.declared.flaw.Clean.{Clean as Cleanness}
@@ -37,34 +39,22 @@ decides_ungathered held names roots directories found u g same_roots same_direct
     let stopped = not_gathered held roots names.sources directories names.directories found u g same_roots same_directories same is in
     record { is_right = stopped.0; can_be_told = stopped.1 }
 
--- first bytes that are within the limit are all
-take_all : (n : ℕ) (xs : List ℕ) → length xs ≤ n → take n xs ≡ xs
-take_all zero [] short = refl
-take_all zero (x ∷ xs) short = absurd (omega (arith, short))
-take_all (suc n) [] short = refl
-take_all (suc n) (x ∷ xs) short = ap (λ ys. x ∷ ys) (take_all n xs (omega (arith, short)))
-
-all_of : (limit : ℕ) (whole bytes : List ℕ) → bytes ≡ take (limit + 1) whole → length bytes ≤ limit → bytes ≡ whole
-all_of limit whole bytes front short =
-    let size : length bytes ≡ min (limit + 1) (length whole) = ap length front ∙ length-take (limit + 1) whole in
-    front ∙ take_all (limit + 1) whole (omega (arith, size, short))
-
 tried : (held : Option (List Named)) (names : Names) (g : Gathered) (bytes : List ℕ) (p : PlainProgram) (answer : Answer) (bounds : Bounds) (said : Cleanness) → Gathers (setting_of held names) g → IsLoaded held names.certificate bytes →
-    IsAnswerFor g p bytes names.clean answer → names.clean ≡ true → IsAcceptedAs p bytes bounds said → HasCleanness held names g bounds said
+    (w : IsAnswerFor g p bytes names.clean answer) → names.clean ≡ true → IsAcceptedAs p (reading_digests w.reading).funcs bytes bounds said → HasCleanness held names g bounds said
 tried held names g bytes p answer bounds said gathers loaded w asked accepted = record {
   asked = asked;
   program = p;
   has = record { gathers = gathers; reading = w.reading; read = w.read; whole = w.whole };
   bytes = loaded.whole;
   given = loaded.given;
-  accepted = subst (λ (b : List ℕ). IsAcceptedAs p b bounds said) (all_of certificate_limit loaded.whole bytes loaded.front accepted.claimed.short) accepted;
+  accepted = subst (λ (b : List ℕ). IsAcceptedAs p (reading_digests w.reading).funcs b bounds said) (all_of certificate_limit loaded.whole bytes loaded.front accepted.claimed.read.short) accepted;
 }
 
 weighed_by : (held : Option (List Named)) (names : Names) (g : Gathered) (bytes : List ℕ) (answer : Answer) → Gathers (setting_of held names) g → IsLoaded held names.certificate bytes → AreWeighed g bytes names.clean answer → Decides held names g answer
 weighed_by held names g bytes (Unread u) gathers loaded unread =
     record { is_right = (gathers, given_is_held held names.certificate loaded.whole loaded.given, unread.0); can_be_told = unread.1 }
 weighed_by held names g bytes (Judged j) gathers loaded (p, w) =
-    record { is_right = (p, record { gathers = gathers; reading = w.reading; read = w.read; whole = w.whole }, judged held names.certificate bytes p j loaded w.is.0, w.is.1); can_be_told = tt }
+    record { is_right = (p, record { gathers = gathers; reading = w.reading; read = w.read; whole = w.whole }, judged held names.certificate bytes p (reading_digests w.reading).funcs j loaded w.is.0, w.is.1); can_be_told = tt }
 weighed_by held names g bytes (Unclean c at) gathers loaded (p, w) =
     record { is_right = (w.is.1, tried held names g bytes p (Unclean c at) w.is.1 (No c at) gathers loaded w w.is.0 w.is.2); can_be_told = tt }
 weighed_by held names g bytes (Clean bounds) gathers loaded (p, w) = record { is_right = tried held names g bytes p (Clean bounds) bounds Yes gathers loaded w w.is.0 w.is.1; can_be_told = tt }

@@ -8,12 +8,15 @@ use Rattle.p10_base.specs.Gathered.{Gathered}
 use Rattle.p10_world.specs.Files.{Named}
 use Rattle.p10_core.specs.Typed.{PlainProgram}
 use Rattle.p10_cert.specs.Claims.{Claims}
-use Rattle.p10_cert.specs.Laws.{TextTellsClaims}
+use Rattle.p10_cert.specs.Laws.{TextTellsStatement}
+use Rattle.p10_check.specs.Texts.{claims_in}
 use Rattle.p10_clean.specs.declared.flaw.Clean.{Clean as Cleanness}
 use Rattle.p10_clean.specs.declared.flaw.Clean.TheVariants.{Yes, No}
 use Rattle.p10_clean.specs.Clean.{cleanness}
 use Rattle.p10_expand.specs.Gathering.{Gathers}
+use Rattle.p10_front.specs.Digests.{reading_digests}
 use Rattle.p10_front.specs.Laws.{ReadsOnce}
+use Rattle.p10_front.specs.Readings.{PlainReading}
 use Rattle.p10_command.specs.declared.trouble.Trouble.TheVariants.{Read, Memory}
 use Rattle.p10_command.specs.Programs.{HasProgram}
 use Rattle.p10_command.specs.Saying.{Saying}
@@ -60,13 +63,13 @@ abbrev told : List Named → ℕ → ℕ → Seen
 told files before after = record { held = Some files; faults_before = before; faults_after = after }
 
 -- the certificate of claims that are tried is accepted
-judged_of : (files : List Named) (names : Names) (g : Gathered) (bounds : Bounds) (said : Cleanness) → (tried : HasCleanness (Some files) names g bounds said) → IsJudged (Some files) names.certificate tried.program (Accepted bounds)
+judged_of : (files : List Named) (names : Names) (g : Gathered) (bounds : Bounds) (said : Cleanness) → (tried : HasCleanness (Some files) names g bounds said) → IsJudged (Some files) names.certificate tried.program (reading_digests tried.has.reading).funcs (Accepted bounds)
 judged_of files names g bounds said tried = record { bytes = tried.bytes; given = tried.given; weighed = tried.accepted.claimed }
 
 passes_tried : (files : List Named) (names : Names) (g : Gathered) (bounds : Bounds) (said : Cleanness) (number : ℕ) → HasCleanness (Some files) names g bounds said → Passed names files number
 passes_tried files names g bounds said number tried = record {
   gathered = λ at. (g, tried.has.gathers);
-  certificate = λ at. judged_is_held (Some files) names.certificate tried.program (Accepted bounds) (judged_of files names g bounds said tried);
+  certificate = λ at. judged_is_held (Some files) names.certificate tried.program (reading_digests tried.has.reading).funcs (Accepted bounds) (judged_of files names g bounds said tried);
   program = λ at. (g, tried.program, tried.has);
 }
 
@@ -76,7 +79,7 @@ passes files before after names g AbsentCertificate number (gathers, lacks) earl
 passes files before after names g (Unread u) number (gathers, held, unread) earlier plain = record { gathered = λ at. (g, gathers); certificate = λ at. held; program = never 3 number (omega (arith, earlier)) }
 passes files before after names g (Judged j) number (p, program, judged, enough) earlier plain = record {
   gathered = λ at. (g, program.gathers);
-  certificate = λ at. judged_is_held (Some files) names.certificate p j judged;
+  certificate = λ at. judged_is_held (Some files) names.certificate p (reading_digests program.reading).funcs j judged;
   program = λ at. (g, p, program);
 }
 passes files before after names g (Unclean c at) number (bounds, tried) earlier plain = passes_tried files names g bounds (No c at) number tried
@@ -100,39 +103,49 @@ stops once files before after names g (Trouble trouble) right plain passed earli
 -- ## One answer
 
 -- what is said by judgements of one command's certificate is the same
-same_judgement : ReadsOnce → OneJudgement → (files : List Named) (names : Names) (g h : Gathered) (p q : PlainProgram) (j k : Judgement) → HasProgram (setting_of (Some files) names) g p → HasProgram (setting_of (Some files) names) h q →
-    IsJudged (Some files) names.certificate p j → IsJudged (Some files) names.certificate q k → saying_of names g (Judged j) ≡ saying_of names h (Judged k)
+-- the words have one list of digests
+same_words : ReadsOnce → (files : List Named) (names : Names) (g h : Gathered) (p q : PlainProgram) → (this : HasProgram (setting_of (Some files) names) g p) → (that : HasProgram (setting_of (Some files) names) h q)
+    → (reading_digests this.reading).funcs ≡ (reading_digests that.reading).funcs
+same_words once files names g h p q this that = ap (λ (r : PlainReading). (reading_digests r).funcs) (shared.reading_once once (setting_of (Some files) names) refl g h p q this that)
+
+same_judgement : ReadsOnce → OneJudgement → (files : List Named) (names : Names) (g h : Gathered) (p q : PlainProgram) (j k : Judgement) → (this : HasProgram (setting_of (Some files) names) g p) → (that : HasProgram (setting_of (Some files) names) h q)
+    → IsJudged (Some files) names.certificate p (reading_digests this.reading).funcs j → IsJudged (Some files) names.certificate q (reading_digests that.reading).funcs k → saying_of names g (Judged j) ≡ saying_of names h (Judged k)
 same_judgement once one files names g h p q j k this that judged judged' =
     let same = shared.has_once once (setting_of (Some files) names) refl g h p q this that in
     ap (λ (x : Gathered). saying_of names x (Judged j)) same.sources_are
-    ∙ ap (λ (i : Judgement). saying_of names h (Judged i)) (judged_once one (Some files) refl names.certificate p q j k same.program_is judged judged')
+    ∙ ap (λ (i : Judgement). saying_of names h (Judged i))
+    (judged_once one (Some files) refl names.certificate p q (reading_digests this.reading).funcs (reading_digests that.reading).funcs j k same.program_is (same_words once files names g h p q this that) judged judged')
 
 -- an accepted certificate isn't enough where it is tried, too
-not_enough : ReadsOnce → OneJudgement → (files : List Named) (names : Names) (g h : Gathered) (p : PlainProgram) (j : Judgement) (bounds : Bounds) (said : Cleanness) → HasProgram (setting_of (Some files) names) g p → IsJudged (Some files) names.certificate p j →
-    IsEnough names.clean j → HasCleanness (Some files) names h bounds said → ⊥
+not_enough : ReadsOnce → OneJudgement → (files : List Named) (names : Names) (g h : Gathered) (p : PlainProgram) (j : Judgement) (bounds : Bounds) (said : Cleanness) → (this : HasProgram (setting_of (Some files) names) g p)
+    → IsJudged (Some files) names.certificate p (reading_digests this.reading).funcs j → IsEnough names.clean j → HasCleanness (Some files) names h bounds said → ⊥
 not_enough once one files names g h p j bounds said this judged enough tried =
     let same = shared.has_once once (setting_of (Some files) names) refl g h p tried.program this tried.has in
-    let accepted = judged_once one (Some files) refl names.certificate p tried.program j (Accepted bounds) same.program_is judged (judged_of files names h bounds said tried) in
+    let words = same_words once files names g h p tried.program this tried.has in
+    let accepted =
+    judged_once one (Some files) refl names.certificate p tried.program (reading_digests this.reading).funcs (reading_digests tried.has.reading).funcs j (Accepted bounds) same.program_is words judged (judged_of files names h bounds said tried) in
     let unasked : names.clean ≡ false = subst (IsEnough names.clean) accepted enough in
     let clash = sym unasked ∙ tried.asked in
     cc
 
 -- what is said of claims that are tried is the same
-same_claims : TextTellsClaims → ReadsOnce → OneJudgement → (files : List Named) (names : Names) (g h : Gathered) (bounds bounds' : Bounds) (said said' : Cleanness) → HasCleanness (Some files) names g bounds said → HasCleanness (Some files) names h bounds' said' →
+same_claims : TextTellsStatement → ReadsOnce → OneJudgement → (files : List Named) (names : Names) (g h : Gathered) (bounds bounds' : Bounds) (said said' : Cleanness) → HasCleanness (Some files) names g bounds said → HasCleanness (Some files) names h bounds' said' →
     saying_of names g (cleaned bounds said) ≡ saying_of names h (cleaned bounds' said')
 same_claims tells once one files names g h bounds bounds' said said' this that =
     let same = shared.has_once once (setting_of (Some files) names) refl g h this.program that.program this.has that.has in
-    let text = sym this.accepted.claimed.text_is ∙ same_Some this.bytes that.bytes (sym this.given ∙ that.given) ∙ that.accepted.claimed.text_is in
-    let claims = tells this.accepted.claimed.claims that.accepted.claimed.claims this.accepted.claimed.is_certificate that.accepted.claimed.is_certificate text in
-    let said_are : said ≡ said' = this.accepted.is ∙ (λ i. cleanness (same.program_is i) (claims i)) ∙ sym that.accepted.is in
-    let bounds_are : bounds ≡ bounds' = bounds_in (judged_once one (Some files) refl names.certificate this.program that.program (Accepted bounds) (Accepted bounds') same.program_is (judged_of files names g bounds said this) (judged_of files names h bounds' said' that)) in
+    let words = same_words once files names g h this.program that.program this.has that.has in
+    let text = sym this.accepted.claimed.read.text_is ∙ same_Some this.bytes that.bytes (sym this.given ∙ that.given) ∙ that.accepted.claimed.read.text_is in
+    let certificates = tells this.accepted.claimed.certificate that.accepted.claimed.certificate this.accepted.claimed.read.is_certificate that.accepted.claimed.read.is_certificate text in
+    let said_are : said ≡ said' = this.accepted.is ∙ (λ i. cleanness (same.program_is i) (claims_in (certificates i))) ∙ sym that.accepted.is in
+    let bounds_are : bounds ≡ bounds' = bounds_in (judged_once one (Some files) refl names.certificate this.program that.program (reading_digests this.has.reading).funcs (reading_digests that.has.reading).funcs (Accepted bounds) (Accepted bounds') same.program_is words
+    (judged_of files names g bounds said this) (judged_of files names h bounds' said' that)) in
     λ i. saying_of names (same.sources_are i) (cleaned (bounds_are i) (said_are i))
   where
     bounds_in : (Accepted bounds ≡ Accepted bounds') → bounds ≡ bounds'
     bounds_in e = cc
 
 -- two answers at one place say the same
-same_place : TextTellsClaims → ReadsOnce → OneJudgement → (files : List Named) (before after : ℕ) (names : Names) (g h : Gathered) (a b : Answer) → IsRight (told files before after) names g a → IsRight (told files before after) names h b → number_of a ≡ number_of b → number_of a ≤ 4 → saying_of names g a ≡ saying_of names h b
+same_place : TextTellsStatement → ReadsOnce → OneJudgement → (files : List Named) (before after : ℕ) (names : Names) (g h : Gathered) (a b : Answer) → IsRight (told files before after) names g a → IsRight (told files before after) names h b → number_of a ≡ number_of b → number_of a ≤ 4 → saying_of names g a ≡ saying_of names h b
 same_place tells once one files before after names g h (Ungathered u) (Ungathered v) right right' same plain =
     shared.one_ungathered (setting_of (Some files) names) refl names.sources g h u v right right'
 same_place tells once one files before after names g h AbsentCertificate AbsentCertificate right right' same plain = refl
@@ -155,7 +168,7 @@ same_place tells once one files before after names g h (Unclean c at) _ right ri
 same_place tells once one files before after names g h (Clean bounds) _ right right' same plain = absurd (omega (arith, same))
 same_place tells once one files before after names g h (Trouble trouble) _ right right' same plain = absurd (omega (arith, plain))
 
-one_answer : TextTellsClaims → ReadsOnce → OneJudgement → (files : List Named) (before after : ℕ) (names : Names) (g h : Gathered) (a b : Answer) → IsRight (told files before after) names g a → IsRight (told files before after) names h b → number_of a ≤ 4 → number_of b ≤ 4 → saying_of names g a ≡ saying_of names h b
+one_answer : TextTellsStatement → ReadsOnce → OneJudgement → (files : List Named) (before after : ℕ) (names : Names) (g h : Gathered) (a b : Answer) → IsRight (told files before after) names g a → IsRight (told files before after) names h b → number_of a ≤ 4 → number_of b ≤ 4 → saying_of names g a ≡ saying_of names h b
 one_answer tells once one files before after names g h a b right right' plain plain' =
     elim (cases_order (number_of a) (number_of b)) [
       | inl same ↦ same_place tells once one files before after names g h a b right right' same plain
@@ -176,7 +189,7 @@ plain_answer (Clean bounds) five seven = omega arith
 plain_answer (Trouble Read) five seven = absurd (five refl)
 plain_answer (Trouble Memory) five seven = absurd (seven refl)
 
-pub says_right : TextTellsClaims → ReadsOnce → OneJudgement → (files : List Named) (before after : ℕ) (names : Names) (some other : Saying) → SaysRight names (told files before after) some → SaysRight names (told files before after) other → some.status ≢ 5 → some.status ≢ 7 → other.status ≢ 5 → other.status ≢ 7 → some ≡ other
+pub says_right : TextTellsStatement → ReadsOnce → OneJudgement → (files : List Named) (before after : ℕ) (names : Names) (some other : Saying) → SaysRight names (told files before after) some → SaysRight names (told files before after) other → some.status ≢ 5 → some.status ≢ 7 → other.status ≢ 5 → other.status ≢ 7 → some ≡ other
 says_right tells once one files before after names some other s o five seven five' seven' =
     let plain = plain_answer s.answer (λ is. five (ap (λ (y : Saying). y.status) s.said ∙ is)) (λ is. seven (ap (λ (y : Saying). y.status) s.said ∙ is)) in
     let plain' = plain_answer o.answer (λ is. five' (ap (λ (y : Saying). y.status) o.said ∙ is)) (λ is. seven' (ap (λ (y : Saying). y.status) o.said ∙ is)) in

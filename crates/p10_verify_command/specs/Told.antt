@@ -6,7 +6,7 @@ use Rattle.p10_report.specs.Messages.{absent_line}
 use Rattle.p10_command.specs.Saying.{Saying, ungathered_line, ungathered_status, unread_line, unread_status, trouble_line, trouble_status}
 use Rattle.p10_command.specs.Seen.{Seen}
 use Rattle.p10_judge.specs.declared.judgement.Judgement.{Judgement}
-use Rattle.p10_judge.specs.declared.judgement.Judgement.TheVariants.{TooLong, BadCertificate, Failing, Accepted}
+use Rattle.p10_judge.specs.declared.judgement.Judgement.TheVariants.{TooLong, BadCertificate, Stale, Failing, Accepted}
 use Rattle.p10_judge.specs.Saying.{judgement_line, judgement_status}
 use Rattle.p10_verify_command.specs.declared.answer.Answer.{Answer}
 use Rattle.p10_verify_command.specs.declared.answer.Answer.TheVariants.{Ungathered, AbsentCertificate, Unread, Judged, Unclean, Clean, Trouble}
@@ -27,6 +27,7 @@ status_of (Trouble trouble) = trouble_status trouble
 abbrev pub verdict_text : Gathered → Judgement → List ℕ
 verdict_text sources TooLong = []
 verdict_text sources (BadCertificate line) = []
+verdict_text sources (Stale at kept found) = judgement_line sources (Stale at kept found)
 verdict_text sources (Failing k at) = judgement_line sources (Failing k at)
 verdict_text sources (Accepted bounds) = judgement_line sources (Accepted bounds)
 
@@ -34,6 +35,7 @@ verdict_text sources (Accepted bounds) = judgement_line sources (Accepted bounds
 abbrev pub fault_text : Gathered → Judgement → List ℕ
 fault_text sources TooLong = judgement_line sources TooLong
 fault_text sources (BadCertificate line) = judgement_line sources (BadCertificate line)
+fault_text sources (Stale at kept found) = []
 fault_text sources (Failing k at) = []
 fault_text sources (Accepted bounds) = []
 

@@ -1,24 +1,26 @@
 //! The answer to `verify`, in the order of answers.
 
-ghost use Rattle.std.specs.Prelude.{◌≡◌, ◌≤◌, length, true, IfOk, IsErrOf, IsSomeAnd};
+ghost use Rattle.std.specs.Prelude.{◌≡◌, ◌≤◌, ℕ, List, length, true, IfOk, IsErrOf, IsSomeAnd};
 ghost use Rattle.p10_core.specs.Views.{plain_program};
 ghost use Rattle.p10_core.specs.WholePrograms.{IsWholeProgram};
 ghost use Rattle.p10_expand.specs.Gathering.{HaveWords};
-ghost use Rattle.p10_check.specs.declared.verdict.Verdict.TheVariants as verdicts;
-ghost use Rattle.p10_judge.specs.Judging.{IsClaimed};
+ghost use Rattle.p10_cert.specs.Claims.{claims_of};
+ghost use Rattle.p10_check.specs.Texts.{digests_of};
+ghost use Rattle.p10_front.specs.Answers.{reading_of};
+ghost use Rattle.p10_judge.specs.Whole.{IsAcceptedText};
 ghost use Rattle.p10_world.specs.Faults.{Rose};
 ghost use Rattle.p10_verify_command.specs.Names.{names_of};
-ghost use Rattle.p10_verify_command.specs.private.Deciding.{AreWeighed, Decides, ComesTo, cleaned};
+ghost use Rattle.p10_verify_command.specs.private.Deciding.{AreWeighed, Decides, ComesFrom, ComesTo, cleaned};
 
 use crate::answer::Answer;
 use crate::command::VerifyCommand;
-use p10_base::{Bounds, Sources};
-use p10_cert::laws::a_text_tells_its_claims;
+use p10_base::{Bounds, Digests, Sources};
+use p10_cert::Cert;
 use p10_clean::{Clean, clean};
 use p10_command::{GatheredRoots, ReadSources, Trouble, gather_roots, read_sources, release};
 use p10_core::Program;
-use p10_front::Reading;
-use p10_judge::{Judgement, load_certificate, weigh};
+use p10_front::{Reading, digests};
+use p10_judge::{Weighed, load_certificate, weigh, weigh_whole};
 use p10_world::Files;
 use std::alloc::{AllocError, Global};
 
@@ -99,59 +101,67 @@ fn weigh_reading(
     clean: bool,
 ) -> Result<Answer, AllocError>
     requires { IsSomeAnd reading.now.program (λ p. IsWholeProgram (plain_program p)) }
-    ensures { IfOk result (λ answer. IsSomeAnd reading.now.program (λ p. ComesTo (plain_program p) certificate.now clean answer)) }
+    ensures { IfOk result (λ answer. IsSomeAnd reading.now.program (λ p. ComesFrom (reading_of reading.now) (plain_program p) certificate.now clean answer)) }
 {
+    let found = digests(alloc, reading)?;
     match &reading.program {
-        Some(program) => weigh_program(alloc, program, certificate, clean),
+        Some(program) => weigh_program(alloc, program, &found, certificate, clean),
         None => unreachable!(),
     }
 }
 
-/// What the bytes of a certificate come to, for a program.
+/// What the bytes of a certificate come to, for a program whose functions have these digests.
 ///
 /// # Errors
 /// Out of memory.
 fn weigh_program(
     alloc: Global,
     program: &Program<'_>,
+    found: &Digests,
     certificate: &[u8],
     clean: bool,
 ) -> Result<Answer, AllocError>
     requires { IsWholeProgram (plain_program program.now) }
-    ensures { IfOk result (ComesTo (plain_program program.now) certificate.now clean) }
+    ensures { IfOk result (ComesTo (plain_program program.now) (digests_of found.now) certificate.now clean) }
 {
-    match weigh(alloc, program, certificate)? {
-        Judgement::Accepted(bounds) => {
-            if clean {
-                try_claims(alloc, program, certificate, bounds)
-            } else {
-                Ok(Answer::Judged(Judgement::Accepted(bounds)))
-            }
-        }
-        judgement => Ok(Answer::Judged(judgement)),
+    if clean {
+        return weigh_clean(alloc, program, found, certificate);
     }
+    let judgement = weigh(alloc, program, found, certificate)?;
+    Ok(Answer::Judged(judgement))
 }
 
-/// Whether a certificate is clean, whose bytes are accepted for a program with these bounds.
+/// The same of a certificate that has to be clean.
 ///
 /// # Errors
 /// Out of memory.
-fn try_claims(
+fn weigh_clean(
     alloc: Global,
     program: &Program<'_>,
+    found: &Digests,
     certificate: &[u8],
-    bounds: Bounds,
 ) -> Result<Answer, AllocError>
-    requires { IsClaimed (plain_program program.now) certificate.now (verdicts.Accepted bounds) }
-    ensures { IfOk result (ComesTo (plain_program program.now) certificate.now true) }
+    requires { IsWholeProgram (plain_program program.now) }
+    ensures { IfOk result (ComesTo (plain_program program.now) (digests_of found.now) certificate.now true) }
 {
-    // The claims that are read are those that were accepted, as a text determines its claims.
-    a_text_tells_its_claims();
-    match p10_cert::read(alloc, certificate) {
-        Ok(claims) => Ok(cleaned(bounds, clean(alloc, program, &claims)?)),
-        // Bytes that are accepted are a certificate's, so only memory can be out.
-        Err(_) => Err(AllocError),
+    match weigh_whole(alloc, program, found, certificate)? {
+        Weighed::Accepted(claims) => {
+            let answer = try_claims(alloc, program, &claims)?;
+            Ok(answer)
+        }
+        Weighed::Refused(judgement) => Ok(Answer::Judged(judgement)),
     }
+}
+
+/// Whether a certificate that is accepted for a program is clean, by its claims.
+///
+/// # Errors
+/// Out of memory.
+fn try_claims(alloc: Global, program: &Program<'_>, claims: &Cert) -> Result<Answer, AllocError>
+    ensures { IfOk result (λ answer. (digests : List (List ℕ)) (bytes : List ℕ) → IsAcceptedText (plain_program program.now) digests bytes (claims_of claims.now) → ComesTo (plain_program program.now) digests bytes true answer) }
+{
+    let said = clean(alloc, program, claims)?;
+    Ok(cleaned(claims.total, said))
 }
 
 /// The answer by what is said of an accepted certificate.

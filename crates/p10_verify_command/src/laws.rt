@@ -2,7 +2,7 @@
 
 ghost use Rattle.p10_verify_command.specs.Laws.{VerifySaysOneThing};
 
-use p10_cert::laws::a_text_tells_its_claims;
+use p10_cert::laws::a_text_tells_its_statement;
 use p10_front::laws::one_reading;
 use p10_judge::laws::one_judgement;
 
@@ -11,6 +11,6 @@ pub fn one_answer_is_right()
     ensures { VerifySaysOneThing }
 {
     one_reading();
-    a_text_tells_its_claims();
+    a_text_tells_its_statement();
     one_judgement();
 }

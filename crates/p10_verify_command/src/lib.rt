@@ -8,7 +8,7 @@
 //!
 //! Entry point: [`verify`]. The sources are gathered, the certificate is loaded, the sources are read as a program, and the
 //! certificate is judged for it; the first of these that gives no program, no certificate or no bounds is what is reported. With
-//! `--clean`, an accepted certificate is read once more, and its claims are tried for that. Invariant: the status and both texts are
+//! `--clean`, the claims of an accepted certificate are tried for that, too. Invariant: the status and both texts are
 //! those of a right answer, and where the files are told at most one is right, unless a read fails or memory runs out. Which words
 //! are this command is left to the crate above.
 #![tactic(auto)]

@@ -63,6 +63,7 @@ fn tell_judgement<O: Sink, E: Sink>(
     match judgement {
         Judgement::TooLong => put_judgement(err, sources, judgement),
         Judgement::BadCertificate(_) => put_judgement(err, sources, judgement),
+        Judgement::Stale { .. } => put_judgement(out, sources, judgement),
         Judgement::Failing(..) => put_judgement(out, sources, judgement),
         Judgement::Accepted(_) => put_judgement(out, sources, judgement),
     }

@@ -4,6 +4,7 @@ use Rattle.p10_base.specs.Gathered.{Gathered}
 use Rattle.p10_world.specs.Files.{Named}
 use Rattle.p10_core.specs.Typed.{PlainProgram}
 use Rattle.p10_core.specs.WholePrograms.{IsWholeProgram}
+use Rattle.p10_front.specs.Digests.{reading_digests}
 use Rattle.p10_front.specs.Readings.{PlainReading, AreReadAs}
 use Rattle.p10_command.specs.Gathering as gathering
 use Rattle.p10_command.specs.Reading.{AreUnread, HasCode}
@@ -41,19 +42,23 @@ abbrev pub cleaned : Bounds → Cleanness → Answer
 cleaned bounds Yes = Clean bounds
 cleaned bounds (No c at) = Unclean c at
 
--- what the bytes of a certificate come to for a program, where it has to be clean or need not
-abbrev pub ComesTo : PlainProgram → List ℕ → Bool → Answer → Type 0
-ComesTo p bytes clean (Judged judgement) = IsWeighed p bytes judgement × IsEnough clean judgement
-ComesTo p bytes clean (Unclean c at) = (clean ≡ true) × (bounds : Bounds) × IsAcceptedAs p bytes bounds (No c at)
-ComesTo p bytes clean (Clean bounds) = (clean ≡ true) × IsAcceptedAs p bytes bounds Yes
-ComesTo p bytes clean answer = ⊥
+-- what the bytes of a certificate come to for a program whose functions have these digests, where it has to be clean or need not
+abbrev pub ComesTo : PlainProgram → List (List ℕ) → List ℕ → Bool → Answer → Type 0
+ComesTo p digests bytes clean (Judged judgement) = IsWeighed p digests bytes judgement × IsEnough clean judgement
+ComesTo p digests bytes clean (Unclean c at) = (clean ≡ true) × (bounds : Bounds) × IsAcceptedAs p digests bytes bounds (No c at)
+ComesTo p digests bytes clean (Clean bounds) = (clean ≡ true) × IsAcceptedAs p digests bytes bounds Yes
+ComesTo p digests bytes clean answer = ⊥
+
+-- what they come to for the program of a reading
+abbrev pub ComesFrom : PlainReading → PlainProgram → List ℕ → Bool → Answer → Type 0
+ComesFrom r p bytes clean answer = ComesTo p (reading_digests r).funcs bytes clean answer
 
 -- gathered sources are read as this whole program, for which the bytes of a certificate come to an answer
 pub record IsAnswerFor (g : Gathered) (p : PlainProgram) (bytes : List ℕ) (clean : Bool) (answer : Answer) : Type 0 where
   pub reading : PlainReading
   pub read : AreReadAs g reading p
   pub whole : IsWholeProgram p
-  pub is : ComesTo p bytes clean answer
+  pub is : ComesFrom reading p bytes clean answer
 
 -- what gathered sources and the bytes of a certificate come to
 abbrev pub AreWeighed : Gathered → List ℕ → Bool → Answer → Type 0
