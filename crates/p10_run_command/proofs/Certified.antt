@@ -1,15 +1,19 @@
 -- A run by a certificate that is accepted never runs out of steps.
-use Rattle.std.proofs.Common.{◌≡◌, ◌≢◌, ℕ, ◌<◌, List, refl, sym, ◌∙◌, subst, arith, Option, Some, None}
+use Rattle.std.proofs.Common.{◌≡◌, ◌≢◌, ℕ, ◌<◌, ℤ, List, [], ◌∷◌, refl, sym, ◌∙◌, subst, arith, Option, Some, None}
 use Rattle.std.specs.List.{All}
-use Rattle.std.proofs.lemmas.List.Elements.{All-nil}
+use Rattle.std.proofs.lemmas.Int.{ints}
+use Rattle.std.proofs.lemmas.List.Elements.{All-nil, All-cons}
 use Rattle.std.proofs.lemmas.Option.{none-some}
 use Rattle.p10_base.specs.declared.report.Bounds.{Bounds}
 use Rattle.p10_base.specs.Words.{Text}
 use Rattle.p10_world.specs.Files.{Named}
 use Rattle.p10_core.specs.Typed.{PlainProgram}
 use Rattle.p10_core.specs.WholePrograms.{IsWholeProgram}
+use Rattle.p10_check.specs.Texts.{claims_in}
+use Rattle.p10_front.specs.Digests.{reading_digests}
 use Rattle.p10_judge.specs.declared.judgement.Judgement.{Judgement}
-use Rattle.p10_judge.specs.declared.judgement.Judgement.TheVariants.{TooLong, BadCertificate, Failing, Accepted}
+use Rattle.p10_judge.specs.declared.judgement.Judgement.TheVariants.{BadCertificate, Stale, Failing, Accepted}
+use Rattle.p10_judge.specs.declared.judgement.Judgement.TheVariants as judgements
 use Rattle.p10_judge.specs.Judging.{IsJudged}
 use Rattle.p10_judge.specs.Saying.{judgement_status}
 use Rattle.p10_meaning.specs.Runs.{Outcome, Returned, Turns, Ended, Within}
@@ -17,6 +21,7 @@ use Rattle.p10_meaning.specs.States.{AssertionFailed, IsSensorValue, IsWorld, St
 use Rattle.p10_run.specs.declared.budget.Budget.{Budget}
 use Rattle.p10_run.specs.Budgets.{budget_within}
 use Rattle.p10_run.specs.WholeRuns.{run_with, world_of}
+use Rattle.p10_sensors.specs.Texts.{AreValues, IsValue}
 use Rattle.p10_soundness.specs.Laws.{CertificatesAcceptedByRangesBoundRuns}
 use Rattle.p10_words.specs.declared.command.Budget as asked
 use Rattle.p10_words.specs.declared.command.Budget.TheVariants.{Certificate}
@@ -24,25 +29,39 @@ use Rattle.p10_command.specs.Saying.{Saying}
 use Rattle.p10_command.specs.Seen.{Seen, SeenInput}
 use Rattle.p10_command.proofs.Statuses.{said_with, trouble_between, ungathered_between, unread_between}
 use Rattle.p10_run_command.specs.declared.command.RunCommand.{RunCommand}
-use Rattle.p10_run_command.specs.Answers.{IsInput, SaysRight, absent, ended, refused, troubled, troubled_run, ungathered, unread}
+use Rattle.p10_run_command.specs.declared.sensors.NoValues.{NoValues}
+use Rattle.p10_run_command.specs.declared.sensors.NoValues.TheVariants.{TooLong, OtherLine}
+use Rattle.p10_run_command.specs.Answers.{IsInput, SaysRight, absent, ended, refused, troubled, troubled_run, ungathered, unread, without_values}
 use Rattle.p10_run_command.specs.Command.{Permits}
 use Rattle.p10_run_command.specs.Endings.{ended_status}
+use Rattle.p10_run_command.specs.Sensors.{HasValues, no_values_status}
 
 -- ## Runs
 
--- the run of an accepted certificate's program with the certificate's steps doesn't spend them
-steps_left : CertificatesAcceptedByRangesBoundRuns → (held : Option (List Named)) (name bytes : List ℕ) (p : PlainProgram) (bounds : Bounds) (b : Budget) (turns denied : ℕ) → IsWholeProgram p → IsJudged held name p (Accepted bounds) → b ≡ budget_within bounds turns denied → All (λ byte. byte < 256) bytes →
-    (run_with p b bytes).outcome ≢ Ended StepsSpent
-steps_left law held name bytes p bounds b turns denied whole judged is are_bytes =
-    let within : Within p bounds = law p whole judged.weighed.claims bounds judged.weighed.has in
-    let world : IsWorld (world_of bytes denied) = record { input = are_bytes; sensors = All-nil IsSensorValue } in
-    subst (λ (c : Budget). (run_with p c bytes).outcome ≢ Ended StepsSpent) (sym is) (within.every (world_of bytes denied) world turns).steps
+-- values of a text are those of sensors
+sensor_value : (z : ℤ) → IsValue z → IsSensorValue z
+sensor_value z is = record { low = is.least; high = omega (arith, ints, is.greatest) }
 
-allowed_leaves : CertificatesAcceptedByRangesBoundRuns → (held : Option (List Named)) (budget : asked.Budget) (name bytes : List ℕ) (p : PlainProgram) (b : Budget) (turns denied : ℕ) → budget ≡ Certificate name → IsWholeProgram p → Permits held budget turns denied p b → All (λ byte. byte < 256) bytes →
-    (run_with p b bytes).outcome ≢ Ended StepsSpent
-allowed_leaves law held budget name bytes p b turns denied is whole allows are_bytes =
-    let may : Permits held (Certificate name) turns denied p b = subst (λ (a : asked.Budget). Permits held a turns denied p b) is allows in
-    steps_left law held name bytes p may.0 b turns denied whole may.1 may.2 are_bytes
+sensor_values : (values : List ℤ) → AreValues values → All IsSensorValue values
+sensor_values [] are = All-nil IsSensorValue
+sensor_values (z ∷ values) are = All-cons IsSensorValue z values (sensor_value z are.0) (sensor_values values are.1)
+
+values_are : (held : Option (List Named)) (sensors : Option Text) (values : List ℤ) → HasValues held sensors values → All IsSensorValue values
+values_are held None values has = subst (All IsSensorValue) (sym has) (All-nil IsSensorValue)
+values_are held (Some name) values (bytes, given, holds) = sensor_values values holds.text.good
+
+-- the run of an accepted certificate's program with the certificate's steps doesn't spend them
+steps_left : CertificatesAcceptedByRangesBoundRuns → (held : Option (List Named)) (name bytes : List ℕ) (values : List ℤ) (digests : List (List ℕ)) (p : PlainProgram) (bounds : Bounds) (b : Budget) (turns denied : ℕ) → IsWholeProgram p → IsJudged held name p digests (Accepted bounds) → b ≡ budget_within bounds turns denied →
+    IsWorld (world_of values bytes denied) → (run_with p b values bytes).outcome ≢ Ended StepsSpent
+steps_left law held name bytes values digests p bounds b turns denied whole judged is world =
+    let within : Within p bounds = law p whole (claims_in judged.weighed.certificate) bounds judged.weighed.has in
+    subst (λ (c : Budget). (run_with p c values bytes).outcome ≢ Ended StepsSpent) (sym is) (within.every (world_of values bytes denied) world turns).steps
+
+allowed_leaves : CertificatesAcceptedByRangesBoundRuns → (held : Option (List Named)) (budget : asked.Budget) (name bytes : List ℕ) (values : List ℤ) (digests : List (List ℕ)) (p : PlainProgram) (b : Budget) (turns denied : ℕ) → budget ≡ Certificate name → IsWholeProgram p → Permits held budget turns denied digests p b →
+    IsWorld (world_of values bytes denied) → (run_with p b values bytes).outcome ≢ Ended StepsSpent
+allowed_leaves law held budget name bytes values digests p b turns denied is whole allows world =
+    let may : Permits held (Certificate name) turns denied digests p b = subst (λ (a : asked.Budget). Permits held a turns denied digests p b) is allows in
+    steps_left law held name bytes values digests p may.0 b turns denied whole may.1 may.2 world
 
 -- the status is 12 only where steps ran out
 spent : (o : Outcome) → ended_status o ≡ 12 → o ≡ Ended StepsSpent
@@ -59,19 +78,27 @@ told_bytes (Some left) told bytes is input = input ∙ (let same : left ≡ told
 -- ## What is said
 
 not_judged : (j : Judgement) → judgement_status j ≢ 12
-not_judged TooLong is = omega (arith, is)
+not_judged judgements.TooLong is = omega (arith, is)
 not_judged (BadCertificate line) is = omega (arith, is)
+not_judged (Stale at kept found) is = omega (arith, is)
 not_judged (Failing k at) is = omega (arith, is)
 not_judged (Accepted bounds) is = omega (arith, is)
+
+not_without_values : (why : NoValues) → no_values_status why ≢ 12
+not_without_values TooLong is = omega (arith, is)
+not_without_values (OtherLine line) is = omega (arith, is)
 
 pub leaves_steps : CertificatesAcceptedByRangesBoundRuns → (run : RunCommand) (name : Text) (seen : Seen) (input : SeenInput) (bytes : List ℕ) (saying : Saying) → run.budget ≡ Certificate name → input.left ≡ Some bytes → All (λ byte. byte < 256) bytes →
     SaysRight run seen input saying → saying.status ≢ 12
 leaves_steps law run name seen input bytes saying is left are_bytes (ungathered g why fails said) twelve = let e = said_with saying _ 12 said twelve in omega (arith, e, (ungathered_between why).most)
-leaves_steps law run name seen input bytes saying is left are_bytes (absent g n gathers asked lacks said) twelve = omega (arith, said_with saying _ 12 said twelve)
+leaves_steps law run name seen input bytes saying is left are_bytes (absent g n gathers lacks said) twelve = omega (arith, said_with saying _ 12 said twelve)
 leaves_steps law run name seen input bytes saying is left are_bytes (unread g why gathers held is_unread said) twelve = let e = said_with saying _ 12 said twelve in omega (arith, e, (unread_between why).most)
-leaves_steps law run name seen input bytes saying is left are_bytes (refused g p n judgement has asked judged refusal said) twelve = not_judged judgement (said_with saying _ 12 said twelve)
-leaves_steps law run name seen input bytes saying is left are_bytes (ended g p b given has allowed is_input said) twelve =
+leaves_steps law run name seen input bytes saying is left are_bytes (refused g p n judgement has held asked judged refusal said) twelve = not_judged judgement (said_with saying _ 12 said twelve)
+leaves_steps law run name seen input bytes saying is left are_bytes (without_values g p b why has allowed lacks said) twelve = not_without_values why (said_with saying _ 12 said twelve)
+leaves_steps law run name seen input bytes saying is left are_bytes (ended g p b values given has allowed recorded is_input said) twelve =
     let are : All (λ byte. byte < 256) given = subst (λ (l : List ℕ). All (λ byte. byte < 256) l) (sym (told_bytes input.left bytes given left is_input)) are_bytes in
-    allowed_leaves law seen.held run.budget name given p b run.turns run.deny is has.whole allowed are (spent (run_with p b given).outcome (said_with saying _ 12 said twelve))
+    let world : IsWorld (world_of values given run.deny) = record { input = are; sensors = values_are seen.held run.sensors values recorded } in
+    allowed_leaves law seen.held run.budget name given values (reading_digests has.reading).funcs p b run.turns run.deny is has.whole allowed world (spent (run_with p b values given).outcome (said_with saying _ 12 said twelve))
 leaves_steps law run name seen input bytes saying is left are_bytes (troubled trouble may said) twelve = let e = said_with saying _ 12 said twelve in omega (arith, e, (trouble_between trouble).most)
-leaves_steps law run name seen input bytes saying is left are_bytes (troubled_run g p b given written trouble has allowed is_input front may said) twelve = let e = said_with saying _ 12 said twelve in omega (arith, e, (trouble_between trouble).most)
+leaves_steps law run name seen input bytes saying is left are_bytes (troubled_run g p b values given written trouble has allowed recorded is_input front may said) twelve =
+    let e = said_with saying _ 12 said twelve in omega (arith, e, (trouble_between trouble).most)

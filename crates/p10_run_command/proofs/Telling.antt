@@ -1,4 +1,4 @@
--- That a certificate is absent.
+-- That a file is absent.
 use Rattle.std.proofs.Common.{◌≡◌, List, subst, Option, None}
 use Rattle.std.specs.Prelude.{IfNone}
 use Rattle.p10_base.specs.Words.{Text}

@@ -1,10 +1,10 @@
 -- What is right to say to the command `run`.
-use Rattle.std.specs.Prelude.{ℕ, ◌≡◌, List, Option, IfSome}
+use Rattle.std.specs.Prelude.{ℕ, ◌≡◌, ℤ, List, Option, IfSome}
 use Rattle.p10_base.specs.Gathered.{Gathered}
 use Rattle.p10_base.specs.Words.{Text}
-use Rattle.p10_world.specs.Files.{Lacks}
 use Rattle.p10_core.specs.Typed.{PlainProgram}
 use Rattle.p10_expand.specs.Gathering.{Setting, Gathers}
+use Rattle.p10_front.specs.Digests.{reading_digests}
 use Rattle.p10_expand.specs.Setting.{setting}
 use Rattle.p10_meaning.specs.Laws.{Extends}
 use Rattle.p10_report.specs.Messages.{absent_line}
@@ -22,11 +22,13 @@ use Rattle.p10_command.specs.Seen.{HasCause, Seen, SeenInput}
 use Rattle.p10_judge.specs.declared.judgement.Judgement.{Judgement}
 use Rattle.p10_judge.specs.declared.judgement.Judgement.TheVariants.{Accepted}
 use Rattle.p10_judge.specs.Judging.{IsJudged}
-use Rattle.p10_judge.specs.Loading.{IsHeld}
 use Rattle.p10_judge.specs.Saying.{judgement_line, judgement_status}
 use Rattle.p10_run_command.specs.declared.command.RunCommand.{RunCommand}
+use Rattle.p10_run_command.specs.declared.sensors.NoValues.{NoValues}
 use Rattle.p10_run_command.specs.Command.{IsPermitted}
 use Rattle.p10_run_command.specs.Endings.{ended_saying}
+use Rattle.p10_run_command.specs.Files.{HasFiles, IsFirstAbsent}
+use Rattle.p10_run_command.specs.Sensors.{HasValues, LacksValues, no_values_saying}
 
 -- the sources of the command are gathered from the files, where they are told
 abbrev pub setting_of : Seen → RunCommand → Setting
@@ -41,7 +43,7 @@ abbrev pub IsRefusal : Judgement → Type 0
 IsRefusal (Accepted bounds) = ⊥
 IsRefusal judgement = Unit {0}
 
--- what is said where the certificate is absent
+-- what is said where a file that the command names is absent
 abbrev pub absent_saying : Text → Saying
 absent_saying name = line_saying 9 (absent_line name)
 
@@ -57,19 +59,23 @@ troubled_saying trouble out = record { status = trouble_status trouble; out = ou
 pub data SaysRight (run : RunCommand) (seen : Seen) (input : SeenInput) (saying : Saying) : Type 0 where
   -- the sources aren't gathered
   ungathered : (g : Gathered) (why : Ungathered) → AreUngathered (setting_of seen run) g why → saying ≡ ungathered_saying run.sources g why → SaysRight run seen input saying
-  -- the sources are gathered, but there is no file with the certificate's name
-  absent : (g : Gathered) (name : Text) → Gathers (setting_of seen run) g → run.budget ≡ Certificate name → Lacks seen.held name → saying ≡ absent_saying name → SaysRight run seen input saying
-  -- the sources are gathered and the certificate, if there is to be one, is there; but the sources are no program
-  unread : (g : Gathered) (why : Unread) → Gathers (setting_of seen run) g → ((name : Text) → run.budget ≡ Certificate name → IsHeld seen.held name) → AreUnread g why → saying ≡ unread_saying g why → SaysRight run seen input saying
+  -- the sources are gathered, but another file that the command names isn't there
+  absent : (g : Gathered) (name : Text) → Gathers (setting_of seen run) g → IsFirstAbsent seen.held run name → saying ≡ absent_saying name → SaysRight run seen input saying
+  -- the sources are gathered and the other files are there, but the sources are no program
+  unread : (g : Gathered) (why : Unread) → Gathers (setting_of seen run) g → HasFiles seen.held run → AreUnread g why → saying ≡ unread_saying g why → SaysRight run seen input saying
   -- there is a program, but the certificate isn't accepted for it
-  refused : (g : Gathered) (p : PlainProgram) (name : Text) (judgement : Judgement) → HasProgram (setting_of seen run) g p → run.budget ≡ Certificate name → IsJudged seen.held name p judgement → IsRefusal judgement →
+  refused : (g : Gathered) (p : PlainProgram) (name : Text) (judgement : Judgement) → (has : HasProgram (setting_of seen run) g p) → HasFiles seen.held run → run.budget ≡ Certificate name → IsJudged seen.held name p (reading_digests has.reading).funcs judgement → IsRefusal judgement →
       saying ≡ refused_saying g judgement → SaysRight run seen input saying
-  -- the program has run, within the budget that the command allows it
-  ended : (g : Gathered) (p : PlainProgram) (b : Budget) (bytes : List ℕ) → HasProgram (setting_of seen run) g p → IsPermitted seen.held run p b → IsInput input.left bytes →
-      saying ≡ ended_saying g (run_with p b bytes) → SaysRight run seen input saying
+  -- the program may run, but the file of sensor values gives none
+  without_values : (g : Gathered) (p : PlainProgram) (b : Budget) (why : NoValues) → (has : HasProgram (setting_of seen run) g p) → IsPermitted seen.held run (reading_digests has.reading).funcs p b → LacksValues seen.held run.sensors why →
+      saying ≡ no_values_saying why → SaysRight run seen input saying
+  -- the program has run, within the budget that the command allows it and with the values of the file
+  ended : (g : Gathered) (p : PlainProgram) (b : Budget) (values : List ℤ) (bytes : List ℕ) → (has : HasProgram (setting_of seen run) g p) → IsPermitted seen.held run (reading_digests has.reading).funcs p b → HasValues seen.held run.sensors values → IsInput input.left bytes →
+      saying ≡ ended_saying g (run_with p b values bytes) → SaysRight run seen input saying
   -- before the program runs, a read of the files has failed or memory is out
   troubled : (trouble : Trouble) → HasCause trouble seen.faults_before seen.faults_after → saying ≡ trouble_saying trouble → SaysRight run seen input saying
   -- while it runs, a read of the input has failed or memory is out; what was written until then is a prefix of its output
-  troubled_run : (g : Gathered) (p : PlainProgram) (b : Budget) (bytes written : List ℕ) (trouble : Trouble) → HasProgram (setting_of seen run) g p → IsPermitted seen.held run p b → IsInput input.left bytes →
-      Extends written (run_with p b bytes).output → HasCause trouble input.faults_before input.faults_after →
+  troubled_run : (g : Gathered) (p : PlainProgram) (b : Budget) (values : List ℤ) (bytes written : List ℕ) (trouble : Trouble) → (has : HasProgram (setting_of seen run) g p) → IsPermitted seen.held run (reading_digests has.reading).funcs p b →
+      HasValues seen.held run.sensors values → IsInput input.left bytes →
+      Extends written (run_with p b values bytes).output → HasCause trouble input.faults_before input.faults_after →
       saying ≡ troubled_saying trouble written → SaysRight run seen input saying

@@ -16,14 +16,14 @@ use Rattle.p10_run_command.specs.declared.command.RunCommand.{RunCommand}
 
 -- the words are this command
 abbrev pub IsRunLine : List Text → RunCommand → Type 0
-IsRunLine words run = IsCommandLine words (Run run.directories run.budget run.turns run.deny run.sources)
+IsRunLine words run = IsCommandLine words (Run run.directories run.budget run.turns run.deny run.sensors run.sources)
 
--- how far a program may run by what was asked for: as many steps before the task loop, and afresh in each turn; or the steps of a
--- certificate's bounds, if it is accepted for the program
-abbrev pub Permits : Option (List Named) → asked.Budget → ℕ → ℕ → PlainProgram → Budget → Type 0
-Permits held (Steps n) turns denied p b = b ≡ budget_of_steps n turns denied
-Permits held (Certificate name) turns denied p b = (bounds : Bounds) × IsJudged held name p (Accepted bounds) × (b ≡ budget_within bounds turns denied)
+-- how far a program whose functions have these digests may run by what was asked for: as many steps before the task loop, and afresh in
+-- each turn; or the steps of a certificate's bounds, if it is accepted for the program
+abbrev pub Permits : Option (List Named) → asked.Budget → ℕ → ℕ → List (List ℕ) → PlainProgram → Budget → Type 0
+Permits held (Steps n) turns denied digests p b = b ≡ budget_of_steps n turns denied
+Permits held (Certificate name) turns denied digests p b = (bounds : Bounds) × IsJudged held name p digests (Accepted bounds) × (b ≡ budget_within bounds turns denied)
 
--- a program may run this far by the command
-abbrev pub IsPermitted : Option (List Named) → RunCommand → PlainProgram → Budget → Type 0
-IsPermitted held run p b = Permits held run.budget run.turns run.deny p b
+-- it may run this far by the command
+abbrev pub IsPermitted : Option (List Named) → RunCommand → List (List ℕ) → PlainProgram → Budget → Type 0
+IsPermitted held run digests p b = Permits held run.budget run.turns run.deny digests p b

@@ -3,9 +3,13 @@
 ghost use Rattle.std.specs.Prelude.{◌≡◌, IfOk};
 ghost use Rattle.p10_core.specs.Views.{plain_program};
 ghost use Rattle.p10_core.specs.WholePrograms.{IsWholeProgram};
+ghost use Rattle.p10_front.specs.Answers.{reading_of};
+ghost use Rattle.p10_front.specs.Digests.{reading_digests};
 ghost use Rattle.p10_run_command.specs.private.Granting.{grant_by, IsGranted};
 
+use p10_base::ListBuf;
 use p10_core::Program;
+use p10_front::{Reading, digests};
 use p10_judge::{Judgement, weigh};
 use p10_run::Budget;
 use std::alloc::{AllocError, Global};
@@ -27,6 +31,8 @@ pub struct RunRequest {
     pub turns: u64,
     /// The number of the request for memory that is denied, or 0 for none.
     pub deny: u64,
+    /// The bytes of the file of sensor values, where one is named.
+    pub sensors: Option<ListBuf<u8>>,
 }
 
 /// Whether a program may run.
@@ -38,18 +44,19 @@ pub enum Permission {
     Refused(Judgement),
 }
 
-/// Whether a program may run, and how far.
+/// Whether the program of a reading may run, and how far.
 ///
 /// # Errors
 ///
 /// Out of memory.
 pub fn grant(
     alloc: Global,
+    reading: &Reading<'_>,
     program: &Program<'_>,
     request: &RunRequest,
 ) -> Result<Permission, AllocError>
     requires { IsWholeProgram (plain_program program.now) }
-    ensures { IfOk result (IsGranted (plain_program program.now) request.now) }
+    ensures { IfOk result (IsGranted (reading_digests (reading_of reading.now)).funcs (plain_program program.now) request.now) }
 {
     match &request.allowance {
         Allowance::Steps(steps) => Ok(Permission::Budget(Budget::of_steps(
@@ -58,7 +65,8 @@ pub fn grant(
             request.deny,
         ))),
         Allowance::Certificate(bytes) => {
-            let judgement = weigh(alloc, program, bytes.as_slice())?;
+            let found = digests(alloc, reading)?;
+            let judgement = weigh(alloc, program, &found, bytes.as_slice())?;
             Ok(grant_by(judgement, request.turns, request.deny))
         }
     }
@@ -72,6 +80,7 @@ fn grant_by(judgement: Judgement, turns: u64, deny: u64) -> Permission
         Judgement::Accepted(bounds) => Permission::Budget(Budget::within(&bounds, turns, deny)),
         Judgement::TooLong => Permission::Refused(judgement),
         Judgement::BadCertificate(_) => Permission::Refused(judgement),
+        Judgement::Stale { .. } => Permission::Refused(judgement),
         Judgement::Failing(..) => Permission::Refused(judgement),
     }
 }

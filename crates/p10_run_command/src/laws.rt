@@ -4,6 +4,7 @@ ghost use Rattle.p10_run_command.specs.Laws.{CertificatesLeaveSteps, SaysOneThin
 
 use p10_front::laws::one_reading;
 use p10_judge::laws::one_judgement;
+use p10_sensors::laws::{one_first_other, other_is_no_text, texts_tell_values};
 use p10_soundness::laws::accepted_certificates_bound_every_run;
 
 /// Where files and input are told, only one thing may be said to a command, unless a read fails or memory runs out.
@@ -12,6 +13,9 @@ pub fn one_thing_is_said()
 {
     one_reading();
     one_judgement();
+    texts_tell_values();
+    one_first_other();
+    other_is_no_text();
 }
 
 /// A run by a certificate never runs out of steps, where the input tells its bytes.

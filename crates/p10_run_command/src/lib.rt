@@ -3,12 +3,13 @@
 //!     run a.c                        p10: returned 0 calls 1 bytes 4
 //!                                    p10: undefined U1 at a.c:4:12
 //!     run --cert a.p10 a.c           refused: K11 a.c:1:5
+//!     run --sensors v.txt a.c        p10: sensor file refused at line 1
 //!
-//! Entry point: [`run`]. The sources are gathered, the certificate is loaded where there is one, the sources are read as a program,
-//! the certificate is judged for it, and the program runs: it takes its input from the source,
-//! and its output goes to the sink as it comes. The first of these that gives no program and no budget is what is reported, and else
-//! the end of the run. Invariant: the status and both texts are those of a right answer, and where files and input are told at most
-//! one is right, unless a read fails or memory runs out. Which words are this command is left to the crate above.
+//! Entry point: [`run`]. The sources are gathered, the certificate and the file of sensor values are loaded where the command names
+//! them, the sources are read as a program, the certificate is judged for it, the values are read, and the program runs: it takes its
+//! input from the source, and its output goes to the sink as it comes. The first of these that gives nothing to run with is what is
+//! reported, and else the end of the run. Invariant: the status and both texts are those of a right answer, and where files and input
+//! are told at most one is right, unless a read fails or memory runs out. Which words are this command is left to the crate above.
 #![tactic(auto)]
 
 ghost use Rattle.std.specs.Prelude.{◌≡◌, ◌≢◌, ◌⊎◌, ◌≤◌, ◌^◌, length};
@@ -19,16 +20,17 @@ ghost use Rattle.p10_run_command.specs.Answers.{SaysRight};
 mod command;
 mod granting;
 pub mod laws;
+mod loading;
 mod program;
+mod sensors;
 mod tell;
 
 pub use command::RunCommand;
-use granting::{Allowance, RunRequest};
+use loading::{Loaded, load_files};
 use p10_command::{GatheredRoots, gather_roots, tell_trouble, tell_ungathered};
-use p10_judge::load_certificate;
-use p10_words::Budget;
 use p10_world::{Files, Sink, Source};
 use program::run_sources;
+pub use sensors::NoValues;
 use std::alloc::Global;
 use tell::tell_absent;
 
@@ -37,7 +39,7 @@ use tell::tell_absent;
 ///
 /// The statuses: 0 returned or left after its turns, 1 a condition of the certificate doesn't hold, 3 the sources are refused, 4 no
 /// certificate, 5 a read failed, 6 a write failed, 7 out of memory, 8 a limit is exceeded, 9 a file is absent, 10 an assertion has
-/// failed, 11 an undefined operation, 12 no step is left.
+/// failed, 11 an undefined operation, 12 no step is left, 13 a line of the file of sensor values has another form.
 pub fn run<F: Files, I: Source, O: Sink, E: Sink>(
     alloc: Global,
     command: &RunCommand,
@@ -67,34 +69,14 @@ pub fn run<F: Files, I: Source, O: Sink, E: Sink>(
     let roots = command.sources.as_slice();
     let gathered = gather_roots(alloc, files, roots, command.directories.as_slice());
     match gathered {
-        Ok(GatheredRoots::All(sources)) => match &command.budget {
-            Budget::Steps(steps) => {
-                let request = requested(command, Allowance::Steps(*steps));
+        Ok(GatheredRoots::All(sources)) => match load_files(alloc, files, command) {
+            Ok(Loaded::Request(request)) => {
                 run_sources(alloc, &request, &sources, input, out, err)
             }
-            Budget::Certificate(name) => match load_certificate(alloc, files, name.as_str()) {
-                Ok(Some(bytes)) => {
-                    let request = requested(command, Allowance::Certificate(bytes));
-                    run_sources(alloc, &request, &sources, input, out, err)
-                }
-                Ok(None) => tell_absent(name, err),
-                Err(trouble) => tell_trouble(trouble, err),
-            },
+            Ok(Loaded::Absent(name)) => tell_absent(name, err),
+            Err(trouble) => tell_trouble(trouble, err),
         },
         Ok(GatheredRoots::Stopped(why, sources)) => tell_ungathered(roots, &sources, &why, err),
         Err(trouble) => tell_trouble(trouble, err),
-    }
-}
-
-/// What the command asks of its run, by what bounds it.
-fn requested(command: &RunCommand, allowance: Allowance) -> RunRequest
-    ensures allowance { result.allowance ≡ allowance }
-    ensures turns { result.turns ≡ command.now.turns }
-    ensures deny { result.deny ≡ command.now.deny }
-{
-    RunRequest {
-        allowance,
-        turns: command.turns,
-        deny: command.deny,
     }
 }

@@ -10,9 +10,11 @@ ghost use Rattle.p10_report.specs.Stops.{StopsWithin};
 ghost use Rattle.p10_run.specs.WholeRuns.{outcome_of};
 ghost use Rattle.p10_command.specs.Told.{IsTold};
 ghost use Rattle.p10_run_command.specs.Endings.{ended_line, ended_status, number_of_stop};
+ghost use Rattle.p10_run_command.specs.Sensors.{no_values_line, no_values_status};
 ghost use Rattle.p10_run_command.specs.private.Telling.{end_line, end_status, ran_line, ran_status};
 
 use crate::program::RunEnd;
+use crate::sensors::{NoValues, put_no_values};
 use p10_base::{Sources, TextBuf};
 use p10_command::{Trouble, tell_trouble};
 use p10_int::Stop;
@@ -23,7 +25,7 @@ use p10_report::{
 use p10_run::{FinishedRun, RunFault, RunOutcome};
 use p10_world::{Sink, SinkFault};
 
-/// Reports that there is no certificate of this name, and gives the status of the program.
+/// Reports that there is no file of this name, and gives the status of the program.
 pub fn tell_absent<E: Sink>(name: &TextBuf, err: &mut E) -> u8
     ensures told { result ≢ 6 → IsTold 9 (absent_line name.now) (E.taken err.old) (E.taken err.new) result }
     ensures stopped { result ≡ 6 → StopsWithin (E.taken err.old) (E.taken err.new) (absent_line name.now) }
@@ -45,6 +47,7 @@ pub fn tell_end<E: Sink>(sources: &Sources, end: RunEnd, err: &mut E) -> u8
     match end {
         RunEnd::Ran(end) => tell_ran(sources, end, err),
         RunEnd::Refused(judgement) => tell_judgement(sources, &judgement, err),
+        RunEnd::NoValues(why) => tell_no_values(why, err),
         RunEnd::OutOfMemory => tell_trouble(Trouble::Memory, err),
     }
 }
@@ -71,6 +74,18 @@ fn tell_judgement<E: Sink>(sources: &Sources, judgement: &Judgement, err: &mut E
 {
     match put_judgement(err, sources, judgement) {
         Ok(()) => judgement.status(),
+        Err(_) => 6,
+    }
+}
+
+/// Reports why the file of sensor values gives none, and gives the status of the program.
+fn tell_no_values<E: Sink>(why: NoValues, err: &mut E) -> u8
+    ensures told { result ≢ 6 → IsTold (no_values_status why) (no_values_line why) (E.taken err.old) (E.taken err.new) result }
+    ensures stopped { result ≡ 6 → StopsWithin (E.taken err.old) (E.taken err.new) (no_values_line why) }
+    ensures write { result ≡ 6 → Rose (E.faults err.old) (E.faults err.new) }
+{
+    match put_no_values(err, why) {
+        Ok(()) => why.status(),
         Err(_) => 6,
     }
 }

@@ -4,7 +4,7 @@ use Rattle.p10_command.proofs.OneOutput.{told_line, stopped_line}
 use Rattle.p10_command.proofs.Sources.{are_program, are_unread, whole_program}
 use Rattle.p10_command.specs.Saying.{trouble_saying, unread_saying}
 use Rattle.p10_run_command.specs.Answers.{unread, troubled}
-use Rattle.p10_run_command.proofs.Granted.{asked_is_held}
+use Rattle.p10_run_command.proofs.Granted.{asked_are_held}
 use Rattle.p10_run_command.proofs.Running.{program_told, program_stopped, either_rose}
 use Rattle.p10_run_command.proofs.program.run_sources.Goals as goal
 
@@ -32,13 +32,13 @@ tell_unread-requires g c = (are_unread c.args.sources.now c.in-Ok-Unread.field-0
 pub returns-in-Ok-Unread-clause-told : goal.returns-in-Ok-Unread-clause-told
 returns-in-Ok-Unread-clause-told g c = λ six command seen is gathers.
     told_line _ (unread_saying c.args.sources.now c.in-Ok-Unread.why) _ _ _ _
-    (unread c.args.sources.now c.in-Ok-Unread.why gathers (asked_is_held seen.held command c.args.request.now is) (are_unread c.args.sources.now c.in-Ok-Unread.field-0 c.in-Ok-Unread.why c.in-Ok-Unread.field-0-is c.in-Ok-Unread.ensures).0 refl)
+    (unread c.args.sources.now c.in-Ok-Unread.why gathers (asked_are_held seen.held command c.args.request.now is) (are_unread c.args.sources.now c.in-Ok-Unread.field-0 c.in-Ok-Unread.why c.in-Ok-Unread.field-0-is c.in-Ok-Unread.ensures).0 refl)
     refl (c.tell_unread.ensures.told six)
 
 pub returns-in-Ok-Unread-clause-stopped : goal.returns-in-Ok-Unread-clause-stopped
 returns-in-Ok-Unread-clause-stopped g c = λ six command seen is gathers.
     stopped_line _ (unread_saying c.args.sources.now c.in-Ok-Unread.why) _ _ _
-    (unread c.args.sources.now c.in-Ok-Unread.why gathers (asked_is_held seen.held command c.args.request.now is) (are_unread c.args.sources.now c.in-Ok-Unread.field-0 c.in-Ok-Unread.why c.in-Ok-Unread.field-0-is c.in-Ok-Unread.ensures).0 refl)
+    (unread c.args.sources.now c.in-Ok-Unread.why gathers (asked_are_held seen.held command c.args.request.now is) (are_unread c.args.sources.now c.in-Ok-Unread.field-0 c.in-Ok-Unread.why c.in-Ok-Unread.field-0-is c.in-Ok-Unread.ensures).0 refl)
     refl (c.tell_unread.ensures.stopped six)
 
 pub returns-in-Err-clause-told : goal.returns-in-Err-clause-told
