@@ -1,5 +1,5 @@
 -- What is written to one of the outputs alone.
-use Rattle.std.proofs.Common.{◌≡◌, ℕ, List, [], refl, sym, subst, ap, Option}
+use Rattle.std.proofs.Common.{◌≡◌, ℕ, List, [], refl, sym, subst, ap, ◌∙◌, Option, Vec, Global}
 use Rattle.std.specs.Io.KnownBytes.{Appends}
 use Rattle.std.proofs.KnownBytes.{Appends-nil}
 use Rattle.p10_base.specs.declared.report.Violation.{Violation}
@@ -9,15 +9,18 @@ use Rattle.p10_report.specs.Violations.{violation_lines}
 use Rattle.p10_report.proofs.Stopping.{TakesFront-stop}
 use Rattle.p10_world.specs.Sink.{TakesFront}
 use Rattle.p10_cert.specs.Certificate.{certificate_text}
-use Rattle.p10_cert.specs.Claims.{Claims}
+use Rattle.p10_cert.specs.declared.claims.Cert.{Cert}
+use Rattle.p10_cert.specs.Claims.{claims_of}
 use Rattle.p10_finder.specs.declared.found.FinderFault.{FinderFault}
 use Rattle.p10_finder.specs.declared.found.FinderFault.TheVariants as finder
-use Rattle.p10_finder.specs.Answers.{Derived, Violating, Certified}
-use Rattle.p10_command.specs.Saying.{Saying}
+use Rattle.p10_finder.specs.Answers.{Violating, Certified}
+use Rattle.p10_command.specs.Saying.{IsSaid, Saying}
 use Rattle.p10_command.specs.Told.{Told, Stopped}
 use Rattle.p10_command.proofs.OneOutput.{may_be_more, may_stop_more, no_front}
 use Rattle.p10_derive_command.specs.Answers.{derived_saying}
-use Rattle.p10_derive_command.specs.private.Telling.{IsSaid, fault_saying}
+use Rattle.p10_derive_command.specs.declared.derivation.Derivation.{Derivation}
+use Rattle.p10_derive_command.specs.declared.derivation.Derivation.TheVariants as derivation
+use Rattle.p10_derive_command.specs.private.Telling.{derivation_saying, fault_saying}
 
 -- ## What may be said
 
@@ -40,36 +43,36 @@ no_output finder.Memory = refl
 
 -- ## What is derived
 
-pub certificate_told : (g : Gathered) (answer : Derived) (claims : Claims) (out_old out_new err : Option (List ℕ)) (given : ℕ) → answer ≡ Certified claims → given ≡ 0 → Appends out_old out_new (certificate_text claims)
-    → Told (IsSaid (derived_saying g answer)) out_old out_new err err given
-certificate_told g answer claims out_old out_new err given is status taken = record {
-  saying = derived_saying g (Certified claims);
-  may = ap (λ (a : Derived). derived_saying g a) (sym is);
+pub certificate_told : (g : Gathered) (d : Derivation) (claims : Cert) (out_old out_new err : Option (List ℕ)) (given : ℕ) → d ≡ derivation.Certificate claims → given ≡ 0 → Appends out_old out_new (certificate_text (claims_of claims))
+    → Told (IsSaid (derivation_saying g d)) out_old out_new err err given
+certificate_told g d claims out_old out_new err given is status taken = record {
+  saying = derived_saying g (Certified (claims_of claims));
+  may = ap (λ (x : Derivation). derivation_saying g x) (sym is);
   status_is = status;
   taken = record { on_out = taken; on_err = Appends-nil err };
 }
 
-pub certificate_stopped : (g : Gathered) (answer : Derived) (claims : Claims) (out_old out_new err : Option (List ℕ)) → answer ≡ Certified claims → TakesFront out_old out_new (certificate_text claims)
-    → Stopped (IsSaid (derived_saying g answer)) out_old out_new err err
-certificate_stopped g answer claims out_old out_new err is front = record {
-  saying = derived_saying g (Certified claims);
-  may = ap (λ (a : Derived). derived_saying g a) (sym is);
+pub certificate_stopped : (g : Gathered) (d : Derivation) (claims : Cert) (out_old out_new err : Option (List ℕ)) → d ≡ derivation.Certificate claims → TakesFront out_old out_new (certificate_text (claims_of claims))
+    → Stopped (IsSaid (derivation_saying g d)) out_old out_new err err
+certificate_stopped g d claims out_old out_new err is front = record {
+  saying = derived_saying g (Certified (claims_of claims));
+  may = ap (λ (x : Derivation). derivation_saying g x) (sym is);
   taken = record { on_out = front; on_err = no_front err [] refl };
 }
 
-pub violations_told : (g : Gathered) (answer : Derived) (violations : List Violation) (out err_old err_new : Option (List ℕ)) (given : ℕ) → answer ≡ Violating violations → given ≡ 1 → Appends err_old err_new (violation_lines g violations)
-    → Told (IsSaid (derived_saying g answer)) out out err_old err_new given
-violations_told g answer violations out err_old err_new given is status taken = record {
+pub violations_told : (g : Gathered) (d : Derivation) (found : Vec Violation Global) (violations : List Violation) (out err_old err_new : Option (List ℕ)) (given : ℕ) → d ≡ derivation.Violations found → violations ≡ found.items → given ≡ 1
+    → Appends err_old err_new (violation_lines g violations) → Told (IsSaid (derivation_saying g d)) out out err_old err_new given
+violations_told g d found violations out err_old err_new given is same status taken = record {
   saying = derived_saying g (Violating violations);
-  may = ap (λ (a : Derived). derived_saying g a) (sym is);
+  may = ap (λ (all : List Violation). derived_saying g (Violating all)) same ∙ ap (λ (x : Derivation). derivation_saying g x) (sym is);
   status_is = status;
   taken = record { on_out = Appends-nil out; on_err = taken };
 }
 
-pub violations_stopped : (g : Gathered) (answer : Derived) (violations : List Violation) (out err_old err_new : Option (List ℕ)) → answer ≡ Violating violations → StopsWithin err_old err_new (violation_lines g violations)
-    → Stopped (IsSaid (derived_saying g answer)) out out err_old err_new
-violations_stopped g answer violations out err_old err_new is stop = record {
+pub violations_stopped : (g : Gathered) (d : Derivation) (found : Vec Violation Global) (violations : List Violation) (out err_old err_new : Option (List ℕ)) → d ≡ derivation.Violations found → violations ≡ found.items
+    → StopsWithin err_old err_new (violation_lines g violations) → Stopped (IsSaid (derivation_saying g d)) out out err_old err_new
+violations_stopped g d found violations out err_old err_new is same stop = record {
   saying = derived_saying g (Violating violations);
-  may = ap (λ (a : Derived). derived_saying g a) (sym is);
+  may = ap (λ (all : List Violation). derived_saying g (Violating all)) same ∙ ap (λ (x : Derivation). derivation_saying g x) (sym is);
   taken = record { on_out = no_front out [] refl; on_err = TakesFront-stop err_old err_new (violation_lines g violations) stop };
 }

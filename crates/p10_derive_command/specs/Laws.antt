@@ -1,16 +1,21 @@
 -- What holds of the answers.
-use Rattle.std.specs.Prelude.{◌≡◌, List, []}
+use Rattle.std.specs.Prelude.{◌≡◌, ◌≢◌, ◌≤◌, ℕ, List, [], length}
+use Rattle.p10_base.specs.declared.report.TheConstants.Limit.{MOST_CERTIFICATE_BYTES}
 use Rattle.p10_base.specs.declared.report.Violation.{Violation}
 use Rattle.p10_base.specs.Gathered.{Gathered}
+use Rattle.p10_base.specs.Words.{Text}
 use Rattle.p10_core.specs.Typed.{PlainProgram}
+use Rattle.p10_expand.specs.Gathering.{Setting}
+use Rattle.p10_front.specs.Digests.{PlainDigests}
 use Rattle.p10_report.specs.Violations.{violation_lines}
 use Rattle.p10_cert.specs.Certificate.{certificate_text}
 use Rattle.p10_cert.specs.Claims.{Claims}
 use Rattle.p10_finder.specs.Answers.{Violating, Certified, IsDerived}
 use Rattle.p10_command.specs.Laws.{OneIsRight}
-use Rattle.p10_command.specs.Programs.{HasProgram}
+use Rattle.p10_command.specs.Programs.{HasProgram, HasProgramWithDigests}
 use Rattle.p10_command.specs.Saying.{Saying}
 use Rattle.p10_command.specs.Seen.{Seen}
+use Rattle.p10_seal.specs.Sealing.{sealed_text}
 use Rattle.p10_derive_command.specs.declared.command.DeriveCommand.{DeriveCommand}
 use Rattle.p10_derive_command.specs.Answers.{SaysRight, setting_of}
 
@@ -18,14 +23,19 @@ use Rattle.p10_derive_command.specs.Answers.{SaysRight, setting_of}
 abbrev pub DeriveSaysOneThing : Type 0
 DeriveSaysOneThing = (derive : DeriveCommand) → OneIsRight (SaysRight derive)
 
--- what is said is the text of the certificate that is derived of the sources' program
+-- the text of claims in a version: theirs alone, or in version 2 with the digests of the program's words, and within limit M10
+pub data IsTextInVersion (version : ℕ) (s : Setting) (g : Gathered) (p : PlainProgram) (claims : Claims) (text : Text) : Type 0 where
+  alone : version ≢ 2 → text ≡ certificate_text claims → IsTextInVersion version s g p claims text
+  sealed : version ≡ 2 → (digests : PlainDigests) → HasProgramWithDigests s g p digests → text ≡ sealed_text claims digests → length text ≤ MOST_CERTIFICATE_BYTES → IsTextInVersion version s g p claims text
+
+-- what is said is the text of the certificate that is derived of the sources' program, in the version that was asked for
 pub record TellsCertificate (derive : DeriveCommand) (seen : Seen) (saying : Saying) : Type 0 where
   pub files : Gathered
   pub program : PlainProgram
   pub claims : Claims
   pub gathers : HasProgram (setting_of seen derive) files program
   pub derived : IsDerived program (Certified claims)
-  pub on_out : saying.out ≡ certificate_text claims
+  pub on_out : IsTextInVersion derive.version (setting_of seen derive) files program claims saying.out
   pub on_err : saying.err ≡ []
 
 -- with status 0 what is said is a derived certificate

@@ -2,11 +2,13 @@
 
 use p10_base::{ListBuf, TextBuf};
 
-/// `derive [--include DIRECTORIES] SOURCE..`
+/// `derive [--include DIRECTORIES] [--cert-version 1|2] SOURCE..`
 #[derive(Drop)]
 pub struct DeriveCommand {
     /// The directories in which included files are looked for, in their order.
     pub directories: ListBuf<TextBuf>,
+    /// The version of the certificate's text: 2, or else 1.
+    pub version: u8,
     /// The names of the source files.
     pub sources: ListBuf<TextBuf>,
 }

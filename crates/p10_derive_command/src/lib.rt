@@ -6,6 +6,8 @@
 //!                                    total prefix 3 turn 0 calls 1 bytes 0
 //!                                    end
 //!
+//!     derive --cert-version 2 a.c    the same claims in version 2, with the digests of the words of a.c
+//!
 //!     derive b.c                     b.c:3:5: rule 2.1: loop without a proved bound
 //!
 //! Entry point: [`derive`]. The sources are gathered and read as a program, and what derivation answers of it is reported: the text
@@ -21,6 +23,7 @@ ghost use Rattle.p10_command.specs.Told.{Told, Stopped};
 ghost use Rattle.p10_derive_command.specs.Answers.{SaysRight};
 
 mod command;
+mod derivation;
 pub mod laws;
 mod program;
 mod tell;
@@ -60,7 +63,13 @@ pub fn derive<F: Files, O: Sink, E: Sink>(
 {
     let roots = command.sources.as_slice();
     match gather_roots(alloc, files, roots, command.directories.as_slice()) {
-        Ok(GatheredRoots::All(sources)) => derive_sources(alloc, &sources, out, err),
+        Ok(GatheredRoots::All(sources)) => derive_sources(
+            alloc,
+            &sources,
+            command.version,
+            out,
+            err,
+        ),
         Ok(GatheredRoots::Stopped(why, sources)) => tell_ungathered(roots, &sources, &why, err),
         Err(trouble) => tell_trouble(trouble, err),
     }

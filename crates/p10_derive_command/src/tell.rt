@@ -8,22 +8,23 @@ ghost use Rattle.p10_report.specs.Stops.{StopsWithin};
 ghost use Rattle.p10_report.specs.Violations.{violation_lines};
 ghost use Rattle.p10_cert.specs.Certificate.{certificate_text};
 ghost use Rattle.p10_cert.specs.Claims.{claims_of};
-ghost use Rattle.p10_finder.specs.Finding.{derived_of};
+ghost use Rattle.p10_command.specs.Saying.{IsSaid};
 ghost use Rattle.p10_command.specs.Told.{IsTold, Told, Stopped};
-ghost use Rattle.p10_derive_command.specs.Answers.{derived_saying};
-ghost use Rattle.p10_derive_command.specs.private.Telling.{end_saying, fault_saying, IsSaid};
+ghost use Rattle.p10_derive_command.specs.private.Telling.{derivation_saying, end_saying, fault_saying};
 
+use crate::derivation::Derivation;
 use p10_base::{Sources, Violation};
 use p10_cert::{Cert, write};
 use p10_command::{Trouble, tell_limit, tell_trouble};
-use p10_finder::{FinderFault, Found};
+use p10_finder::FinderFault;
 use p10_report::put_violations;
+use p10_seal::tell_sealed;
 use p10_world::Sink;
 
 /// Reports what has come of derivation, and gives the status of the program.
 pub fn tell_end<O: Sink, E: Sink>(
     sources: &Sources,
-    end: Result<Found, FinderFault>,
+    end: Result<Derivation, FinderFault>,
     out: &mut O,
     err: &mut E,
 ) -> u8
@@ -32,20 +33,28 @@ pub fn tell_end<O: Sink, E: Sink>(
     ensures write { result ≡ 6 → Rose (O.faults out.old) (O.faults out.new) ⊎ Rose (E.faults err.old) (E.faults err.new) }
 {
     match end {
-        Ok(found) => tell_found(sources, &found, out, err),
+        Ok(derivation) => tell_derivation(sources, &derivation, out, err),
         Err(fault) => tell_fault(fault, err),
     }
 }
 
 /// Writes what is derived, and gives the status of the program: a certificate on `out`, and violations on `err`.
-fn tell_found<O: Sink, E: Sink>(sources: &Sources, found: &Found, out: &mut O, err: &mut E) -> u8
-    ensures told { result ≢ 6 → Told (IsSaid (derived_saying sources.now (derived_of found.now))) (O.taken out.old) (O.taken out.new) (E.taken err.old) (E.taken err.new) result }
-    ensures stopped { result ≡ 6 → Stopped (IsSaid (derived_saying sources.now (derived_of found.now))) (O.taken out.old) (O.taken out.new) (E.taken err.old) (E.taken err.new) }
+fn tell_derivation<O: Sink, E: Sink>(
+    sources: &Sources,
+    derivation: &Derivation,
+    out: &mut O,
+    err: &mut E,
+) -> u8
+    ensures told { result ≢ 6 → Told (IsSaid (derivation_saying sources.now derivation.now)) (O.taken out.old) (O.taken out.new) (E.taken err.old) (E.taken err.new) result }
+    ensures stopped { result ≡ 6 → Stopped (IsSaid (derivation_saying sources.now derivation.now)) (O.taken out.old) (O.taken out.new) (E.taken err.old) (E.taken err.new) }
     ensures write { result ≡ 6 → Rose (O.faults out.old) (O.faults out.new) ⊎ Rose (E.faults err.old) (E.faults err.new) }
 {
-    match found {
-        Found::Certificate(certificate) => tell_certificate(certificate, out),
-        Found::Violations(violations) => tell_violations(sources, violations.as_slice(), err),
+    match derivation {
+        Derivation::Certificate(certificate) => tell_certificate(certificate, out),
+        Derivation::Sealed(text) => tell_sealed(text, out, err),
+        Derivation::Violations(violations) => {
+            tell_violations(sources, violations.as_slice(), err)
+        }
     }
 }
 
