@@ -1,0 +1,75 @@
+//! The command as a whole.
+
+ghost use Rattle.std.specs.Prelude.{◌≡◌, ◌≢◌, ◌⊎◌, ◌≤◌, length};
+ghost use Rattle.p10_world.specs.Faults.{Rose};
+ghost use Rattle.p10_command.specs.Told.{Told, Stopped};
+ghost use Rattle.p10_migrate_command.specs.Told.{SaysRight};
+ghost use Rattle.p10_migrate_command.specs.private.Deciding.{Answered};
+
+use crate::answer::Answer;
+use crate::decide::{Decision, decide};
+use crate::tell::tell;
+use p10_base::{ListBuf, Sources, TextBuf};
+use p10_world::{Files, Sink};
+use std::alloc::Global;
+
+/// `migrate [--include DIRECTORIES] --cert CERTIFICATE SOURCE..`
+#[derive(Drop)]
+pub struct MigrateCommand {
+    /// The directories in which included files are looked for, in their order.
+    pub directories: ListBuf<TextBuf>,
+    /// The name of the certificate's file.
+    pub certificate: TextBuf,
+    /// The names of the source files.
+    pub sources: ListBuf<TextBuf>,
+}
+
+/// Obeys the command: writes to `out` the text of version 2 with the claims of the certificate and the digests of the sources' words,
+/// and all else to `err`. Gives the status with which the program exits.
+///
+/// The statuses: 0 the text is written, 1 the certificate doesn't speak of the program (K0 or K1), 3 the sources are refused, 4 no
+/// certificate, 5 a read failed, 6 a write failed, 7 out of memory, 8 a limit is exceeded, 9 a file is absent.
+pub fn migrate<F: Files, O: Sink, E: Sink>(
+    alloc: Global,
+    command: &MigrateCommand,
+    files: &mut F,
+    out: &mut O,
+    err: &mut E,
+) -> u8
+    requires { length command.now.sources ≤ 65536 }
+    // The status and both texts are those of a right answer.
+    ensures told { result ≢ 6 → Told (SaysRight command.now
+        (record { held = F.held files.old; faults_before = F.faults files.old; faults_after = F.faults files.new }))
+        (O.taken out.old) (O.taken out.new) (E.taken err.old) (E.taken err.new) result }
+
+    // Where a write failed, each output has taken a prefix of its text.
+    ensures stopped { result ≡ 6 → Stopped (SaysRight command.now
+        (record { held = F.held files.old; faults_before = F.faults files.old; faults_after = F.faults files.new }))
+        (O.taken out.old) (O.taken out.new) (E.taken err.old) (E.taken err.new) }
+    ensures write { result ≡ 6 → Rose (O.faults out.old) (O.faults out.new) ⊎ Rose (E.faults err.old) (E.faults err.new) }
+
+    ensures held { F.held files.new ≡ F.held files.old }
+{
+    let decision = answer_to(alloc, command, files);
+    match tell(command, &decision.answer, &decision.sources, out, err) {
+        Ok(()) => decision.answer.status(),
+        Err(_) => 6,
+    }
+}
+
+/// The answer to the command, with the sources in which its places lie.
+fn answer_to<F: Files>(alloc: Global, command: &MigrateCommand, files: &mut F) -> Decision
+    requires { length command.now.sources ≤ 65536 }
+    ensures right { Answered
+        (record { held = F.held files.old; faults_before = F.faults files.old; faults_after = F.faults files.new })
+        command.now result.sources result.answer }
+    ensures held { F.held files.new ≡ F.held files.old }
+{
+    match decide(alloc, command, files) {
+        Ok(decision) => decision,
+        Err(trouble) => Decision {
+            answer: Answer::Trouble(trouble),
+            sources: Sources::new(alloc),
+        },
+    }
+}
