@@ -7,7 +7,8 @@ use Rattle.p10_world.specs.Files.{Named, file_of}
 use Rattle.p10_core.specs.Typed.{PlainProgram}
 use Rattle.p10_report.specs.Lines.{accepted_line}
 use Rattle.p10_cert.specs.Claims.{Claims}
-use Rattle.p10_cert.specs.Certificate.{IsCertificate, certificate_text}
+use Rattle.p10_cert.specs.Statements.{Statement, IsStatement, statement_text}
+use Rattle.p10_check.specs.Texts.{claims_in}
 use Rattle.p10_expand.specs.declared.place.Place.{Place}
 use Rattle.p10_expand.specs.declared.place.Place.TheVariants.{File}
 use Rattle.p10_expand.specs.Gathering.{Setting, Gathers}
@@ -18,6 +19,7 @@ use Rattle.p10_finder.specs.Answers.{Certified, IsDerived}
 use Rattle.p10_derive_command.specs.declared.command.DeriveCommand.{DeriveCommand}
 use Rattle.p10_command.specs.Programs.{HasProgram}
 use Rattle.p10_derive_command.specs.Answers as derive
+use Rattle.p10_derive_command.specs.Laws.{IsTextInVersion}
 use Rattle.p10_verify_command.specs.Names.{Names}
 use Rattle.p10_verify_command.specs.Told as verify
 use Rattle.p10_agreement.specs.Looking.{IsLookedFor, IsCandidate, AreAsBefore}
@@ -65,26 +67,23 @@ pub record HaveCertificate (names : Names) (text : List ℕ) (files later : List
   pub given : file_of names.certificate later ≡ Some text
   pub sources : AreAsBefore names.sources names.directories files later
 
--- the claims have a text, and a file of it is accepted by `verify` as long as the sources are as they were when `derive` read them of these
--- files, under whatever name it lies
-pub record AreVerified (command : DeriveCommand) (files : List Named) (claims : Claims) : Type 0 where
-  pub is_certificate : IsCertificate claims
-  pub verified : (certificate : Text) (later : List Named) → HaveCertificate (with_certificate command certificate) (certificate_text claims) files later → IsVerified (with_certificate command certificate) later claims.total
+-- a text is that of a certificate with these claims, and a file of it is accepted by `verify` as long as the sources are as they were
+-- when `derive` read them of these files, under whatever name it lies
+pub record IsVerifiedText (command : DeriveCommand) (files : List Named) (claims : Claims) (text : List ℕ) : Type 0 where
+  pub certificate : Statement
+  pub is_certificate : IsStatement certificate
+  pub claims_are : claims_in certificate ≡ claims
+  pub text_is : text ≡ statement_text certificate
+  pub verified : (name : Text) (later : List Named) → HaveCertificate (with_certificate command name) text files later → IsVerified (with_certificate command name) later claims.total
 
--- what is derived of the program of a command's sources is verified
+-- so is the text of what is derived of the program of a command's sources, in the version that is asked for
 abbrev pub DerivedCertificatesAreVerified : Type 0
 DerivedCertificatesAreVerified =
-    (command : DeriveCommand) (files : List Named) (g : Gathered) (p : PlainProgram) (c : Claims) → HasProgram (setting (Some files) command.sources command.directories) g p → IsDerived p (Certified c)
-    → AreVerified command files c
+    (command : DeriveCommand) (files : List Named) (g : Gathered) (p : PlainProgram) (c : Claims) (text : List ℕ) → HasProgram (setting (Some files) command.sources command.directories) g p → IsDerived p (Certified c)
+    → IsTextInVersion command.version (setting (Some files) command.sources command.directories) g p c text → IsVerifiedText command files c text
 
--- a text is that of claims which are verified
-pub record IsVerifiedText (command : DeriveCommand) (files : List Named) (text : List ℕ) : Type 0 where
-  pub claims : Claims
-  pub text_is : text ≡ certificate_text claims
-  pub are : AreVerified command files claims
-
--- so is what is said to `derive` on the output with status 0
+-- and so is what is said to `derive` on the output with status 0
 abbrev pub DerivedTextsAreVerified : Type 0
 DerivedTextsAreVerified =
     (command : DeriveCommand) (files : List Named) (before after : ℕ) (saying : Saying) → derive.SaysRight command (seen_files files before after) saying → saying.status ≡ 0
-    → IsVerifiedText command files saying.out
+    → (c : Claims) × IsVerifiedText command files c saying.out

@@ -5,6 +5,7 @@ ghost use Rattle.p10_agreement.specs.Laws.{DerivedCertificatesAreVerified, Deriv
 use p10_acceptance::laws::derived_certificates_are_accepted;
 use p10_derive_command::laws::success_is_a_certificate;
 use p10_names::laws::{programs_are_named, readings_are_programs};
+use p10_seal::laws::{reading_digests_are_sized, sealed_is_a_certificate, sealed_says_the_same};
 use p10_verify_command::laws::one_answer_is_right;
 
 /// Files that hold the same at each name at which the files of a program are looked for are gathered alike; so are files that differ at one
@@ -19,13 +20,16 @@ pub fn only_candidates_are_looked_for()
     ensures { OnlyCandidatesAreLookedFor }
 {}
 
-/// The claims of a certificate that is derived of sources have a text, and while the sources stay as they were, that it is accepted is the one
-/// right answer to `verify` with a file of this text, unless a read fails or memory runs out. So it is with what `derive` writes: with
+/// A certificate that is derived of sources has a text in each version, and while the sources stay as they were, that it is accepted is the
+/// one right answer to `verify` with a file of this text, unless a read fails or memory runs out. So it is with what `derive` writes: with
 /// status 0 the text on its output is such a one.
 pub fn derived_certificates_are_verified()
     ensures certificates { DerivedCertificatesAreVerified }
     ensures texts { DerivedTextsAreVerified }
 {
+    reading_digests_are_sized();
+    sealed_is_a_certificate();
+    sealed_says_the_same();
     success_is_a_certificate();
     readings_are_programs();
     programs_are_named();
