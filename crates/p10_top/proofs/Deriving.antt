@@ -20,9 +20,9 @@ abbrev seen_files : List Named → ℕ → ℕ → Seen
 seen_files files before after = record { held = Some files; faults_before = before; faults_after = after }
 
 -- a certificate that is written is accepted, and so it bounds every run
-bounds : DerivedCertificatesBoundRuns → DerivedCertificatesAreAccepted → DerivedCertificatesAreVerified → (directories roots : List Text) (files : List Named) (before after : ℕ) (saying : Saying) (out_old out_new : Option (List ℕ))
-    → TellsCertificate (record { directories = directories; sources = roots }) (seen_files files before after) saying → Appends out_old out_new saying.out → TellsBounds directories roots files out_old out_new
-bounds bounding accepting verifying directories roots files before after saying out_old out_new told taken = record {
+bounds : DerivedCertificatesBoundRuns → DerivedCertificatesAreAccepted → DerivedCertificatesAreVerified → (directories : List Text) (version : ℕ) (roots : List Text) (files : List Named) (before after : ℕ) (saying : Saying) (out_old out_new : Option (List ℕ))
+    → TellsCertificate (record { directories = directories; version = version; sources = roots }) (seen_files files before after) saying → Appends out_old out_new saying.out → TellsBounds directories version roots files out_old out_new
+bounds bounding accepting verifying directories version roots files before after saying out_old out_new told taken = record {
   sources = told.files;
   gathers = told.gathers.gathers;
   reading = told.gathers.reading;
@@ -31,21 +31,23 @@ bounds bounding accepting verifying directories roots files before after saying 
   whole = told.gathers.whole;
   claims = told.claims;
   derived = told.derived;
-  taken = subst (λ (text : List ℕ). Appends out_old out_new text) told.on_out taken;
+  text = saying.out;
+  written = told.on_out;
+  taken = taken;
   accepted = accepting told.program told.gathers.whole told.claims told.derived;
   within = bounding told.program told.gathers.whole told.claims told.derived;
-  verified = verifying (record { directories = directories; sources = roots }) files told.files told.program told.claims told.gathers told.derived;
+  verified = verifying (record { directories = directories; version = version; sources = roots }) files told.files told.program told.claims saying.out told.gathers told.derived told.on_out;
 }
 
 -- what is said with status 0 to `derive` is such a certificate
 by_line : DerivedCertificatesBoundRuns → DerivedCertificatesAreAccepted → DerivedCertificatesAreVerified → (words : List Text) (files : List Named) (before after : ℕ) (input : SeenInput) (saying : Saying) (out_old out_new : Option (List ℕ))
     → MaySay words (seen_files files before after) input saying → saying.status ≡ 0 → Appends out_old out_new saying.out → DerivesBounds words files out_old out_new
-by_line bounding accepting verifying words files before after input saying out_old out_new (for_none none said) zero taken directories roots is = absurd (none (command.Derive directories roots) is)
-by_line bounding accepting verifying words files before after input saying out_old out_new (for_command c line says) zero taken directories roots is =
-    bounds bounding accepting verifying directories roots files before after saying out_old out_new
-    (success (record { directories = directories; sources = roots }) (seen_files files before after) saying
-    (subst (λ (d : Command). SaysFor d (seen_files files before after) input saying) (one_command words c (command.Derive directories roots) line is) says) zero) taken
-by_line bounding accepting verifying words files before after input saying out_old out_new (for_any said) zero taken directories roots is = absurd (omega (arith, ap (λ (s : Saying). s.status) said, zero))
+by_line bounding accepting verifying words files before after input saying out_old out_new (for_none none said) zero taken directories version roots is = absurd (none (command.Derive directories version roots) is)
+by_line bounding accepting verifying words files before after input saying out_old out_new (for_command c line says) zero taken directories version roots is =
+    bounds bounding accepting verifying directories version roots files before after saying out_old out_new
+    (success (record { directories = directories; version = version; sources = roots }) (seen_files files before after) saying
+    (subst (λ (d : Command). SaysFor d (seen_files files before after) input saying) (one_command words c (command.Derive directories version roots) line is) says) zero) taken
+by_line bounding accepting verifying words files before after input saying out_old out_new (for_any said) zero taken directories version roots is = absurd (omega (arith, ap (λ (s : Saying). s.status) said, zero))
 
 pub derived : DerivedCertificatesBoundRuns → DerivedCertificatesAreAccepted → DerivedCertificatesAreVerified → (held : Option (List Named)) (before after : ℕ) (words : List Text) (input : SeenInput) (out_old out_new err_old err_new : Option (List ℕ)) (status : ℕ)
     → (status ≢ 6 → Told (MaySay words (record { held = held; faults_before = before; faults_after = after }) input) out_old out_new err_old err_new status) → status ≡ 0 → IfSome held (λ files. DerivesBounds words files out_old out_new)

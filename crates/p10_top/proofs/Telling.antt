@@ -33,10 +33,13 @@ use Rattle.p10_words.specs.declared.command.Usage.TheVariants as usage
 use Rattle.p10_words.specs.Commands.{IsCommandLine}
 use Rattle.p10_words.proofs.OneCommand.{one_command}
 use Rattle.p10_judge.specs.declared.judgement.Judgement.TheVariants as judgement
+use Rattle.p10_check.specs.Texts.{claims_in}
+use Rattle.p10_front.specs.Digests.{reading_digests}
 use Rattle.p10_judge.specs.Judging.{HasVerdict, IsClaimed}
 use Rattle.p10_judge.specs.Loading.{Gives}
 use Rattle.p10_check_command.specs.declared.command.CheckCommand.{CheckCommand}
 use Rattle.p10_derive_command.specs.declared.command.DeriveCommand.{DeriveCommand}
+use Rattle.p10_migrate_command.specs.declared.command.MigrateCommand.{MigrateCommand}
 use Rattle.p10_run_command.specs.declared.command.RunCommand.{RunCommand}
 use Rattle.p10_verify_command.specs.declared.command.VerifyCommand.{VerifyCommand}
 use Rattle.p10_verify_command.specs.declared.answer.Answer.{Answer}
@@ -61,13 +64,16 @@ abbrev pub of_check : CheckCommand → Command
 of_check check = command.Check check.directories check.json check.sources
 
 abbrev pub of_derive : DeriveCommand → Command
-of_derive derive = command.Derive derive.directories derive.sources
+of_derive derive = command.Derive derive.directories derive.version derive.sources
+
+abbrev pub of_migrate : MigrateCommand → Command
+of_migrate migrate = command.Migrate migrate.directories migrate.certificate migrate.sources
 
 abbrev pub of_verify : VerifyCommand → Command
 of_verify verify = command.Verify verify.directories verify.clean verify.certificate verify.sources
 
 abbrev pub of_run : RunCommand → Command
-of_run run = command.Run run.directories run.budget run.turns run.deny run.sources
+of_run run = command.Run run.directories run.budget run.turns run.deny run.sensors run.sources
 
 -- what is written for that one is written for the command
 pub told_of : (c d : Command) (seen : Seen) (input : SeenInput) (out_old out_new err_old err_new : Option (List ℕ)) (status : ℕ) → c ≡ d → Told (SaysFor d seen input) out_old out_new err_old err_new status → Told (SaysFor c seen input) out_old out_new err_old err_new status
@@ -131,8 +137,8 @@ stays_defined : CleanCertificatesAcceptedByRangesExcludeUndefined → (p : Plain
 stays_defined law p whole c bounds v is_clean = subst (λ (b : Bounds). RunsAreDefined p b) (bounds_are c.total bounds v.first v.is) (law p whole c bounds v (sym is_clean))
 
 -- a certificate that is accepted for the program of the sources bounds every run
-bounds_runs : CertificatesAcceptedByRangesBoundRuns → (files : List Named) (names : Names) (g : Gathered) (p : PlainProgram) (bytes : List ℕ) (bounds : Bounds) → HasProgram (setting_of (Some files) names) g p → Gives (Some files) names.certificate bytes
-    → (claimed : IsClaimed p bytes (verdicts.Accepted bounds)) → (names.clean ≡ true → RunsAreDefined p claimed.claims.total) → BoundsRuns names files
+bounds_runs : CertificatesAcceptedByRangesBoundRuns → (files : List Named) (names : Names) (g : Gathered) (p : PlainProgram) (bytes : List ℕ) (bounds : Bounds) → (has : HasProgram (setting_of (Some files) names) g p) → Gives (Some files) names.certificate bytes
+    → (claimed : IsClaimed p (reading_digests has.reading).funcs bytes (verdicts.Accepted bounds)) → (names.clean ≡ true → RunsAreDefined p claimed.certificate.ending.total) → BoundsRuns names files
 bounds_runs law files names g p bytes bounds has given claimed defined = record {
   sources = g;
   gathers = has.gathers;
@@ -140,19 +146,21 @@ bounds_runs law files names g p bytes bounds has given claimed defined = record 
   program = p;
   read = has.read;
   whole = has.whole;
-  claims = claimed.claims;
-  certificate_given = given ∙ ap Some claimed.text_is;
-  is_certificate = claimed.is_certificate;
-  within = stays_within law p has.whole claimed.claims bounds claimed.has;
+  certificate = claimed.certificate;
+  certificate_given = given ∙ ap Some claimed.read.text_is;
+  is_certificate = claimed.read.is_certificate;
+  words = claimed.words;
+  within = stays_within law p has.whole (claims_in claimed.certificate) bounds claimed.has;
   defined = defined;
 }
 
 accepted : CertificatesAcceptedByRangesBoundRuns → CleanCertificatesAcceptedByRangesExcludeUndefined → (files : List Named) (before after : ℕ) (names : Names) (g : Gathered) (answer : Answer) → status_of answer ≡ 0 → IsRight (record { held = Some files; faults_before = before; faults_after = after }) names g answer → BoundsRuns names files
 accepted law clean files before after names g (Judged (judgement.Accepted bounds)) zero (p, has, judged, enough) = bounds_runs law files names g p judged.bytes bounds has judged.given judged.weighed (λ asked. not_both names.clean enough asked)
 accepted law clean files before after names g (Clean bounds) zero tried = bounds_runs law files names g tried.program tried.bytes bounds tried.has tried.given tried.accepted.claimed
-    (λ asked. stays_defined clean tried.program tried.has.whole tried.accepted.claimed.claims bounds tried.accepted.claimed.has tried.accepted.is)
+    (λ asked. stays_defined clean tried.program tried.has.whole (claims_in tried.accepted.claimed.certificate) bounds tried.accepted.claimed.has tried.accepted.is)
 accepted law clean files before after names g (Unclean c at) zero right = absurd (omega (arith, zero))
 accepted law clean files before after names g (Judged (judgement.Failing k at)) zero right = absurd (omega (arith, zero))
+accepted law clean files before after names g (Judged (judgement.Stale at kept found)) zero right = absurd (omega (arith, zero))
 accepted law clean files before after names g (Judged judgement.TooLong) zero right = absurd (omega (arith, zero))
 accepted law clean files before after names g (Judged (judgement.BadCertificate line)) zero right = absurd (omega (arith, zero))
 accepted law clean files before after names g (Ungathered (gathering.AbsentRoot place)) zero right = absurd (omega (arith, zero))

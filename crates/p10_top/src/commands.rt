@@ -5,6 +5,7 @@ ghost use Rattle.std.specs.Prelude.{◌≡◌};
 use p10_base::{ListBuf, TextBuf};
 use p10_check_command::CheckCommand;
 use p10_derive_command::DeriveCommand;
+use p10_migrate_command::MigrateCommand;
 use p10_run_command::RunCommand;
 use p10_verify_command::VerifyCommand;
 use p10_words::Budget;
@@ -25,11 +26,31 @@ pub fn check_command(
 }
 
 /// `derive` of these sources.
-pub fn derive_command(directories: ListBuf<TextBuf>, sources: ListBuf<TextBuf>) -> DeriveCommand
-    ensures { result ≡ record { directories = directories; sources = sources } }
+pub fn derive_command(
+    directories: ListBuf<TextBuf>,
+    version: u8,
+    sources: ListBuf<TextBuf>,
+) -> DeriveCommand
+    ensures { result ≡ record { directories = directories; version = version; sources = sources } }
 {
     DeriveCommand {
         directories,
+        version,
+        sources,
+    }
+}
+
+/// `migrate` of these sources.
+pub fn migrate_command(
+    directories: ListBuf<TextBuf>,
+    certificate: TextBuf,
+    sources: ListBuf<TextBuf>,
+) -> MigrateCommand
+    ensures { result ≡ record { directories = directories; certificate = certificate; sources = sources } }
+{
+    MigrateCommand {
+        directories,
+        certificate,
         sources,
     }
 }
@@ -57,15 +78,17 @@ pub fn run_command(
     budget: Budget,
     turns: u64,
     deny: u64,
+    sensors: Option<TextBuf>,
     sources: ListBuf<TextBuf>,
 ) -> RunCommand
-    ensures { result ≡ record { directories = directories; budget = budget; turns = turns; deny = deny; sources = sources } }
+    ensures { result ≡ record { directories = directories; budget = budget; turns = turns; deny = deny; sensors = sensors; sources = sources } }
 {
     RunCommand {
         directories,
         budget,
         turns,
         deny,
+        sensors,
         sources,
     }
 }

@@ -16,13 +16,14 @@ ghost use Rattle.p10_top.specs.Headline.{DerivesBounds, Verified};
 ghost use Rattle.p10_top.specs.Told.{MaySay, SaysFor};
 ghost use Rattle.p10_top.specs.private.Unread.{saying_without_command};
 
-use commands::{check_command, derive_command, run_command, verify_command};
+use commands::{check_command, derive_command, migrate_command, run_command, verify_command};
 use p10_acceptance::laws::derived_certificates_are_accepted;
 use p10_agreement::laws::derived_certificates_are_verified;
 use p10_check_command::check;
 use p10_clean_soundness::laws::clean_certificates_exclude_undefined_operations;
 use p10_derive_command::derive;
 use p10_gen_command::generate;
+use p10_migrate_command::migrate;
 use p10_report::{put_out_of_memory, put_usage};
 use p10_run_command::laws::certificates_leave_steps;
 use p10_run_command::run;
@@ -43,23 +44,28 @@ mod tests;
 /// breaks a rule in the sources and why they are refused; all else is written to `err`. `DIRECTORIES` are joined by `:`, and
 /// included files are looked for in them. Nothing is read of `input` by this command.
 ///
-/// `derive [--include DIRECTORIES] SOURCE..` writes to `out` the certificate that is derived of the sources' program; the violations
-/// for which there is none, and all else, are written to `err`. Nothing is read of `input`.
+/// `derive [--include DIRECTORIES] [--cert-version 1|2] SOURCE..` writes to `out` the certificate that is derived of the sources' program,
+/// in version 1 where none is named; the violations for which there is none, and all else, are written to `err`. Nothing is read of
+/// `input`.
+///
+/// `migrate [--include DIRECTORIES] --cert CERTIFICATE SOURCE..` writes to `out` the text of version 2 with the claims of the certificate
+/// and the digests of the sources' words; all else is written to `err`. Nothing is read of `input`.
 ///
 /// `verify [--include DIRECTORIES] [--clean] --cert CERTIFICATE SOURCE..` reports on `out` whether the certificate bounds every run of
 /// the sources' program, and with `--clean` whether it is clean, too; all else is written to `err`. Nothing is read of `input` by this
 /// command either.
 ///
-/// `run [--include DIRECTORIES] [--steps N | --cert CERTIFICATE] [--turns N] [--deny N] SOURCE..` runs the sources' program on `input`
-/// and `out`, and reports on `err` how it has ended, or why there is none. With a certificate it runs only where that is accepted, and
-/// by its steps.
+/// `run [--include DIRECTORIES] [--steps N | --cert CERTIFICATE] [--turns N] [--deny N] [--sensors VALUES] SOURCE..` runs the sources'
+/// program on `input` and `out`, and reports on `err` how it has ended, or why there is none. With a certificate it runs only where
+/// that is accepted, and by its steps. The program's sensors give the values in the file `VALUES`, or none without it.
 ///
 /// `gen N` makes a program of N functions and `main`, derives its certificate, verifies it and runs the program within it, and reports
 /// on `out` what has come of it; all else is written to `err`. Nothing is read of files or input.
 ///
-/// The statuses: 0 no rule broken, derived, accepted or run to its end, 1 a rule is broken or a condition doesn't hold, 2 no command,
-/// 3 the source is refused, 4 no certificate, 5 a read failed, 6 a write failed, 7 out of memory, 8 a limit is exceeded, 9 a file is
-/// absent, 10 an assertion has failed, 11 an undefined operation, 12 no step is left.
+/// The statuses: 0 no rule broken, derived, migrated, accepted or run to its end, 1 a rule is broken or a condition doesn't hold,
+/// 2 no command, 3 the source is refused, 4 no certificate, 5 a read failed, 6 a write failed, 7 out of memory, 8 a limit is exceeded,
+/// 9 a file is absent, 10 an assertion has failed, 11 an undefined operation, 12 no step is left, 13 a line of the file of sensor values has
+/// another form.
 pub fn p10_main<F: Files, I: Source, O: Sink, E: Sink>(
     alloc: Global,
     words: &[String],
@@ -137,8 +143,20 @@ fn obey<F: Files, I: Source, O: Sink, E: Sink>(
         } => check(alloc, &check_command(dirs, json, sources), files, out, err),
         Command::Derive {
             dirs,
+            version,
             files: sources,
-        } => derive(alloc, &derive_command(dirs, sources), files, out, err),
+        } => {
+            let command = derive_command(dirs, version, sources);
+            derive(alloc, &command, files, out, err)
+        }
+        Command::Migrate {
+            dirs,
+            cert,
+            files: sources,
+        } => {
+            let command = migrate_command(dirs, cert, sources);
+            migrate(alloc, &command, files, out, err)
+        }
         Command::Verify {
             dirs,
             clean,
@@ -153,9 +171,10 @@ fn obey<F: Files, I: Source, O: Sink, E: Sink>(
             budget,
             turns,
             deny,
+            sensors,
             files: sources,
         } => {
-            let command = run_command(dirs, budget, turns, deny, sources);
+            let command = run_command(dirs, budget, turns, deny, sensors, sources);
             run(alloc, &command, files, input, out, err)
         }
         Command::Generate { functions } => generate(alloc, functions, out, err),

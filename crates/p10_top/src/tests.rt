@@ -17,6 +17,10 @@ const CHECK: [&str; 2] = ["check", "a.c"];
 
 const DERIVE: [&str; 2] = ["derive", "a.c"];
 
+const SEAL: [&str; 4] = ["derive", "--cert-version", "2", "a.c"];
+
+const MIGRATE: [&str; 4] = ["migrate", "--cert", "a.p10", "a.c"];
+
 const TWICE: [&str; 5] = ["verify", "--cert", "a.p10", "a.c", "a.c"];
 
 /// `int main(void) { return 0; }` takes three steps: one each for the entry, the statement and the
@@ -31,7 +35,17 @@ total prefix 3 turn 0 calls 1 bytes 0
 end
 ";
 
-const USAGE: &str = "p10: usage: p10 (check|derive|verify|run|gen) [options] FILE..\n";
+/// The same in version 2, with the digests that `sha256sum` gives of the source's words.
+const SEALED: &str = "p10cert 2
+func main rank 0 steps 3 calls 1 bytes 0 alloc 0
+digest 3f286a42be5f9e8b5f04e92fb52e39594fca283a250b992f40092282dfc7dee8
+result 0 0
+outside 0af5df4c563f5a002c32e11302487c0f96763d43172a99783c3cb2cfa2d7527d
+total prefix 3 turn 0 calls 1 bytes 0
+end
+";
+
+const USAGE: &str = "p10: usage: p10 (check|derive|verify|run|gen|migrate) [options] FILE..\n";
 
 const ACCEPTED: &str = "accepted: prefix 3 turn 0 calls 1 bytes 0\n";
 
@@ -112,7 +126,7 @@ type Row = (
     &'static str,
 );
 
-static ROWS: [Row; 25] = [
+static ROWS: [Row; 31] = [
     (&["verify", "a.c"], BOTH, &[], 0, 2, USAGE),
     (&VERIFY, BOTH, &[3], 2, 0, ACCEPTED),
     (&VERIFY, ONE_MORE, &[], 2, 1, TOO_FEW_STEPS),
@@ -145,6 +159,52 @@ static ROWS: [Row; 25] = [
     (&DERIVE, BOTH, &[2], 1, 0, CERTIFICATE),
     (&DERIVE, BOTH, &[1], 1, 5, READ_FAULT),
     (&DERIVE, NEITHER, &[], 1, 9, ABSENT_SOURCE),
+    (&SEAL, BOTH, &[2], 1, 0, SEALED),
+    // A migration asks for its certificate after the sources.
+    (&MIGRATE, BOTH, &[3], 2, 0, SEALED),
+    (&MIGRATE, BOTH, &[1], 1, 5, READ_FAULT),
+    (&MIGRATE, BOTH, &[2], 2, 5, READ_FAULT),
+    (&MIGRATE, CLAIM_ALONE, &[2], 1, 9, ABSENT_SOURCE),
+    (&MIGRATE, INCLUDES_ALONE, &[], 3, 9, ABSENT_CLAIM),
+];
+
+const RECORDED: [&str; 6] = ["run", "--sensors", "v.txt", "--cert", "a.p10", "a.c"];
+
+const ABSENT_VALUES: &str = "p10: absent: v.txt\n";
+
+const REFUSED_VALUES: &str = "p10: sensor file refused at line 1\n";
+
+/// The file of sensor values is read after that of the certificate, and its lines are looked at last.
+static RECORDS: [Row; 7] = [
+    (&RECORDED, BOTH, &[], 3, 9, ABSENT_VALUES),
+    (&RECORDED, BOTH, &[2], 2, 5, READ_FAULT),
+    (&RECORDED, BOTH, &[3], 3, 5, READ_FAULT),
+    (&RECORDED, NEITHER, &[2], 1, 9, ABSENT_SOURCE),
+    (
+        &["run", "--sensors", "a.p10", "a.c"],
+        BOTH,
+        &[3],
+        2,
+        13,
+        REFUSED_VALUES,
+    ),
+    // The same file may be both.
+    (
+        &["run", "--sensors=a.p10", "--cert=a.p10", "a.c"],
+        BOTH,
+        &[4],
+        3,
+        13,
+        REFUSED_VALUES,
+    ),
+    (
+        &["run", "--sensors", "a.c", "a.c"],
+        INCLUDES_ALONE,
+        &[4],
+        3,
+        3,
+        NOT_FOUND,
+    ),
 ];
 
 /// The status and both texts of a run, and after how many bytes the outputs fail.
@@ -194,8 +254,8 @@ fn check<F: Files>(
     for word in words {
         given.push(String::from_str(alloc, word)?)?;
     }
-    let mut out = MemSink::new(alloc, 200, want.out_fails)?;
-    let mut err = MemSink::new(alloc, 200, want.err_fails)?;
+    let mut out = MemSink::new(alloc, 400, want.out_fails)?;
+    let mut err = MemSink::new(alloc, 400, want.err_fails)?;
     let status = p10_main(alloc, &given, files, &mut input, &mut out, &mut err);
     assert_eq!(rt; status, want.status, "{}{}", want.out, want.err);
     assert_eq!(rt; out.taken(), want.out.as_bytes(), "{}", want.out);
@@ -237,6 +297,15 @@ fn check_row(rt: &impl Abort, alloc: Global, row: &Row, want: &Want) -> Result<(
 fn files_and_faults_of_reads(rt: HostRuntime) -> Result<(), Fail> {
     for row in &ROWS {
         check_row(&rt, rt.alloc(), row, &wanted(row))?;
+    }
+    Ok(())
+}
+
+#[test]
+fn files_of_sensor_values(rt: HostRuntime) -> Result<(), Fail> {
+    for row in &RECORDS {
+        check_row(&rt, rt.alloc(), row, &wanted(row))?;
+        check_row(&rt, rt.alloc(), row, &cut(wanted(row), 9))?;
     }
     Ok(())
 }
