@@ -1,4 +1,5 @@
 """p10-report: the numbers on the page are the certificate's, the page needs nothing else, and it fits at three widths."""
+import hashlib
 import html
 import html.parser
 import json
@@ -147,6 +148,21 @@ class Pages(Case):
         out, _, _ = self.run_tool("p10-report", "--cert", "first/a-short.p10", "first/a.c", folder=EXAMPLES, status=0)
         self.assertIn("Certificate refused: K11", out)
         self.assertIn("claims that p10 doesn", out)
+
+    def test_a_certificate_of_version_2(self):
+        digest = hashlib.sha256(b"int\nmain\n(\nvoid\n)\n{\nreturn\n0\n;\n}\n").hexdigest()
+        sealed = ("p10cert 2\nfunc main rank 0 steps 3 calls 1 bytes 0 alloc 0\ndigest {}\nresult 0 0\noutside " + "0" * 64 +
+                  "\ntotal prefix 3 turn 0 calls 1 bytes 0\nsection notes 2\nend\nfunc\nend\n")
+        self.put("a.c", "int main(void) { return 0; }\n")
+        plain, _, _ = self.run_tool("p10-report", "a.c", status=0)
+        self.put("a.p10", sealed.format(digest))
+        out, _, _ = self.run_tool("p10-report", "--cert", "a.p10", "a.c", status=0)
+        self.assertIn("accepted clean: prefix 3", out)
+        self.assertEqual(out.replace("a.p10", "the derived certificate"), plain)
+        self.put("a.p10", sealed.format("f" * 64))
+        out, _, _ = self.run_tool("p10-report", "--cert", "a.p10", "a.c", status=0)
+        self.assertIn("Certificate refused: K0", out)
+        self.assertIn("of other words of this function", out)
 
     def test_clean_or_not(self):
         self.assertIn("Clean: no run", self.run_tool("p10-report", "bounds/letters.c", folder=EXAMPLES)[0])
