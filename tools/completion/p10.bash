@@ -25,11 +25,12 @@ _p10_value() {
         mapfile -t COMPREPLY < <(compgen -d -- "$cur")
         ;;
     --cert) _p10_files p10 ;;
+    --cert-version) _p10_words 1 2 ;;
     --su) _p10_files su ;;
     --format) if [ "$program" = p10 ]; then _p10_words text json; else _p10_words gcc sarif gitlab junit; fi ;;
     --library) [ "$program" = p10-stack ] && compopt -o nospace 2>/dev/null && _p10_words {assert,c_assert,getchar,putchar,malloc,calloc,free}= ;;
     -p | --compile-commands) _p10_files json ;;
-    -o | --output | --stamp | --depfile | --p10) _p10_files '*' ;;
+    -o | --output | --stamp | --depfile | --p10 | --sensors) _p10_files '*' ;;
     --steps | --turns | --deny | --title | --docs | --entry | --runtime | --interrupt | --inlined | -D) COMPREPLY=() ;;
     *) return 1 ;;
     esac
@@ -45,15 +46,16 @@ _p10() {
         prev=${COMP_WORDS[COMP_CWORD - 2]}
     fi
     if [ "$program" = p10 ] && [ "$COMP_CWORD" -eq 1 ]; then
-        _p10_words check derive verify run gen
+        _p10_words check derive verify run gen migrate
         return
     fi
     _p10_value && return
     case $program:${COMP_WORDS[1]} in
     p10:check) options='--include --format' ;;
-    p10:derive) options='--include' ;;
+    p10:derive) options='--include --cert-version' ;;
     p10:verify) options='--include --clean --cert' ;;
-    p10:run) options='--include --steps --cert --turns --deny' ;;
+    p10:run) options='--include --steps --cert --turns --deny --sensors' ;;
+    p10:migrate) options='--include --cert' ;;
     p10:*) return ;;
     p10-lint:*) options='--compile-commands --library --include --format --output --stamp --depfile --quiet --p10 --version --help' ;;
     p10-report:*) options='--cert --include --output --title --docs --p10 --version --help' ;;

@@ -45,13 +45,15 @@ def _range(words):
 
 
 def parse(text, name):
-    """The certificate of a text that p10 takes for one. Trouble where a line has another form."""
+    """The certificate of a text that p10 takes for one, without its digests and sections. Trouble where a line has another form."""
     made = Certificate([])
     lines = text.split("\n")
-    if lines[0] != "p10cert 1":
-        raise Trouble(f"{name} is no certificate of version 1")
-    claim = None
+    if lines[0] not in ("p10cert 1", "p10cert 2"):
+        raise Trouble(f"{name} is no certificate of version 1 or 2")
+    claim, last_of_section = None, 0
     for number, line in enumerate(lines[1:], 2):
+        if number <= last_of_section:
+            continue
         words = line.split(" ")
         try:
             if words[0] == "func":
@@ -71,6 +73,10 @@ def parse(text, name):
                 claim.loops[-1].ranges[int(words[1])] = (int(words[2]), int(words[3]))
             elif words[0] == "total":
                 made.prefix, made.turn, made.calls, made.bytes = (int(words[i]) for i in (2, 4, 6, 8))
+            elif words[0] == "section":
+                last_of_section = number + int(words[2])
+            elif words[0] in ("digest", "outside"):
+                continue
             elif words[0] == "end":
                 return made
             else:

@@ -12,7 +12,7 @@ from . import VERSION
 
 USAGE, FAULT, LIMIT, ABSENT = 2, 5, 8, 9  # statuses, as p10's
 REFUSED = re.compile(r"(?s)(.*):(\d+):(\d+): refused ([XDGS]\d+): (.*)")
-CONDITION = re.compile(r"(?s)refused: ([KC]\d+) (.*):(\d+):(\d+)\n?")
+CONDITION = re.compile(r"(?s)refused: ([KC]\d+) (.*):(\d+):(\d+)(?: kept [0-9a-f]{64} found [0-9a-f]{64})?\n?")
 STACK = 80 << 20  # what the script p10 gives the program, too
 DEPTH = 10_000  # calls of Python that are open at once: a level of nesting in C takes some eight, and Python's own limit is 1,000
 
