@@ -1,17 +1,19 @@
 -- Of an expression of constants its one value is known.
-use Rattle.std.proofs.Common.{◌≡◌, true, false, Bool, ap, ◌∙◌, ℤ, pos, neg_ℤ, ◌+ℤ◌, ◌-ℤ◌, ◌*ℤ◌, refl, Option, Some, None}
+use Rattle.std.proofs.Common.{◌≡◌, true, false, Bool, ap, ◌∙◌, ℤ, pos, neg_ℤ, ◌+ℤ◌, ◌-ℤ◌, ◌*ℤ◌, refl, Option, Some, None, Ok}
 use Rattle.std.specs.Prelude.{◌&&◌, if◌then◌else◌, int_le}
 use Rattle.std.specs.Option.{option_map}
 use Rattle.p10_int.specs.declared.types.IntType.{IntType}
 use Rattle.p10_int.specs.declared.operators.BinOp.{BinOp}
-use Rattle.p10_int.specs.declared.operators.BinOp.TheVariants.{Add, Sub, Mul, Shr}
-use Rattle.p10_int.specs.declared.operators.UnOp.TheVariants.{Plus, Neg}
+use Rattle.p10_int.specs.declared.operators.BinOp.TheVariants.{Add, Sub, Mul, Div, Shl, Shr}
+use Rattle.p10_int.specs.declared.operators.UnOp.TheVariants.{Plus, Neg, Com}
 use Rattle.p10_int.specs.Types.{InRange, least_of, greatest_of}
+use Rattle.p10_int.specs.Operators.{operate_unary}
 use Rattle.p10_range.specs.Ranges.{Interval, is_within}
-use Rattle.p10_range.specs.Rows.{values_of, sums, differences, row_of, unary_row_of}
+use Rattle.p10_range.specs.Rows.{values_of, sums, differences, remainders, row_of, unary_row_of}
 use Rattle.p10_range.proofs.Signs.{le_true}
 use Rattle.p10_range_laws.specs.Constants.{single}
 use Rattle.p10_range_laws.proofs.Constants.{constants_give_constants}
+use Rattle.p10_range_laws.proofs.OtherConstants.{other_constants_give_constants}
 use Rattle.p10_core.specs.Types.{PlainType, integer}
 use Rattle.p10_core.specs.Typed.{PlainValue, value, constant, convert, unary, binary, type_of}
 use Rattle.p10_core.specs.Rows.{is_integer}
@@ -21,7 +23,7 @@ use Rattle.p10_absx.specs.Environments.{Environment}
 use Rattle.p10_absx.specs.Operators.{converted_range, is_exact, is_right_operand, binary_offset}
 use Rattle.p10_absx.specs.Comparing.{is_comparison}
 use Rattle.p10_absx.specs.Assessing.{Assessed, a_scalar, value_found, as_side, found_of, converted_found, unary_assessed, arithmetic_found, comparison_found, are_integers, binary_found, assess}
-use Rattle.p10_constant_laws.specs.Constants.{HasConstant, of_constant, of_conversion, of_sign, of_negation, of_sum, of_difference, of_product, of_shift, ConstantsAreKnown}
+use Rattle.p10_constant_laws.specs.Constants.{HasConstant, of_constant, of_conversion, of_sign, of_negation, of_sum, of_difference, of_product, of_shift, of_quotient, of_left_shift, of_complement, ConstantsAreKnown, RemaindersAreRanges}
 
 -- what is found of an integer that is one number
 abbrev found : ℤ → Assessed
@@ -49,6 +51,11 @@ negation_found : (env : Environment) (i : IntType) (z : ℤ) → InRange i z →
 negation_found env i z v u =
     ap (λ (b : Bool). found_of (integer false i) (if b then option_map (λ (r : Interval). record { range = r; offset = None }) (unary_row_of Neg i (single z)) else Some (whole_type i))) (within i z v)
     ∙ ap (λ (row : Option Interval). found_of (integer false i) (option_map (λ (r : Interval). record { range = r; offset = None }) row)) (constants_give_constants.negations i z u)
+
+complement_found : (env : Environment) (i : IntType) (x z : ℤ) → InRange i x → operate_unary Com i x ≡ Ok z → unary_assessed Com (integer false i) env (found x) ≡ found z
+complement_found env i x z v e =
+    ap (λ (b : Bool). found_of (integer false i) (if b then option_map (λ (r : Interval). record { range = r; offset = None }) (unary_row_of Com i (single x)) else Some (whole_type i))) (within i x v)
+    ∙ ap (λ (row : Option Interval). found_of (integer false i) (option_map (λ (r : Interval). record { range = r; offset = None }) row)) (other_constants_give_constants.complements i x z v e)
 
 conversion_found : (i : IntType) (z : ℤ) → InRange i z → converted_found (integer false i) (as_side (found z)) ≡ found z
 conversion_found i z v =
@@ -82,6 +89,9 @@ no_difference i r s = if_none (is_exact i (differences r s)) None refl
 no_shift : (i : IntType) (r s : Interval) → binary_offset Shr i (only_range r) (only_range s) ≡ None
 no_shift i r s = if_none (int_le (pos 1) r.low && int_le (pos 1) s.low) None refl
 
+no_quotient : (i : IntType) (r s : Interval) → binary_offset Div i (only_range r) (only_range s) ≡ None
+no_quotient i r s = if_none (int_le (pos 1) r.low && int_le (pos 2) s.low) None refl
+
 -- ## Expressions
 
 integer_type : (v : PlainValue) (z : ℤ) → HasConstant v z → is_integer (type_of v) ≡ true
@@ -93,6 +103,9 @@ integer_type v z (of_sum at i a b x y h k r s t) = refl
 integer_type v z (of_difference at i a b x y h k r s t) = refl
 integer_type v z (of_product at i a b x y h k r s t) = refl
 integer_type v z (of_shift at i a b x n y h k r e) = refl
+integer_type v z (of_quotient at i a b x y q h k r s p e) = refl
+integer_type v z (of_left_shift at i a b x n y h k r s e) = refl
+integer_type v z (of_complement at i u x y h r e) = refl
 
 joined : (op : BinOp) (c : Option Claims) (env : Environment) (t : PlainType) (a b : PlainValue) (x y : ℤ) → HasConstant a x → HasConstant b y → assess c a env ≡ found x → assess c b env ≡ found y →
     binary_found op t (are_integers a b) (assess c a env) (assess c b env) env ≡ binary_found op t true (found x) (found y) env
@@ -117,6 +130,17 @@ known c env v z (of_product at i a b x y h k r s t) =
 known c env v z (of_shift at i a b x n y h k r e) =
     joined Shr c env (integer false i) a b x n h k (known c env a x h) (known c env b n k)
     ∙ binary_one Shr env i x n y refl r refl (no_shift i (single x) (single n)) (constants_give_constants.shifts i x n y e)
+known c env v z (of_quotient at i a b x y q h k r s p e) =
+    joined Div c env (integer false i) a b x y h k (known c env a x h) (known c env b y k)
+    ∙ binary_one Div env i x y q refl r (within i y s) (no_quotient i (single x) (single y)) (other_constants_give_constants.quotients i x y q r s p e)
+known c env v z (of_left_shift at i a b x n y h k r s e) =
+    joined Shl c env (integer false i) a b x n h k (known c env a x h) (known c env b n k)
+    ∙ binary_one Shl env i x n y refl r refl refl (other_constants_give_constants.left_shifts i x n y s e)
+known c env v z (of_complement at i u x y h r e) = ap (λ (a : Assessed). unary_assessed Com (integer false i) env a) (known c env u x h) ∙ complement_found env i x y r e
 
 pub constants_are_known : ConstantsAreKnown
 constants_are_known c env v z h = ap value_found (known c env v z h)
+
+pub remainders_are_ranges : RemaindersAreRanges
+unfolding remainders
+remainders_are_ranges c env at = refl

@@ -19,15 +19,15 @@ use Rattle.p10_range.proofs.Signs.{le_true, le_false, lt_true, lt_false, of_le, 
 use Rattle.p10_range.proofs.Holding.{met, meet_is}
 use Rattle.p10_range_laws.specs.Constants.{single, ConstantsGiveConstants}
 
-itself : (z : ℤ) → IsMember (single z) z
+pub itself : (z : ℤ) → IsMember (single z) z
 itself z = record { above = omega (arith, ints); below = omega (arith, ints) }
 
 -- one number meets an interval that has it in itself
-met_single : (i : Interval) (z : ℤ) → IsMember i z → met (single z) i ≡ single z
+pub met_single : (i : Interval) (z : ℤ) → IsMember i z → met (single z) i ≡ single z
 met_single i z m = both _ _ _ _ (omega (arith, ints, clamps, m.above)) (omega (arith, ints, clamps, m.below))
 
 -- a value of the type stays one number
-fitted_single : (t : IntType) (z : ℤ) → InRange t z → fitted_interval t (single z) ≡ Some (single z)
+pub fitted_single : (t : IntType) (z : ℤ) → InRange t z → fitted_interval t (single z) ≡ Some (single z)
 unfolding fitted_interval
 fitted_single t z v = by_sign (is_signed_of t)
   where
@@ -50,7 +50,7 @@ negated : (x : ℤ) → pos 0 -ℤ x ≡ neg_ℤ x
 negated x = omega (arith, ints)
 
 -- ---- shifts
-count_member : (t : IntType) (n : ℤ) → is_shift_count t n ≡ true → IsMember (from_to (pos 0) (pos (width_of (promoted t) - 1))) n
+pub count_member : (t : IntType) (n : ℤ) → is_shift_count t n ≡ true → IsMember (from_to (pos 0) (pos (width_of (promoted t) - 1))) n
 count_member t n e = by_tests (int_le (pos 0) n) (int_lt n (pos (width_of (promoted t)))) refl refl e
   where
     by_tests : (b d : Flag) → int_le (pos 0) n ≡ b → int_lt n (pos (width_of (promoted t))) ≡ d → b && d ≡ true → IsMember (from_to (pos 0) (pos (width_of (promoted t) - 1))) n

@@ -5,3 +5,4 @@ pub mod Products
 pub mod Quotients
 pub mod Tests
 pub mod Constants
+pub mod OtherConstants

@@ -1,6 +1,7 @@
 //! Laws of the rows: each is the contract of a function without a body.
 
 ghost use Rattle.p10_range_laws.specs.Constants.{ConstantsGiveConstants};
+ghost use Rattle.p10_range_laws.specs.OtherConstants.{ConstantsGiveRanges, OtherConstantsGiveConstants};
 ghost use Rattle.p10_range_laws.specs.Tight.{
   SumsAreTight,
   DifferencesAreTight,
@@ -39,4 +40,11 @@ pub fn tests_are_tight()
 /// One number each has a row of one number, where nothing wraps.
 pub fn constants_give_constants()
     ensures { ConstantsGiveConstants }
+{}
+
+/// So have `/` by a positive number, `<<` where nothing wraps, `~` and `!`. It is false of `%`, of `/` by a negative number, of `&`, `|` and `^`, and of unsigned
+/// results that wrap: of each one pair of numbers whose row has more than the result.
+pub fn other_constants_are_told()
+    ensures constants { OtherConstantsGiveConstants }
+    ensures ranges { ConstantsGiveRanges }
 {}

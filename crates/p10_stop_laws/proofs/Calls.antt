@@ -1,5 +1,5 @@
 -- The stops of calls have their causes in the program, by induction on the bound.
-use Rattle.std.proofs.Common.{◌≡◌, ℕ, zero, suc, cond, Bool, true, false, List, [], ◌∷◌, ◌++◌, map, take, refl, sym, ap, subst, Some, slice_get}
+use Rattle.std.proofs.Common.{◌≡◌, ℕ, zero, suc, ◌+◌, ◌<◌, ◌≤◌, arith, length, cond, Bool, true, false, List, [], ◌∷◌, ◌++◌, map, take, refl, sym, ap, subst, Some, slice_get}
 use Rattle.std.specs.Prelude.{All, Contains}
 use Rattle.std.proofs.lemmas.List.Elements.{All-head, All-tail}
 use Rattle.p10_base.specs.declared.span.Span.{Span}
@@ -25,6 +25,8 @@ use Rattle.p10_meaning.proofs.SoundStatements.{AreFew}
 use Rattle.p10_meaning.proofs.SoundCalls.{few_variables, EntryFits, no_arguments, calls_keep}
 use Rattle.p10_stop_laws.specs.Causes.{StopHasCause, StopsWhere, CallsStopWithCause}
 use Rattle.p10_stop_laws.proofs.Among.{AllIn, all_itself}
+use Rattle.p10_stop_laws.proofs.Present.{IsThere, AreThere, below}
+use Rattle.p10_stop_laws.proofs.Alive.{calls_leave}
 use Rattle.p10_stop_laws.proofs.Ending.{stops_step, stops_on, stops_weaker}
 use Rattle.p10_stop_laws.proofs.Values.{Found, CallsStop}
 use Rattle.p10_stop_laws.proofs.Statements.{from_stops}
@@ -97,6 +99,29 @@ entry_fits p out (suc m) (v ∷ vs) (x ∷ xs) w ks few scalar f so = by_frame v
     by_frame true a b = a
     by_frame false a b = b
 
+-- something stands for each parameter
+parameter_there : (p : PlainProgram) (ks : List Kind) (m : ℕ) (vs : List PlainVariable) (xs : List Scalar) (w : State) (k : ℕ) → ScalarsFit p ks (types_of m vs) xs → k < m → k < length vs → IsThere (slice_get (entered vs xs w).frame.held k)
+parameter_there p ks m [] xs w k f l t = absurd (omega (arith, t))
+parameter_there p ks zero (v ∷ vs) xs w k f l t = absurd (omega (arith, l))
+parameter_there p ks (suc m) (v ∷ vs) [] w k f l t = absurd f
+parameter_there p ks (suc m) (v ∷ vs) (x ∷ xs) w k f l t =
+    by_frame (λ k l t. parameter_there p ks m vs xs w k f.1 l t) (λ k l t. parameter_there p ks m vs xs (open_object declared (holding x ∷ []) w) k f.1 l t) v.frame k l t
+  where
+    by_frame : ((k : ℕ) → k < m → k < length vs → IsThere (slice_get (entered vs xs w).frame.held k)) →
+        ((k : ℕ) → k < m → k < length vs → IsThere (slice_get (entered vs xs (open_object declared (holding x ∷ []) w)).frame.held k)) → (b : Bool) (k : ℕ) → k < suc m → k < suc (length vs) → IsThere (slice_get (cond b (with_variable (holds (holding x)) (entered vs xs w).frame.opened (entered vs xs w))
+        (with_variable (stands w.opened) (w.opened ∷ (entered vs xs (open_object declared (holding x ∷ []) w)).frame.opened) (entered vs xs (open_object declared (holding x ∷ []) w)))).frame.held k)
+    by_frame a b true zero l t = tt
+    by_frame a b false zero l t = tt
+    by_frame a b true (suc k) l t = a k (omega (arith, l)) (omega (arith, t))
+    by_frame a b false (suc k) l t = b k (omega (arith, l)) (omega (arith, t))
+
+parameters_there : (p : PlainProgram) (ks : List Kind) (g : PlainFunction) (xs : List Scalar) (w : State) → g.parameters ≤ length g.variables → ScalarsFit p ks (parameter_types g) xs → AreThere (numbers_from 0 g.parameters) (entered g.variables xs w).frame.held
+parameters_there p ks g xs w few f = record {
+  each = λ k e.
+      let b : (0 ≤ k) × (k < 0 + g.parameters) = below 0 g.parameters k e in let l : k < 0 + g.parameters = b.1 in
+      parameter_there p ks g.parameters g.variables xs w k f (omega (arith, l)) (omega (arith, l, few));
+}
+
 -- ## Calls
 
 entered_stops : (p : PlainProgram) (whole : IsWholeProgram p) (n : ℕ) (calls : Depth → Calls) → ((depth : Depth) → KeepSound p (calls depth)) → ((depth : Depth) → CallsStop p (calls depth) (InProgram p)) →
@@ -110,16 +135,17 @@ entered_stops p whole n calls meaning called depth k g xs w ks there f so =
     let start : Entered = entered g.variables xs (raised deep w) in
     let entry : EntryFits p ks g.variables start = entry_fits p out g.parameters g.variables xs (raised deep w) ks few i.parameters_scalar f so in
     stops_on (Found (InProgram p)) (execute_from (setting_of p n calls deep g) 0 g.body start.frame start.state) leave_call
-    (from_stops p out whole (calls deep) (meaning deep) n k g few i.result (InProgram p) (called deep) 0 g.body (numbers_from 0 g.parameters) false false i.body (body_in p k g there)
-    start.frame start.state entry.kinds entry.sound entry.frame)
+    (from_stops p out whole (calls deep) (meaning deep) n k g few i (InProgram p) (called deep) 0 g.body (numbers_from 0 g.parameters) false false i.body tt (body_in p k g there)
+    start.frame start.state entry.kinds entry.sound entry.frame (parameters_there p ks g xs (raised deep w) i.parameters_there f))
     (λ d w. tt)
 
 pub calls_stop : (p : PlainProgram) → IsWholeProgram p → (n : ℕ) (depth : Depth) → CallsStop p (call_at n p depth) (InProgram p)
-calls_stop p whole zero depth = record { stops = λ k g xs w ks there f so. tt }
+calls_stop p whole zero depth = record { stops = λ k g xs w ks there f so. tt; keep = λ o m. calls_leave p o m zero depth }
 calls_stop p whole (suc n) depth = record {
   stops = λ k g xs w ks there f so. stops_step (Found (InProgram p)) w _ (λ left.
       subst (λ o. StopsWhere (Found (InProgram p)) (enter_call p n (call_at n p) depth o xs (record w { left = left }))) (sym there)
       (entered_stops p whole n (call_at n p) (λ depth. calls_keep p whole n depth) (λ depth. calls_stop p whole n depth) depth k g xs (record w { left = left }) ks there f so));
+  keep = λ o m. calls_leave p o m (suc n) depth;
 }
 
 pub calls_stop_with_cause : CallsStopWithCause

@@ -24,7 +24,7 @@ dead_of (x ∷ xs) o e = by_test (eqb x.number o) refl (dead_of xs o) e
     by_test true t h f = absurd (none-some _ (sym f))
     by_test false t h f = (λ s. let u = eq-eqb x.number o s in cc, h f)
 
-none_of : (objects : List Object) (o : ℕ) → IsDead objects o → find o objects ≡ None
+pub none_of : (objects : List Object) (o : ℕ) → IsDead objects o → find o objects ≡ None
 none_of [] o d = refl
 none_of (x ∷ xs) o d = by_test (eqb x.number o) refl (none_of xs o d.1)
   where
@@ -33,11 +33,11 @@ none_of (x ∷ xs) o d = by_test (eqb x.number o) refl (none_of xs o d.1)
     by_test false t h = h
 
 -- an object is dead, or it is found
-data IsAlive (objects : List Object) (o : ℕ) : Type 0 where
+pub data IsAlive (objects : List Object) (o : ℕ) : Type 0 where
   lives : (x : Object) → alive objects o ≡ Ok x → ¬ IsDead objects o → IsAlive objects o
   lies_dead : alive objects o ≡ Err U7 → IsDead objects o → IsAlive objects o
 
-is_alive : (objects : List Object) (o : ℕ) → IsAlive objects o
+pub is_alive : (objects : List Object) (o : ℕ) → IsAlive objects o
 is_alive objects o = by_object (find o objects) refl
   where
     by_object : (x : Option Object) → find o objects ≡ x → IsAlive objects o

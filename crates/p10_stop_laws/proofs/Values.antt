@@ -8,7 +8,7 @@ use Rattle.std.proofs.lemmas.Bool.{eq-eqb}
 use Rattle.p10_base.specs.declared.span.Span.{Span}
 use Rattle.p10_base.specs.declared.at.At.{At}
 use Rattle.p10_int.specs.declared.operators.Stop.{Stop}
-use Rattle.p10_int.specs.declared.operators.Stop.TheVariants.{U8, U10, U11}
+use Rattle.p10_int.specs.declared.operators.Stop.TheVariants.{U10, U11}
 use Rattle.p10_core.specs.declared.typed.Library.{Library}
 use Rattle.p10_core.specs.declared.typed.Library.TheVariants.{Assert, CAssert, Getchar, Putchar, Malloc, Calloc, Free}
 use Rattle.p10_core.specs.Types.{PlainType, integer, pointer, bare}
@@ -30,7 +30,9 @@ use Rattle.p10_meaning.proofs.Geometry.{IsLaidOut}
 use Rattle.p10_meaning.proofs.Fitting.{fits_grown, frame_grown, fits_same}
 use Rattle.p10_meaning.proofs.Keeping.{kept, keeps_then}
 use Rattle.p10_meaning.proofs.SoundValues.{ValuesFit, IsCallee, evaluate_keeps}
-use Rattle.p10_stop_laws.specs.Causes.{Reading, StopsWhere, OperatorStops, NodeStops, names, indexes, selects, dereferences, reads, decays, operates, frees}
+use Rattle.p10_stop_laws.specs.Causes.{Reading, StopsWhere, OperatorStops, NodeStops, indexes, selects, dereferences, reads, decays, operates, frees}
+use Rattle.p10_stop_laws.proofs.Present.{IsThere}
+use Rattle.p10_stop_laws.proofs.Alive.{CallsLeave}
 use Rattle.p10_stop_laws.proofs.Among.{AllIn, all_front, all_back}
 use Rattle.p10_stop_laws.proofs.Ending.{stops_step, stops_on, stops_then, stops_or, stops_if}
 use Rattle.p10_stop_laws.proofs.Pointing.{reach_stops, inner_stops, shift_stops, read_of_stops, read_stops, release_stops}
@@ -47,15 +49,16 @@ pub record Found (In : PlainNode → Type 0) (stop : Stop) (span : Span) : Type 
 pub found : (In : PlainNode → Type 0) (node : PlainNode) (stop : Stop) (span : Span) → In node → NodeStops node stop span → Found In stop span
 found In node stop span h k = record { node = node; among = h; ends_there = k }
 
--- calls in sound states, on arguments that fit, stop with such a cause
+-- calls in sound states, on arguments that fit, stop with such a cause; they end no object that was declared before
 pub record CallsStop (p : PlainProgram) (calls : Calls) (In : PlainNode → Type 0) : Type 0 where
   pub stops : (f : ℕ) (g : PlainFunction) (xs : List Scalar) (w : State) (ks : List Kind) → slice_get p.functions f ≡ Some g → ScalarsFit p ks (parameter_types g) xs → Sound p ks w → StopsWhere (Found In) (calls f xs w)
+  pub keep : (o m : ℕ) → CallsLeave o m calls
 
 -- ## Names
 
-variable_stops : (P : Stop → Span → Type 0) (n k : ℕ) (span : Span) (h : Option Held) (w : State) → P U8 span → StopsWhere P (or_undefined (variable_target n k h) span w (λ target. gives target w))
-variable_stops P n k span None w c = c
-variable_stops P n k span (Some absent) w c = c
+variable_stops : (P : Stop → Span → Type 0) (n k : ℕ) (span : Span) (h : Option Held) (w : State) → IsThere h → StopsWhere P (or_undefined (variable_target n k h) span w (λ target. gives target w))
+variable_stops P n k span None w c = absurd c
+variable_stops P n k span (Some absent) w c = absurd c
 variable_stops P n k span (Some (holds cell)) w c = tt
 variable_stops P n k span (Some (stands o)) w c = tt
 
@@ -128,7 +131,7 @@ arguments_fit p c ks (t ∷ ts) no_values xs e a f = absurd a
 
 -- ## Values and places
 
-module _ (p : PlainProgram) (out : IsLaidOut p) (whole : IsWholeProgram p) (calls : Calls) (meaning : KeepSound p calls) (n : ℕ) (variables : List PlainVariable) (seen_at : ℕ → Option SeenVariable) (seen : AreSeen variables seen_at) (held : List Held) (In : PlainNode → Type 0) (called : CallsStop p calls In) where
+module _ (p : PlainProgram) (out : IsLaidOut p) (whole : IsWholeProgram p) (calls : Calls) (meaning : KeepSound p calls) (n : ℕ) (variables : List PlainVariable) (seen_at : ℕ → Option SeenVariable) (seen : AreSeen variables seen_at) (held : List Held) (there : (k : ℕ) (v : SeenVariable) → seen_at k ≡ Some v → IsThere (slice_get held k)) (In : PlainNode → Type 0) (called : CallsStop p calls In) where
   abbrev s : Setting
   s = record { program = p; variables = variables; call = calls; turns = n }
 
@@ -273,7 +276,7 @@ module _ (p : PlainProgram) (out : IsLaidOut p) (whole : IsWholeProgram p) (call
 
     find_stops : (at : At) (t : PlainType) (form : PlainPlaceForm) → IsWholePlaceForm c t form → AllIn In (a_place (place at t form) ∷ nodes_in_place_form form) → (w : State) (ks : List Kind) → Sound p ks w → FrameAt ks →
         StopsWhere P (find_place s held at t form w)
-    find_stops at t (variable k) i m w ks so f = variable_stops P k (width p t) at.span (slice_get held k) w (found In (a_place (place at t (variable k))) U8 at.span m.0 (names at t k))
+    find_stops at t (variable k) i m w ks so f = variable_stops P k (width p t) at.span (slice_get held k) w (there k i.seen i.there)
     find_stops at t (global k) i m w ks so f = global_stops P k (width p t) at.span (slice_get p.objects k) w (object_there (slice_get p.objects k) i.seen i.there)
     find_stops at t (literal k bytes) i m w ks so f =
         literal_stops P (width p t) at.span (literal_number k (length p.objects) p.literals) w (literal_there k bytes (length p.objects) p.literals i.is_listed.0 i.is_listed.1 i.is_listed.2)

@@ -12,7 +12,7 @@ use Rattle.p10_int.specs.Types.{is_signed_of}
 use Rattle.p10_core.specs.declared.typed.Library.TheVariants.{Free}
 use Rattle.p10_core.specs.declared.statements.UpdateKind.{UpdateKind}
 use Rattle.p10_core.specs.Types.{PlainType, integer, pointer}
-use Rattle.p10_core.specs.Typed.{PlainValue, value, type_of, read, decay, unary, binary, call, built_in, PlainPlace, place, place_at, variable, index, member, dereference, PlainValues, PlainInitializer, single, copied, listed, PlainItem, statement, set, update, copy, declare, PlainFunction, PlainProgram}
+use Rattle.p10_core.specs.Typed.{PlainValue, value, type_of, read, decay, unary, binary, call, built_in, PlainPlace, place, place_at, index, member, dereference, PlainValues, copied, statement, set, update, copy, declare, PlainFunction, PlainProgram}
 use Rattle.p10_core.specs.Nodes.{PlainNode, a_statement, a_value, a_place, nodes_of_statements}
 use Rattle.p10_core.specs.WholePrograms.{parameter_types, IsWholeProgram}
 use Rattle.p10_meaning.specs.declared.pointers.Scalar.{Scalar}
@@ -99,17 +99,10 @@ pub data OperatorStops (op : BinOp) : PlainType → PlainType → PlainType → 
 
 -- ## Nodes
 
--- an initialiser writes the variable that is declared
-pub data Initializes : PlainInitializer → Type 0 where
-  by_value : (v : PlainValue) → Initializes (single v)
-  by_copy : (q : PlainPlace) → Initializes (copied q)
-  by_list : (at : At) (items : List PlainItem) → Initializes (listed at items)
-
 -- a node, a stop in which what it does itself may end, and the span at which that stands: that of the operator, of the call, or of the
 -- place that is read or written
 pub data NodeStops : PlainNode → Stop → Span → Type 0 where
-  -- places: a name that stands for nothing, an element, a member, a dereference
-  names : (at : At) (t : PlainType) (n : ℕ) → NodeStops (a_place (place at t (variable n))) U8 at.span
+  -- places: an element, a member, a dereference
   indexes : (at : At) (t : PlainType) (a i : PlainValue) (stop : Stop) → Accessing stop → NodeStops (a_place (place at t (index a i))) stop at.span
   selects : (at : At) (t : PlainType) (q : PlainPlace) (m : ℕ) (stop : Stop) → Reaching stop → NodeStops (a_place (place at t (member q m))) stop at.span
   dereferences : (at : At) (t : PlainType) (v : PlainValue) (stop : Stop) → Reaching stop → NodeStops (a_place (place at t (dereference v))) stop at.span
@@ -120,7 +113,7 @@ pub data NodeStops : PlainNode → Stop → Span → Type 0 where
   operates : (at : At) (t : PlainType) (op : BinOp) (a b : PlainValue) (stop : Stop) → OperatorStops op t (type_of a) (type_of b) stop → NodeStops (a_value (value at t (binary op a b))) stop at.span
   lacks_value : (at : At) (t : PlainType) (name : Span) (k : ℕ) (arguments : PlainValues) → NodeStops (a_value (value at t (call name k arguments))) U10 at.span
   frees : (at : At) (t : PlainType) (name : Span) (arguments : PlainValues) → NodeStops (a_value (value at t (built_in name Free arguments))) U11 at.span
-  -- statements: assignments, updates, copies of structures, initialisers
+  -- statements: assignments, updates, copies of structures; of an initialiser a copy from another structure alone
   assigns : (at : At) (q : PlainPlace) (v : PlainValue) (stop : Stop) → Writing stop → NodeStops (a_statement (statement at (set q v))) stop (place_at q).span
   reads_first : (at : At) (kind : UpdateKind) (op : BinOp) (t : PlainType) (q : PlainPlace) (v : PlainValue) (stop : Stop) → Reading stop →
       NodeStops (a_statement (statement at (update kind op t q v))) stop (place_at q).span
@@ -130,7 +123,6 @@ pub data NodeStops : PlainNode → Stop → Span → Type 0 where
       NodeStops (a_statement (statement at (update kind op t q v))) stop (place_at q).span
   copies_from : (at : At) (q r : PlainPlace) (stop : Stop) → Accessing stop → NodeStops (a_statement (statement at (copy q r))) stop (place_at r).span
   copies_to : (at : At) (q r : PlainPlace) (stop : Stop) → Writing stop → NodeStops (a_statement (statement at (copy q r))) stop (place_at q).span
-  initializes : (at : At) (n : ℕ) (initializer : PlainInitializer) (stop : Stop) → Initializes initializer → Writing stop → NodeStops (a_statement (statement at (declare n initializer))) stop at.span
   initializes_from : (at : At) (n : ℕ) (q : PlainPlace) (stop : Stop) → Accessing stop → NodeStops (a_statement (statement at (declare n (copied q)))) stop (place_at q).span
 
 -- ## Programs

@@ -2,6 +2,7 @@
 
 ghost use Rattle.p10_stop_laws.specs.Operators.{OperatorsStopThen, UnaryOperatorsStopThen};
 ghost use Rattle.p10_stop_laws.specs.Moves.{MovesStopThen, RelationsStopThen, FreesStopThen};
+ghost use Rattle.p10_stop_laws.specs.Access.{ReachesStopThen, AccessesStopThen};
 ghost use Rattle.p10_stop_laws.specs.Names.{NumbersNameWhatIsThere};
 ghost use Rattle.p10_stop_laws.specs.Causes.{CallsStopWithCause, RunsStopWithCause};
 
@@ -21,8 +22,17 @@ pub fn pointers_stop_then()
     ensures frees { FreesStopThen }
 {}
 
+/// An object is reached through a pointer, and the scalar there is read and written, except exactly where that stops: the pointer is null, its object is
+/// dead, no scalar stands there, the scalar is unset when it is read, or one of a string literal when it is written. A frame variable is read
+/// into a stop exactly where it holds nothing.
+pub fn accesses_stop_then()
+    ensures reaches { ReachesStopThen }
+    ensures accesses { AccessesStopThen }
+{}
+
 /// Each stop of a run of a whole program stands at a node of the program of the kind that the table of stops names for it, of operands
-/// of the types that it names; so too that of a call in a sound state.
+/// of the types that it names; so too that of a call in a sound state. No name stands for nothing where it is reached, and no initialiser
+/// stops in writing what it declares.
 pub fn stops_have_causes()
     ensures calls { CallsStopWithCause }
     ensures runs { RunsStopWithCause }
