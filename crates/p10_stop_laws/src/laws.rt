@@ -31,8 +31,8 @@ pub fn accesses_stop_then()
 {}
 
 /// Each stop of a run of a whole program stands at a node of the program of the kind that the table of stops names for it, of operands
-/// of the types that it names; so too that of a call in a sound state. No name stands for nothing where it is reached, and no initialiser
-/// stops in writing what it declares.
+/// of the types that it names; so too that of a call in a sound state. The table has no row for a name that stands for nothing, and none for
+/// what an initialiser writes.
 pub fn stops_have_causes()
     ensures calls { CallsStopWithCause }
     ensures runs { RunsStopWithCause }
