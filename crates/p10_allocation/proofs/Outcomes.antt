@@ -12,7 +12,7 @@ use Rattle.p10_core.specs.declared.statements.MarkKind.TheVariants.{InitDone}
 use Rattle.p10_core.specs.Types.{PlainType}
 use Rattle.p10_core.specs.Typed.{value, call, built_in, PlainValues, statement, mark}
 use Rattle.p10_core.specs.Nodes.{PlainNode, a_statement, a_value, in_loop_order}
-use Rattle.p10_flowrules.specs.Allocating.{is_of_memory}
+use Rattle.p10_core.specs.Uses.{manages_memory}
 use Rattle.p10_meaning.specs.declared.pointers.Scalar.{Scalar}
 use Rattle.p10_meaning.specs.States.{State, Progress, gives, ends, step_at, step, and_then, or_undefined}
 use Rattle.p10_meaning.specs.Values.{Calls}
@@ -80,7 +80,7 @@ pub record Leaves {A : Type 0} (P : Bool → ℕ → Type 0) (o : Progress A) : 
 
 -- nodes that keep what holds, where calls have a meaning: those that allocate or free, the mark, and calls of functions
 pub record Keeps (P : Bool → ℕ → Type 0) (N : PlainNode → Type 0) (meaning : Calls) : Type 0 where
-  pub memory : (at : At) (t : PlainType) (name : Span) (f : Library) (arguments : PlainValues) → N (a_value (value at t (built_in name f arguments))) → is_of_memory f ≡ true →
+  pub memory : (at : At) (t : PlainType) (name : Span) (f : Library) (arguments : PlainValues) → N (a_value (value at t (built_in name f arguments))) → manages_memory f ≡ true →
       (marked : Bool) (count : ℕ) → P marked count → P marked (if marked then suc count else count)
   pub passes : (at : At) → N (a_statement (statement at (mark InitDone))) → (marked : Bool) (count : ℕ) → P marked count → P true count
   pub calls : (at : At) (t : PlainType) (name : Span) (f : ℕ) (arguments : PlainValues) → N (a_value (value at t (call name f arguments))) →

@@ -8,7 +8,7 @@ use Rattle.p10_core.specs.declared.uses.FunctionUse.{FunctionUse}
 use Rattle.p10_core.specs.Types.{PlainType}
 use Rattle.p10_core.specs.Typed.{value, PlainForm, call, built_in, PlainFunction, PlainProgram}
 use Rattle.p10_core.specs.Nodes.{PlainNode, a_statement, a_value, a_place, nodes_of_statements}
-use Rattle.p10_core.specs.Uses.{function_used}
+use Rattle.p10_core.specs.Uses.{function_used, manages_memory}
 use Rattle.p10_graph.specs.Graphs.{Edge}
 use Rattle.p10_graph.proofs.Walks.{reaches_itself, reaches_next, reaches_on}
 use Rattle.p10_calls.specs.CallSites.{call_sites, calls_by, site}
@@ -19,7 +19,7 @@ use Rattle.p10_calls.proofs.Edges.{edge_there}
 use Rattle.p10_flowrules.specs.declared.calls.AnyCall.{AnyCall}
 use Rattle.p10_flowrules.specs.declared.calls.Called.TheVariants.{Function, Library as LibraryCall}
 use Rattle.p10_flowrules.specs.AnyCalls.{call_made}
-use Rattle.p10_flowrules.specs.Allocating.{is_of_memory, is_memory_call, has_memory_call, AllocatesOrFrees, IsAllocating, late_statements, late_calls, AreLateAllocations}
+use Rattle.p10_flowrules.specs.Allocating.{is_memory_call, has_memory_call, AllocatesOrFrees, IsAllocating, late_statements, late_calls, AreLateAllocations}
 use Rattle.p10_flowrules.specs.FlowRows.{ViolatesFlow, late_allocation, allocation_row}
 use Rattle.p10_flowrules.proofs.MemoryWalks.{allocating_within}
 use Rattle.p10_meaning.specs.declared.pointers.Scalar.{Scalar}
@@ -34,7 +34,7 @@ use Rattle.p10_allocation.proofs.Calls.{enter_leaves}
 -- a form of value neither allocates nor frees, itself or by its call
 abbrev pub IsQuietForm : PlainProgram → PlainForm → Type 0
 IsQuietForm p (call name f arguments) = AllocatesOrFrees p f → ⊥
-IsQuietForm p (built_in name f arguments) = is_of_memory f ≡ true → ⊥
+IsQuietForm p (built_in name f arguments) = manages_memory f ≡ true → ⊥
 IsQuietForm p form = Unit {0}
 
 -- the same for a node

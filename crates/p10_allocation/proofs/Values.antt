@@ -8,7 +8,7 @@ use Rattle.p10_core.specs.declared.typed.Library.TheVariants.{Assert, CAssert, G
 use Rattle.p10_core.specs.Types.{PlainType}
 use Rattle.p10_core.specs.Typed.{PlainValue, value, PlainForm, constant, read, sense, address, decay, convert, cast, unary, binary, logic, conditional, call, built_in, PlainPlace, place, PlainPlaceForm, variable, global, literal, index, member, dereference, PlainValues, no_values, more_values, PlainProgram}
 use Rattle.p10_core.specs.Nodes.{PlainNode, nodes_of_value, nodes_of_place, nodes_in_place_form, nodes_of_values}
-use Rattle.p10_flowrules.specs.Allocating.{is_of_memory}
+use Rattle.p10_core.specs.Uses.{manages_memory}
 use Rattle.p10_meaning.specs.declared.pointers.Scalar.{Scalar}
 use Rattle.p10_meaning.specs.declared.pointers.Cell.{Cell}
 use Rattle.p10_meaning.specs.Objects.{release}
@@ -46,7 +46,7 @@ module _ (P : Bool → ℕ → Type 0) where
   requested_leaves p t n fill w e =
       leaves_if P (ltb 0 (n * size p t) && leb (n * size p t) 1048576) _ _ (granted_leaves _ n _ (record w { requests = suc w.requests }) e) (record { state = e })
 
-  library_leaves : (p : PlainProgram) (f : Library) (span : Span) (t : PlainType) (xs : List Scalar) (w : State) → In w → (is_of_memory f ≡ true → In (counted w)) → Leaves P (library p f span t xs w)
+  library_leaves : (p : PlainProgram) (f : Library) (span : Span) (t : PlainType) (xs : List Scalar) (w : State) → In w → (manages_memory f ≡ true → In (counted w)) → Leaves P (library p f span t xs w)
   library_leaves p Assert span t xs w e m = asserted_leaves span (first_argument xs) w e
   library_leaves p CAssert span t xs w e m = record { state = e }
   library_leaves p Getchar span t xs w e m = next_leaves w.input w e

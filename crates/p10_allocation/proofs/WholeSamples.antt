@@ -49,7 +49,7 @@ main_is = record {
   result_is = refl;
   not_static = refl;
   marks = refl;
-  init_done = record { after_first = omega arith; before_last = omega arith; is = refl; before_task = omega arith };
+  init_done = record { is = refl; before_task = omega arith };
   task = record { after_first = omega arith; marked = refl; loop = refl; last = tt };
 }
 

@@ -1,10 +1,11 @@
 //! A `Vec` and a `String` that contracts see as the list and the text that they hold.
 
-ghost use Rattle.std.specs.Prelude.{◌≡◌, [], ◌∷◌, ◌++◌, OnOk, OnErr};
+ghost use Rattle.std.specs.Prelude.{◌≡◌, [], ◌∷◌, ◌++◌, OnOk, OnErr, get_or, slice_set};
 ghost use Rattle.std.specs.String.{string_bytes};
 
 use std::alloc::{AllocError, Global};
 use std::marker::Model;
+use std::mem;
 
 /// A `Vec` that contracts see as the list of its elements.
 #[derive(Debug, Drop)]
@@ -36,6 +37,16 @@ impl<T> ListBuf<T> {
         ensures { result.now ≡ self.now }
     {
         self.items.as_slice()
+    }
+
+    /// Exchanges the element at a place and `item`; nothing where there is no such place.
+    pub fn exchange(&mut self, at: usize, item: &mut T)
+        ensures put { self.new ≡ slice_set self.old at item.old }
+        ensures taken { item.new ≡ get_or self.old at item.old }
+    {
+        if at < self.items.len() {
+            mem::swap(&mut self.items[at], item);
+        }
     }
 }
 

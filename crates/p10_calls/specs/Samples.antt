@@ -39,4 +39,5 @@ program_calling rows = record {
   main = 0;
   mark = None;
   task = None;
+  outside = [];
 }

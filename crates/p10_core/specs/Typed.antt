@@ -202,8 +202,14 @@ pub record PlainLiteral : Type 0 where
   pub number : ℕ
   pub bytes : List ℕ
 
+-- the name of an object of file scope that a root declares and none defines, and the functions of that root at which it is in scope
+pub record PlainSeen : Type 0 where
+  pub name : Text
+  pub visible : Extent
+
 -- a program: its structures, its objects of static lifetime, its functions and its string literals; the number of
--- `main`; the places of the mark `init_done` and of the task loop among the items of its body
+-- `main`; the places of the mark `init_done` and of the task loop among the items of its body; and the objects of file scope that are
+-- declared and not defined
 pub record PlainProgram : Type 0 where
   pub structures : List PlainStructure
   pub objects : List PlainObject
@@ -212,3 +218,4 @@ pub record PlainProgram : Type 0 where
   pub main : ℕ
   pub mark : Option ℕ
   pub task : Option ℕ
+  pub outside : List PlainSeen

@@ -1,10 +1,22 @@
 -- What nodes of typed trees use: functions, objects of static lifetime and string literals.
-use Rattle.std.specs.Prelude.{Option, Some, None}
+use Rattle.std.specs.Prelude.{Bool, true, false, Option, Some, None}
 use Rattle.p10_base.specs.declared.at.At.{At}
+use Rattle.p10_core.specs.declared.typed.Library.{Library}
+use Rattle.p10_core.specs.declared.typed.Library.TheVariants.{Assert, CAssert, Getchar, Putchar, Malloc, Calloc, Free}
 use Rattle.p10_core.specs.declared.uses.FunctionUse.{FunctionUse}
 use Rattle.p10_core.specs.declared.uses.ObjectUse.{ObjectUse}
 use Rattle.p10_core.specs.Typed.{value, PlainForm, call, sense, place, PlainPlaceForm, global, literal, PlainLiteral}
 use Rattle.p10_core.specs.Nodes.{PlainNode, a_statement, a_value, a_place}
+
+-- whether a library function allocates or frees (C99 7.20.3)
+abbrev pub manages_memory : Library → Bool
+manages_memory Assert = false
+manages_memory CAssert = false
+manages_memory Getchar = false
+manages_memory Putchar = false
+manages_memory Malloc = true
+manages_memory Calloc = true
+manages_memory Free = true
 
 -- the function that a form of value calls
 abbrev pub called_by : At → PlainForm → Option FunctionUse

@@ -21,11 +21,12 @@ use Rattle.p10_core.specs.declared.program.Variable.{Variable}
 use Rattle.p10_core.specs.declared.program.Func.{Func}
 use Rattle.p10_core.specs.declared.program.Global.{Global}
 use Rattle.p10_core.specs.declared.program.Literal.{Literal}
+use Rattle.p10_core.specs.declared.program.Seen.{Seen}
 use Rattle.p10_core.specs.declared.program.Program.{Program}
 use Rattle.p10_core.specs.Types.{PlainStructure, plain_type, plain_structure}
 use Rattle.p10_core.specs.Typed.{PlainValue, value, PlainForm, constant, read, sense, address, decay, convert, cast, unary, binary, logic, conditional, call, built_in, PlainPlace, place, PlainPlaceForm, variable, global, literal, index, member, dereference, PlainValues, no_values, more_values}
 use Rattle.p10_core.specs.Typed.{PlainWritten, one_scalar, scalars_of_text, PlainItem, PlainInitializer, not_initialized, single, copied, listed, PlainLabels, PlainStatement, statement, PlainStatementForm, set, update, copy, evaluate, asserts, declare, declare_static, block, if_then, if_else, loop, switch, break, continue, return, empty, mark, PlainStatements, no_statements, more_statements}
-use Rattle.p10_core.specs.Typed.{PlainVariable, PlainFunction, PlainObject, PlainLiteral, PlainProgram}
+use Rattle.p10_core.specs.Typed.{PlainVariable, PlainFunction, PlainObject, PlainLiteral, PlainSeen, PlainProgram}
 
 -- what the structures of the code are
 abbrev pub plain_types : Types → List PlainStructure
@@ -174,6 +175,10 @@ plain_object g = record {
 abbrev pub plain_literal : Literal → PlainLiteral
 plain_literal l = record { number = l.number; bytes = l.bytes }
 
+-- what a name of the code is that is declared and not defined
+abbrev pub plain_seen : Seen → PlainSeen
+plain_seen s = record { name = s.name.now; visible = s.visible }
+
 -- what a program of the code is
 abbrev pub plain_program : Program → PlainProgram
 plain_program p = record {
@@ -184,4 +189,5 @@ plain_program p = record {
   main = p.main;
   mark = p.mark;
   task = p.task;
+  outside = map plain_seen p.outside;
 }

@@ -543,6 +543,11 @@ gives_other_than_zero (Err at) = false
 abbrev pub is_true_test : PlainValue → Bool
 is_true_test v = is_integer (type_of v) && (is_constant (inconstant_part v) && gives_other_than_zero (fold v))
 
+-- the item at the place of the task loop, if there is one
+abbrev pub task_item : Option ℕ → List PlainStatement → Option PlainStatement
+task_item None items = None
+task_item (Some n) items = slice_get items n
+
 -- a loop that the task loop may be: `for (;;)`, or a `while` whose condition is a constant other than 0
 abbrev pub may_be_task : Option PlainStatement → Bool
 may_be_task (Some (statement at (loop head no_statements None no_statements body))) = is_for head.keyword
@@ -560,10 +565,9 @@ IsMaybeReturn [] = Unit {0}
 IsMaybeReturn (s ∷ []) = is_return s ≡ true
 IsMaybeReturn (s ∷ t ∷ rest) = ⊥
 
--- the mark `init_done` stands between two items
+-- the mark `init_done` stands before the task loop. In the source it stands between two items; declarations of types are items too,
+-- and leave no statement, so here it may be the first or the last one
 pub record IsInitDone (items : List PlainStatement) (task : Option ℕ) (n : ℕ) : Type 0 where
-  pub after_first : 0 < n
-  pub before_last : n + 1 < length items
   pub is : is_marked InitDone (slice_get items n) ≡ true
   pub before_task : IfSome task (λ t. n < t)
 

@@ -10,7 +10,6 @@
 //! How C's trees come to typed ones, and what typed ones mean, are left to the crates above.
 #![tactic(auto)]
 
-mod boxes;
 mod c_type;
 mod constants;
 pub mod laws;
@@ -22,6 +21,7 @@ mod make_statements;
 mod members;
 mod nodes;
 mod program;
+mod pushing;
 mod representing;
 mod sizes;
 mod statements;
@@ -35,7 +35,7 @@ pub use constants::{first_of_parts, fold, inconstant_part, integer_of, is_null};
 pub use make_initializers::Heading;
 pub use make_statements::Clauses;
 pub use nodes::{Node, Nodes};
-pub use program::{Extent, Func, Global, Literal, Program, Variable};
+pub use program::{Extent, Func, Global, Literal, Program, Seen, Variable};
 pub use sizes::size;
 pub use statements::{
     Initializer, Item, Label, Labels, LoopHead, LoopKeyword, MarkKind, Stmt, StmtForm, UpdateKind,
@@ -44,4 +44,4 @@ pub use statements::{
 pub use structures::{Body, Member, Structure};
 pub use table::Types;
 pub use typed::{Library, LogicOp, Place, PlaceForm, Value, ValueForm};
-pub use uses::{FunctionUse, ObjectUse};
+pub use uses::{FunctionUse, ObjectUse, manages_memory};

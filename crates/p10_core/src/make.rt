@@ -5,10 +5,9 @@ ghost use Rattle.p10_core.specs.Types.{plain_type};
 ghost use Rattle.p10_core.specs.Typed.{value, constant, read, sense, address, decay, convert, cast, unary, binary, logic, conditional, call, built_in, place, variable, global, literal, index, member, dereference};
 ghost use Rattle.p10_core.specs.Views.{plain_value, plain_place, plain_values};
 
-use crate::boxes::{boxed, boxed_pair, boxed_triple};
 use crate::c_type::CType;
 use crate::typed::{Library, LogicOp, Place, PlaceForm, Value, ValueForm};
-use p10_base::{At, ListBuf, Span};
+use p10_base::{At, ListBuf, Span, boxed, boxed_pair, boxed_triple};
 use p10_int::{BinOp, UnOp};
 use std::alloc::{AllocError, Global};
 

@@ -5,11 +5,10 @@ ghost use Rattle.p10_core.specs.Types.{plain_type};
 ghost use Rattle.p10_core.specs.Typed.{statement, set, update, copy, evaluate, asserts, declare, declare_static, block, if_then, if_else, loop, switch, break, continue, return, empty, mark};
 ghost use Rattle.p10_core.specs.Views.{plain_value, plain_place, plain_initializer, plain_labels, plain_statement, plain_statement_form, plain_statements};
 
-use crate::boxes::{boxed, boxed_pair};
 use crate::c_type::CType;
 use crate::statements::{Initializer, Labels, LoopHead, MarkKind, Stmt, StmtForm, UpdateKind};
 use crate::typed::{Place, Value};
-use p10_base::{At, ListBuf, Span};
+use p10_base::{At, ListBuf, Span, boxed, boxed_pair};
 use p10_int::BinOp;
 use std::alloc::{AllocError, Global};
 

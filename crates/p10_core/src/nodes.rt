@@ -1,7 +1,7 @@
 //! A walk over typed trees: their statements, values and places, one after the other in text order, without recursion.
 //! A walk over a program is a loop over [`Nodes`], and its contract speaks of the list of the nodes that are left.
 
-use crate::boxes::push_one;
+use crate::pushing::push_one;
 use crate::statements::{Initializer, Item, LoopKeyword, Stmt, StmtForm, Written};
 use crate::typed::{Place, PlaceForm, Value, ValueForm};
 use std::alloc::{AllocError, Global};

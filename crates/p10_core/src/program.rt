@@ -69,6 +69,13 @@ pub struct Literal {
     pub bytes: ListBuf<u8>,
 }
 
+/// A name of an object of file scope that a root declares and none defines, and the functions of that root at which it is in scope.
+#[derive(Clone, Copy, Debug)]
+pub struct Seen<'s> {
+    pub name: &'s [u8],
+    pub visible: Extent,
+}
+
 /// A typed program.
 #[derive(Drop)]
 pub struct Program<'s> {
@@ -83,4 +90,6 @@ pub struct Program<'s> {
     pub mark: Option<u32>,
     /// The place of the task loop among the items of `main`'s body.
     pub task: Option<u32>,
+    /// The objects of file scope that are declared and not defined.
+    pub outside: ListBuf<Seen<'s>>,
 }

@@ -2,12 +2,22 @@
 
 ghost use Rattle.std.specs.Prelude.{◌≡◌, option_map};
 ghost use Rattle.p10_core.specs.Views.{plain_form, plain_place_form};
-ghost use Rattle.p10_core.specs.Uses.{called_by, sensed_by, named_by, literal_of, function_used, object_used, literal_used};
+ghost use Rattle.p10_core.specs.Uses.{manages_memory, called_by, sensed_by, named_by, literal_of, function_used, object_used, literal_used};
 ghost use Rattle.p10_core.specs.Walks.{plain_node};
 
 use crate::nodes::Node;
-use crate::typed::{PlaceForm, ValueForm};
+use crate::typed::{Library, PlaceForm, ValueForm};
 use p10_base::{At, Span};
+
+/// Whether a library function allocates or frees.
+pub fn manages_memory(library: Library) -> bool
+    ensures { result ≡ manages_memory library }
+{
+    match library {
+        Library::Assert | Library::CAssert | Library::Getchar | Library::Putchar => false,
+        Library::Malloc | Library::Calloc | Library::Free => true,
+    }
+}
 
 /// A call of a function.
 #[derive(Clone, Copy, Debug)]

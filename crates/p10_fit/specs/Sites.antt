@@ -1,8 +1,8 @@
 -- The loops of a function, with what is in scope at each.
-use Rattle.std.specs.Prelude.{ℕ, ◌+◌, nat_eq, List, [], ◌∷◌, ◌++◌, Option, Some, None, if◌then◌else◌, slice_get}
+use Rattle.std.specs.Prelude.{ℕ, ◌+◌, nat_eq, List, [], ◌∷◌, ◌++◌, Option, Some, None, if◌then◌else◌}
 use Rattle.p10_core.specs.declared.statements.LoopHead.{LoopHead}
 use Rattle.p10_core.specs.Typed.{PlainStatement, statement, PlainStatementForm, declare, block, if_then, if_else, loop, switch, PlainStatements, no_statements, more_statements, PlainFunction, PlainProgram}
-use Rattle.p10_core.specs.WholePrograms.{numbers_from, main_items}
+use Rattle.p10_core.specs.WholePrograms.{numbers_from, main_items, task_item}
 
 -- a loop: how many loops of its function it stands in, what it begins with, and the numbers of the variables that are in scope at
 -- it, which for `for` are those of its first clause too (C99 6.2.1p4, 6.8.5p5)
@@ -52,8 +52,7 @@ loop_number s = None
 
 -- the number of the loop that stands at a place among items
 abbrev pub loop_number_at : List PlainStatement → Option ℕ → Option ℕ
-loop_number_at items None = None
-loop_number_at items (Some n) = loop_number (slice_get items n)
+loop_number_at items task = loop_number (task_item task items)
 
 -- the number of the task loop among the loops of the function with a number, if it has the task
 abbrev pub task_loop_number : PlainProgram → ℕ → PlainFunction → Option ℕ

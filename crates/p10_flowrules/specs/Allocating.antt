@@ -1,10 +1,9 @@
 -- Which calls allocate or free memory, which Holzmann's rule 3 forbids after initialisation ("The Power of Ten", 2006).
 use Rattle.std.specs.Prelude.{◌≡◌, ℕ, ◌+◌, Bool, true, false, List, Option, Some, None, slice_get, drop}
 use Rattle.std.specs.List.{list_any}
-use Rattle.p10_core.specs.declared.typed.Library.{Library as LibraryFunction}
-use Rattle.p10_core.specs.declared.typed.Library.TheVariants.{Malloc, Calloc, Free}
 use Rattle.p10_core.specs.Typed.{PlainStatement, PlainStatements, statements_of_list, PlainFunction, PlainProgram}
 use Rattle.p10_core.specs.Nodes.{PlainNode, nodes_of_statements}
+use Rattle.p10_core.specs.Uses.{manages_memory}
 use Rattle.p10_graph.specs.Graphs.{Reaches}
 use Rattle.p10_calls.specs.Selections.{AreThose}
 use Rattle.p10_calls.specs.CallGraphs.{call_graph}
@@ -14,17 +13,10 @@ use Rattle.p10_flowrules.specs.declared.calls.Called.TheVariants.{Function, Libr
 use Rattle.p10_flowrules.specs.AnyCalls.{call_made, calls_made}
 use Rattle.p10_flowrules.specs.TaskExits.{items_of_main}
 
--- whether a library function allocates or frees (C99 7.20.3)
-abbrev pub is_of_memory : LibraryFunction → Bool
-is_of_memory Malloc = true
-is_of_memory Calloc = true
-is_of_memory Free = true
-is_of_memory f = false
-
 -- whether what is called is a library function that allocates or frees
 abbrev pub calls_memory : Called → Bool
 calls_memory (Function n) = false
-calls_memory (Library f) = is_of_memory f
+calls_memory (Library f) = manages_memory f
 
 -- whether a call, if there is one, is of a library function that allocates or frees
 abbrev pub is_memory_call : Option AnyCall → Bool
@@ -46,7 +38,7 @@ pub record AllocatesOrFrees (p : PlainProgram) (number : ℕ) : Type 0 where
 -- what is called allocates or frees, or reaches a function that does
 abbrev pub IsAllocating : PlainProgram → Called → Type 0
 IsAllocating p (Function n) = AllocatesOrFrees p n
-IsAllocating p (Library f) = is_of_memory f ≡ true
+IsAllocating p (Library f) = manages_memory f ≡ true
 
 -- the items after the mark `init_done`: all, where there is none
 abbrev pub items_after : Option ℕ → List PlainStatement → List PlainStatement

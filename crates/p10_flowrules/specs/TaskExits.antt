@@ -2,7 +2,7 @@
 use Rattle.std.specs.Prelude.{ℕ, List, [], ◌∷◌, ◌++◌, Option, Some, None, slice_get}
 use Rattle.p10_base.specs.declared.at.At.{At}
 use Rattle.p10_core.specs.Typed.{PlainStatement, statement, PlainStatementForm, block, if_then, if_else, loop, switch, break, return, PlainStatements, no_statements, more_statements, PlainFunction, PlainProgram}
-use Rattle.p10_core.specs.WholePrograms.{main_items}
+use Rattle.p10_core.specs.WholePrograms.{main_items, task_item}
 use Rattle.p10_flowrules.specs.declared.exits.Breaks.{Breaks}
 use Rattle.p10_flowrules.specs.declared.exits.Breaks.TheVariants.{Leave, Stay}
 
@@ -45,8 +45,7 @@ items_of_main (Some f) = main_items f
 
 -- the statements that leave the loop at a place among items
 abbrev pub exits_at : Option ℕ → List PlainStatement → List At
-exits_at None items = []
-exits_at (Some n) items = exits_of_loop (slice_get items n)
+exits_at task items = exits_of_loop (task_item task items)
 
 -- the statements that leave the task loop of a program, in text order; none where it has no task loop
 abbrev pub task_exits : PlainProgram → List At

@@ -4,11 +4,11 @@ ghost use Rattle.std.specs.Prelude.{◌≡◌, IfOk};
 ghost use Rattle.p10_core.specs.Nodes.{nodes_of_statements};
 ghost use Rattle.p10_core.specs.Views.{plain_form, plain_statements};
 ghost use Rattle.p10_core.specs.Walks.{plain_node};
-ghost use Rattle.p10_flowrules.specs.Allocating.{calls_memory, has_memory_call, is_memory_call, is_of_memory};
+ghost use Rattle.p10_flowrules.specs.Allocating.{calls_memory, has_memory_call, is_memory_call};
 ghost use Rattle.p10_flowrules.specs.AnyCalls.{call_made, call_of_form};
 
 use p10_base::{At, Span};
-use p10_core::{Library, Node, Nodes, Stmt, ValueForm};
+use p10_core::{Library, Node, Nodes, Stmt, ValueForm, manages_memory};
 use std::alloc::{AllocError, Global};
 
 /// What a call calls.
@@ -68,16 +68,6 @@ fn call_of_form(at: At, form: &ValueForm) -> Option<AnyCall>
     }
 }
 
-/// Whether a library function allocates or frees.
-pub(crate) fn is_of_memory(function: Library) -> bool
-    ensures { result ≡ is_of_memory function }
-{
-    match function {
-        Library::Malloc | Library::Calloc | Library::Free => true,
-        Library::Assert | Library::CAssert | Library::Getchar | Library::Putchar => false,
-    }
-}
-
 /// Whether statements have an allocation or a `free`.
 pub(crate) fn has_memory_call(alloc: Global, body: &[Stmt]) -> Result<bool, AllocError>
     ensures { IfOk result (λ has. has ≡ has_memory_call (nodes_of_statements (plain_statements body.now))) }
@@ -107,6 +97,6 @@ fn calls_memory(called: Called) -> bool
 {
     match called {
         Called::Function(_) => false,
-        Called::Library(function) => is_of_memory(function),
+        Called::Library(function) => manages_memory(function),
     }
 }

@@ -6,9 +6,9 @@ ghost use Rattle.std.specs.List.{All};
 ghost use Rattle.p10_core.specs.Views.{plain_function, plain_program};
 ghost use Rattle.p10_flowrules.specs.private.MemoryGraphs.{TellsAllocating, back_edges, edges_from, edges_to, has_memory_number, memory_edge, memory_edges};
 
-use crate::calls::{Called, has_memory_call, is_of_memory};
+use crate::calls::{Called, has_memory_call};
 use p10_calls::call_graph;
-use p10_core::{Func, Program};
+use p10_core::{Func, Program, manages_memory};
 use p10_graph::{Graph, components};
 use std::alloc::{AllocError, Global};
 
@@ -115,7 +115,7 @@ pub(crate) fn has_memory_number(numbers: &[u32], called: Called) -> bool
 {
     match called {
         Called::Function(function) => has_last_number(numbers, function as usize),
-        Called::Library(function) => is_of_memory(function),
+        Called::Library(function) => manages_memory(function),
     }
 }
 

@@ -12,8 +12,6 @@ mod graph;
 pub mod laws;
 mod search;
 mod stack;
-#[cfg(test)]
-mod tests;
 
 pub use cycle::is_on_cycle;
 pub use graph::Graph;

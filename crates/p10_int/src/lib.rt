@@ -12,8 +12,6 @@ mod bits;
 mod conversion;
 pub mod laws;
 mod operators;
-#[cfg(test)]
-mod tests;
 mod types;
 
 pub use conversion::convert;

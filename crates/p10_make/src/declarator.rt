@@ -4,8 +4,8 @@ ghost use Rattle.std.specs.Prelude.{◌≡◌, ◌<◌, IfOk, map, option_map, O
 ghost use Rattle.p10_syn.specs.Trees.{type_name, Keyword, Typedef, Structure as Structured, Enumeration as Enumerated, member_declaration, field, enumerator, Named, Unnamed, Pointer, Parenthesised, Array, Function, parameter, specifier_row, member_row, field_row, enumerator_row, parameter_row};
 ghost use Rattle.p10_syn.specs.Built.{bare_kind_of, bare_specifier_of, bare_member_of, bare_field_of, bare_enumerator_of, bare_declarator_of, bare_parameter_of, bare_qualifier_of, named, named_tag, bare_optional_of};
 
-use crate::boxes::boxed;
 use crate::identifiers::identifier;
+use p10_base::boxed;
 use p10_syn::{
     Declarator, Enumeration, Enumerator, Expr, Field, Member, Parameter, Qualifier, Sign, Spec,
     Structure, TypeName, nowhere,

@@ -4,8 +4,8 @@ ghost use Rattle.std.specs.Prelude.{◌≡◌, ◌+◌, ◌<◌, ◌^◌, IfOk, 
 ghost use Rattle.p10_syn.specs.Trees.{expression, Name, Number, Character, Strings, Unary, Step, Binary, Assign, Conditional, Call, Index, Member as Selected, Arrow, Cast, SizeofExpression, SizeofType, Comma, MoreExpressions, expression_row};
 ghost use Rattle.p10_syn.specs.Built.{bare_of, bare_kind_of, named, grouped as in_parentheses};
 
-use crate::boxes::{boxed, boxed_pair, boxed_triple};
 use crate::identifiers::identifier;
+use p10_base::{boxed, boxed_pair, boxed_triple};
 use p10_syn::{Expr, Form, Member, Side, Sign, TypeName, nowhere};
 use std::alloc::{AllocError, Global};
 

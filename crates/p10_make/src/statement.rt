@@ -6,7 +6,8 @@ ghost use Rattle.p10_syn.specs.Bare.{no_landmarks};
 ghost use Rattle.p10_syn.specs.Built.{bare_of, bare_specifier_of, bare_declarator_of, bare_optional_of, named};
 ghost use Rattle.p10_syn.specs.BuiltStatements.{bare_initializer_of, bare_init_declarator_of, bare_declaration_of, bare_statement_of, bare_external_of, bare_initial_of};
 
-use crate::boxes::{boxed, boxed_pair, stopped, stopped_after_two};
+use crate::boxes::{stopped, stopped_after_two};
+use p10_base::{boxed, boxed_pair};
 use p10_syn::{
     Decl, Declarator, Expr, Function, Identifier, Init, InitDeclarator, Landmarks, Spec, Stmt,
     Unit, nowhere,

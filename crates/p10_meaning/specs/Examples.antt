@@ -80,6 +80,7 @@ main_of variables body = record {
   main = 0;
   mark = None;
   task = None;
+  outside = [];
 }
 
 -- a world without input, denied requests and sensor values

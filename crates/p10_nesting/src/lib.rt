@@ -18,6 +18,3 @@ mod tally;
 
 pub use height::is_too_high;
 pub use nested::is_too_nested;
-
-#[cfg(test)]
-mod tests;

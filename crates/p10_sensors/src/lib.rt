@@ -12,8 +12,6 @@ mod fault;
 pub mod laws;
 mod lines;
 mod numbers;
-#[cfg(test)]
-mod tests;
 mod values;
 
 pub use fault::SensorFault;

@@ -26,8 +26,6 @@ mod mem_sink;
 mod mem_source;
 mod plan;
 mod sure;
-#[cfg(test)]
-mod tests;
 
 pub use host_files::HostFiles;
 pub use host_streams::{HostSink, HostSource};

@@ -4,9 +4,10 @@
 use Rattle.std.specs.Prelude.{◌≡◌, ◌↔◌, ℕ, zero, suc, ◌+◌, ◌-◌, ◌<◌, Bool, List, [], ◌∷◌, ◌++◌, map, length, slice_index, if◌then◌else◌, nat_lt, nat_eq, ◌&&◌}
 use Rattle.p10_core.specs.Typed.{PlainFunction, PlainProgram}
 use Rattle.p10_core.specs.Nodes.{nodes_of_statements}
+use Rattle.p10_core.specs.Uses.{manages_memory}
 use Rattle.p10_flowrules.specs.declared.calls.Called.{Called}
 use Rattle.p10_flowrules.specs.declared.calls.Called.TheVariants.{Function, Library}
-use Rattle.p10_flowrules.specs.Allocating.{AllocatesOrFrees, has_memory_call, is_of_memory}
+use Rattle.p10_flowrules.specs.Allocating.{AllocatesOrFrees, has_memory_call}
 
 -- the edges from a node to nodes
 abbrev pub edges_to : ℕ → List ℕ → List (ℕ × ℕ)
@@ -39,4 +40,4 @@ pub record TellsAllocating (p : PlainProgram) (numbers : List ℕ) : Type 0 wher
 -- whether what is called has the number of the memory, which is the last, or is of the library's allocations and `free`
 abbrev pub has_memory_number : List ℕ → Called → Bool
 has_memory_number numbers (Function n) = nat_lt (n + 1) (length numbers) && nat_eq (slice_index numbers n) (slice_index numbers (length numbers - 1))
-has_memory_number numbers (Library f) = is_of_memory f
+has_memory_number numbers (Library f) = manages_memory f

@@ -1,19 +1,27 @@
-//! Parts of trees in boxes and lists. Where memory runs out they are dropped here, once for all kinds: each step of a proof writes out
-//! the type of what it moves or drops, which is long for a tree.
+//! Parts of trees in boxes. Where memory runs out they are dropped here, once for all kinds: each step of a proof writes out the type of
+//! what it moves or drops, which is long for a tree.
 
-ghost use Rattle.std.specs.Prelude.{◌≡◌, [], ◌∷◌, ◌++◌, IfOk, OnOk};
+ghost use Rattle.std.specs.Prelude.{◌≡◌, IfOk};
 
 use std::alloc::{AllocError, Global};
 
 /// A part of a tree in a box.
-pub(crate) fn boxed<T: Drop>(alloc: Global, part: T) -> Result<Box<T>, AllocError>
+///
+/// # Errors
+///
+/// Out of memory.
+pub fn boxed<T: Drop>(alloc: Global, part: T) -> Result<Box<T>, AllocError>
     ensures { IfOk result (λ b. b.value ≡ part) }
 {
     Ok(Box::new(alloc, part)?)
 }
 
 /// Two parts of a tree in boxes.
-pub(crate) fn boxed_pair<T: Drop, U: Drop>(
+///
+/// # Errors
+///
+/// Out of memory.
+pub fn boxed_pair<T: Drop, U: Drop>(
     alloc: Global,
     first: T,
     second: U,
@@ -27,7 +35,11 @@ pub(crate) fn boxed_pair<T: Drop, U: Drop>(
 }
 
 /// Three parts of a tree in boxes.
-pub(crate) fn boxed_triple<T: Drop>(
+///
+/// # Errors
+///
+/// Out of memory.
+pub fn boxed_triple<T: Drop>(
     alloc: Global,
     first: T,
     second: T,
@@ -40,12 +52,4 @@ pub(crate) fn boxed_triple<T: Drop>(
     let first = boxed(alloc, first)?;
     let (second, third) = boxed_pair(alloc, second, third)?;
     Ok((first, second, third))
-}
-
-/// Puts a part at the end of a list.
-pub(crate) fn push_one<T: Drop>(all: &mut Vec<T>, part: T) -> Result<(), AllocError>
-    ensures { OnOk result (all.new.items ≡ all.old.items ++ part ∷ []) }
-{
-    all.push(part)?;
-    Ok(())
 }
