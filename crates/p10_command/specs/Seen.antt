@@ -17,6 +17,14 @@ pub record SeenInput : Type 0 where
   pub faults_before : ℕ
   pub faults_after : ℕ
 
+-- the same of files that hold something, or don't tell, by these counts
+abbrev pub files_seen : Option (List Named) → ℕ → ℕ → Seen
+files_seen held before after = record { held = held; faults_before = before; faults_after = after }
+
+-- and of an input
+abbrev pub input_seen : Option (List ℕ) → ℕ → ℕ → SeenInput
+input_seen left before after = record { left = left; faults_before = before; faults_after = after }
+
 -- a trouble has its cause, by the counts of faults before and after: a read has failed only where the count rose; memory may be out
 -- at any time
 abbrev pub HasCause : Trouble → ℕ → ℕ → Type 0

@@ -10,7 +10,7 @@ use Rattle.p10_elabx.proofs.Firsts.{kept_lift, kept_pair}
 use Rattle.p10_heads.specs.Roots.{roots_of}
 use Rattle.p10_program.specs.FirstProblems.{first_of}
 use Rattle.p10_program.specs.Limits.{is_too_large}
-use Rattle.p10_elab.specs.Programs.{Elaborated, program, too_large, unless_problem, roots_elaborated, standing_of, whole_of}
+use Rattle.p10_elab.specs.Programs.{Elaborated, program, too_large, unless_problem, unless_undefined, roots_elaborated, standing_of, whole_of}
 use Rattle.p10_elab.specs.Laws.{TheFirstIsAnswered, undefined_in, main_problems, IsAccepted, IsTooLarge, AnswersHaveCauses}
 
 alone : (r : Problem) → IsFirst r (r ∷ [])
@@ -49,10 +49,18 @@ unsized : (b : Bool) (p : PlainProgram) → (if b then too_large else program p)
 unsized true p e = refl
 unsized false p e = absurd cc
 
-accepted : (h : Keep) (roots : List (List (External At))) (p : PlainProgram) → roots_elaborated h roots ≡ program p → IsAccepted h roots p
-accepted h roots p e =
+defined_only : (all : List (External At)) (rs : List Problem) (other : Elaborated) (p : PlainProgram) → unless_undefined all rs other ≡ program p → (rs ≡ []) × (other ≡ program p)
+defined_only all [] other p e = (refl, e)
+defined_only all (r ∷ rest) other p e = absurd cc
+
+defined_limit : (all : List (External At)) (rs : List Problem) (other : Elaborated) → unless_undefined all rs other ≡ too_large → (rs ≡ []) × (other ≡ too_large)
+defined_limit all [] other e = (refl, e)
+defined_limit all (r ∷ rest) other e = absurd cc
+
+accepted : (h : Keep) (all : List (External At)) (roots : List (List (External At))) (p : PlainProgram) → roots_elaborated h all roots ≡ program p → IsAccepted h roots p
+accepted h all roots p e =
     let a = program_only (standing_of h roots).problems _ p e in
-    let b = program_only (undefined_in h roots) _ p a.1 in
+    let b = defined_only all (undefined_in h roots) _ p a.1 in
     let c = program_only (main_problems h roots) _ p b.1 in
     let d = sized (is_too_large (whole_of h roots)) (whole_of h roots) p c.1 in
     record {
@@ -61,10 +69,10 @@ accepted h roots p e =
       is = d.1;
     }
 
-limited : (h : Keep) (roots : List (List (External At))) → roots_elaborated h roots ≡ too_large → IsTooLarge h roots
-limited h roots e =
+limited : (h : Keep) (all : List (External At)) (roots : List (List (External At))) → roots_elaborated h all roots ≡ too_large → IsTooLarge h roots
+limited h all roots e =
     let a = limit_only (standing_of h roots).problems _ e in
-    let b = limit_only (undefined_in h roots) _ a.1 in
+    let b = defined_limit all (undefined_in h roots) _ a.1 in
     let c = limit_only (main_problems h roots) _ b.1 in
     record {
       no_row = record { rows = a.0; names = b.0; main = c.0 };
@@ -72,4 +80,4 @@ limited h roots e =
     }
 
 pub answers_have_causes : AnswersHaveCauses
-answers_have_causes = record { accepted = λ h all p e. accepted h (roots_of all) p e; limited = λ h all e. limited h (roots_of all) e }
+answers_have_causes = record { accepted = λ h all p e. accepted h all (roots_of all) p e; limited = λ h all e. limited h all (roots_of all) e }

@@ -7,7 +7,8 @@ use Rattle.p10_core.specs.Types.{PlainType}
 use Rattle.p10_core.specs.Typed.{PlainInitializer}
 use Rattle.p10_heads.specs.Heads.{Heads, Head, number_in}
 use Rattle.p10_linkage.specs.Linkage.{Linked}
-use Rattle.p10_elab.specs.Outer.{Defined, Known, is_defined_at, is_site, with_defined}
+use Rattle.p10_elab.specs.Knowledge.{Defined, Known}
+use Rattle.p10_elab.specs.Outer.{is_defined_at, is_site, with_defined}
 use Rattle.p10_elab.specs.private.Defining.{defined_after, is_there, object_with}
 
 or_true : (b : Bool) → (b || true) ≡ true

@@ -3,7 +3,7 @@ use Rattle.std.proofs.Common.{◌≡◌, ℕ, zero, suc, ◌<◌, ◌≤◌, nat
 use Rattle.std.proofs.lemmas.Bool.Decides.{eqb_tells}
 use Rattle.std.proofs.lemmas.List.{get_or-set_same, get_or-set_other}
 use Rattle.p10_elab.specs.declared.outer_object.Sighting.{Sighting}
-use Rattle.p10_elab.specs.Outer.{is_sighted}
+use Rattle.p10_elab.specs.Knowledge.{is_sighted}
 
 -- a flag that isn't there is down
 pub flag_past : (flags : List Bool) (n : ℕ) → length flags ≤ n → slice_index_or flags n false ≡ false

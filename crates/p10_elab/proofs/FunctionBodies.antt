@@ -13,7 +13,8 @@ use Rattle.p10_heads.specs.Heads.{Heads}
 use Rattle.p10_linkage.specs.Linkage.{Linked, is_main_name}
 use Rattle.p10_elabs.specs.Locals.{Local}
 use Rattle.p10_elabs.specs.Statements.{Block'}
-use Rattle.p10_elab.specs.Outer.{Known, with_linked, linked_of, function_type, function_made, body_done, function_by_type}
+use Rattle.p10_elab.specs.Knowledge.{Known, with_linked, linked_of}
+use Rattle.p10_elab.specs.Outer.{function_type, function_made, body_done, function_by_type}
 use Rattle.p10_elab.specs.private.Bodies.{PlainBodyHead, head_of_linked, marks_where, made_of, items_of_body, body_by}
 
 function_is : (heads : Heads) (l : Linked) (t : FunctionType) (after : Local) (made : Option (List PlainStatement)) →

@@ -4,6 +4,7 @@ pub mod Flags
 mod Cutting
 mod NumberedObjects
 mod Stages
+mod TellingNames
 pub mod FunctionBodies
 pub mod Objects
 pub mod OpenedBodies
@@ -13,3 +14,4 @@ pub mod Parameters
 pub mod PassedRoots
 pub mod DefinedSites
 mod KnownTogether
+mod WordsOfUses

@@ -12,7 +12,8 @@ use Rattle.p10_elabd.specs.Declaring.{declarator_passed, based}
 use Rattle.p10_heads.specs.Heads.{Heads}
 use Rattle.p10_elabs.specs.Locals.{no_initializer, typedef_passed}
 use Rattle.p10_elabs.specs.LocalDeclarations.{is_typedef}
-use Rattle.p10_elab.specs.Outer.{Known, with_standing, without_linkage, by_type_outside, outer_named}
+use Rattle.p10_elab.specs.Knowledge.{Known, with_standing, without_linkage}
+use Rattle.p10_elab.specs.Outer.{by_type_outside, outer_named}
 
 -- what is known after a declarator with its name, by what it declares
 abbrev named_by_type : Heads → Storage → Bool → Known → InitDeclarator At → Identifier At → Passed DeclaredType → Known

@@ -12,23 +12,24 @@ use Rattle.p10_elabd.specs.Shapes.{of_type}
 use Rattle.p10_elabd.specs.declared.site.Storage.{Storage}
 use Rattle.p10_elabd.specs.declared.site.Storage.TheVariants as storage_is
 use Rattle.p10_heads.specs.Heads.{is_static as heads_static}
-use Rattle.p10_linkage.specs.Linkage.{is_static}
-use Rattle.p10_elab.specs.Outer.{is_written, outer_type}
+use Rattle.p10_linkage.specs.Linkage.{is_static, Linked}
+use Rattle.p10_elabs.specs.Locals.{is_written}
+use Rattle.p10_elab.specs.Outer.{outer_type}
 
 -- a type by whether it is kept
 abbrev type_where : Identifier At → PlainType → PlainStanding → Bool → Passed PlainType
 type_where name t s kept = if kept then record { made = Some t; after = s } else record { made = None; after = refusing only_first true subset.IncompleteType name.place s }
 
 -- it has a size, or may get one
-pub type_kept : (name : Identifier At) (brackets : At) (storage : Storage) (i : Option (Initializer At)) (t : PlainType) (s : PlainStanding) →
-    (is_complete s.scope.structures t || not (is_written i || (is_static storage || is_void t))) ≡ true → ◌≡◌ {A = Passed PlainType} (record { made = Some t; after = s }) (outer_type only_first name brackets storage i (of_type t) s)
-type_kept name brackets storage i t s is = sym (ap (type_where name t s) is)
+pub type_kept : (name : Identifier At) (brackets : At) (storage : Storage) (i : Option (Initializer At)) (before : Option Linked) (t : PlainType) (s : PlainStanding) →
+    (is_complete s.scope.structures t || not (is_written i || (is_static storage || is_void t))) ≡ true → ◌≡◌ {A = Passed PlainType} (record { made = Some t; after = s }) (outer_type only_first name brackets storage i before (of_type t) s)
+type_kept name brackets storage i before t s is = sym (ap (type_where name t s) is)
 
 -- it has none, and gets none
-pub type_refused : (name : Identifier At) (brackets : At) (storage : Storage) (i : Option (Initializer At)) (t : PlainType) (s after : PlainStanding) →
+pub type_refused : (name : Identifier At) (brackets : At) (storage : Storage) (i : Option (Initializer At)) (before : Option Linked) (t : PlainType) (s after : PlainStanding) →
     (is_complete s.scope.structures t || not (is_written i || (is_static storage || is_void t))) ≡ false → after ≡ refusing only_first true subset.IncompleteType name.place s →
-    ◌≡◌ {A = Passed PlainType} (record { made = None; after = after }) (outer_type only_first name brackets storage i (of_type t) s)
-type_refused name brackets storage i t s after is refused = (λ i. record { made = None; after = refused i }) ∙ sym (ap (type_where name t s) is)
+    ◌≡◌ {A = Passed PlainType} (record { made = None; after = after }) (outer_type only_first name brackets storage i before (of_type t) s)
+type_refused name brackets storage i before t s after is refused = (λ i. record { made = None; after = refused i }) ∙ sym (ap (type_where name t s) is)
 
 -- `static` is the same word for what roots define and for linkage
 pub static_is : (s : Storage) → heads_static s ≡ is_static s

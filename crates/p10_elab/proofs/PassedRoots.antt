@@ -8,7 +8,8 @@ use Rattle.p10_heads.specs.Heads.{Heads}
 use Rattle.p10_heads.specs.Roots.{roots_of}
 use Rattle.p10_heads.specs.private.Cut.{split_root}
 use Rattle.p10_heads.proofs.CutRoots.{roots_are}
-use Rattle.p10_elab.specs.Outer.{Known, root_passed, roots_passed}
+use Rattle.p10_elab.specs.Knowledge.{Known}
+use Rattle.p10_elab.specs.RootEnds.{root_passed, roots_passed}
 
 -- the first of the roots that are left
 pub root_more : (heads : Heads) (k next whole : Known) (all root after : List (External At)) → 0 < length all → (root, after) ≡ split_root all → next ≡ root_passed only_first heads k root →

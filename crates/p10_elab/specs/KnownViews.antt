@@ -1,12 +1,18 @@
 -- What is known of the program, as the code keeps it.
-use Rattle.std.specs.Prelude.{map}
-use Rattle.p10_core.specs.Views.{plain_function, plain_object}
+use Rattle.std.specs.Borrow.{Bor}
+use Rattle.std.specs.Prelude.{ℕ, List, map}
+use Rattle.p10_base.specs.Words.{Text}
+use Rattle.p10_core.specs.Views.{plain_function, plain_object, plain_seen}
 use Rattle.p10_elabd.specs.Views.{plain_standing}
 use Rattle.p10_elab.specs.declared.known.Known.{Known}
 use Rattle.p10_linkage.specs.LinkedLists.{linked_in}
 use Rattle.p10_elab.specs.SightingViews.{sightings_in}
-use Rattle.p10_elab.specs.OuterViews.{plain_outer_object}
-use Rattle.p10_elab.specs.Outer.{Known as PlainKnown}
+use Rattle.p10_elab.specs.OuterViews.{plain_outer_object, plain_tentative}
+use Rattle.p10_elab.specs.Knowledge.{Known as PlainKnown}
+
+-- names of objects that no root defines, each with how many functions stand before
+abbrev pub plain_undefined : List (Bor (List ℕ) × ℕ) → List (Text × ℕ)
+plain_undefined all = map (λ x. (x.0.now, x.1)) all
 
 -- what is known
 abbrev pub plain_known : Known → PlainKnown
@@ -20,4 +26,7 @@ plain_known k = record {
   sightings = sightings_in k.sightings;
   visible = k.visible.items;
   mains = k.mains.items;
+  tentative = map plain_tentative k.tentative.items;
+  undefined = plain_undefined k.undefined.items;
+  outside = map plain_seen k.outside.items;
 }

@@ -1,133 +1,36 @@
 -- Declarations and functions outside of functions (C99 6.9): what they add to what is known of the program.
-use Rattle.std.specs.Prelude.{ℕ, ◌+◌, nat_eq, Bool, true, false, not, ◌&&◌, ◌||◌, if◌then◌else◌, List, [], ◌∷◌, ◌++◌, map, length, drop, Option, Some, None}
+use Rattle.std.specs.Prelude.{ℕ, ◌+◌, nat_eq, Bool, true, false, not, ◌&&◌, ◌||◌, if◌then◌else◌, List, [], ◌∷◌, ◌++◌, map, length, Option, Some, None, is_some, option_map}
 use Rattle.p10_base.specs.declared.at.At.{At}
 use Rattle.p10_base.specs.declared.codes.SubsetCode.TheVariants as subset
-use Rattle.p10_core.specs.declared.program.Extent.{Extent}
-use Rattle.p10_elab.specs.declared.outer_object.Sighting.{Sighting}
-use Rattle.p10_syn.specs.Trees.{Identifier, Initializer, InitDeclarator, Declaration, Definition, Statements, External, Outer, Defines}
-use Rattle.p10_core.specs.Types.{PlainType, unqualified}
+use Rattle.p10_syn.specs.Trees.{Identifier, Initializer, InitDeclarator, Declaration, Definition, Statements}
+use Rattle.p10_core.specs.Types.{PlainType, array, unqualified}
 use Rattle.p10_core.specs.Sizes.{size_of}
-use Rattle.p10_core.specs.Rows.{is_complete, is_void}
-use Rattle.p10_core.specs.Typed.{PlainInitializer, PlainVariable, PlainFunction, PlainObject, statements_of_list, PlainStatement}
+use Rattle.p10_core.specs.Rows.{same, is_complete, is_void}
+use Rattle.p10_core.specs.Typed.{PlainInitializer, PlainVariable, PlainFunction, statements_of_list, PlainStatement}
 use Rattle.p10_elabx.specs.declared.problem.Problem.{Problem}
 use Rattle.p10_elabx.specs.First.{Keep}
-use Rattle.p10_elabx.specs.Scopes.{Meaning, local, object, callable, unknown_name, PlainScope, entered, left, without_names, Binding}
+use Rattle.p10_elabx.specs.Scopes.{Meaning, local, PlainScope, entered, left, Binding}
 use Rattle.p10_elabx.specs.TypeNames.{declarator_place}
-use Rattle.p10_elabd.specs.Standing.{PlainStanding, Passed, refusing}
+use Rattle.p10_elabd.specs.Standing.{PlainStanding, Passed, passed, nothing_made, refusing}
 use Rattle.p10_elabd.specs.Words.{storage_of}
 use Rattle.p10_elabd.specs.declared.site.Site.TheVariants as site_is
 use Rattle.p10_elabd.specs.declared.site.Storage.{Storage}
+use Rattle.p10_elabd.specs.declared.site.Storage.TheVariants as storage_is
 use Rattle.p10_elabd.specs.declared.site.Allowed.{Allowed}
-use Rattle.p10_elabd.specs.Blocks.{with_name}
-use Rattle.p10_elabd.specs.Shapes.{PlainParameter, FunctionType, DeclaredType, of_type, of_open_array, of_function, name_in, declares_function}
+use Rattle.p10_elabd.specs.Shapes.{PlainParameter, ListedParameter, FunctionType, PartFunction, DeclaredType, of_type, of_open_array, of_function, of_part_function, name_in, has_parameters}
 use Rattle.p10_elabd.specs.Declaring.{specified, declarator_passed, based}
 use Rattle.p10_elabd.specs.declared.lifetime.Lifetime.TheVariants as life_is
 use Rattle.p10_heads.specs.Heads.{Heads, Head, number_in}
 use Rattle.p10_elabs.specs.Addresses.{addresses_taken, constants_of}
-use Rattle.p10_elabs.specs.Locals.{Frame, Local, specified_in, makes_sensors, no_initializer, unknown_in, typedef_passed, filled_array, brackets_of, initialized_by}
+use Rattle.p10_elabs.specs.Locals.{Frame, Local, specified_in, makes_sensors, no_initializer, unknown_in, typedef_passed, filled_array, is_written, open_noted, brackets_of, initialized_by}
 use Rattle.p10_elabs.specs.LocalDeclarations.{is_frame_variable, is_typedef}
 use Rattle.p10_elabd.specs.Initializers.{elements_given}
-use Rattle.p10_linkage.specs.Linkage.{is_function, LinkedType, a_function, an_object, unknown_function, unknown_object, Linked, last_linked, internal_by, linked_noted, is_static, is_main, is_main_name, main_problem}
+use Rattle.p10_linkage.specs.Linkage.{LinkedType, a_function, an_object, a_part_function, unknown_object, Linked, last_linked, is_static, is_main_name, main_problem}
 use Rattle.p10_elabs.specs.Marks.{marks_noted}
 use Rattle.p10_elabs.specs.Statements.{in_nothing, Block', no_items_yet, items_done}
-
--- ## What is known of the program
-
--- an object that a root defines outside of functions: its number, its name, its type, its initialiser, if it has one, and whether it is
--- a sensor
-pub record Defined : Type 0 where
-  pub number : ℕ
-  pub name : Identifier At
-  pub type : PlainType
-  pub initializer : PlainInitializer
-  pub sensor : Bool
-
--- what is known after some declarations and functions of the roots: what stands where the next one does; the root's number; all
--- declarations with linkage; the functions; the objects of blocks with their numbers, and those that are defined outside of functions;
--- the objects that are declared in the root; at which functions of the roots before each object is in scope; and the problems of `main`
-pub record Known : Type 0 where
-  pub standing : PlainStanding
-  pub root : ℕ
-  pub linked : List Linked
-  pub functions : List PlainFunction
-  pub block_objects : List (ℕ × PlainObject)
-  pub objects : List Defined
-  pub sightings : List Sighting
-  pub visible : List (ℕ × Extent)
-  pub mains : List Problem
-
--- a declaration more
-abbrev pub with_standing : Known → PlainStanding → Known
-with_standing k s = record k { standing = s }
-
--- ## Names with linkage
-
--- whether an object was declared in this root
-abbrev pub is_sighted : ℕ → List Sighting → Bool
-is_sighted n [] = false
-is_sighted n (s ∷ rest) = nat_eq s.number n || is_sighted n rest
-
--- the objects that a root declares, with one more, unless it was declared before
-abbrev pub with_sighting : Sighting → List Sighting → List Sighting
-with_sighting s all = if is_sighted s.number all then all else all ++ s ∷ []
-
--- the same where that is asked for, by the object's number and how many functions stand before
-abbrev pub sighted_where : Bool → ℕ → ℕ → List Sighting → List Sighting
-sighted_where wanted n from all = if wanted then with_sighting (record { number = n; from = from }) all else all
-
--- the number of the function or object that a declared name stands for
-abbrev pub linked_number : Heads → Linked → ℕ
-linked_number heads l = number_in (if is_function l.type then heads.functions else heads.objects) l.root l.internal l.name
-
--- what a declared name stands for, by its number
-abbrev pub meaning_by : LinkedType → ℕ → Bool → Meaning
-meaning_by (a_function ts r) n sensor = callable n ts r
-meaning_by (an_object t) n sensor = object n t sensor
-meaning_by unknown n sensor = unknown_name
-
--- what a declared name stands for: a function or an object by its number
-abbrev pub linked_meaning : Heads → Linked → Meaning
-linked_meaning heads l = meaning_by l.type (linked_number heads l) l.sensor
-
--- whether an object of a known type is declared
-abbrev pub is_object : LinkedType → Bool
-is_object (an_object t) = true
-is_object t = false
-
--- an object is in scope from its first declaration on
-abbrev pub sighted_by : Heads → Linked → Known → Known
-sighted_by heads l k = record k { sightings = sighted_where (is_object l.type) (linked_number heads l) (length k.functions) k.sightings }
-
--- a declaration with linkage
-abbrev pub with_linked : Keep → Heads → Linked → Known → Known
-with_linked h heads l k = sighted_by heads l (record k {
-  standing = with_name (linked_noted h k.linked l k.standing) l.name (linked_meaning heads l);
-  linked = k.linked ++ l ∷ [];
-  mains = k.mains ++ main_problem (is_main l) l.name l.at;
-})
-
--- a declaration with linkage by its storage and those before it
-abbrev pub linked_of : Known → Identifier At → LinkedType → Storage → Bool → Bool → Linked
-linked_of k name t s defines sensor = record {
-  root = k.root;
-  name = name.name;
-  at = name.place;
-  type = t;
-  internal = internal_by s t (last_linked None k.root name.name k.linked);
-  defines = defines;
-  sensor = sensor;
-}
-
--- a name outside of functions that has no linkage, and isn't `main` then
-abbrev pub without_linkage : Identifier At → PlainStanding → Known → Known
-without_linkage name s k = record k { standing = s; mains = k.mains ++ main_problem false name.name name.place }
+use Rattle.p10_elab.specs.Knowledge.{Known, linked_of, with_linked, with_standing, without_linkage}
 
 -- ## Objects
-
--- whether an initialiser is written
-abbrev pub is_written : Option (Initializer At) → Bool
-is_written None = false
-is_written (Some i) = true
 
 -- whether an object outside of functions is defined at a word
 abbrev pub is_defined_at : ℕ → List Head → Bool
@@ -146,26 +49,76 @@ with_defined heads l name t (Some i) k =
     then record k { objects = k.objects ++ record { number = number_in heads.objects l.root l.internal l.name; name = name; type = t; initializer = i; sensor = l.sensor } ∷ [] }
     else k
 
+-- whether storage is `extern`
+abbrev pub is_extern : Storage → Bool
+is_extern storage_is.Extern = true
+is_extern s = false
+
+-- a tentative definition more: a declaration without an initialiser and without `extern` is one
+abbrev pub with_tentative : Identifier At → PlainType → Storage → Option (Initializer At) → Known → Known
+with_tentative name t s i k =
+    if is_written i || is_extern s then k else record k { tentative = k.tentative ++ record { name = name; type = t } ∷ [] }
+
 -- an object of a type, in scope in its own initialiser
 abbrev pub object_declared : Keep → Heads → Identifier At → PlainType → Storage → Bool → Option (Initializer At) → Known → Known
 object_declared h heads name t s sensor i k =
     let l : Linked = linked_of k name (an_object t) s (is_written i) sensor in
-    let m : Known = with_linked h heads l k in
+    let m : Known = with_tentative name t s i (with_linked h heads l k) in
     let p : Passed PlainInitializer = initialized_by h life_is.Static t i m.standing in
     with_defined heads l name t p.made (with_standing m p.after)
 
+-- the declaration of a name in this root before
+abbrev pub before_in : Known → Identifier At → Option Linked
+before_in k name = last_linked None k.root name.name k.linked
+
+-- the type of an array with elements of a type, where an array of such was declared before
+abbrev pub composite_of : PlainType → LinkedType → Option PlainType
+composite_of t (an_object (array c u n)) = if same t u then Some (array c u n) else None
+composite_of t other = None
+
+-- the type of an array without a length that was declared before with one: the composite type (C99 6.2.7p4)
+abbrev pub composite : PlainType → Option Linked → Option PlainType
+composite t None = None
+composite t (Some before) = composite_of t before.type
+
+-- whether an array is declared
+abbrev pub is_array_object : LinkedType → Bool
+is_array_object (an_object (array c u n)) = true
+is_array_object t = false
+
+-- whether an array was declared before
+abbrev pub is_array_before : Option Linked → Bool
+is_array_before None = false
+is_array_before (Some before) = is_array_object before.type
+
+-- whether an array without a length gets one from a declaration before; where its elements are refused, any array before gives one
+abbrev pub gets_length : Option Linked → Option DeclaredType → Bool
+gets_length before (Some (of_open_array t)) = is_some (composite t before)
+gets_length before j = is_array_before before
+
+-- an object that is an array without a length, and gets none from an initialiser or a declaration before, has no size: a row on the form
+abbrev pub open_outside : Keep → Identifier At → InitDeclarator At → Option Linked → Option DeclaredType → PlainStanding → PlainStanding
+open_outside h name d before j s =
+    if gets_length before j then s else open_noted h name.place d.declarator d.initial s
+
+-- the type of an array without a length, by the one that it has together with a declaration before
+abbrev pub array_outside : Keep → Identifier At → At → PlainType → Option (Initializer At) → Option PlainType → PlainStanding → Passed PlainType
+array_outside h name brackets t i (Some u) s = passed u s
+array_outside h name brackets t None None s = nothing_made s
+array_outside h name brackets t (Some i) None s = filled_array h name brackets t i (elements_given t i) s
+
 -- the type of an object at its declaration: with an initialiser, or where `static` stands, it has a size (C99 6.9.2p3); else it may get
 -- one before the root ends
-abbrev pub outer_type : Keep → Identifier At → At → Storage → Option (Initializer At) → DeclaredType → PlainStanding → Passed PlainType
-outer_type h name brackets s i (of_type t) standing =
+abbrev pub outer_type : Keep → Identifier At → At → Storage → Option (Initializer At) → Option Linked → DeclaredType → PlainStanding → Passed PlainType
+outer_type h name brackets s i before (of_type t) standing =
     if is_complete standing.scope.structures t || not (is_written i || (is_static s || is_void_type t)) then record { made = Some t; after = standing }
     else record { made = None; after = refusing h true subset.IncompleteType name.place standing }
   where
     is_void_type : PlainType → Bool
     is_void_type t = is_void t
-outer_type h name brackets s None (of_open_array t) standing = record { made = None; after = refusing h true subset.IncompleteType name.place standing }
-outer_type h name brackets s (Some i) (of_open_array t) standing = filled_array h brackets t i (elements_given t i) standing
-outer_type h name brackets s i (of_function f) standing = record { made = None; after = standing }
+outer_type h name brackets s i before (of_open_array t) standing = array_outside h name brackets t i (composite t before) standing
+outer_type h name brackets s i before (of_function f) standing = record { made = None; after = standing }
+outer_type h name brackets s i before (of_part_function f) standing = record { made = None; after = standing }
 
 -- an object whose type may be refused
 abbrev pub object_outside : Keep → Heads → Identifier At → Storage → Bool → Option (Initializer At) → Known → Passed PlainType → Known
@@ -181,21 +134,38 @@ object_outside h heads name s sensor i k t = by_type t.made (with_standing k t.a
 abbrev pub function_type : FunctionType → LinkedType
 function_type f = a_function (map (λ p. unqualified p.type) f.parameters) f.result
 
+-- the type of a function of which a part is refused
+abbrev pub part_type : PartFunction → LinkedType
+part_type f = a_part_function (record {
+  parameters = map (λ p. option_map unqualified p.type) f.parameters;
+  list = f.list;
+  result = f.result;
+})
+
 -- a prototype; it has no initialiser
-abbrev pub prototype_declared : Keep → Heads → Identifier At → FunctionType → Storage → Option (Initializer At) → Known → Known
-prototype_declared h heads name f s i k =
-    let m : Known = with_linked h heads (linked_of k name (function_type f) s false false) k in
+abbrev pub prototype_declared : Keep → Heads → Identifier At → LinkedType → Storage → Option (Initializer At) → Known → Known
+prototype_declared h heads name t s i k =
+    let m : Known = with_linked h heads (linked_of k name t s false false) k in
     with_standing m (no_initializer h i m.standing)
+
+-- an object outside of functions by what its declarator declares, which may be refused
+abbrev pub object_by_type : Keep → Heads → Storage → Bool → Identifier At → InitDeclarator At → Known → Option DeclaredType → Known
+object_by_type h heads s sensor name d k None = with_linked h heads (linked_of k name unknown_object s (is_written d.initial) sensor) k
+object_by_type h heads s sensor name d k (Some t) =
+    object_outside h heads name s sensor d.initial k (outer_type h name (brackets_of d.declarator) s d.initial (before_in k name) t k.standing)
+
+-- the same, where rows on the form of the declarator may hold
+abbrev pub object_by_form : Keep → Heads → Storage → Bool → Identifier At → InitDeclarator At → Known → Option DeclaredType → Known
+object_by_form h heads s sensor name d k j =
+    object_by_type h heads s sensor name d (with_standing k (open_outside h name d (before_in k name) j k.standing)) j
 
 -- ## Declarations
 
 -- a declarator outside of functions by what it declares
 abbrev pub by_type_outside : Keep → Heads → Storage → Bool → Identifier At → InitDeclarator At → Known → Option DeclaredType → Known
-by_type_outside h heads s sensor name d k None =
-    with_linked h heads (linked_of k name (if declares_function d.declarator then unknown_function else unknown_object) s (is_written d.initial && not (declares_function d.declarator)) sensor) k
-by_type_outside h heads s sensor name d k (Some (of_function f)) = prototype_declared h heads name f s d.initial k
-by_type_outside h heads s sensor name d k (Some t) =
-    object_outside h heads name s sensor d.initial k (outer_type h name (brackets_of d.declarator) s d.initial t k.standing)
+by_type_outside h heads s sensor name d k (Some (of_function f)) = prototype_declared h heads name (function_type f) s d.initial k
+by_type_outside h heads s sensor name d k (Some (of_part_function f)) = prototype_declared h heads name (part_type f) s d.initial k
+by_type_outside h heads s sensor name d k j = object_by_form h heads s sensor name d k j
 
 -- a declarator outside of functions with its name
 abbrev pub outer_named : Keep → Heads → Storage → Bool → Option PlainType → Known → InitDeclarator At → Option (Identifier At) → Known
@@ -233,6 +203,11 @@ is_nameless (Some name) = false
 abbrev pub names_noted : Keep → List PlainParameter → PlainStanding → PlainStanding
 names_noted h [] s = s
 names_noted h (p ∷ rest) s = names_noted h rest (refusing h (is_nameless p.name) subset.NoPrototype p.at s)
+
+-- the same, where the function is refused
+abbrev pub listed_names_noted : Keep → List ListedParameter → PlainStanding → PlainStanding
+listed_names_noted h [] s = s
+listed_names_noted h (p ∷ rest) s = listed_names_noted h rest (refusing h (is_nameless p.name) subset.NoPrototype p.at s)
 
 -- a parameter as a variable of its function
 abbrev pub parameter_variable : Frame → PlainStanding → ℕ → PlainParameter → Identifier At → PlainVariable
@@ -302,14 +277,20 @@ body_done h heads l t body k =
       block_objects = k.block_objects ++ b.after.objects;
     }
 
--- a function by what its declarator declares: without parameters it declares no function
+-- a body after a declarator that declares no function: one without parameters is refused, which is a row on the form
+abbrev pub bodyless : Keep → Definition At → Identifier At → Known → Known
+bodyless h d name k =
+    without_linkage name
+    (unknown_in h name (refusing h (not (has_parameters d.declarator)) subset.NoPrototype (declarator_place d.declarator) k.standing)) k
+
+-- a function by what its declarator declares
 abbrev pub function_by_type : Keep → Heads → Storage → Definition At → Identifier At → Known → Option DeclaredType → Known
-function_by_type h heads s d name k None = with_linked h heads (linked_of k name unknown_function s true false) k
 function_by_type h heads s d name k (Some (of_function f)) =
     let l : Linked = linked_of k name (function_type f) s true false in
     body_done h heads l f d.body (with_linked h heads l k)
-function_by_type h heads s d name k (Some t) =
-    without_linkage name (unknown_in h name (refusing h true subset.NoPrototype (declarator_place d.declarator) k.standing)) k
+function_by_type h heads s d name k (Some (of_part_function f)) =
+    with_linked h heads (linked_of k name (part_type f) s true false) (with_standing k (listed_names_noted h f.parameters k.standing))
+function_by_type h heads s d name k j = bodyless h d name k
 
 -- what a function's declarator allows among its specifiers
 abbrev pub allowed_at_definition : Definition At → Allowed
@@ -327,64 +308,3 @@ unfoldable pub defined_outside : Keep → Heads → Known → Definition At → 
 defined_outside h heads k d =
     let t : Passed PlainType = specified h site_is.OfDefinition (allowed_at_definition d) false k.standing d.specifiers in
     function_named h heads d (record k { standing = t.after; mains = k.mains ++ main_constants (constants_of d.specifiers) }) t.made (name_in d.declarator)
-
--- ## Roots
-
--- a declaration or function after those before it
-abbrev pub known_after : Keep → Heads → Known → External At → Known
-known_after h heads k (Outer p d) = declared_outside h heads k d
-known_after h heads k (Defines d) = defined_outside h heads k d
-
--- the declarations and functions of a root, one after the other
-abbrev pub known_after_all : Keep → Heads → Known → List (External At) → Known
-known_after_all h heads k [] = k
-known_after_all h heads k (e ∷ rest) = known_after_all h heads (known_after h heads k e) rest
-
--- a root begins with no names
-abbrev pub root_begun : Known → Known
-root_begun k = record k {
-  standing = record k.standing { scope = without_names k.standing.scope };
-  sightings = [];
-}
-
--- the objects that a root defines have sizes at its end (C99 6.9.2p5)
-abbrev pub sizes_noted : Keep → List Defined → PlainStanding → PlainStanding
-sizes_noted h [] s = s
-sizes_noted h (d ∷ rest) s =
-    sizes_noted h rest (refusing h (not (is_complete s.scope.structures d.type)) subset.IncompleteType d.name.place s)
-
--- the functions at which the objects of a root are in scope there
-abbrev pub extents_of : ℕ → List Sighting → List (ℕ × Extent)
-extents_of to [] = []
-extents_of to (s ∷ rest) = (s.number, record { from = s.from; to = to }) ∷ extents_of to rest
-
--- a root ends; its objects are those after the ones before
-abbrev pub root_ended : Keep → ℕ → Known → Known
-root_ended h before k = record k {
-  standing = sizes_noted h (drop before k.objects) k.standing;
-  root = k.root + 1;
-  visible = k.visible ++ extents_of (length k.functions) k.sightings;
-}
-
--- a root
-abbrev pub root_passed : Keep → Heads → Known → List (External At) → Known
-root_passed h heads k root = root_ended h (length k.objects) (known_after_all h heads (root_begun k) root)
-
--- the roots, one after the other
-abbrev pub roots_passed : Keep → Heads → Known → List (List (External At)) → Known
-roots_passed h heads k [] = k
-roots_passed h heads k (root ∷ rest) = roots_passed h heads (root_passed h heads k root) rest
-
--- before the first root
-abbrev pub nothing_known : Known
-nothing_known = record {
-  standing = record { scope = record { structures = []; names = []; tags = []; floors = []; evaluated = true }; open_structures = []; problems = [] };
-  root = 0;
-  linked = [];
-  functions = [];
-  block_objects = [];
-  objects = [];
-  sightings = [];
-  visible = [];
-  mains = [];
-}

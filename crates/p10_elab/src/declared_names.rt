@@ -5,7 +5,7 @@ ghost use Rattle.p10_syn.specs.Built.{identifier_of};
 ghost use Rattle.p10_elabx.specs.First.{only_first};
 ghost use Rattle.p10_heads.specs.PlainHeads.{plain_heads};
 ghost use Rattle.p10_linkage.specs.LinkedViews.{plain_kind, linked_of_name};
-ghost use Rattle.p10_elab.specs.Outer.{linked_number, with_linked, linked_of};
+ghost use Rattle.p10_elab.specs.Knowledge.{linked_number, with_linked, linked_of};
 ghost use Rattle.p10_elab.specs.KnownViews.{plain_known};
 
 use crate::known::{Known, add_linked};
@@ -41,7 +41,8 @@ pub(crate) fn declare_linked<'s>(
 {
     let number = linked_number(setting.heads, &linked);
     let taken = known.standing.is_taken(linked.name);
-    add_linked(setting.alloc, known, linked, number, taken)?;
+    let count = setting.heads.objects().len();
+    add_linked(setting.alloc, known, linked, number, count, taken)?;
     Ok(())
 }
 
@@ -53,7 +54,7 @@ fn linked_number(heads: &Heads<'_>, linked: &LinkedName<'_>) -> u32
         LinkedKind::Function(_, _) => {
             heads.function_number(linked.root, linked.internal, linked.name)
         }
-        LinkedKind::UnknownFunction => {
+        LinkedKind::Refused(_) => {
             heads.function_number(linked.root, linked.internal, linked.name)
         }
         LinkedKind::Object(_) => heads.object_number(linked.root, linked.internal, linked.name),

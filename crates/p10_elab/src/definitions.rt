@@ -1,35 +1,35 @@
 //! Functions with their bodies (C99 6.9.1).
 
-ghost use Rattle.std.specs.Prelude.{◌≡◌, IfOk, Some, None, map, option_map};
-ghost use Rattle.p10_syn.specs.Trees.{statement_row};
+ghost use Rattle.std.specs.Prelude.{◌≡◌, IfOk, Some, map, option_map};
+ghost use Rattle.p10_base.specs.declared.at.At.{At};
+ghost use Rattle.p10_syn.specs.Trees.{Definition, statement_row};
 ghost use Rattle.p10_syn.specs.Built.{identifier_of};
 ghost use Rattle.p10_syn.specs.BuiltStatements.{statement_of, definition_of};
 ghost use Rattle.p10_core.specs.Types.{plain_type};
 ghost use Rattle.p10_elabx.specs.First.{only_first};
-ghost use Rattle.p10_elabd.specs.Shapes.{of_function, name_in};
-ghost use Rattle.p10_elabd.specs.Views.{plain_function, plain_declared};
+ghost use Rattle.p10_elabd.specs.Shapes.{of_function, of_part_function, name_in};
+ghost use Rattle.p10_elabd.specs.Views.{plain_function, plain_part_function, plain_declared};
 ghost use Rattle.p10_heads.specs.PlainHeads.{plain_heads};
-ghost use Rattle.p10_elab.specs.Outer.{function_by_type, allowed_at_definition, function_named, defined_outside};
+ghost use Rattle.p10_elab.specs.Outer.{bodyless, function_by_type, allowed_at_definition, function_named, defined_outside};
 ghost use Rattle.p10_elab.specs.KnownViews.{plain_known};
-ghost use Rattle.p10_elab.specs.private.Bodies.{bodyless};
 
 use crate::bodies::{BodyHead, body_done};
 use crate::declared_names::{declare_linked, declare_name};
 use crate::known::{Known, number_of};
 use crate::linking::{Linking, linked_of};
 use crate::mains::{note_constants, note_main};
-use crate::prototypes::function_kind;
+use crate::prototypes::{function_kind, refused_kind};
+use crate::root_end::note_listed_names;
 use crate::setting::Setting;
 use p10_base::SubsetCode;
 use p10_core::CType;
 use p10_elabd::{
-    Allowed, Declared, DeclaredFunction, Site, Storage, based, declarator_passed, name_in,
-    specified, storage_of,
+    Allowed, Declared, DeclaredFunction, RefusedFunction, Site, Storage, based, declarator_passed,
+    has_parameters, name_in, specified, storage_of,
 };
 use p10_elabs::unknown_in;
 use p10_elabx::declarator_place;
 use p10_heads::is_static;
-use p10_linkage::LinkedKind;
 use p10_syn::{Function, Identifier};
 use std::alloc::AllocError;
 
@@ -115,17 +115,12 @@ fn function_by_type<'s>(
     ensures { IfOk result (λ _. plain_known known.new ≡ function_by_type only_first (plain_heads setting.now.heads.now) storage (definition_of f.now) (identifier_of name.entry) (plain_known known.old) (option_map plain_declared declared.entry)) }
 {
     match declared {
-        None => {
-            let says = Linking {
-                storage,
-                defines: true,
-                sensor: false,
-            };
-            declare_name(setting, known, name, LinkedKind::UnknownFunction, says)?;
-            Ok(())
-        }
         Some(Declared::Function(function)) => {
             function_defined(setting, known, storage, name, f, function)?;
+            Ok(())
+        }
+        Some(Declared::Refused(function)) => {
+            refused_defined(setting, known, storage, name, function)?;
             Ok(())
         }
         Some(Declared::Plain(_)) => {
@@ -136,10 +131,34 @@ fn function_by_type<'s>(
             refuse_body(known, name, f)?;
             Ok(())
         }
+        None => {
+            refuse_body(known, name, f)?;
+            Ok(())
+        }
     }
 }
 
-/// Refuses a body after a declarator that declares no function.
+/// Declares a function with a body of which a part is refused: the body isn't gone over.
+fn refused_defined<'s>(
+    setting: &Setting<'_, 's>,
+    known: &mut Known<'s>,
+    storage: Storage,
+    name: Identifier<'s>,
+    function: RefusedFunction<'s>,
+) -> Result<(), AllocError>
+    ensures { IfOk result (λ _. (d : Definition At) → plain_known known.new ≡ function_by_type only_first (plain_heads setting.now.heads.now) storage d (identifier_of name.entry) (plain_known known.old) (Some (of_part_function (plain_part_function function.entry)))) }
+{
+    note_listed_names(&function.parameters, &mut known.standing);
+    let says = Linking {
+        storage,
+        defines: true,
+        sensor: false,
+    };
+    let kind = refused_kind(setting.alloc, &function)?;
+    declare_name(setting, known, name, kind, says)
+}
+
+/// Goes over a body after a declarator that declares no function: one without parameters is refused.
 fn refuse_body<'s>(
     known: &mut Known<'s>,
     name: Identifier<'s>,
@@ -148,7 +167,10 @@ fn refuse_body<'s>(
     ensures { IfOk result (λ _. plain_known known.new ≡ bodyless only_first (definition_of f.now) (identifier_of name.entry) (plain_known known.old)) }
 {
     let at = declarator_place(&f.declarator);
-    known.standing.refuse(SubsetCode::NoPrototype, at);
+    let bare = !has_parameters(&f.declarator);
+    known
+        .standing
+        .refuse_where(bare, SubsetCode::NoPrototype, at);
     unknown_in(&mut known.standing, name)?;
     note_main(&mut known.mains, &name)?;
     Ok(())

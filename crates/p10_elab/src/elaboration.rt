@@ -14,7 +14,7 @@ ghost use Rattle.p10_elab.specs.private.Together.{known_together};
 use crate::fault::ElabFault;
 use crate::known::{Known, nothing_known};
 use crate::root_walk::roots_passed;
-use crate::settling::settle;
+use crate::settling::{Ground, settle};
 use p10_core::Program;
 use p10_heads::{Heads, heads_of_units};
 use p10_linkage::taken_together;
@@ -35,7 +35,8 @@ pub fn elab<'s>(alloc: Global, units: &[Unit<'s>]) -> Result<Program<'s>, ElabFa
 {
     let heads = heads_of_units(alloc, units)?;
     let known = known_of_units(alloc, &heads, units)?;
-    whole_alone(alloc, settle(alloc, heads.objects().len(), known))
+    let ground = Ground { alloc, units };
+    whole_alone(alloc, settle(ground, heads.objects().len(), known))
 }
 
 /// What is known of all roots, taken together.

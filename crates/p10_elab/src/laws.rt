@@ -1,6 +1,6 @@
 //! What holds of what trees come to: each law is the contract of a function without a body.
 
-ghost use Rattle.p10_elab.specs.Laws.{TheFirstIsAnswered, AnswersHaveCauses, RootsAreFound};
+ghost use Rattle.p10_elab.specs.Laws.{TheFirstIsAnswered, AnswersHaveCauses, RootsAreFound, NamelessParametersAreTold};
 ghost use Rattle.p10_elab.specs.Examples.{ProgramsAreSettled};
 
 /// Of all rows that hold, the one is answered whose tree begins first, of these the one with the least number, and of these the one of the
@@ -23,4 +23,9 @@ pub fn answers_have_causes()
 /// Roots that follow one another in one list are told apart: each begins with its own first word.
 pub fn roots_are_found()
     ensures { RootsAreFound }
+{}
+
+/// Each parameter without a name of a function with a body is told, also where another part of the function is refused.
+pub fn nameless_parameters_are_told()
+    ensures { NamelessParametersAreTold }
 {}

@@ -32,6 +32,7 @@ mod root_walk;
 mod setting;
 mod settling;
 mod sightings;
+mod use_words;
 
 pub use elaboration::elab;
 pub use fault::ElabFault;

@@ -7,7 +7,7 @@ ghost use Rattle.p10_elabd.specs.Blocks.{is_taken};
 ghost use Rattle.p10_linkage.specs.Linkage.{last_linked, is_defined, is_refused};
 ghost use Rattle.p10_linkage.specs.LinkedViews.{plain_kind, linked_of_name};
 ghost use Rattle.p10_linkage.specs.LinkedLists.{linked_in};
-ghost use Rattle.p10_elab.specs.Outer.{Known, linked_of};
+ghost use Rattle.p10_elab.specs.Knowledge.{Known, linked_of};
 
 use p10_elabd::Storage;
 use p10_linkage::{LinkedKind, LinkedName, LinkedNames, differs, internal_by};

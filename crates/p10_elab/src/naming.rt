@@ -5,7 +5,7 @@ ghost use Rattle.p10_core.specs.Types.{plain_type};
 ghost use Rattle.p10_elabx.specs.Scopes.{callable};
 ghost use Rattle.p10_elabx.specs.Views.{meaning_of};
 ghost use Rattle.p10_linkage.specs.LinkedViews.{plain_kind};
-ghost use Rattle.p10_elab.specs.Outer.{meaning_by};
+ghost use Rattle.p10_elab.specs.Knowledge.{meaning_by};
 
 use p10_base::ListBuf;
 use p10_core::CType;
@@ -31,7 +31,7 @@ pub fn named_by(
             ty: ty.copy(alloc)?,
             sensor,
         }),
-        LinkedKind::UnknownFunction | LinkedKind::UnknownObject => Ok(Named::Unknown),
+        LinkedKind::Refused(_) | LinkedKind::UnknownObject => Ok(Named::Unknown),
     }
 }
 

@@ -1,6 +1,6 @@
 //! Declarations outside of functions (C99 6.9).
 
-ghost use Rattle.std.specs.Prelude.{◌≡◌, if◌then◌else◌, None, Some, IfOk, map, option_map};
+ghost use Rattle.std.specs.Prelude.{◌≡◌, Some, IfOk, map, option_map};
 ghost use Rattle.p10_syn.specs.Built.{identifier_of};
 ghost use Rattle.p10_syn.specs.BuiltStatements.{init_declarator_of, declaration_of};
 ghost use Rattle.p10_core.specs.Types.{plain_type};
@@ -9,25 +9,18 @@ ghost use Rattle.p10_elabd.specs.Shapes.{name_in};
 ghost use Rattle.p10_elabd.specs.Views.{plain_declared};
 ghost use Rattle.p10_heads.specs.PlainHeads.{plain_heads};
 ghost use Rattle.p10_elabs.specs.Locals.{no_initializer, typedef_passed};
-ghost use Rattle.p10_linkage.specs.Linkage.{unknown_function, unknown_object};
-ghost use Rattle.p10_linkage.specs.LinkedViews.{plain_kind};
-ghost use Rattle.p10_elab.specs.Outer.{by_type_outside, outer_named, outer_declarators, declared_outside, without_linkage};
+ghost use Rattle.p10_elab.specs.Knowledge.{without_linkage};
+ghost use Rattle.p10_elab.specs.Outer.{by_type_outside, outer_named, outer_declarators, declared_outside};
 ghost use Rattle.p10_elab.specs.KnownViews.{plain_known};
 
-use crate::declared_names::declare_name;
 use crate::known::Known;
-use crate::linking::Linking;
 use crate::mains::{note_constants, note_main};
-use crate::outer_objects::object_outside;
-use crate::outer_types::is_written;
-use crate::prototypes::prototype_declared;
+use crate::outer_objects::object_by_form;
+use crate::prototypes::{function_kind, prototype_declared, refused_kind};
 use crate::setting::{Setting, Shared};
 use p10_core::CType;
-use p10_elabd::{
-    Declared, Site, based_on, declarator_passed, declares_function, name_in, storage_of,
-};
+use p10_elabd::{Declared, Site, based_on, declarator_passed, name_in, storage_of};
 use p10_elabs::{is_typedef, makes_sensors, no_initializer, specified_in, typedef_passed};
-use p10_linkage::LinkedKind;
 use p10_syn::{Decl, Identifier, InitDeclarator};
 use std::alloc::AllocError;
 
@@ -140,59 +133,19 @@ fn by_type_outside<'s>(
     ensures { IfOk result (λ _. plain_known known.new ≡ by_type_outside only_first (plain_heads setting.now.heads.now) shared.storage shared.sensor (identifier_of name.entry) (init_declarator_of d.now) (plain_known known.old) (option_map plain_declared declared.entry)) }
 {
     match declared {
-        None => {
-            unknown_outside(setting, known, shared, name, d)?;
-            Ok(())
-        }
         Some(Declared::Function(function)) => {
-            prototype_declared(setting, known, shared.storage, name, &function, &d.init)?;
+            let kind = function_kind(setting.alloc, &function)?;
+            prototype_declared(setting, known, shared.storage, name, kind, &d.init)?;
             Ok(())
         }
-        Some(Declared::Plain(ty)) => {
-            object_outside(setting, known, shared, name, d, Declared::Plain(ty))?;
+        Some(Declared::Refused(function)) => {
+            let kind = refused_kind(setting.alloc, &function)?;
+            prototype_declared(setting, known, shared.storage, name, kind, &d.init)?;
             Ok(())
         }
-        Some(Declared::OpenArray(element)) => {
-            object_outside(
-                setting,
-                known,
-                shared,
-                name,
-                d,
-                Declared::OpenArray(element),
-            )?;
+        other => {
+            object_by_form(setting, known, shared, name, d, other)?;
             Ok(())
         }
-    }
-}
-
-/// Declares a function or an object of which no more is known.
-fn unknown_outside<'s>(
-    setting: &Setting<'_, 's>,
-    known: &mut Known<'s>,
-    shared: Shared,
-    name: Identifier<'s>,
-    d: &InitDeclarator<'s>,
-) -> Result<(), AllocError>
-    ensures { IfOk result (λ _. plain_known known.new ≡ by_type_outside only_first (plain_heads setting.now.heads.now) shared.storage shared.sensor (identifier_of name.entry) (init_declarator_of d.now) (plain_known known.old) None) }
-{
-    let function = declares_function(&d.declarator);
-    let says = Linking {
-        storage: shared.storage,
-        defines: is_written(&d.init) & !function,
-        sensor: shared.sensor,
-    };
-    declare_name(setting, known, name, unknown_kind(function), says)?;
-    Ok(())
-}
-
-/// A function or an object of which no more is known.
-fn unknown_kind(function: bool) -> LinkedKind
-    ensures { plain_kind result ≡ (if function then unknown_function else unknown_object) }
-{
-    if function {
-        LinkedKind::UnknownFunction
-    } else {
-        LinkedKind::UnknownObject
     }
 }

@@ -16,6 +16,13 @@ pub struct OuterObject<'s> {
     pub sensor: bool,
 }
 
+/// A declaration of an object that defines it unless another one does (C99 6.9.2p2).
+#[derive(Drop)]
+pub struct Tentative<'s> {
+    pub name: Identifier<'s>,
+    pub ty: CType,
+}
+
 /// Where an object is first declared in a root.
 #[derive(Clone, Copy, Debug)]
 pub struct Sighting {

@@ -1,18 +1,17 @@
 //! The walk over the roots of a program.
 
-ghost use Rattle.std.specs.Prelude.{◌≡◌, IfOk, map, drop};
+ghost use Rattle.std.specs.Prelude.{◌≡◌, IfOk, map};
 ghost use Rattle.p10_syn.specs.BuiltStatements.{external_of};
 ghost use Rattle.p10_elabx.specs.First.{only_first};
 ghost use Rattle.p10_heads.specs.PlainHeads.{plain_heads};
 ghost use Rattle.p10_heads.specs.Roots.{roots_of};
-ghost use Rattle.p10_elab.specs.Outer.{known_after, known_after_all, root_begun, root_ended, root_passed, roots_passed};
+ghost use Rattle.p10_elab.specs.RootEnds.{known_after, known_after_all, root_begun, root_ended, root_passed, roots_passed};
 ghost use Rattle.p10_elab.specs.KnownViews.{plain_known};
 
 use crate::definitions::defined_outside;
 use crate::known::{Known, number_of};
 use crate::outer_declarations::declared_outside;
-use crate::outer_object::OuterObject;
-use crate::root_end::{extents_of, note_sizes};
+use crate::root_end::{extents_of, note_sizes, put_outside};
 use crate::setting::Setting;
 use crate::sightings::Sightings;
 use p10_heads::{Heads, rest_from, root_length};
@@ -47,10 +46,9 @@ fn root_passed<'s>(
 ) -> Result<(), AllocError>
     ensures { IfOk result (λ _. plain_known known.new ≡ root_passed only_first (plain_heads setting.now.heads.now) (plain_known known.old) (map external_of root.now)) }
 {
-    let before = known.objects.len();
     begin_root(setting.alloc, known);
     known_after_all(setting, known, root)?;
-    end_root(setting.alloc, known, before)?;
+    end_root(setting.alloc, known)?;
     Ok(())
 }
 
@@ -60,6 +58,8 @@ fn begin_root(alloc: Global, known: &mut Known<'_>)
 {
     known.standing.scope.forget_names();
     known.sightings = Sightings::new(alloc);
+    known.tentative = Vec::new(alloc);
+    known.undefined = Vec::new(alloc);
 }
 
 /// Goes over the declarations and functions of a root, one after the other.
@@ -96,25 +96,15 @@ fn known_after<'s>(
     }
 }
 
-/// Ends a root: its objects, which are those after the first `before` ones, have sizes.
-fn end_root(alloc: Global, known: &mut Known<'_>, before: usize) -> Result<(), AllocError>
-    ensures { IfOk result (λ _. plain_known known.new ≡ root_ended only_first before (plain_known known.old)) }
+/// Ends a root: its tentative definitions have sizes.
+fn end_root(alloc: Global, known: &mut Known<'_>) -> Result<(), AllocError>
+    ensures { IfOk result (λ _. plain_known known.new ≡ root_ended only_first (plain_known known.old)) }
 {
-    note_sizes(objects_from(&known.objects, before), &mut known.standing);
+    note_sizes(&known.tentative, &mut known.standing);
     let to = number_of(known.functions.len())?;
     let mut extents = extents_of(alloc, to, known.sightings.rows())?;
     known.visible.append(&mut extents)?;
+    put_outside(to, &known.undefined, &mut known.outside)?;
     known.root = number_of(known.root as usize + 1)?;
     Ok(())
-}
-
-/// The objects after the first `before` ones.
-fn objects_from<'a, 's>(objects: &'a [OuterObject<'s>], before: usize) -> &'a [OuterObject<'s>]
-    ensures { result.now ≡ drop before objects.now }
-{
-    if before <= objects.len() {
-        &objects[before..]
-    } else {
-        &[]
-    }
 }

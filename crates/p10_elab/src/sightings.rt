@@ -1,7 +1,7 @@
 //! The objects that a root declares outside of functions, each where it is first declared.
 
 ghost use Rattle.std.specs.Prelude.{◌≡◌, ℕ, false, slice_index_or};
-ghost use Rattle.p10_elab.specs.Outer.{is_sighted};
+ghost use Rattle.p10_elab.specs.Knowledge.{is_sighted};
 
 use crate::outer_object::Sighting;
 use std::alloc::{AllocError, Global};
@@ -18,7 +18,7 @@ pub struct Sightings {
 
 impl Sightings {
     ghost use Rattle.std.specs.Prelude.{[], IfOk};
-    ghost use Rattle.p10_elab.specs.Outer.{with_sighting};
+    ghost use Rattle.p10_elab.specs.Knowledge.{with_sighting};
     ghost use Rattle.p10_elab.specs.SightingViews.{sightings_in};
 
     /// No objects.

@@ -2,12 +2,17 @@ mod Bodies
 mod BracedParts
 mod DeclaratorArms
 mod FirstScalars
+mod FormRows
+mod Growing
 mod ItemRows
 pub mod Keeping
+mod KnownParameters
 mod ParameterArms
 mod SlotRows
 mod SpecifierTrees
+mod SurplusRows
 mod TagArms
 mod TagLists
+mod TellingLengths
 mod TreeRows
 mod Walks

@@ -1,5 +1,5 @@
 -- The tags in calls, casts, sizes and rows of expressions of the code.
-use Rattle.std.specs.Prelude.{◌≡◌, List, ◌++◌, map, Option, Some}
+use Rattle.std.specs.Prelude.{◌≡◌, Bool, List, ◌++◌, map, Option, Some}
 use Rattle.std.specs.declared.alloc.Global.{Global}
 use Rattle.std.proofs.Common.{ap, sym, ◌∙◌, Box, Vec}
 use Rattle.p10_base.specs.declared.at.At.{At}
@@ -10,12 +10,13 @@ use Rattle.p10_syn.specs.declared.tree.Declarator.{Declarator}
 use Rattle.p10_syn.specs.declared.tree.Spec.{Spec}
 use Rattle.p10_syn.specs.declared.tree.Expr.{Expr}
 use Rattle.p10_syn.specs.declared.tree.TypeName.{TypeName}
-use Rattle.p10_syn.specs.Trees.{expression_row, specifier_row}
-use Rattle.p10_syn.specs.Built.{expression_of, kind_of, specifier_of, specifiers_in, declarator_of}
+use Rattle.p10_syn.specs.declared.tree.Parameter.{Parameter}
+use Rattle.p10_syn.specs.Trees.{expression_row, specifier_row, parameter_row}
+use Rattle.p10_syn.specs.Built.{expression_of, kind_of, specifier_of, specifiers_in, declarator_of, parameter_of}
 use Rattle.p10_elabx.specs.Scopes.{PlainScope}
-use Rattle.p10_elabd.specs.Tags.{tags_of, tags_in, tags_in_all, tags_in_type, tags_in_declarator, with_tags}
+use Rattle.p10_elabd.specs.Tags.{tags_of, tags_in, tags_in_all, tags_in_type, tags_in_declarator, tags_in_parameter, tags_in_parameters, with_tags}
 use Rattle.p10_elabd.proofs.TagLists.{with_both}
-use Rattle.p10_elabd.proofs.TreeRows.{call_tree, comma_tree, cast_tree, sizeof_tree, binary_tree, assign_tree, index_tree, conditional_tree, array_is}
+use Rattle.p10_elabd.proofs.TreeRows.{call_tree, comma_tree, cast_tree, sizeof_tree, binary_tree, assign_tree, index_tree, conditional_tree, array_is, function_is}
 
 pub call_tags : (s t u : PlainScope) (e x : Expr) (f : Box Expr Global) (all : Vec Expr Global) (items : List Expr) → e.form ≡ form.Call f all → x ≡ f.value → items ≡ all.items →
     t ≡ with_tags s (tags_in (expression_of x)) → u ≡ with_tags t (tags_in_all (expression_row (map expression_of items))) → u ≡ with_tags s (tags_in (expression_of e))
@@ -85,3 +86,17 @@ array_tags s t u d x y at inner brackets l e is some first second et eu =
     ∙ ap (λ z. with_tags s (tags_in_declarator z)) (sym (array_is at inner brackets e))
     ∙ ap (λ k. with_tags s (tags_in_declarator (declarator_of (declarator.Array at inner brackets k)))) (sym some)
     ∙ ap (λ z. with_tags s (tags_in_declarator (declarator_of z))) (sym is)
+
+pub function_tags : (s t u : PlainScope) (d x : Declarator) (at : At) (inner : Box Declarator Global) (parentheses : At) (all : Vec Parameter Global) (more : Bool) (items : List Parameter) →
+    d ≡ declarator.Function at inner parentheses all more → x ≡ inner.value → items ≡ all.items →
+    t ≡ with_tags s (tags_in_declarator (declarator_of x)) → u ≡ with_tags t (tags_in_parameters (parameter_row (map parameter_of items))) → u ≡ with_tags s (tags_in_declarator (declarator_of d))
+function_tags s t u d x at inner parentheses all more items is first same et eu =
+    with_both s t u (tags_in_declarator (declarator_of inner.value)) (tags_in_parameters (parameter_row (map parameter_of all.items)))
+    (et ∙ ap (λ z. with_tags s (tags_in_declarator (declarator_of z))) first) (eu ∙ ap (λ xs. with_tags t (tags_in_parameters (parameter_row (map parameter_of xs)))) same)
+    ∙ ap (λ z. with_tags s (tags_in_declarator z)) (sym (function_is at inner parentheses all more))
+    ∙ ap (λ z. with_tags s (tags_in_declarator (declarator_of z))) (sym is)
+
+pub parameter_tags : (s t u : PlainScope) (p : Parameter) (items : List Spec) → items ≡ p.specs.items → t ≡ with_tags s (tags_of (specifier_row (map specifier_of items))) →
+    u ≡ with_tags t (tags_in_declarator (declarator_of p.declarator)) → u ≡ with_tags s (tags_in_parameter (parameter_of p))
+parameter_tags s t u p items same et eu =
+    with_both s t u (tags_of (specifiers_in p.specs)) (tags_in_declarator (declarator_of p.declarator)) (et ∙ ap (λ xs. with_tags s (tags_of (specifier_row (map specifier_of xs)))) same) eu

@@ -8,8 +8,7 @@ use Rattle.p10_elabx.specs.First.{only_first}
 use Rattle.p10_elabd.specs.declared.site.Site.{Site}
 use Rattle.p10_elabd.specs.declared.site.Allowed.{Allowed}
 use Rattle.p10_elabd.specs.Standing.{PlainStanding, Passed}
-use Rattle.p10_elabd.specs.Shapes.{PlainParameter}
-use Rattle.p10_elabd.specs.Declaring.{both_named, stored_by, specifiers_passed, specifier_passed, members_passed, member_passed, fields_passed, field_passed, enumerators_passed, one_enumerator_passed, parameters_passed, one_parameter_passed}
+use Rattle.p10_elabd.specs.Declaring.{both_named, stored_by, specifiers_passed, specifier_passed, members_passed, member_passed, fields_passed, field_passed, enumerators_passed, one_enumerator_passed, Listing, parameters_passed, one_parameter_passed}
 
 -- one specifier
 pub step_specifiers : (site : Site) (allowed : Allowed) (alone stored next : Bool) (p : Passed (Option PlainType)) (x : Specifier At) (all rest : Specifiers At)
@@ -38,7 +37,7 @@ pub step_enumerators : (p q : Passed ℤ) (x : Enumerator At) (all rest : Enumer
 step_enumerators p q x all rest cut e = ap (enumerators_passed only_first p) cut ∙ ap (λ r. enumerators_passed only_first r rest) (sym e)
 
 -- one parameter
-pub step_parameters : (i n : ℕ) (p q : Passed (List PlainParameter)) (x : Parameter At) (all rest : Parameters At) → all ≡ MoreParameters x rest →
+pub step_parameters : (i n : ℕ) (p q : Listing) (x : Parameter At) (all rest : Parameters At) → all ≡ MoreParameters x rest →
     q ≡ one_parameter_passed only_first i p x → n ≡ i + 1 → parameters_passed only_first i p all ≡ parameters_passed only_first n q rest
 step_parameters i n p q x all rest cut e en =
     ap (parameters_passed only_first i p) cut ∙ ap (λ r. parameters_passed only_first (i + 1) r rest) (sym e) ∙ ap (λ k. parameters_passed only_first k q rest) (sym en)

@@ -20,7 +20,7 @@ use Rattle.p10_elabd.specs.declared.site.Allowed.{Allowed}
 use Rattle.p10_elabd.specs.Blocks.{declaring}
 use Rattle.p10_elabd.specs.Tagged.{structure_named, enumeration_named, Begun, begun, begun_anew, ended, structure_made, enumeration_begun, with_enumeration}
 use Rattle.p10_elabd.specs.Members.{member_declared, with_width, with_member, enumerator_passed}
-use Rattle.p10_elabd.specs.Shapes.{PlainParameter, DeclaredType, of_type, name_in, place_or, declares_function, pointer_declared, element_declared, array_declared, open_declared, function_inside, result_declared, parameter_declared, among_parameters, function_declared}
+use Rattle.p10_elabd.specs.Shapes.{ListedParameter, DeclaredType, of_type, name_in, place_or, declares_function, declares_open_array, pointer_declared, element_declared, array_inside, array_declared, open_declared, function_inside, result_declared, parameter_declared, among_parameters, list_of, function_declared}
 
 -- ## Pieces
 
@@ -106,10 +106,14 @@ with_parameter h i None t s = s
 with_parameter h i (Some name) None s = declaring h name unknown_name s
 with_parameter h i (Some name) (Some t) s = declaring h name (local i t false) s
 
--- the parameters so far with one more
-abbrev pub parameter_added : Option (List PlainParameter) → At → Option (Identifier At) → Option PlainType → Option (List PlainParameter)
-parameter_added (Some parameters) at name (Some t) = Some (parameters ++ record { at = at; name = name; type = t } ∷ [])
-parameter_added parameters at name t = None
+-- parameters as they are listed, and where what follows stands
+pub record Listing : Type 0 where
+  pub parameters : List ListedParameter
+  pub after : PlainStanding
+
+-- no parameters
+abbrev pub none_listed : PlainStanding → Listing
+none_listed s = record { parameters = []; after = s }
 
 -- whether a type is `void` without a mark
 abbrev pub is_plain_void : PlainType → Bool
@@ -126,11 +130,11 @@ abbrev pub based : Option PlainType → PlainStanding → Passed DeclaredType
 based t s = record { made = option_map of_type t; after = s }
 
 -- a parameter after others, by what its declarator made of the type of its specifiers: that of a function would be a pointer to it
-abbrev pub with_declared_parameter : Keep → ℕ → Option (List PlainParameter) → At → Declarator At → Passed DeclaredType → Passed (List PlainParameter)
+abbrev pub with_declared_parameter : Keep → ℕ → List ListedParameter → At → Declarator At → Passed DeclaredType → Listing
 with_declared_parameter h i before at d j =
     let s : PlainStanding = refusing h (declares_function d) subset.BadPointer (declarator_place d) j.after in
     let u : Passed PlainType = parameter_declared h at (place_or at (name_in d)) j.made s in
-    record { made = parameter_added before at (name_in d) u.made; after = with_parameter h i (name_in d) u.made u.after }
+    record { parameters = before ++ record { at = at; name = name_in d; type = u.made } ∷ []; after = with_parameter h i (name_in d) u.made u.after }
 
 -- ## The trees
 
@@ -178,7 +182,7 @@ abbrev mutual
   field_passed h t p (field at d width) =
       let name_at : At = place_or (declarator_place d) (name_in d) in
       let j : Passed DeclaredType = declarator_passed h name_at (based t (with_width h (declarator_place d) width p.after)) d in
-      let s : PlainStanding = refusing h (declares_function d) subset.IncompleteType name_at j.after in
+      let s : PlainStanding = refusing h (declares_function d || declares_open_array d) subset.IncompleteType name_at j.after in
       with_member h name_at p.made (name_in d) (member_declared h name_at j.made s)
 
   -- what a declarator makes of a type, from its specifiers to its name
@@ -187,37 +191,39 @@ abbrev mutual
   declarator_passed h name_at p (Unnamed at) = p
   declarator_passed h name_at p (Pointer at qualifiers d) = declarator_passed h name_at (pointer_declared h at name_at qualifiers p.made p.after) d
   declarator_passed h name_at p (Parenthesised at d) = declarator_passed h name_at p d
-  declarator_passed h name_at p (Array at d brackets Absent) = declarator_passed h name_at (open_declared (element_declared h name_at p.made p.after)) d
-  declarator_passed h name_at p (Array at d brackets (Present e)) = declarator_passed h name_at (array_declared h e (element_declared h name_at p.made p.after)) d
+  declarator_passed h name_at p (Array at d brackets Absent) =
+      declarator_passed h name_at (open_declared (element_declared h name_at p.made (array_inside h name_at true d p.after))) d
+  declarator_passed h name_at p (Array at d brackets (Present e)) =
+      declarator_passed h name_at (array_declared h e (element_declared h name_at p.made (array_inside h name_at false d p.after))) d
   declarator_passed h name_at p (Function at d parentheses all more) =
       let r : Passed PlainType = result_declared h at name_at p.made p.after in
       let s : PlainStanding = function_inside h name_at d (refusing h more subset.NoPrototype parentheses r.after) in
-      let q : Passed (List PlainParameter) = all_parameters_passed h (among_parameters s) parentheses all in
-      declarator_passed h name_at (function_declared r.made q.made q.after) d
+      let q : Listing = all_parameters_passed h (among_parameters s) parentheses all in
+      declarator_passed h name_at (function_declared (list_of all more) r.made q.parameters q.after) d
 
   -- the parameters of a function: there are some, or the word `void` (C99 6.7.5.3p10, p14)
-  pub all_parameters_passed : Keep → PlainStanding → At → Parameters At → Passed (List PlainParameter)
-  all_parameters_passed h s at NoParameters = nothing_made (refusing h true subset.NoPrototype at s)
+  pub all_parameters_passed : Keep → PlainStanding → At → Parameters At → Listing
+  all_parameters_passed h s at NoParameters = none_listed (refusing h true subset.NoPrototype at s)
   all_parameters_passed h s at (MoreParameters one NoParameters) = only_parameter_passed h s one
-  all_parameters_passed h s at (MoreParameters one rest) = parameters_passed h 1 (one_parameter_passed h 0 (passed [] s) one) rest
+  all_parameters_passed h s at (MoreParameters one rest) = parameters_passed h 1 (one_parameter_passed h 0 (none_listed s) one) rest
 
   -- a parameter that stands alone
-  pub only_parameter_passed : Keep → PlainStanding → Parameter At → Passed (List PlainParameter)
+  pub only_parameter_passed : Keep → PlainStanding → Parameter At → Listing
   only_parameter_passed h s (parameter at specifiers d) =
       let t : Passed PlainType = type_specified h specifiers (specifiers_passed h site_is.OfParameter none_allowed false false (passed None s) specifiers) in
-      if is_no_parameter d t.made then passed [] t.after
-      else with_declared_parameter h 0 (Some []) at d (declarator_passed h (place_or at (name_in d)) (based t.made t.after) d)
+      if is_no_parameter d t.made then none_listed t.after
+      else with_declared_parameter h 0 [] at d (declarator_passed h (place_or at (name_in d)) (based t.made t.after) d)
 
   -- parameters after those before, the next one with its number
-  pub parameters_passed : Keep → ℕ → Passed (List PlainParameter) → Parameters At → Passed (List PlainParameter)
+  pub parameters_passed : Keep → ℕ → Listing → Parameters At → Listing
   parameters_passed h i p NoParameters = p
   parameters_passed h i p (MoreParameters one rest) = parameters_passed h (i + 1) (one_parameter_passed h i p one) rest
 
   -- one parameter
-  pub one_parameter_passed : Keep → ℕ → Passed (List PlainParameter) → Parameter At → Passed (List PlainParameter)
+  pub one_parameter_passed : Keep → ℕ → Listing → Parameter At → Listing
   one_parameter_passed h i p (parameter at specifiers d) =
       let t : Passed PlainType = type_specified h specifiers (specifiers_passed h site_is.OfParameter none_allowed false false (passed None p.after) specifiers) in
-      with_declared_parameter h i p.made at d (declarator_passed h (place_or at (name_in d)) (based t.made t.after) d)
+      with_declared_parameter h i p.parameters at d (declarator_passed h (place_or at (name_in d)) (based t.made t.after) d)
 
 -- the type that specifiers name where something is declared; `alone` says that they are a whole declaration
 abbrev pub specified : Keep → Site → Allowed → Bool → PlainStanding → Specifiers At → Passed PlainType
@@ -225,12 +231,12 @@ specified h site allowed alone s specifiers =
     type_specified h specifiers (specifiers_passed h site allowed alone false (passed None s) specifiers)
 
 -- a function with a result and these parameters, whose names end with its declarator
-abbrev pub function_passed : Keep → At → Option PlainType → PlainStanding → Parameters At → Passed DeclaredType
-function_passed h parentheses result s all =
-    let q : Passed (List PlainParameter) = all_parameters_passed h (among_parameters s) parentheses all in
-    function_declared result q.made q.after
+abbrev pub function_passed : Keep → At → Bool → Option PlainType → PlainStanding → Parameters At → Passed DeclaredType
+function_passed h parentheses more result s all =
+    let q : Listing = all_parameters_passed h (among_parameters s) parentheses all in
+    function_declared (list_of all more) result q.parameters q.after
 
 -- one parameter with the type of its specifiers
-abbrev pub typed_parameter_passed : Keep → ℕ → Option (List PlainParameter) → Passed PlainType → At → Declarator At → Passed (List PlainParameter)
+abbrev pub typed_parameter_passed : Keep → ℕ → List ListedParameter → Passed PlainType → At → Declarator At → Listing
 typed_parameter_passed h i before t at d =
     with_declared_parameter h i before at d (declarator_passed h (place_or at (name_in d)) (based t.made t.after) d)

@@ -1,5 +1,5 @@
 -- Initialisers (C99 6.7.8). Braces aren't left out, except that `{0}` may stand for any aggregate.
-use Rattle.std.specs.Prelude.{ℕ, nat_eq, ◌&&◌, ◌+◌, ◌-◌, pos, nat_le, nat_lt, Bool, true, false, if◌then◌else◌, List, [], ◌∷◌, ◌++◌, map, length, slice_get, Option, Some, None, option_map, Ok, codes, bytes_eq}
+use Rattle.std.specs.Prelude.{ℕ, nat_eq, ◌&&◌, ◌+◌, ◌-◌, pos, nat_le, nat_lt, Bool, true, false, if◌then◌else◌, List, [], ◌∷◌, ◌++◌, map, length, slice_get, Option, Some, None, is_some, option_map, Ok, codes, bytes_eq}
 use Rattle.p10_base.specs.Words.{Text}
 use Rattle.p10_base.specs.declared.at.At.{At}
 use Rattle.p10_base.specs.declared.codes.SubsetCode.TheVariants as subset
@@ -135,10 +135,30 @@ text_item h n scalar s (at, bytes) =
     if nat_le (length bytes) n then passed (record { scalar = scalar; written = scalars_of_text bytes }) s
     else nothing_made (refusing h true subset.TypesDiffer at s)
 
+-- the place of an item, if a part after it isn't refused either
+abbrev pub place_if_made : Passed At → Passed At → Passed At
+place_if_made p q = record { made = if is_some q.made then p.made else None; after = q.after }
+
+abbrev mutual
+  -- the place of an item for which there is nothing left to initialise, if no part of it is refused: the expressions in it are values
+  -- whose types nothing is asked of
+  pub unplaced : Keep → PlainStanding → Initializer At → Passed At
+  unplaced h s (Value e) = value_by h s e (λ v. Ok (at_of v))
+  unplaced h s (Braced at items comma) = unplaced_items h (passed at s) items
+
+  -- the same of the items in a list
+  pub unplaced_items : Keep → Passed At → Initializers At → Passed At
+  unplaced_items h p NoInitializers = p
+  unplaced_items h p (MoreInitializers i rest) = unplaced_items h (place_if_made p (unplaced h p.after i)) rest
+
+-- the row on types at a place, where no part is refused
+abbrev pub differing_at : Keep → Option At → PlainStanding → Passed PlainItem
+differing_at h None s = nothing_made s
+differing_at h (Some at) s = nothing_made (refusing h true subset.TypesDiffer at s)
+
 -- an item for which there is nothing left to initialise
 abbrev pub surplus_item : Keep → PlainStanding → Initializer At → Passed PlainItem
-surplus_item h s (Value e) = value_by h s e (λ v. refused subset.TypesDiffer (at_of v))
-surplus_item h s (Braced at items comma) = nothing_made (refusing h true subset.TypesDiffer at s)
+surplus_item h s i = let p : Passed At = unplaced h s i in differing_at h p.made p.after
 
 -- items after the last: the first of them is one too many
 abbrev pub no_surplus : Keep → Passed (List PlainItem) → Initializers At → Passed (List PlainItem)
@@ -148,7 +168,7 @@ no_surplus h p (MoreInitializers i rest) = with_item p (surplus_item h p.after i
 -- the first item in the braces of a scalar, which is an expression
 abbrev pub braced_first : Keep → Lifetime → PlainType → ℕ → Passed (List PlainItem) → Initializer At → Passed (List PlainItem)
 braced_first h life t scalar p (Value e) = with_item p (expression_item h life t scalar p.after e)
-braced_first h life t scalar p (Braced at items comma) = with_item p (nothing_made (refusing h true subset.TypesDiffer at p.after))
+braced_first h life t scalar p (Braced at items comma) = with_item p (surplus_item h p.after (Braced at items comma))
 
 -- the braces of a scalar hold one expression (C99 6.7.8p11)
 abbrev pub braced_scalar : Keep → Lifetime → PlainType → ℕ → Passed (List PlainItem) → Initializers At → Passed (List PlainItem)

@@ -13,16 +13,17 @@ use Rattle.p10_elabx.specs.Scopes.{Meaning, number, unknown_name}
 use Rattle.p10_elabd.specs.Standing.{PlainStanding, Passed, passed, nothing_made, refusing}
 use Rattle.p10_elabd.specs.Expressions.{value_by, constant_number}
 use Rattle.p10_elabd.specs.Blocks.{declaring}
-use Rattle.p10_elabd.specs.Shapes.{DeclaredType, of_type, of_open_array, of_function}
+use Rattle.p10_elabd.specs.Shapes.{DeclaredType, of_type, of_open_array, of_function, of_part_function}
 
 -- ## Members
 
--- the type of a member: it has a size (C99 6.7.2.1p2); a function is refused by its form
+-- the type of a member: it has a size (C99 6.7.2.1p2); a function, or an array without a length, is refused by its form
 abbrev pub member_type : Keep → At → DeclaredType → PlainStanding → Passed PlainType
 member_type h name_at (of_type t) s =
     if is_complete s.scope.structures t then passed t s else nothing_made (refusing h true subset.IncompleteType name_at s)
-member_type h name_at (of_open_array t) s = nothing_made (refusing h true subset.IncompleteType name_at s)
+member_type h name_at (of_open_array t) s = nothing_made s
 member_type h name_at (of_function f) s = nothing_made s
+member_type h name_at (of_part_function f) s = nothing_made s
 
 -- the type of a member that may be refused
 abbrev pub member_declared : Keep → At → Option DeclaredType → PlainStanding → Passed PlainType

@@ -4,7 +4,7 @@ use Rattle.p10_base.specs.Words.{Text}
 use Rattle.p10_base.specs.declared.at.At.{At}
 use Rattle.p10_syn.specs.declared.sign.Sign.{Sign}
 use Rattle.p10_syn.specs.declared.sign.Sign.TheVariants as sign
-use Rattle.p10_syn.specs.Trees.{Identifier, Expression, expression, Name, Number, Character, Strings, Unary, Step, Binary, Assign, Conditional, Call, Index, Member, Arrow, Cast, SizeofExpression, SizeofType, Comma, Expressions, NoExpressions, MoreExpressions, Absent, Present, TypeName, type_name, Specifiers, NoSpecifiers, MoreSpecifiers, Specifier, Structure, Declarator, Named, Unnamed, Pointer, Parenthesised, Array, Function}
+use Rattle.p10_syn.specs.Trees.{Identifier, Expression, expression, Name, Number, Character, Strings, Unary, Step, Binary, Assign, Conditional, Call, Index, Member, Arrow, Cast, SizeofExpression, SizeofType, Comma, Expressions, NoExpressions, MoreExpressions, Absent, Present, TypeName, type_name, Specifiers, NoSpecifiers, MoreSpecifiers, Specifier, Structure, Declarator, Named, Unnamed, Pointer, Parenthesised, Array, Function, Parameters, NoParameters, MoreParameters, Parameter, parameter}
 use Rattle.p10_core.specs.Types.{structure}
 use Rattle.p10_core.specs.Completing.{with_structure}
 use Rattle.std.specs.Prelude.{length, false}
@@ -55,7 +55,8 @@ abbrev mutual
   pub tags_in_type : TypeName At → List Text
   tags_in_type (type_name at specifiers d) = tags_of specifiers ++ tags_in_declarator d
 
-  -- the same for its declarator: what a function's parameters name is declared inside of it alone
+  -- the same for its declarator. What parameters name is declared up to the declarator's end (C99 6.2.1p4); here it is declared where the
+  -- expression stands: a type name with parameters is always refused, so nothing after it tells the difference
   pub tags_in_declarator : Declarator At → List Text
   tags_in_declarator (Named name) = []
   tags_in_declarator (Unnamed at) = []
@@ -63,7 +64,16 @@ abbrev mutual
   tags_in_declarator (Parenthesised at d) = tags_in_declarator d
   tags_in_declarator (Array at d brackets Absent) = tags_in_declarator d
   tags_in_declarator (Array at d brackets (Present e)) = tags_in_declarator d ++ tags_in e
-  tags_in_declarator (Function at d parentheses _ _) = tags_in_declarator d
+  tags_in_declarator (Function at d parentheses all _) = tags_in_declarator d ++ tags_in_parameters all
+
+  -- the same of parameters
+  pub tags_in_parameters : Parameters At → List Text
+  tags_in_parameters NoParameters = []
+  tags_in_parameters (MoreParameters one rest) = tags_in_parameter one ++ tags_in_parameters rest
+
+  -- the same of a parameter
+  pub tags_in_parameter : Parameter At → List Text
+  tags_in_parameter (parameter at specifiers d) = tags_of specifiers ++ tags_in_declarator d
 
 -- a structure that isn't complete, with its tag, in the innermost block
 abbrev pub with_tag : PlainScope → Text → PlainScope

@@ -55,7 +55,7 @@ fn result_type<'s>(
             standing.refuse(SubsetCode::IncompleteType, name_at);
             None
         }
-        Declared::Function(_) => None,
+        Declared::Function(_) | Declared::Refused(_) => None,
     }
 }
 
@@ -115,7 +115,7 @@ fn parameter_type<'s>(
     match given {
         Declared::Plain(ty) => Ok(plain_parameter_type(standing, at, name_at, ty)),
         Declared::OpenArray(element) => Ok(Some(CType::pointer(alloc, element)?)),
-        Declared::Function(_) => Ok(None),
+        Declared::Function(_) | Declared::Refused(_) => Ok(None),
     }
 }
 

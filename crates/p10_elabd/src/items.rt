@@ -9,7 +9,7 @@ ghost use Rattle.p10_core.specs.Views.{plain_value, plain_item};
 ghost use Rattle.p10_elabx.specs.First.{only_first, lift, on};
 ghost use Rattle.p10_elabx.specs.Built.{ruled_value};
 ghost use Rattle.p10_elabd.specs.Standing.{noted};
-ghost use Rattle.p10_elabd.specs.Initializers.{living, scalar_value, scalar_item, expression_ruled, expression_item, text_item, item_added, surplus_item, no_surplus, braced_first, braced_scalar};
+ghost use Rattle.p10_elabd.specs.Initializers.{living, scalar_value, scalar_item, expression_ruled, expression_item, text_item, item_added, no_surplus, braced_first, braced_scalar};
 ghost use Rattle.p10_elabd.specs.ItemViews.{plain_items, ruled_item};
 ghost use Rattle.p10_elabd.specs.Views.{plain_standing, told};
 
@@ -17,6 +17,7 @@ use crate::expressions::expression_value;
 use crate::lifetime::Lifetime;
 use crate::standing::Standing;
 use crate::static_values::static_value;
+use crate::surplus::surplus_item;
 use p10_base::{At, SubsetCode};
 use p10_core::{CType, Item, Value};
 use p10_elabx::{Problem, fitted};
@@ -172,32 +173,6 @@ pub fn item_added(
     }
 }
 
-/// Judges an item for which there is nothing left to initialise.
-pub fn surplus_item<'s>(
-    alloc: Global,
-    standing: &mut Standing<'s>,
-    one: &Init<'s>,
-) -> Result<(), AllocError>
-    ensures { IfOk result (λ _. told None standing.new ≡ surplus_item only_first (plain_standing standing.old) (initializer_of one.now)) }
-{
-    match one {
-        Init::Value(e) => match expression_value(alloc, standing, e)? {
-            Ok(v) => {
-                standing.refuse(SubsetCode::TypesDiffer, v.at);
-                Ok(())
-            }
-            Err(problem) => {
-                standing.note(problem);
-                Ok(())
-            }
-        },
-        Init::Braced(at, _, _) => {
-            standing.refuse(SubsetCode::TypesDiffer, *at);
-            Ok(())
-        }
-    }
-}
-
 /// Items after the last: the first of them is one too many.
 pub fn no_surplus<'s>(
     alloc: Global,
@@ -232,8 +207,8 @@ fn braced_first<'s>(
             let items = item_added(items, item)?;
             Ok(items)
         }
-        Init::Braced(at, _, _) => {
-            standing.refuse(SubsetCode::TypesDiffer, *at);
+        Init::Braced(_, _, _) => {
+            surplus_item(alloc, standing, one)?;
             Ok(None)
         }
     }

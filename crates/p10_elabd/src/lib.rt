@@ -37,6 +37,7 @@ mod standing;
 mod static_values;
 mod strings;
 mod structures;
+mod surplus;
 mod tagged;
 mod tags;
 mod target;
@@ -45,18 +46,22 @@ mod words;
 
 pub use bases::{based, based_on, none_allowed};
 pub use constants::{enumerator_meaning, int_value, value_after};
-pub use declaration::{Declared, DeclaredFunction, DeclaredParameter};
+pub use declaration::{
+    Declared, DeclaredFunction, DeclaredParameter, ParameterList, PlacedParameter, RefusedFunction,
+};
 pub use expressions::{constant_value, declare_tags, expression_value, noted};
 pub use functions::{parameter_declared, result_declared};
 pub use initializers::initialized;
-pub use items::surplus_item;
 pub use known_tag::KnownTag;
 pub use lifetime::Lifetime;
 pub use pointers::{element_declared, pointer_declared};
-pub use shapes::{declares_function, is_plain_name, name_in, place_or};
+pub use shapes::{
+    declares_function, declares_open_array, has_parameters, is_plain_name, name_in, place_or,
+};
 pub use site::{Allowed, Site, Storage};
 pub use standing::Standing;
 pub use static_values::{constant_number, static_value};
 pub use strings::elements_given;
+pub use surplus::surplus_item;
 pub use walk::{declarator_passed, specified};
 pub use words::{is_storage, is_volatile, storage_of, word_row};

@@ -15,7 +15,8 @@ use p10_core::{CType, Member};
 use p10_syn::{Expr, Identifier};
 use std::alloc::{AllocError, Global};
 
-/// The type of a member: it has a size (C99 6.7.2.1p2); a function is refused by its form.
+/// The type of a member: it has a size (C99 6.7.2.1p2); a function, or an array without a length, is
+/// refused by its form.
 fn member_type<'s>(standing: &mut Standing<'s>, name_at: At, given: Declared<'s>) -> Option<CType>
     ensures { told (option_map plain_type result) standing.new ≡ member_type only_first name_at (plain_declared given.entry) (plain_standing standing.old) }
 {
@@ -28,11 +29,7 @@ fn member_type<'s>(standing: &mut Standing<'s>, name_at: At, given: Declared<'s>
                 None
             }
         }
-        Declared::OpenArray(_) => {
-            standing.refuse(SubsetCode::IncompleteType, name_at);
-            None
-        }
-        Declared::Function(_) => None,
+        Declared::OpenArray(_) | Declared::Function(_) | Declared::Refused(_) => None,
     }
 }
 

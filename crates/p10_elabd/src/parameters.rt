@@ -1,14 +1,17 @@
 //! Parameters of functions, one at a time, and functions with them (C99 6.7.5.3).
 
-ghost use Rattle.std.specs.Prelude.{◌≡◌, IfOk, length, map, option_map};
-ghost use Rattle.p10_syn.specs.Built.{identifier_of, declarator_of};
+ghost use Rattle.std.specs.Prelude.{◌≡◌, IfOk, Some, map, option_map};
+ghost use Rattle.p10_syn.specs.Trees.{parameter_row};
+ghost use Rattle.p10_syn.specs.Built.{identifier_of, declarator_of, parameter_of};
 ghost use Rattle.p10_core.specs.Types.{plain_type};
 ghost use Rattle.p10_elabx.specs.First.{only_first};
-ghost use Rattle.p10_elabd.specs.Shapes.{among_parameters, function_declared};
-ghost use Rattle.p10_elabd.specs.Declaring.{with_parameter, parameter_added, is_plain_void, is_no_parameter, with_declared_parameter};
-ghost use Rattle.p10_elabd.specs.Views.{plain_standing, plain_declared, plain_parameters, told};
+ghost use Rattle.p10_elabd.specs.Shapes.{among_parameters, list_of, known_parameters, function_declared};
+ghost use Rattle.p10_elabd.specs.Declaring.{with_parameter, is_plain_void, is_no_parameter, with_declared_parameter};
+ghost use Rattle.p10_elabd.specs.Views.{plain_standing, plain_declared, plain_known, plain_placed, plain_parameters, lists, told};
 
-use crate::declaration::{Declared, DeclaredFunction, DeclaredParameter};
+use crate::declaration::{
+    Declared, DeclaredFunction, DeclaredParameter, ParameterList, PlacedParameter, RefusedFunction,
+};
 use crate::functions::parameter_declared;
 use crate::shapes::{declares_function, name_in, place_or};
 use crate::standing::Standing;
@@ -17,6 +20,15 @@ use p10_core::{CType, TypeForm};
 use p10_elabx::{Block, Named, declarator_place};
 use p10_syn::{Declarator, Identifier, Parameter};
 use std::alloc::{AllocError, Global};
+
+/// Where the parameters of a function stand.
+#[derive(Clone, Copy)]
+pub struct ParameterSite {
+    /// The parentheses round them.
+    pub parentheses: At,
+    /// Whether `...` stands after them.
+    pub more: bool,
+}
 
 /// Declares the name of a parameter: it hides others up to the end of the declarator.
 fn declare_parameter<'s>(
@@ -44,25 +56,6 @@ fn declare_parameter<'s>(
                 )
             }
         },
-    }
-}
-
-/// The parameters so far with one more.
-fn parameter_added<'s>(
-    parameters: Option<Vec<DeclaredParameter<'s>>>,
-    at: At,
-    name: Option<Identifier<'s>>,
-    ty: Option<CType>,
-) -> Result<Option<Vec<DeclaredParameter<'s>>>, AllocError>
-    ensures { IfOk result (λ made. option_map plain_parameters made ≡ parameter_added (option_map plain_parameters parameters.entry) at (option_map identifier_of name.entry) (option_map plain_type ty)) }
-{
-    match (parameters, ty) {
-        (Some(parameters), Some(ty)) => {
-            let mut parameters = parameters;
-            parameters.push(DeclaredParameter { at, name, ty })?;
-            Ok(Some(parameters))
-        }
-        (_, _) => Ok(None),
     }
 }
 
@@ -94,12 +87,12 @@ fn is_plain_void(ty: &CType) -> bool
 pub fn with_declared_parameter<'s>(
     alloc: Global,
     standing: &mut Standing<'s>,
-    before: Option<Vec<DeclaredParameter<'s>>>,
+    before: Vec<PlacedParameter<'s>>,
     number: u32,
     parameter: &Parameter<'s>,
     given: Option<Declared<'s>>,
-) -> Result<Option<Vec<DeclaredParameter<'s>>>, AllocError>
-    ensures { IfOk result (λ made. told (option_map plain_parameters made) standing.new ≡ with_declared_parameter only_first number (option_map plain_parameters before.entry) parameter.now.at (declarator_of parameter.now.declarator) (told (option_map plain_declared given.entry) standing.old)) }
+) -> Result<Vec<PlacedParameter<'s>>, AllocError>
+    ensures { IfOk result (λ all. lists all standing.new ≡ with_declared_parameter only_first number (plain_parameters before.entry) parameter.now.at (declarator_of parameter.now.declarator) (told (option_map plain_declared given.entry) standing.old)) }
 {
     let at = parameter.at;
     let declarator = &parameter.declarator;
@@ -109,27 +102,84 @@ pub fn with_declared_parameter<'s>(
     standing.refuse_where(declares_function(declarator), SubsetCode::BadPointer, place);
     let ty = parameter_declared(alloc, standing, at, name_at, given)?;
     declare_parameter(alloc, standing, number, name, &ty)?;
-    parameter_added(before, at, name, ty)
+    let mut all = before;
+    all.push(PlacedParameter { at, name, ty })?;
+    Ok(all)
+}
+
+/// In which form parameters are listed.
+pub fn list_of(all: &[Parameter<'_>], more: bool) -> ParameterList
+    ensures { result ≡ list_of (parameter_row (map parameter_of all.now)) more }
+{
+    match all.first() {
+        None => ParameterList::Empty,
+        Some(_) => {
+            if more {
+                ParameterList::Variadic
+            } else {
+                ParameterList::Fixed
+            }
+        }
+    }
+}
+
+/// Parameters with their types, if each type is known.
+fn known_parameters<'s>(
+    alloc: Global,
+    all: &[PlacedParameter<'s>],
+) -> Result<Option<Vec<DeclaredParameter<'s>>>, AllocError>
+    ensures { IfOk result (λ known. option_map plain_known known ≡ known_parameters (map plain_placed all.now)) }
+{
+    let mut known = Vec::new(alloc);
+    for one in all {
+        match &one.ty {
+            Some(ty) => {
+                let ty = ty.copy(alloc)?;
+                known.push(DeclaredParameter {
+                    at: one.at,
+                    name: one.name,
+                    ty,
+                })?;
+            }
+            None => return Ok(None),
+        }
+    }
+    Ok(Some(known))
 }
 
 /// A function with its parameters, whose names end with its declarator.
 pub fn function_declared<'s>(
     alloc: Global,
     standing: &mut Standing<'s>,
+    list: ParameterList,
     gives: Option<CType>,
-    parameters: Option<Vec<DeclaredParameter<'s>>>,
-) -> Result<Option<Declared<'s>>, AllocError>
-    ensures { IfOk result (λ made. told (option_map plain_declared made) standing.new ≡ function_declared (option_map plain_type gives) (option_map plain_parameters parameters.entry) (plain_standing standing.old)) }
+    parameters: Vec<PlacedParameter<'s>>,
+) -> Result<Declared<'s>, AllocError>
+    ensures { IfOk result (λ made. told (Some (plain_declared made)) standing.new ≡ function_declared list (option_map plain_type gives) (plain_parameters parameters.entry) (plain_standing standing.old)) }
 {
     let block = standing.scope.close(alloc)?;
-    let Block { names, tags } = block;
-    match (gives, parameters) {
-        (Some(result), Some(parameters)) => Ok(Some(Declared::Function(DeclaredFunction {
+    match list {
+        ParameterList::Fixed => {
+            let known = known_parameters(alloc, parameters.as_slice())?;
+            let Block { names, tags } = block;
+            match (gives, known) {
+                (Some(result), Some(parameters)) => Ok(Declared::Function(DeclaredFunction {
+                    parameters,
+                    result,
+                    names,
+                    tags,
+                })),
+                (result, _) => Ok(Declared::Refused(RefusedFunction {
+                    parameters,
+                    list: ParameterList::Fixed,
+                    result,
+                })),
+            }
+        }
+        ParameterList::Variadic | ParameterList::Empty => Ok(Declared::Refused(RefusedFunction {
             parameters,
-            result,
-            names,
-            tags,
-        }))),
-        (_, _) => Ok(None),
+            list,
+            result: gives,
+        })),
     }
 }

@@ -43,7 +43,7 @@ fn pointed_to<'s>(
             standing.refuse(SubsetCode::IncompleteType, name_at);
             Ok(None)
         }
-        Declared::Function(_) => Ok(None),
+        Declared::Function(_) | Declared::Refused(_) => Ok(None),
     }
 }
 
@@ -95,7 +95,7 @@ fn element_type<'s>(
             standing.refuse(SubsetCode::IncompleteType, name_at);
             None
         }
-        Declared::Function(_) => None,
+        Declared::Function(_) | Declared::Refused(_) => None,
     }
 }
 

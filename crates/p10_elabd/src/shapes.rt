@@ -2,9 +2,10 @@
 
 ghost use Rattle.std.specs.Prelude.{◌≡◌, option_map};
 ghost use Rattle.p10_syn.specs.Built.{identifier_of, declarator_of};
-ghost use Rattle.p10_elabd.specs.Shapes.{name_in, place_or, function_from, declares_function, is_plain_name};
+ghost use Rattle.p10_elabd.specs.Shapes.{name_in, place_or, function_from, declares_function, declares_open_array, has_parameters, is_plain_name};
 
 use p10_base::At;
+use p10_elabx::{Made, is_of_open_array, made_by};
 use p10_syn::{Declarator, Identifier};
 
 /// The name that a declarator declares.
@@ -48,6 +49,26 @@ fn function_from(found: bool, d: &Declarator<'_>) -> bool
         Declarator::Parenthesised(_, inner) => function_from(found, inner),
         Declarator::Array(_, inner, _, _) => function_from(false, inner),
         Declarator::Function(_, inner, _, _, _) => function_from(true, inner),
+    }
+}
+
+/// Whether a declarator declares an array without a length.
+pub fn declares_open_array(d: &Declarator<'_>) -> bool
+    ensures { result ≡ declares_open_array (declarator_of d.now) }
+{
+    is_of_open_array(made_by(Made::Nothing, d))
+}
+
+/// Whether a function's parameters stand anywhere in a declarator.
+pub fn has_parameters(d: &Declarator<'_>) -> bool
+    ensures { result ≡ has_parameters (declarator_of d.now) }
+{
+    match d {
+        Declarator::Named(_) | Declarator::Unnamed(_) => false,
+        Declarator::Pointer(_, _, inner) => has_parameters(inner),
+        Declarator::Parenthesised(_, inner) => has_parameters(inner),
+        Declarator::Array(_, inner, _, _) => has_parameters(inner),
+        Declarator::Function(_, _, _, _, _) => true,
     }
 }
 

@@ -1,15 +1,15 @@
 //! Structures that a type name in an expression is the first to name: it declares them (C99 6.7.2.3p8).
 
 ghost use Rattle.std.specs.Prelude.{◌≡◌, IfOk, length, map};
-ghost use Rattle.p10_syn.specs.Trees.{expression_row, specifier_row};
-ghost use Rattle.p10_syn.specs.Built.{tag_of as own_tag, expression_of, specifier_of, kind_of, declarator_of};
+ghost use Rattle.p10_syn.specs.Trees.{expression_row, specifier_row, parameter_row};
+ghost use Rattle.p10_syn.specs.Built.{tag_of as own_tag, expression_of, specifier_of, kind_of, declarator_of, parameter_of};
 ghost use Rattle.p10_elabx.specs.Scopes.{tagged};
 ghost use Rattle.p10_elabx.specs.PlainScopes.{plain_scope};
-ghost use Rattle.p10_elabd.specs.Tags.{structure_tag, tag_of, tags_of, tags_in, tags_in_all, tags_in_type, tags_in_declarator, with_tag, with_unknown, with_tags};
+ghost use Rattle.p10_elabd.specs.Tags.{structure_tag, tag_of, tags_of, tags_in, tags_in_all, tags_in_type, tags_in_declarator, tags_in_parameters, tags_in_parameter, with_tag, with_unknown, with_tags};
 
 use p10_core::CType;
 use p10_elabx::{Named, Scope};
-use p10_syn::{Declarator, Expr, Form, Identifier, Sign, Spec, TypeName};
+use p10_syn::{Declarator, Expr, Form, Identifier, Parameter, Sign, Spec, TypeName};
 use std::alloc::AllocError;
 
 /// Declares a structure with its tag, which isn't complete, in the innermost block, and gives its number.
@@ -148,7 +148,7 @@ fn add_type<'s>(scope: &mut Scope<'s>, t: &TypeName<'s>) -> Result<(), AllocErro
     Ok(())
 }
 
-/// Declares the tags in a type name's declarator: what a function's parameters name is declared inside of it alone.
+/// Declares the tags in a type name's declarator, with those among its parameters.
 #[cycle(tags)]
 fn add_declarator<'s>(scope: &mut Scope<'s>, d: &Declarator<'s>) -> Result<(), AllocError>
     ensures { IfOk result (λ _. plain_scope scope.new ≡ with_tags (plain_scope scope.old) (tags_in_declarator (declarator_of d.now))) }
@@ -166,6 +166,31 @@ fn add_declarator<'s>(scope: &mut Scope<'s>, d: &Declarator<'s>) -> Result<(), A
                 Ok(())
             }
         },
-        Declarator::Function(_, inner, _, _, _) => add_declarator(scope, inner),
+        Declarator::Function(_, inner, _, all, _) => {
+            add_declarator(scope, inner)?;
+            add_parameters(scope, all)?;
+            Ok(())
+        }
     }
+}
+
+/// Declares the tags among parameters.
+#[cycle(tags)]
+fn add_parameters<'s>(scope: &mut Scope<'s>, all: &[Parameter<'s>]) -> Result<(), AllocError>
+    ensures { IfOk result (λ _. plain_scope scope.new ≡ with_tags (plain_scope scope.old) (tags_in_parameters (parameter_row (map parameter_of all.now)))) }
+{
+    for one in all {
+        add_parameter(scope, one)?;
+    }
+    Ok(())
+}
+
+/// Declares the tags in a parameter.
+#[cycle(tags)]
+fn add_parameter<'s>(scope: &mut Scope<'s>, one: &Parameter<'s>) -> Result<(), AllocError>
+    ensures { IfOk result (λ _. plain_scope scope.new ≡ with_tags (plain_scope scope.old) (tags_in_parameter (parameter_of one.now))) }
+{
+    add_specifiers(scope, &one.specs)?;
+    add_declarator(scope, &one.declarator)?;
+    Ok(())
 }

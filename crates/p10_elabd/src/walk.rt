@@ -7,18 +7,20 @@ ghost use Rattle.p10_syn.specs.Built.{specifier_of, tag_of, member_of, field_of,
 ghost use Rattle.p10_core.specs.Types.{plain_type};
 ghost use Rattle.p10_elabx.specs.First.{only_first};
 ghost use Rattle.p10_elabd.specs.Standing.{passed};
-ghost use Rattle.p10_elabd.specs.Declaring.{specifiers_passed, specifier_passed, structure_passed, members_passed, member_passed, fields_passed, field_passed, declarator_passed, function_passed, all_parameters_passed, only_parameter_passed, parameters_passed, one_parameter_passed, typed_parameter_passed, specified};
-ghost use Rattle.p10_elabd.specs.Views.{plain_standing, plain_named, plain_members, plain_declared, plain_parameters, told};
+ghost use Rattle.p10_elabd.specs.Declaring.{specifiers_passed, specifier_passed, structure_passed, members_passed, member_passed, fields_passed, field_passed, declarator_passed, function_passed, all_parameters_passed, only_parameter_passed, parameters_passed, one_parameter_passed, typed_parameter_passed, none_listed, specified};
+ghost use Rattle.p10_elabd.specs.Views.{plain_standing, plain_named, plain_members, plain_declared, plain_parameters, lists, told};
 
-use crate::arrays::{array_declared, open_declared};
+use crate::arrays::{array_declared, array_inside, open_declared};
 use crate::bases::{as_named, based, based_on, next_number, none_allowed, structure_ended};
-use crate::declaration::{Declared, DeclaredParameter};
+use crate::declaration::{Declared, PlacedParameter};
 use crate::enumerations::enumeration_passed;
 use crate::functions::{function_inside, result_declared};
 use crate::members::{judge_width, member_declared, with_member};
-use crate::parameters::{function_declared, is_no_parameter, with_declared_parameter};
+use crate::parameters::{
+    ParameterSite, function_declared, is_no_parameter, list_of, with_declared_parameter,
+};
 use crate::pointers::{element_declared, pointer_declared};
-use crate::shapes::{declares_function, name_in, place_or};
+use crate::shapes::{declares_function, declares_open_array, name_in, place_or};
 use crate::site::{Allowed, Site};
 use crate::specifiers::{
     Manner, both_named, stored_by, tag_passed, type_specified, typedef_passed, word_passed,
@@ -203,8 +205,8 @@ fn field_passed<'s>(
     judge_width(alloc, standing, place, &field.width)?;
     let given = based_on(alloc, ty)?;
     let declared = declarator_passed(alloc, standing, name_at, given, &field.declarator)?;
-    let is_function = declares_function(&field.declarator);
-    standing.refuse_where(is_function, SubsetCode::IncompleteType, name_at);
+    let sizeless = declares_function(&field.declarator) || declares_open_array(&field.declarator);
+    standing.refuse_where(sizeless, SubsetCode::IncompleteType, name_at);
     let ty = member_declared(standing, name_at, declared);
     let members = with_member(standing, name_at, members, name, ty)?;
     Ok(members)
@@ -238,11 +240,13 @@ pub fn declarator_passed<'s>(
             Ok(made)
         }
         Declarator::Array(_, inner, _, None) => {
+            array_inside(standing, name_at, true, inner);
             let given = open_declared(element_declared(standing, name_at, given));
             let made = declarator_passed(alloc, standing, name_at, given, inner)?;
             Ok(made)
         }
         Declarator::Array(_, inner, _, Some(length)) => {
+            array_inside(standing, name_at, false, inner);
             let element = element_declared(standing, name_at, given);
             let given = array_declared(alloc, standing, element, length)?;
             let made = declarator_passed(alloc, standing, name_at, given, inner)?;
@@ -252,8 +256,12 @@ pub fn declarator_passed<'s>(
             let gives = result_declared(standing, *at, name_at, given);
             standing.refuse_where(*more, SubsetCode::NoPrototype, *parentheses);
             function_inside(standing, name_at, inner);
-            let given = function_passed(alloc, standing, *parentheses, gives, all)?;
-            let made = declarator_passed(alloc, standing, name_at, given, inner)?;
+            let site = ParameterSite {
+                parentheses: *parentheses,
+                more: *more,
+            };
+            let given = function_passed(alloc, standing, site, gives, all)?;
+            let made = declarator_passed(alloc, standing, name_at, Some(given), inner)?;
             Ok(made)
         }
     }
@@ -264,15 +272,16 @@ pub fn declarator_passed<'s>(
 fn function_passed<'s>(
     alloc: Global,
     standing: &mut Standing<'s>,
-    parentheses: At,
+    site: ParameterSite,
     gives: Option<CType>,
     all: &[Parameter<'s>],
-) -> Result<Option<Declared<'s>>, AllocError>
-    ensures { IfOk result (λ made. told (option_map plain_declared made) standing.new ≡ function_passed only_first parentheses (option_map plain_type gives) (plain_standing standing.old) (parameter_row (map parameter_of all.now))) }
+) -> Result<Declared<'s>, AllocError>
+    ensures { IfOk result (λ made. told (Some (plain_declared made)) standing.new ≡ function_passed only_first site.parentheses site.more (option_map plain_type gives) (plain_standing standing.old) (parameter_row (map parameter_of all.now))) }
 {
     standing.scope.enter()?;
-    let parameters = all_parameters_passed(alloc, standing, parentheses, all)?;
-    let made = function_declared(alloc, standing, gives, parameters)?;
+    let parameters = all_parameters_passed(alloc, standing, site.parentheses, all)?;
+    let list = list_of(all, site.more);
+    let made = function_declared(alloc, standing, list, gives, parameters)?;
     Ok(made)
 }
 
@@ -283,13 +292,13 @@ fn all_parameters_passed<'s>(
     standing: &mut Standing<'s>,
     at: At,
     all: &[Parameter<'s>],
-) -> Result<Option<Vec<DeclaredParameter<'s>>>, AllocError>
-    ensures { IfOk result (λ made. told (option_map plain_parameters made) standing.new ≡ all_parameters_passed only_first (plain_standing standing.old) at (parameter_row (map parameter_of all.now))) }
+) -> Result<Vec<PlacedParameter<'s>>, AllocError>
+    ensures { IfOk result (λ listed. lists listed standing.new ≡ all_parameters_passed only_first (plain_standing standing.old) at (parameter_row (map parameter_of all.now))) }
 {
     match all.first() {
         None => {
             standing.refuse(SubsetCode::NoPrototype, at);
-            Ok(None)
+            Ok(Vec::new(alloc))
         }
         Some(one) => {
             if all.len() == 1 {
@@ -309,8 +318,8 @@ fn only_parameter_passed<'s>(
     alloc: Global,
     standing: &mut Standing<'s>,
     one: &Parameter<'s>,
-) -> Result<Option<Vec<DeclaredParameter<'s>>>, AllocError>
-    ensures { IfOk result (λ made. told (option_map plain_parameters made) standing.new ≡ only_parameter_passed only_first (plain_standing standing.old) (parameter_of one.now)) }
+) -> Result<Vec<PlacedParameter<'s>>, AllocError>
+    ensures { IfOk result (λ listed. lists listed standing.new ≡ only_parameter_passed only_first (plain_standing standing.old) (parameter_of one.now)) }
 {
     let ty = specified(
         alloc,
@@ -321,9 +330,9 @@ fn only_parameter_passed<'s>(
         &one.specs,
     )?;
     if is_no_parameter(&one.declarator, &ty) {
-        return Ok(Some(Vec::new(alloc)));
+        return Ok(Vec::new(alloc));
     }
-    let before = Some(Vec::new(alloc));
+    let before = Vec::new(alloc);
     let parameters = typed_parameter_passed(alloc, standing, 0, before, ty, one)?;
     Ok(parameters)
 }
@@ -334,10 +343,10 @@ fn parameters_passed<'s>(
     alloc: Global,
     standing: &mut Standing<'s>,
     all: &[Parameter<'s>],
-) -> Result<Option<Vec<DeclaredParameter<'s>>>, AllocError>
-    ensures { IfOk result (λ made. told (option_map plain_parameters made) standing.new ≡ parameters_passed only_first 0 (passed [] (plain_standing standing.old)) (parameter_row (map parameter_of all.now))) }
+) -> Result<Vec<PlacedParameter<'s>>, AllocError>
+    ensures { IfOk result (λ listed. lists listed standing.new ≡ parameters_passed only_first 0 (none_listed (plain_standing standing.old)) (parameter_row (map parameter_of all.now))) }
 {
-    let mut parameters = Some(Vec::new(alloc));
+    let mut parameters = Vec::new(alloc);
     let mut number = 0;
     for one in all {
         parameters = one_parameter_passed(alloc, standing, number, parameters, one)?;
@@ -352,10 +361,10 @@ fn one_parameter_passed<'s>(
     alloc: Global,
     standing: &mut Standing<'s>,
     number: u32,
-    before: Option<Vec<DeclaredParameter<'s>>>,
+    before: Vec<PlacedParameter<'s>>,
     one: &Parameter<'s>,
-) -> Result<Option<Vec<DeclaredParameter<'s>>>, AllocError>
-    ensures { IfOk result (λ made. told (option_map plain_parameters made) standing.new ≡ one_parameter_passed only_first number (told (option_map plain_parameters before.entry) standing.old) (parameter_of one.now)) }
+) -> Result<Vec<PlacedParameter<'s>>, AllocError>
+    ensures { IfOk result (λ listed. lists listed standing.new ≡ one_parameter_passed only_first number (lists before.entry standing.old) (parameter_of one.now)) }
 {
     let ty = specified(
         alloc,
@@ -375,11 +384,11 @@ fn typed_parameter_passed<'s>(
     alloc: Global,
     standing: &mut Standing<'s>,
     number: u32,
-    before: Option<Vec<DeclaredParameter<'s>>>,
+    before: Vec<PlacedParameter<'s>>,
     ty: Option<CType>,
     one: &Parameter<'s>,
-) -> Result<Option<Vec<DeclaredParameter<'s>>>, AllocError>
-    ensures { IfOk result (λ made. told (option_map plain_parameters made) standing.new ≡ typed_parameter_passed only_first number (option_map plain_parameters before.entry) (told (option_map plain_type ty) standing.old) one.now.at (declarator_of one.now.declarator)) }
+) -> Result<Vec<PlacedParameter<'s>>, AllocError>
+    ensures { IfOk result (λ listed. lists listed standing.new ≡ typed_parameter_passed only_first number (plain_parameters before.entry) (told (option_map plain_type ty) standing.old) one.now.at (declarator_of one.now.declarator)) }
 {
     let name_at = place_or(one.at, name_in(&one.declarator));
     let given = based(ty);

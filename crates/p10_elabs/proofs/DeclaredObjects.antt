@@ -19,8 +19,8 @@ use Rattle.p10_elabd.specs.Blocks.{declaring}
 use Rattle.p10_elabd.specs.Shapes.{DeclaredType, of_type}
 use Rattle.p10_elabd.specs.Declaring.{specified, declarator_passed}
 use Rattle.p10_heads.specs.Heads.{number_at}
-use Rattle.p10_elabs.specs.Locals.{Frame, Local, with_standing, is_alone, allowed_by, declares_sensors, volatile_noted, specified_in, unknown_in, brackets_of, initialized_by}
-use Rattle.p10_elabs.specs.LocalDeclarations.{Declaring, no_items, is_frame_variable, one_more, with_listed, with_variable, variable_item, variable_of_type, refused_variable, variable_where, with_numbered, with_object, object_item, object_of_type, object_where, declared_object, is_prototype, prototype_passed, by_storage, local_named}
+use Rattle.p10_elabs.specs.Locals.{Frame, Local, with_standing, is_alone, allowed_by, declares_sensors, volatile_noted, specified_in, unknown_in, initialized_by}
+use Rattle.p10_elabs.specs.LocalDeclarations.{Declaring, no_items, is_frame_variable, one_more, with_listed, with_variable, variable_item, variable_of_type, refused_variable, variable_where, with_numbered, with_object, object_item, object_of_type, object_where, object_in_block, is_prototype, prototype_passed, by_storage, local_named}
 
 -- ## Specifiers
 
@@ -105,21 +105,21 @@ object_made h f at name t meant sensor i l m n bytes s p initial visible made n_
 -- ## Declarators
 
 -- a static object
-pub static_done : (h : Keep) (f : Frame) (at : At) (s : Storage) (sensor : Bool) (name : Identifier At) (d : InitDeclarator At) (l : Local) (j : Option DeclaredType) (brackets : At) (t : Passed PlainType) (q : Declaring) →
-    s ≡ storage_is.Static → brackets ≡ brackets_of d.declarator → t ≡ declared_object h name.place brackets j d.initial l.standing →
+pub static_done : (h : Keep) (f : Frame) (at : At) (s : Storage) (sensor : Bool) (name : Identifier At) (d : InitDeclarator At) (l : Local) (j : Option DeclaredType) (t : Passed PlainType) (q : Declaring) →
+    s ≡ storage_is.Static → t ≡ object_in_block h name d j l.standing →
     q ≡ object_where h f at name sensor d.initial t.made (with_standing l t.after) → q ≡ by_storage h f at s sensor name d l j
-static_done h f at s sensor name d l j brackets t q s_is brackets_is t_is is =
+static_done h f at s sensor name d l j t q s_is t_is is =
     is
-    ∙ ap (λ (x : Passed PlainType). object_where h f at name sensor d.initial x.made (with_standing l x.after)) (t_is ∙ ap (λ b. declared_object h name.place b j d.initial l.standing) brackets_is)
+    ∙ ap (λ (x : Passed PlainType). object_where h f at name sensor d.initial x.made (with_standing l x.after)) t_is
     ∙ ap (λ x. by_storage h f at x sensor name d l j) (sym s_is)
 
 -- a variable
-pub automatic_done : (h : Keep) (f : Frame) (at : At) (s : Storage) (sensor : Bool) (name : Identifier At) (d : InitDeclarator At) (l : Local) (j : Option DeclaredType) (brackets : At) (t : Passed PlainType) (q : Declaring) →
-    s ≡ storage_is.Unnamed → brackets ≡ brackets_of d.declarator → t ≡ declared_object h name.place brackets j d.initial l.standing →
+pub automatic_done : (h : Keep) (f : Frame) (at : At) (s : Storage) (sensor : Bool) (name : Identifier At) (d : InitDeclarator At) (l : Local) (j : Option DeclaredType) (t : Passed PlainType) (q : Declaring) →
+    s ≡ storage_is.Unnamed → t ≡ object_in_block h name d j l.standing →
     q ≡ variable_where h f at name d.initial t.made (with_standing l t.after) → q ≡ by_storage h f at s sensor name d l j
-automatic_done h f at s sensor name d l j brackets t q s_is brackets_is t_is is =
+automatic_done h f at s sensor name d l j t q s_is t_is is =
     is
-    ∙ ap (λ (x : Passed PlainType). variable_where h f at name d.initial x.made (with_standing l x.after)) (t_is ∙ ap (λ b. declared_object h name.place b j d.initial l.standing) brackets_is)
+    ∙ ap (λ (x : Passed PlainType). variable_where h f at name d.initial x.made (with_standing l x.after)) t_is
     ∙ ap (λ x. by_storage h f at x sensor name d l j) (sym s_is)
 
 -- a prototype

@@ -9,7 +9,8 @@ use Rattle.p10_core.specs.WholePrograms.{most_bytes}
 use Rattle.p10_elabx.specs.First.{Keep}
 use Rattle.p10_elabx.specs.Operators.{has_size}
 use Rattle.p10_elabd.specs.Standing.{PlainStanding, Passed, passed, nothing_made, refusing}
-use Rattle.p10_elabs.specs.Locals.{counted_array}
+use Rattle.p10_syn.specs.Trees.{Identifier, Initializer}
+use Rattle.p10_elabs.specs.Locals.{counted_array, measured, filled_array}
 
 -- a number, if a condition holds
 abbrev where_so : ℕ → Bool → Option ℕ
@@ -62,3 +63,11 @@ counted_beyond h brackets s after t whole n r known r_is known_is so is e refuse
     ap (λ (x : PlainStanding). nothing_made x) refused
     ∙ sym (ap (λ b. if b then passed (array false t n) s else nothing_made (refusing h true subset.BadLength brackets s))
     (fits ss t whole n r false r_is (sym known_is ∙ so) is (fails (has_size ss whole) (size_of ss whole) e)))
+
+-- an array of as many elements as an initialiser gives, of which the parts are told
+pub filled_by : (h : Keep) (name : Identifier At) (brackets : At) (t kept : PlainType) (i : Initializer At) (given : Option ℕ) (n : ℕ) (s : PlainStanding) (p q : Passed PlainType) →
+    given ≡ Some n → kept ≡ t → p ≡ counted_array h brackets kept n s → q ≡ measured h name t i p.made p.after → q ≡ filled_array h name brackets t i given s
+filled_by h name brackets t kept i given n s p q given_is kept_is p_is is =
+    is
+    ∙ ap (λ (x : Passed PlainType). measured h name t i x.made x.after) (p_is ∙ ap (λ u. counted_array h brackets u n s) kept_is)
+    ∙ sym (ap (λ g. filled_array h name brackets t i g s) given_is)

@@ -5,6 +5,7 @@ mod Enumerated
 mod FilledArrays
 mod FormParts
 mod GrowingNames
+mod ItemKinds
 mod ItemSteps
 mod MarkTurns
 mod NumberMarks
@@ -15,5 +16,5 @@ mod StatementArms
 mod StatementParts
 mod SwitchParts
 mod Takings
-mod TreeNodes
+pub mod TreeNodes
 mod Walking

@@ -5,6 +5,7 @@ pub mod LocalDeclarations
 pub mod Expressions
 pub mod Marks
 pub mod Statements
+pub mod Laws
 pub mod LocalViews
 pub mod ItemViews
 pub mod FrameViews

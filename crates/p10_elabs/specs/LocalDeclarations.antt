@@ -21,7 +21,7 @@ use Rattle.p10_elabd.specs.Shapes.{DeclaredType, name_in, declares_function}
 use Rattle.p10_elabd.specs.Declaring.{declarator_passed, based}
 use Rattle.p10_elabd.specs.declared.lifetime.Lifetime.TheVariants as life_is
 use Rattle.p10_heads.specs.Heads.{number_at}
-use Rattle.p10_elabs.specs.Locals.{Frame, Local, with_standing, specified_in, makes_sensors, no_initializer, unknown_in, typedef_passed, object_type, brackets_of, initialized_by}
+use Rattle.p10_elabs.specs.Locals.{Frame, Local, with_standing, specified_in, makes_sensors, no_initializer, unknown_in, typedef_passed, open_noted, object_type, brackets_of, initialized_by}
 
 -- the items that a declaration becomes, in order: none where it was refused
 abbrev pub Items : Type 0
@@ -131,9 +131,14 @@ abbrev pub no_items : Local → Declaring
 no_items l = record { items = []; after = l }
 
 -- the type of an object that may be refused
-abbrev pub declared_object : Keep → At → At → Option DeclaredType → Option (Initializer At) → PlainStanding → Passed PlainType
-declared_object h name_at brackets None i s = record { made = None; after = s }
-declared_object h name_at brackets (Some d) i s = object_type h name_at brackets d i s
+abbrev pub declared_object : Keep → Identifier At → At → Option DeclaredType → Option (Initializer At) → PlainStanding → Passed PlainType
+declared_object h name brackets None i s = record { made = None; after = s }
+declared_object h name brackets (Some d) i s = object_type h name brackets d i s
+
+-- the same, where rows on the form of its declarator may hold
+abbrev pub object_in_block : Keep → Identifier At → InitDeclarator At → Option DeclaredType → PlainStanding → Passed PlainType
+object_in_block h name d j s =
+    declared_object h name (brackets_of d.declarator) j d.initial (open_noted h name.place d.declarator d.initial s)
 
 -- a prototype stands in no block
 abbrev pub prototype_passed : Keep → Identifier At → InitDeclarator At → Local → Declaring
@@ -148,9 +153,9 @@ typedef_done h name d j l = with_standing l (no_initializer h d.initial (typedef
 abbrev pub by_storage : Keep → Frame → At → Storage → Bool → Identifier At → InitDeclarator At → Local → Option DeclaredType → Declaring
 by_storage h f at storage_is.Typedef sensor name d l j = no_items (typedef_done h name d j l)
 by_storage h f at storage_is.Static sensor name d l j =
-    object_passed h f at name sensor d.initial l (declared_object h name.place (brackets_of d.declarator) j d.initial l.standing)
+    object_passed h f at name sensor d.initial l (object_in_block h name d j l.standing)
 by_storage h f at storage_is.Unnamed sensor name d l j =
-    variable_passed h f at name d.initial l (declared_object h name.place (brackets_of d.declarator) j d.initial l.standing)
+    variable_passed h f at name d.initial l (object_in_block h name d j l.standing)
 by_storage h f at storage_is.Extern sensor name d l j = no_items (with_standing l (unknown_in h name l.standing))
 
 -- whether storage is that of a typedef

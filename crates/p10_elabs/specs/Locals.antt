@@ -1,5 +1,5 @@
 -- What is known while the body of a function is elaborated, and what a declaration in a block adds to it (C99 6.7, 6.8.2).
-use Rattle.std.specs.Prelude.{ℕ, ◌*◌, nat_le, Bool, true, false, not, ◌&&◌, ◌||◌, if◌then◌else◌, List, [], ◌∷◌, length, Option, Some, None}
+use Rattle.std.specs.Prelude.{ℕ, ◌+◌, ◌*◌, nat_le, Bool, true, false, not, ◌&&◌, ◌||◌, if◌then◌else◌, List, [], ◌∷◌, length, Option, Some, None}
 use Rattle.p10_base.specs.declared.at.At.{At}
 use Rattle.p10_base.specs.declared.codes.SubsetCode.{SubsetCode}
 use Rattle.p10_base.specs.declared.codes.SubsetCode.TheVariants as subset
@@ -10,7 +10,7 @@ use Rattle.p10_core.specs.Rows.{is_integer, is_complete}
 use Rattle.p10_core.specs.Typed.{PlainInitializer, not_initialized, PlainVariable, PlainObject}
 use Rattle.p10_core.specs.WholePrograms.{most_bytes}
 use Rattle.p10_elabx.specs.First.{Keep}
-use Rattle.p10_elabx.specs.Scopes.{named_type, unknown_name, entered, left}
+use Rattle.p10_elabx.specs.Scopes.{named_type, unknown_name, local, entered, left}
 use Rattle.p10_elabx.specs.TypeNames.{declarator_place}
 use Rattle.p10_elabd.specs.Standing.{PlainStanding, Passed, passed, nothing_made, refusing}
 use Rattle.p10_elabd.specs.Words.{storage_of, has_word, is_volatile, is_other_word}
@@ -18,11 +18,12 @@ use Rattle.p10_elabd.specs.declared.site.Site.{Site}
 use Rattle.p10_elabd.specs.declared.site.Storage.{Storage}
 use Rattle.p10_elabd.specs.declared.site.Storage.TheVariants as storage_is
 use Rattle.p10_elabd.specs.declared.site.Allowed.{Allowed}
-use Rattle.p10_elabd.specs.Blocks.{declaring}
-use Rattle.p10_elabd.specs.Shapes.{DeclaredType, of_type, of_open_array, of_function, declares_function, is_plain_name}
+use Rattle.p10_elabd.specs.Blocks.{declaring, with_name}
+use Rattle.p10_elabd.specs.Shapes.{DeclaredType, of_type, of_open_array, of_function, of_part_function, declares_function, declares_open_array, is_plain_name}
 use Rattle.p10_elabd.specs.Declaring.{specified}
 use Rattle.p10_elabd.specs.Initializers.{initialized, elements_given, surplus_item}
 use Rattle.p10_elabd.specs.declared.lifetime.Lifetime.{Lifetime}
+use Rattle.p10_elabd.specs.declared.lifetime.Lifetime.TheVariants as life_is
 use Rattle.p10_heads.specs.Heads.{Heads}
 
 -- ## What is known
@@ -163,30 +164,64 @@ unknown_in h name s = declaring h name unknown_name s
 abbrev pub typedef_of : Keep → Identifier At → Option DeclaredType → PlainStanding → PlainStanding
 typedef_of h name None s = unknown_in h name s
 typedef_of h name (Some (of_type t)) s = declaring h name (named_type t) s
-typedef_of h name (Some (of_open_array t)) s = unknown_in h name (refusing h true subset.IncompleteType name.place s)
+typedef_of h name (Some (of_open_array t)) s = unknown_in h name s
 typedef_of h name (Some (of_function f)) s = unknown_in h name s
+typedef_of h name (Some (of_part_function f)) s = unknown_in h name s
 
--- a typedef: of a function it isn't in the subset, which is a row on the form
+-- a typedef: of a function, or of an array without a length, it isn't in the subset, which are rows on the form
 abbrev pub typedef_passed : Keep → Identifier At → Declarator At → Option DeclaredType → PlainStanding → PlainStanding
-typedef_passed h name d o s = typedef_of h name o (refusing h (declares_function d) subset.BadSpecifier (declarator_place d) s)
+typedef_passed h name d o s =
+    typedef_of h name o
+    (refusing h (declares_open_array d) subset.IncompleteType name.place (refusing h (declares_function d) subset.BadSpecifier (declarator_place d) s))
 
 -- an array of n elements; one that is too large is refused at its brackets
 abbrev pub counted_array : Keep → At → PlainType → ℕ → PlainStanding → Passed PlainType
 counted_array h brackets t n s =
     if nat_le (n * size_of s.scope.structures t) most_bytes then passed (array false t n) s else nothing_made (refusing h true subset.BadLength brackets s)
 
+-- an array with more elements than any type may have, in place of one without a length: like that, it has no size
+abbrev pub without_size : PlainType → PlainType
+without_size t = array false t (most_bytes + 1)
+
+-- a block round the name of an array without a length, up to the end of its initialiser
+abbrev pub awaiting : Identifier At → PlainType → PlainStanding → PlainStanding
+awaiting name t s = with_name (record s { scope = entered s.scope }) name.name (local 0 (without_size t) false)
+
+-- the rows that hold in the initialiser of an array without a length, since the array has none before its end (C99 6.7.8p22)
+abbrev pub awaited : Keep → Identifier At → PlainType → PlainType → Initializer At → PlainStanding → PlainStanding
+awaited h name t whole i s =
+    let p : Passed PlainInitializer = initialized h life_is.Automatic whole (awaiting name t s) i in
+    record p.after { scope = left p.after.scope }
+
+-- an array that gets its length from an initialiser, unless it is too large
+abbrev pub measured : Keep → Identifier At → PlainType → Initializer At → Option PlainType → PlainStanding → Passed PlainType
+measured h name t i None s = nothing_made s
+measured h name t i (Some whole) s = passed whole (awaited h name t whole i s)
+
 -- an array of as many elements as an initialiser gives
-abbrev pub filled_array : Keep → At → PlainType → Initializer At → Option ℕ → PlainStanding → Passed PlainType
-filled_array h brackets t i None s = nothing_made (surplus_item h s i).after
-filled_array h brackets t i (Some n) s = counted_array h brackets t n s
+abbrev pub filled_array : Keep → Identifier At → At → PlainType → Initializer At → Option ℕ → PlainStanding → Passed PlainType
+filled_array h name brackets t i None s = nothing_made (surplus_item h s i).after
+filled_array h name brackets t i (Some n) s =
+    let p : Passed PlainType = counted_array h brackets t n s in
+    measured h name t i p.made p.after
+
+-- whether an initialiser is written
+abbrev pub is_written : Option (Initializer At) → Bool
+is_written None = false
+is_written (Some i) = true
+
+-- an object that is an array without a length, and gets none from an initialiser, has no size (C99 6.7p7): a row on the form
+abbrev pub open_noted : Keep → At → Declarator At → Option (Initializer At) → PlainStanding → PlainStanding
+open_noted h name_at d i s = refusing h (declares_open_array d && not (is_written i)) subset.IncompleteType name_at s
 
 -- the type of an object: it has a size; the length of an array may come from its initialiser (C99 6.7p7, 6.7.8p22)
-abbrev pub object_type : Keep → At → At → DeclaredType → Option (Initializer At) → PlainStanding → Passed PlainType
-object_type h name_at brackets (of_type t) i s =
-    if is_complete s.scope.structures t then passed t s else nothing_made (refusing h true subset.IncompleteType name_at s)
-object_type h name_at brackets (of_open_array t) None s = nothing_made (refusing h true subset.IncompleteType name_at s)
-object_type h name_at brackets (of_open_array t) (Some i) s = filled_array h brackets t i (elements_given t i) s
-object_type h name_at brackets (of_function f) i s = nothing_made s
+abbrev pub object_type : Keep → Identifier At → At → DeclaredType → Option (Initializer At) → PlainStanding → Passed PlainType
+object_type h name brackets (of_type t) i s =
+    if is_complete s.scope.structures t then passed t s else nothing_made (refusing h true subset.IncompleteType name.place s)
+object_type h name brackets (of_open_array t) None s = nothing_made s
+object_type h name brackets (of_open_array t) (Some i) s = filled_array h name brackets t i (elements_given t i) s
+object_type h name brackets (of_function f) i s = nothing_made s
+object_type h name brackets (of_part_function f) i s = nothing_made s
 
 -- the brackets next to the name of a declarator of an array; where it is of none, the place that is given
 abbrev pub brackets_from : At → Declarator At → At

@@ -1,5 +1,5 @@
 -- Statements (C99 6.8): what they become, and where labels, jumps and pragmas may stand.
-use Rattle.std.specs.Prelude.{ℕ, ◌+◌, ℤ, Bool, true, false, ◌&&◌, ◌||◌, if◌then◌else◌, List, [], ◌∷◌, ◌++◌, map, length, Option, Some, None, Ok}
+use Rattle.std.specs.Prelude.{ℕ, ◌+◌, ℤ, Bool, true, false, ◌&&◌, ◌||◌, if◌then◌else◌, List, [], ◌∷◌, ◌++◌, length, Option, Some, None, Ok}
 use Rattle.std.specs.Ordering.{int_eq}
 use Rattle.p10_base.specs.declared.at.At.{At}
 use Rattle.p10_base.specs.declared.codes.SubsetCode.TheVariants as subset
@@ -152,9 +152,13 @@ abbrev pub items_added : Option (List PlainStatement) → List (Option PlainStat
 items_added made [] = made
 items_added made (s ∷ rest) = items_added (statement_added made s) rest
 
--- the items of a declaration after others
+-- what a declaration becomes, after what was before
+abbrev pub with_items : Block' → Declaring → Block'
+with_items b d = record b { made = items_added b.made d.items; after = d.after }
+
+-- a declaration after other items: it is one item, however many statements it becomes (C99 6.8.2)
 abbrev pub with_declared : Block' → Declaring → Block'
-with_declared b d = record { made = items_added b.made d.items; kinds = b.kinds ++ map (λ _. item.Other) d.items; after = d.after }
+with_declared b d = record (with_items b d) { kinds = b.kinds ++ item.Other ∷ [] }
 
 -- a declaration makes nothing where it is refused as a whole; one that declares nothing may be refused too, and has a problem then
 abbrev pub with_statement : Block' → Kind → Done PlainStatement → Block'

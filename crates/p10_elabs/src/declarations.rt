@@ -12,17 +12,17 @@ ghost use Rattle.p10_elabs.specs.FrameViews.{plain_frame};
 ghost use Rattle.p10_elabs.specs.Locals.{Local as PlainLocal, makes_sensors};
 ghost use Rattle.p10_elabs.specs.LocalDeclarations.{no_items, is_prototype, prototype_passed, typedef_done, by_storage, local_named, declared_locally};
 ghost use Rattle.p10_elabs.specs.LocalViews.{plain_local};
-ghost use Rattle.p10_elabs.specs.Statements.{with_declared};
+ghost use Rattle.p10_elabs.specs.Statements.{with_items, with_declared};
 ghost use Rattle.p10_elabs.specs.private.Declarators.{items_as, declarators_added};
 ghost use Rattle.p10_elabs.specs.ItemViews.{plain_block};
 ghost use Rattle.p10_elabs.specs.declared.local.Local.{Local as CodeLocal};
 
 use crate::frame::Frame;
-use crate::items::{Items, with_statement};
+use crate::items::{Items, with_item, with_kind};
 use crate::kind::Kind;
 use crate::local::Local;
-use crate::locals::{declared_object, no_initializer, specified_in, typedef_passed, unknown_in};
-use crate::specifiers::{brackets_of, is_typedef, makes_sensors};
+use crate::locals::{no_initializer, object_in_block, specified_in, typedef_passed, unknown_in};
+use crate::specifiers::{is_typedef, makes_sensors};
 use crate::variables::{Manner, object_where, variable_where};
 use p10_base::SubsetCode;
 use p10_core::{CType, Stmt};
@@ -76,34 +76,18 @@ fn by_storage<'s>(
 ) -> Result<Option<Option<Stmt>>, AllocError>
     ensures { IfOk result (λ items. items_as items local.new ≡ by_storage only_first (plain_frame frame.now) manner.at manner.storage manner.sensor (identifier_of name.entry) (init_declarator_of d.now) (plain_local local.old) (option_map plain_declared declared.entry)) }
 {
-    let alloc = frame.alloc;
-    let brackets = brackets_of(&d.declarator);
     match manner.storage {
         Storage::Typedef => {
             typedef_done(frame, local, name, d, declared)?;
             Ok(None)
         }
         Storage::Static => {
-            let ty = declared_object(
-                alloc,
-                &mut local.standing,
-                name.at,
-                brackets,
-                declared,
-                &d.init,
-            )?;
+            let ty = object_in_block(frame.alloc, &mut local.standing, name, d, declared)?;
             let item = object_where(frame, local, manner, name, ty, &d.init)?;
             Ok(Some(item))
         }
         Storage::Unnamed => {
-            let ty = declared_object(
-                alloc,
-                &mut local.standing,
-                name.at,
-                brackets,
-                declared,
-                &d.init,
-            )?;
+            let ty = object_in_block(frame.alloc, &mut local.standing, name, d, declared)?;
             let item = variable_where(frame, local, manner.at, name, ty, &d.init)?;
             Ok(Some(item))
         }
@@ -170,12 +154,12 @@ fn local_declarator<'s>(
 
 /// The items so far with what a declarator becomes.
 fn items_more(items: Items, given: Option<Option<Stmt>>) -> Result<Items, AllocError>
-    ensures { IfOk result (λ b. (l : PlainLocal) (m : CodeLocal) → plain_block b (plain_local m) ≡ with_declared (plain_block items l) (items_as given m)) }
+    ensures { IfOk result (λ b. (l : PlainLocal) (m : CodeLocal) → plain_block b (plain_local m) ≡ with_items (plain_block items l) (items_as given m)) }
 {
     match given {
         None => Ok(items),
         Some(one) => {
-            let items = with_statement(items, Kind::Other, one)?;
+            let items = with_item(items, one)?;
             Ok(items)
         }
     }
@@ -213,8 +197,8 @@ fn manner_of(d: &Decl<'_>) -> Manner
     }
 }
 
-/// Puts down what a declaration in a block, or in the first clause of a `for`, becomes: an item for each variable and each object of
-/// static lifetime.
+/// Puts down what a declaration in a block, or in the first clause of a `for`, becomes: a statement for each variable and each object of
+/// static lifetime. The declaration is one item of its block.
 pub(crate) fn declared_into<'s>(
     d: &Decl<'s>,
     frame: &Frame<'_, 's>,
@@ -227,5 +211,6 @@ pub(crate) fn declared_into<'s>(
     let ty = specified_in(frame.alloc, &mut local.standing, false, site, d)?;
     let manner = manner_of(d);
     let items = declarators_added(&d.declarators, frame, manner, &ty, local, items)?;
-    Ok(items)
+    let all = with_kind(items, Kind::Other)?;
+    Ok(all)
 }

@@ -21,6 +21,7 @@ mod frame;
 mod items;
 mod kind;
 mod labels;
+pub mod laws;
 mod local;
 mod locals;
 mod marking;
@@ -43,8 +44,8 @@ pub use items::{Items, no_items};
 pub use kind::Kind;
 pub use local::Local;
 pub use locals::{
-    bytes_of, filled_array, initialized_by, no_initializer, object_type, specified_in,
-    typedef_passed, unknown_in,
+    bytes_of, filled_array, initialized_by, is_written, no_initializer, object_type, open_noted,
+    specified_in, typedef_passed, unknown_in,
 };
 pub use marks::marks_noted;
 pub use round::Round;

@@ -5,22 +5,22 @@ ghost use Rattle.p10_core.specs.Sizes.{size_of};
 ghost use Rattle.p10_core.specs.Types.{plain_type};
 ghost use Rattle.p10_core.specs.Views.{plain_types, plain_initializer};
 ghost use Rattle.p10_syn.specs.Built.{identifier_of, declarator_of};
-ghost use Rattle.p10_syn.specs.BuiltStatements.{initial_of, initializer_of, declaration_of};
+ghost use Rattle.p10_syn.specs.BuiltStatements.{initial_of, initializer_of, init_declarator_of, declaration_of};
 ghost use Rattle.p10_elabx.specs.First.{only_first};
 ghost use Rattle.p10_elabd.specs.Initializers.{elements_given};
 ghost use Rattle.p10_elabd.specs.Views.{plain_standing, plain_declared, told};
-ghost use Rattle.p10_elabs.specs.Locals.{specified_in, no_initializer, unknown_in, typedef_of, typedef_passed, counted_array, filled_array, object_type, initialized_by};
-ghost use Rattle.p10_elabs.specs.LocalDeclarations.{declared_object};
+ghost use Rattle.p10_elabs.specs.Locals.{specified_in, no_initializer, unknown_in, typedef_of, typedef_passed, counted_array, without_size, awaiting, awaited, measured, filled_array, is_written, open_noted, object_type, initialized_by};
+ghost use Rattle.p10_elabs.specs.LocalDeclarations.{declared_object, object_in_block};
 
-use crate::specifiers::{allowed_by, declares_sensors, is_alone, volatile_noted};
+use crate::specifiers::{allowed_by, brackets_of, declares_sensors, is_alone, volatile_noted};
 use p10_base::{At, SubsetCode};
 use p10_core::{CType, Initializer, Types};
 use p10_elabd::{
-    Declared, Lifetime, Site, Standing, declares_function, elements_given, initialized, specified,
-    surplus_item,
+    Declared, Lifetime, Site, Standing, declares_function, declares_open_array, elements_given,
+    initialized, specified, surplus_item,
 };
 use p10_elabx::{Named, declarator_place, known_size};
-use p10_syn::{Decl, Declarator, Identifier, Init};
+use p10_syn::{Decl, Declarator, Identifier, Init, InitDeclarator};
 use std::alloc::{AllocError, Global};
 
 /// The type that the specifiers of the declaration `d` name at a site, where they name one; `outside` says that it stands outside of
@@ -69,7 +69,7 @@ pub fn unknown_in<'s>(standing: &mut Standing<'s>, name: Identifier<'s>) -> Resu
     Ok(())
 }
 
-/// Declares a typedef (C99 6.7.7): of a function it isn't in the subset, which is a row on the form.
+/// Declares a typedef (C99 6.7.7): of a function, or of an array without a length, it isn't in the subset, which are rows on the form.
 pub fn typedef_passed<'s>(
     standing: &mut Standing<'s>,
     name: Identifier<'s>,
@@ -80,6 +80,7 @@ pub fn typedef_passed<'s>(
 {
     let place = declarator_place(d);
     standing.refuse_where(declares_function(d), SubsetCode::BadSpecifier, place);
+    standing.refuse_where(declares_open_array(d), SubsetCode::IncompleteType, name.at);
     typedef_of(standing, name, declared)
 }
 
@@ -101,11 +102,14 @@ fn typedef_of<'s>(
             Ok(())
         }
         Some(Declared::OpenArray(_)) => {
-            standing.refuse(SubsetCode::IncompleteType, name.at);
             unknown_in(standing, name)?;
             Ok(())
         }
         Some(Declared::Function(_)) => {
+            unknown_in(standing, name)?;
+            Ok(())
+        }
+        Some(Declared::Refused(_)) => {
             unknown_in(standing, name)?;
             Ok(())
         }
@@ -149,25 +153,105 @@ fn counted_array(
     }
 }
 
+/// An array that is larger than any type may be, in place of one without a length: like that, it has no size.
+fn without_size(alloc: Global, element: &CType) -> Result<CType, AllocError>
+    ensures { IfOk result (λ t. plain_type t ≡ without_size (plain_type element.now)) }
+{
+    let element = element.copy(alloc)?;
+    let array = CType::array(alloc, element, 1_099_511_627_777)?;
+    Ok(array)
+}
+
+/// Opens a block round the name of an array without a length, up to the end of its initialiser.
+fn awaiting<'s>(
+    alloc: Global,
+    standing: &mut Standing<'s>,
+    name: Identifier<'s>,
+    element: &CType,
+) -> Result<(), AllocError>
+    ensures { IfOk result (λ _. plain_standing standing.new ≡ awaiting (identifier_of name.entry) (plain_type element.now) (plain_standing standing.old)) }
+{
+    let ty = without_size(alloc, element)?;
+    standing.scope.enter()?;
+    let what = Named::Var {
+        number: 0,
+        ty,
+        frame: false,
+    };
+    standing.set_name(name.text, what)?;
+    Ok(())
+}
+
+/// Notes the rows that hold in the initialiser of an array without a length, since the array has none before its end (C99 6.7.8p22).
+fn awaited<'s>(
+    alloc: Global,
+    standing: &mut Standing<'s>,
+    name: Identifier<'s>,
+    element: &CType,
+    whole: &CType,
+    i: &Init<'s>,
+) -> Result<(), AllocError>
+    ensures { IfOk result (λ _. plain_standing standing.new ≡ awaited only_first (identifier_of name.entry) (plain_type element.now) (plain_type whole.now) (initializer_of i.now) (plain_standing standing.old)) }
+{
+    awaiting(alloc, standing, name, element)?;
+    initialized(alloc, standing, Lifetime::Automatic, whole, i)?;
+    standing.scope.leave();
+    Ok(())
+}
+
+/// An array that gets its length from an initialiser, unless it is too large.
+fn measured<'s>(
+    alloc: Global,
+    standing: &mut Standing<'s>,
+    name: Identifier<'s>,
+    element: &CType,
+    i: &Init<'s>,
+    whole: Option<CType>,
+) -> Result<Option<CType>, AllocError>
+    ensures { IfOk result (λ made. told (option_map plain_type made) standing.new ≡ measured only_first (identifier_of name.entry) (plain_type element.now) (initializer_of i.now) (option_map plain_type whole) (plain_standing standing.old)) }
+{
+    match whole {
+        None => Ok(None),
+        Some(whole) => {
+            awaited(alloc, standing, name, element, &whole, i)?;
+            Ok(Some(whole))
+        }
+    }
+}
+
 /// An array of as many elements as an initialiser gives (C99 6.7.8p22); one that is too large is refused at its brackets.
 pub fn filled_array<'s>(
     alloc: Global,
     standing: &mut Standing<'s>,
+    name: Identifier<'s>,
     brackets: At,
     element: CType,
     i: &Init<'s>,
 ) -> Result<Option<CType>, AllocError>
-    ensures { IfOk result (λ made. told (option_map plain_type made) standing.new ≡ filled_array only_first brackets (plain_type element) (initializer_of i.now) (elements_given (plain_type element) (initializer_of i.now)) (plain_standing standing.old)) }
+    ensures { IfOk result (λ made. told (option_map plain_type made) standing.new ≡ filled_array only_first (identifier_of name.entry) brackets (plain_type element) (initializer_of i.now) (elements_given (plain_type element) (initializer_of i.now)) (plain_standing standing.old)) }
 {
-    match elements_given(alloc, &element, i)? {
+    let given = elements_given(alloc, &element, i)?;
+    match given {
         None => {
             surplus_item(alloc, standing, i)?;
             Ok(None)
         }
         Some(count) => {
-            let made = counted_array(alloc, standing, brackets, element, count)?;
+            let kept = element.copy(alloc)?;
+            let whole = counted_array(alloc, standing, brackets, kept, count)?;
+            let made = measured(alloc, standing, name, &element, i, whole)?;
             Ok(made)
         }
+    }
+}
+
+/// Whether an initialiser is written.
+pub fn is_written(initial: &Option<Init<'_>>) -> bool
+    ensures { result ≡ is_written (initial_of initial.now) }
+{
+    match initial {
+        None => false,
+        Some(_) => true,
     }
 }
 
@@ -180,54 +264,74 @@ pub fn filled_array<'s>(
 pub fn object_type<'s>(
     alloc: Global,
     standing: &mut Standing<'s>,
-    name_at: At,
+    name: Identifier<'s>,
     brackets: At,
     declared: Declared<'s>,
     initial: &Option<Init<'s>>,
 ) -> Result<Option<CType>, AllocError>
-    ensures { IfOk result (λ made. told (option_map plain_type made) standing.new ≡ object_type only_first name_at brackets (plain_declared declared.entry) (initial_of initial.now) (plain_standing standing.old)) }
+    ensures { IfOk result (λ made. told (option_map plain_type made) standing.new ≡ object_type only_first (identifier_of name.entry) brackets (plain_declared declared.entry) (initial_of initial.now) (plain_standing standing.old)) }
 {
     match declared {
         Declared::Plain(ty) => {
             if standing.scope.types.is_complete(&ty) {
                 Ok(Some(ty))
             } else {
-                standing.refuse(SubsetCode::IncompleteType, name_at);
+                standing.refuse(SubsetCode::IncompleteType, name.at);
                 Ok(None)
             }
         }
         Declared::OpenArray(element) => match initial {
-            None => {
-                standing.refuse(SubsetCode::IncompleteType, name_at);
-                Ok(None)
-            }
+            None => Ok(None),
             Some(i) => {
-                let made = filled_array(alloc, standing, brackets, element, i)?;
+                let made = filled_array(alloc, standing, name, brackets, element, i)?;
                 Ok(made)
             }
         },
-        Declared::Function(_) => Ok(None),
+        Declared::Function(_) | Declared::Refused(_) => Ok(None),
     }
 }
 
 /// The type of an object that may be refused.
-pub(crate) fn declared_object<'s>(
+fn declared_object<'s>(
     alloc: Global,
     standing: &mut Standing<'s>,
-    name_at: At,
+    name: Identifier<'s>,
     brackets: At,
     declared: Option<Declared<'s>>,
     initial: &Option<Init<'s>>,
 ) -> Result<Option<CType>, AllocError>
-    ensures { IfOk result (λ made. told (option_map plain_type made) standing.new ≡ declared_object only_first name_at brackets (option_map plain_declared declared.entry) (initial_of initial.now) (plain_standing standing.old)) }
+    ensures { IfOk result (λ made. told (option_map plain_type made) standing.new ≡ declared_object only_first (identifier_of name.entry) brackets (option_map plain_declared declared.entry) (initial_of initial.now) (plain_standing standing.old)) }
 {
     match declared {
         None => Ok(None),
         Some(declared) => {
-            let made = object_type(alloc, standing, name_at, brackets, declared, initial)?;
+            let made = object_type(alloc, standing, name, brackets, declared, initial)?;
             Ok(made)
         }
     }
+}
+
+/// Notes an object that is an array without a length, and gets none from an initialiser (C99 6.7p7).
+pub fn open_noted<'s>(standing: &mut Standing<'s>, name: Identifier<'s>, d: &InitDeclarator<'s>)
+    ensures { plain_standing standing.new ≡ open_noted only_first name.entry.at (declarator_of d.now.declarator) (initial_of d.now.init) (plain_standing standing.old) }
+{
+    let lacking = declares_open_array(&d.declarator) && !is_written(&d.init);
+    standing.refuse_where(lacking, SubsetCode::IncompleteType, name.at);
+}
+
+/// The type of an object in a block, which may be refused.
+pub(crate) fn object_in_block<'s>(
+    alloc: Global,
+    standing: &mut Standing<'s>,
+    name: Identifier<'s>,
+    d: &InitDeclarator<'s>,
+    declared: Option<Declared<'s>>,
+) -> Result<Option<CType>, AllocError>
+    ensures { IfOk result (λ made. told (option_map plain_type made) standing.new ≡ object_in_block only_first (identifier_of name.entry) (init_declarator_of d.now) (option_map plain_declared declared.entry) (plain_standing standing.old)) }
+{
+    open_noted(standing, name, d);
+    let brackets = brackets_of(&d.declarator);
+    declared_object(alloc, standing, name, brackets, declared, &d.init)
 }
 
 /// What an object of the type `ty` and the lifetime `life` is initialised with, if an initialiser is written (C99 6.7.8). `None` where it

@@ -9,6 +9,7 @@ use Rattle.p10_core.specs.Typed.{PlainPlace, PlainValues}
 use Rattle.p10_core.specs.Views.{plain_value, plain_values, plain_place, plain_statement_form}
 use Rattle.p10_elabx.specs.declared.problem.Problem.{Problem}
 use Rattle.p10_elabx.specs.declared.operand.PlaceKind.{PlaceKind}
+use Rattle.p10_elabx.specs.declared.shape.Length.{Length}
 use Rattle.p10_elabx.specs.First.{Found, Ruled, lift, only_first, refused_where, on, pair, nothing_said}
 use Rattle.p10_elabx.specs.Built.{plain_operand, plain_shape, plain_size, ruled_operand, ruled_target, ruled_form, ruled_shape, ruled_value, ruled_values, ruled_type, ruled_size}
 
@@ -62,6 +63,11 @@ types (Err r) = refl
 pub sizes : Views plain_size ruled_size
 sizes (Ok s) = refl
 sizes (Err r) = refl
+
+-- lengths are seen as they are
+pub lengths : Views {A = Length} (λ n. n) (λ r. r)
+lengths (Ok n) = refl
+lengths (Err r) = refl
 
 -- ## Rows on a part
 

@@ -27,7 +27,7 @@ use Rattle.p10_elabx.specs.Scopes.{PlainScope, unevaluated, evaluating, named}
 use Rattle.p10_elabx.specs.Operands.{PlainOperand, operand_value, not_void, reads_object, reads_sensor, any_value, as_value}
 use Rattle.p10_elabx.specs.Operators.{binary_value, logic_value, conditional_value, operand_size, indexed, member_found, arrow_found, address_found, target_found, assigned, updated}
 use Rattle.p10_elabx.specs.Calls.{Callee, of_library, callee_of, library_wants, Wanted, wanted_value, wants_of, wanted_of, Listed, no_arguments, with_value, argument_judged, with_argument, call_problem, call_value, is_assert, is_allocator, is_counted, with_problem, call_judged, operand_call, other_call, element_count}
-use Rattle.p10_elabx.specs.TypeNames.{Shape, a_type, an_open_array, a_function_type, declarator_place, name_place, other_word, also_word, is_of_function, is_of_aggregate, pointed, pointer_judged, element, array_of, array_judged, open_array_judged, given_type, no_parameters, is_alone, parameter_type, with_type, lacks_prototype, made_by, parameter_judged, function_judged, said_of, nothing_specified, is_bad_mixture, specifier_rule, later, specifiers_found, specified_type, specifiers_at, specifiers_judged}
+use Rattle.p10_elabx.specs.TypeNames.{Shape, a_type, an_open_array, a_function_type, declarator_place, name_place, other_word, also_word, is_of_function, is_of_open_array, lacks_size, is_of_aggregate, pointed, pointer_judged, element, length_found, array_of, array_judged, open_array_judged, given_type, no_parameters, is_alone, parameter_type, with_type, lacks_prototype, made_by, parameter_judged, function_judged, said_of, nothing_specified, is_bad_mixture, specifier_rule, later, specifiers_found, specified_type, specifiers_at, specifiers_judged}
 use Rattle.p10_elabx.specs.Literals.{number_found, character_found, strings_found}
 use Rattle.p10_elabx.specs.Judging.{name_found, valued, operation_of, assignment_of, step_of, is_and, is_star, unary_found, unary_judged, unary_by_sign, may_be_place, place_of, address_judged, values_judged, truth_judged, binary_judged, conditional_judged, index_judged, member_judged, arrow_judged, size_judged, shape_size, type_size_judged, cast_found, is_void_shape, cast_judged, target_judged, assignment_judged, counts_as_read, counts_as_act, with_read, update_judged, one_at, step_judged, by_sign, nested, comma_judged, sized_shape, shape_allocation, one_element, counted_elements, size_shape, either_shape, two_sizes, other_allocation, product_judged, cleared_judged, count_of, called_name, for_name, memory_called, for_memory, value_in, target_in, judge, judge_arguments, judge_cast, judge_allocation, judge_bytes, judge_size, judge_type, judge_declarator, judge_parameters}
 use Rattle.p10_elabx.proofs.Firsts.{kept_lift, kept_on, kept_pair, kept_where, or_same, tied_plainly, tied_on_part, tied_on_parts, tied_also, unordered_same}
@@ -230,15 +230,17 @@ tied_pointer : (at name_at : At) (qualifiers : List (Qualifier At)) (made : Made
 unfolding pointer_judged
 tied_pointer at name_at qualifiers made j k t =
     tied_also (is_of_function made) (is_of_function made) subset.BadPointer at _ _ refl
-    (tied_word (other_word qualifiers) subset.BadSpecifier _ _ (tied_on_part j k (pointed at name_at qualifiers) t))
+    (tied_also (is_of_open_array made) (is_of_open_array made) subset.IncompleteType name_at _ _ refl
+    (tied_word (other_word qualifiers) subset.BadSpecifier _ _ (tied_on_part j k (pointed at name_at qualifiers) t)))
 
 tied_array : (ss : List PlainStructure) (name_at : At) (made : Made) (i i' : Judged PlainValue) (j j' : Judged Shape) → Tied PlainValue i i' → Tied Shape j j' →
     Tied Shape (array_judged every ss name_at made i j) (array_judged only_first ss name_at made i' j')
 unfolding array_judged
 tied_array ss name_at made i i' j j' s t =
-    tied_also (is_of_function made) (is_of_function made) subset.IncompleteType name_at _ _ refl
+    tied_also (lacks_size made) (lacks_size made) subset.IncompleteType name_at _ _ refl
     (record {
-      found = kept_on _ _ (λ (t, v). array_of ss t v) (kept_pair _ _ i.found i'.found (kept_on j.found j'.found (element ss name_at) t.found) s.found);
+      found = kept_on _ _ (λ (t, n). array_of ss t n)
+          (kept_pair _ _ _ _ (kept_on j.found j'.found (element ss name_at) t.found) (kept_on i.found i'.found length_found s.found));
       acts = refl;
       reads = refl;
     })
@@ -247,7 +249,7 @@ tied_open_array : (ss : List PlainStructure) (name_at : At) (made : Made) (j k :
     Tied Shape (open_array_judged every ss name_at made j) (open_array_judged only_first ss name_at made k)
 unfolding open_array_judged
 tied_open_array ss name_at made j k t =
-    tied_also (is_of_function made) (is_of_function made) subset.IncompleteType name_at _ _ refl
+    tied_also (lacks_size made) (lacks_size made) subset.IncompleteType name_at _ _ refl
     (tied_on_part (on_part j (element ss name_at)) (on_part k (element ss name_at)) (λ t. Ok (an_open_array t)) (tied_on_part j k (element ss name_at) t))
 
 tied_function : (at name_at parentheses : At) (lacking : Bool) (made : Made) (f g : Found (List PlainType)) (j k : Judged Shape) → IsKept f g → Tied Shape j k →
@@ -434,7 +436,7 @@ mutual
   tied_declarator s name_at made j k (Unnamed at) t = t
   tied_declarator s name_at made j k (Pointer at qualifiers d) t = tied_declarator s name_at around.Pointer _ _ d (tied_pointer at name_at qualifiers made j k t)
   tied_declarator s name_at made j k (Parenthesised at d) t = tied_declarator s name_at made j k d t
-  tied_declarator s name_at made j k (Array at d brackets Absent) t = tied_declarator s name_at around.Array _ _ d (tied_open_array s.structures name_at made j k t)
+  tied_declarator s name_at made j k (Array at d brackets Absent) t = tied_declarator s name_at around.OpenArray _ _ d (tied_open_array s.structures name_at made j k t)
   tied_declarator s name_at made j k (Array at d brackets (Present e)) t =
       tied_declarator s name_at around.Array _ _ d (tied_array s.structures name_at made _ _ j k (tied_value s.structures _ _ (tied s e)) t)
   tied_declarator s name_at made j k (Function at d parentheses all dots) t =

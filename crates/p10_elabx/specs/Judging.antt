@@ -473,7 +473,7 @@ abbrev mutual
   judge_declarator h s name_at made j (Unnamed at) = j
   judge_declarator h s name_at made j (Pointer at qualifiers d) = judge_declarator h s name_at around.Pointer (pointer_judged h at name_at qualifiers made j) d
   judge_declarator h s name_at made j (Parenthesised at d) = judge_declarator h s name_at made j d
-  judge_declarator h s name_at made j (Array at d brackets Absent) = judge_declarator h s name_at around.Array (open_array_judged h s.structures name_at made j) d
+  judge_declarator h s name_at made j (Array at d brackets Absent) = judge_declarator h s name_at around.OpenArray (open_array_judged h s.structures name_at made j) d
   judge_declarator h s name_at made j (Array at d brackets (Present e)) =
       judge_declarator h s name_at around.Array (array_judged h s.structures name_at made (as_value s.structures (judge h s e)) j) d
   judge_declarator h s name_at made j (Function at d parentheses all dots) =

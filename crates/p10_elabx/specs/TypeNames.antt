@@ -15,12 +15,13 @@ use Rattle.p10_core.specs.Constants.{inconstant_part, fold}
 use Rattle.p10_core.specs.WholePrograms.{most_bytes}
 use Rattle.p10_elabx.specs.declared.words.Words.{Words}
 use Rattle.p10_elabx.specs.declared.words.Said.{Said}
+use Rattle.p10_elabx.specs.declared.shape.Length.{Length}
 use Rattle.p10_elabx.specs.declared.shape.Made.{Made}
 use Rattle.p10_elabx.specs.declared.shape.Made.TheVariants as around
 use Rattle.p10_elabx.specs.First.{Keep, Found, Ruled, ruled, refused, nothing_said, lift, Judged, pair, on, on_part, also, refused_where}
 use Rattle.p10_elabx.specs.Operators.{has_size}
 use Rattle.p10_elabx.specs.Scopes.{Meaning, named_type, tagged_type, unknown_name, unknown_tag, PlainScope, named, tagged}
-use Rattle.p10_syn.specs.Trees.{Identifier, Qualifier, Specifiers, NoSpecifiers, MoreSpecifiers, Specifier, Keyword, Typedef, Structure, Enumeration, Declarator, Named, Unnamed, Pointer, Parenthesised, Array, Function, Parameters, NoParameters, MoreParameters, parameter}
+use Rattle.p10_syn.specs.Trees.{Identifier, Optional, Absent, Present, Qualifier, Specifiers, NoSpecifiers, MoreSpecifiers, Specifier, Keyword, Typedef, Structure, Enumeration, Declarator, Named, Unnamed, Pointer, Parenthesised, Array, Function, Parameters, NoParameters, MoreParameters, parameter}
 
 -- what a declarator makes of a type: a type; an array of a type, whose length is lacking; or a function with the types of its
 -- parameters and its result
@@ -287,10 +288,22 @@ abbrev pub is_of_function : Made → Bool
 is_of_function around.Function = true
 is_of_function made = false
 
+-- whether an array without a length stands round
+abbrev pub is_of_open_array : Made → Bool
+is_of_open_array around.OpenArray = true
+is_of_open_array made = false
+
+-- whether what stands round has no size: a function, or an array without a length
+abbrev pub lacks_size : Made → Bool
+lacks_size around.Function = true
+lacks_size around.OpenArray = true
+lacks_size made = false
+
 -- whether a function or an array stands round
 abbrev pub is_of_aggregate : Made → Bool
 is_of_aggregate around.Function = true
 is_of_aggregate around.Array = true
+is_of_aggregate around.OpenArray = true
 is_of_aggregate made = false
 
 -- a pointer to a type: not to `void`, nor to a function; one to an array without a length has no type here (C99 6.7.5.1)
@@ -299,11 +312,12 @@ pointed at name_at qualifiers (a_type t) = if is_void t then refused subset.BadP
 pointed at name_at qualifiers (an_open_array t) = refused subset.IncompleteType name_at
 pointed at name_at qualifiers (a_function_type parameters t) = refused subset.BadPointer at
 
--- a pointer: not to a function, which is a row on the form, and `const` is its only qualifier
+-- a pointer: not to a function, nor to an array without a length, which are rows on the form, and `const` is its only qualifier
 unfoldable pub pointer_judged : Keep → At → At → List (Qualifier At) → Made → Judged Shape → Judged Shape
 pointer_judged h at name_at qualifiers made j =
     also h (is_of_function made) subset.BadPointer at
-    (also_word h (other_word qualifiers) subset.BadSpecifier (on_part j (pointed at name_at qualifiers)))
+    (also h (is_of_open_array made) subset.IncompleteType name_at
+    (also_word h (other_word qualifiers) subset.BadSpecifier (on_part j (pointed at name_at qualifiers))))
 
 -- an element of an array has a size (C99 6.7.5.2p1)
 abbrev pub element : List PlainStructure → At → Shape → Ruled PlainType
@@ -316,36 +330,39 @@ abbrev pub array_length : ℤ → Option ℕ
 array_length (pos n) = if nat_le 1 n && nat_le n most_bytes then Some n else None
 array_length (negsuc n) = None
 
--- the number of elements of an array, which isn't larger than a type may be
-abbrev pub counted_array : List PlainStructure → At → PlainType → Option ℕ → Ruled Shape
-counted_array structures at t None = refused subset.BadLength at
-counted_array structures at t (Some n) =
-    if has_size structures (array false t n) then Ok (a_type (array false t n)) else refused subset.BadLength at
+-- a number of elements as a length, at its tree
+abbrev pub counted_length : At → Option ℕ → Ruled Length
+counted_length at None = refused subset.BadLength at
+counted_length at (Some n) = Ok (record { at = at; count = n })
 
--- an array of this length
-abbrev pub sized_array : List PlainStructure → At → PlainType → ℤ → Ruled Shape
-sized_array structures at t z = counted_array structures at t (array_length z)
+-- a length that is a constant expression: a part that stops refuses it at that part
+abbrev pub folded_length : At → Result ℤ At → Ruled Length
+folded_length at (Ok z) = counted_length at (array_length z)
+folded_length at (Err part) = refused subset.ConstantStops part
 
--- a length that is a constant expression (C99 6.7.5.2p1): a part that stops refuses it at that part
-abbrev pub folded_length : List PlainStructure → At → PlainType → Result ℤ At → Ruled Shape
-folded_length structures at t (Ok z) = sized_array structures at t z
-folded_length structures at t (Err part) = refused subset.ConstantStops part
+-- a length with the first part of it that isn't constant, if there is one
+abbrev pub constant_length : PlainValue → Option At → Ruled Length
+constant_length v None = folded_length (at_of v) (fold v)
+constant_length v (Some part) = refused subset.BadLength (at_of v)
 
--- an array whose length is a constant expression, or which has none
-abbrev pub constant_length : List PlainStructure → At → PlainType → PlainValue → Option At → Ruled Shape
-constant_length structures at t v None = folded_length structures at t (fold v)
-constant_length structures at t v (Some part) = refused subset.BadLength at
+-- the length of an array, whatever its elements are: an integer constant expression of at least 1 (C99 6.7.5.2p1)
+abbrev pub length_found : PlainValue → Ruled Length
+length_found v = if is_integer (type_of v) then constant_length v (inconstant_part v) else refused subset.BadLength (at_of v)
 
--- an array of elements with a length
-abbrev pub array_of : List PlainStructure → PlainType → PlainValue → Ruled Shape
-array_of structures t v =
-    if is_integer (type_of v) then constant_length structures (at_of v) t v (inconstant_part v) else refused subset.BadLength (at_of v)
+-- an array with a length: it isn't larger than a type may be
+abbrev pub sized_array : List PlainStructure → PlainType → Length → Ruled PlainType
+sized_array structures t n =
+    if has_size structures (array false t n.count) then Ok (array false t n.count) else refused subset.BadLength n.at
 
--- an array with a length: not of functions, which is a row on the form. Nothing in the length counts for the order of
--- evaluation
+-- the same, as what a declarator makes
+abbrev pub array_of : List PlainStructure → PlainType → Length → Ruled Shape
+array_of structures t n = ruled (sized_array structures t n) (λ u. Ok (a_type u))
+
+-- an array with a length: not of functions, nor of arrays without a length, which are rows on the form. Nothing in the
+-- length counts for the order of evaluation
 unfoldable pub array_judged : Keep → List PlainStructure → At → Made → Judged PlainValue → Judged Shape → Judged Shape
-array_judged h structures name_at made length j = also h (is_of_function made) subset.IncompleteType name_at (record {
-  found = on (pair h (on j.found (element structures name_at)) length.found) (λ (t, v). array_of structures t v);
+array_judged h structures name_at made length j = also h (lacks_size made) subset.IncompleteType name_at (record {
+  found = on (pair h (on j.found (element structures name_at)) (on length.found length_found)) (λ (t, n). array_of structures t n);
   acts = false;
   reads = false;
 })
@@ -353,7 +370,7 @@ array_judged h structures name_at made length j = also h (is_of_function made) s
 -- an array whose length is lacking
 unfoldable pub open_array_judged : Keep → List PlainStructure → At → Made → Judged Shape → Judged Shape
 open_array_judged h structures name_at made j =
-    also h (is_of_function made) subset.IncompleteType name_at (on_part (on_part j (element structures name_at)) (λ t. Ok (an_open_array t)))
+    also h (lacks_size made) subset.IncompleteType name_at (on_part (on_part j (element structures name_at)) (λ t. Ok (an_open_array t)))
 
 -- what a function gives: a value or nothing, no array and no structure (C99 6.7.5.3p1)
 abbrev pub given_type : At → At → Shape → Ruled PlainType
@@ -399,13 +416,18 @@ parameter_type alone at name_at declarator_at (a_type t) = plain_parameter alone
 parameter_type alone at name_at declarator_at (an_open_array t) = Ok (Some (pointer false t))
 parameter_type alone at name_at declarator_at (a_function_type parameters t) = refused subset.BadPointer declarator_at
 
+-- what the declarator of an array makes, by whether its length is there
+abbrev pub array_made : Optional At → Made
+array_made Absent = around.OpenArray
+array_made (Present e) = around.Array
+
 -- what a declarator makes by its form, if it stands in one that makes something
 abbrev pub made_by : Made → Declarator At → Made
 made_by made (Named name) = made
 made_by made (Unnamed at) = made
 made_by made (Pointer at qualifiers d) = made_by around.Pointer d
 made_by made (Parenthesised at d) = made_by made d
-made_by made (Array at d brackets length) = made_by around.Array d
+made_by made (Array at d brackets length) = made_by (array_made length) d
 made_by made (Function at d parentheses _ _) = made_by around.Function d
 
 -- a parameter: that it is a function is a row on the form

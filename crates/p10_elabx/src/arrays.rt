@@ -7,14 +7,14 @@ ghost use Rattle.p10_core.specs.Views.{plain_types, plain_value};
 ghost use Rattle.p10_core.specs.Constants.{fold};
 ghost use Rattle.p10_core.specs.WholePrograms.{AreWholeStructures};
 ghost use Rattle.p10_elabx.specs.First.{only_first, on, pair, lift};
-ghost use Rattle.p10_elabx.specs.TypeNames.{an_open_array, element, array_length, counted_array, sized_array, folded_length, constant_length, array_of, array_judged, open_array_judged};
+ghost use Rattle.p10_elabx.specs.TypeNames.{an_open_array, element, array_length, counted_length, folded_length, constant_length, length_found, sized_array, array_of, array_judged, open_array_judged};
 ghost use Rattle.p10_elabx.specs.Built.{ruled_shape, ruled_type, ruled_value, judged_shape, judged_value, plain_shape};
 
-use crate::declarators::is_of_function;
+use crate::declarators::lacks_size;
 use crate::judged::{Judged, shape_refused};
-use crate::parts::{both, without};
+use crate::parts::both;
 use crate::problem::Problem;
-use crate::shape::{Made, Shape};
+use crate::shape::{Length, Made, Shape};
 use crate::sizes::known_size;
 use p10_base::{At, SubsetCode};
 use p10_core::{CType, Types, Value, fold, inconstant_part};
@@ -70,96 +70,102 @@ fn array_length(length: i128) -> Option<u64>
     Some(length as u64)
 }
 
-/// An array of `count` elements, unless it is too large.
-fn counted_array(
-    alloc: Global,
-    types: &Types<'_>,
-    at: At,
-    ty: CType,
-    count: Option<u64>,
-) -> Result<Result<Shape, Option<Problem>>, AllocError>
-    requires { AreWholeStructures (plain_types types.now) }
-    ensures { IfOk result (λ r. ruled_shape r ≡ counted_array (plain_types types.now) at (plain_type ty) count) }
+/// A number of elements as a length, at its tree.
+fn counted_length(at: At, count: Option<u64>) -> Result<Length, Option<Problem>>
+    ensures { result ≡ counted_length at count }
 {
-    let too_large = Problem {
-        code: SubsetCode::BadLength,
-        at,
-    };
     match count {
-        None => Ok(Err(Some(too_large))),
-        Some(count) => {
-            let array = CType::array(alloc, ty, count)?;
-            match known_size(types, &array) {
-                Some(_) => Ok(Ok(Shape::Plain(array))),
-                None => Ok(Err(Some(too_large))),
-            }
-        }
+        Some(count) => Ok(Length { at, count }),
+        None => Err(Some(Problem {
+            code: SubsetCode::BadLength,
+            at,
+        })),
     }
 }
 
-/// An array whose length is of constant form.
-fn folded_length(
-    alloc: Global,
-    types: &Types<'_>,
-    ty: CType,
-    length: &Value,
-) -> Result<Result<Shape, Option<Problem>>, AllocError>
-    requires { AreWholeStructures (plain_types types.now) }
-    ensures { IfOk result (λ r. ruled_shape r ≡ folded_length (plain_types types.now) (at_of (plain_value length.now)) (plain_type ty) (fold (plain_value length.now))) }
+/// A length that is of constant form: a part that stops refuses it.
+fn folded_length(length: &Value) -> Result<Length, Option<Problem>>
+    ensures { result ≡ folded_length (at_of (plain_value length.now)) (fold (plain_value length.now)) }
 {
     match fold(length) {
-        Ok(number) => {
-            let found = counted_array(alloc, types, length.at, ty, array_length(number))?;
-            Ok(found)
-        }
-        Err(part) => Ok(Err(Some(Problem {
+        Ok(number) => counted_length(length.at, array_length(number)),
+        Err(part) => Err(Some(Problem {
             code: SubsetCode::ConstantStops,
             at: part,
-        }))),
+        })),
     }
 }
 
-/// An array whose length is a constant expression, or which has none.
-fn constant_length(
-    alloc: Global,
-    types: &Types<'_>,
-    ty: CType,
-    length: &Value,
-    part: Option<At>,
-) -> Result<Result<Shape, Option<Problem>>, AllocError>
-    requires { AreWholeStructures (plain_types types.now) }
-    ensures { IfOk result (λ r. ruled_shape r ≡ constant_length (plain_types types.now) (at_of (plain_value length.now)) (plain_type ty) (plain_value length.now) part) }
+/// A length with the first part of it that isn't constant, if there is one.
+fn constant_length(length: &Value, part: Option<At>) -> Result<Length, Option<Problem>>
+    ensures { result ≡ constant_length (plain_value length.now) part }
 {
     match part {
-        Some(_) => Ok(Err(Some(Problem {
+        Some(_) => Err(Some(Problem {
             code: SubsetCode::BadLength,
             at: length.at,
-        }))),
-        None => {
-            let found = folded_length(alloc, types, ty, length)?;
-            Ok(found)
-        }
+        })),
+        None => folded_length(length),
     }
 }
 
-/// An array of elements with a length, which is a constant expression.
-pub fn array_of(
+/// The length of an array, whatever its elements are: an integer constant expression of at least 1 (C99 6.7.5.2p1).
+pub fn length_found(length: &Value) -> Result<Length, Option<Problem>>
+    ensures { result ≡ length_found (plain_value length.now) }
+{
+    if length.ty.is_integer() {
+        constant_length(length, inconstant_part(length))
+    } else {
+        Err(Some(Problem {
+            code: SubsetCode::BadLength,
+            at: length.at,
+        }))
+    }
+}
+
+/// An array with a length: it isn't larger than a type may be.
+pub fn sized_array(
     alloc: Global,
     types: &Types<'_>,
     ty: CType,
-    length: &Value,
-) -> Result<Result<Shape, Option<Problem>>, AllocError>
+    length: Length,
+) -> Result<Result<CType, Option<Problem>>, AllocError>
     requires { AreWholeStructures (plain_types types.now) }
-    ensures { IfOk result (λ r. ruled_shape r ≡ array_of (plain_types types.now) (plain_type ty) (plain_value length.now)) }
+    ensures { IfOk result (λ r. ruled_type r ≡ sized_array (plain_types types.now) (plain_type ty) length) }
 {
-    if length.ty.is_integer() {
-        let found = constant_length(alloc, types, ty, length, inconstant_part(length))?;
-        Ok(found)
-    } else {
-        Ok(Err(Some(Problem {
+    let array = CType::array(alloc, ty, length.count)?;
+    match known_size(types, &array) {
+        Some(_) => Ok(Ok(array)),
+        None => Ok(Err(Some(Problem {
             code: SubsetCode::BadLength,
             at: length.at,
-        })))
+        }))),
+    }
+}
+
+/// The same, as what a declarator makes.
+fn array_of(
+    alloc: Global,
+    types: &Types<'_>,
+    ty: CType,
+    length: Length,
+) -> Result<Result<Shape, Option<Problem>>, AllocError>
+    requires { AreWholeStructures (plain_types types.now) }
+    ensures { IfOk result (λ r. ruled_shape r ≡ array_of (plain_types types.now) (plain_type ty) length) }
+{
+    match sized_array(alloc, types, ty, length)? {
+        Ok(array) => Ok(Ok(Shape::Plain(array))),
+        Err(problem) => Ok(Err(problem)),
+    }
+}
+
+/// A length, if its value is found.
+fn length_judged(length: Result<Value, Option<Problem>>) -> Result<Length, Option<Problem>>
+    ensures { lift result ≡ on (lift (ruled_value length)) length_found }
+{
+    match length {
+        Ok(v) => length_found(&v),
+        Err(problem) => Err(problem),
     }
 }
 
@@ -168,16 +174,15 @@ fn array_found(
     alloc: Global,
     types: &Types<'_>,
     a: Result<CType, Option<Problem>>,
-    b: Result<Value, Option<Problem>>,
+    b: Result<Length, Option<Problem>>,
 ) -> Result<Result<Shape, Option<Problem>>, AllocError>
     requires { AreWholeStructures (plain_types types.now) }
-    ensures { IfOk result (λ r. lift (ruled_shape r) ≡ on (pair only_first (lift (ruled_type a)) (lift (ruled_value b))) (λ (t, v). array_of (plain_types types.now) t v)) }
+    ensures { IfOk result (λ r. lift (ruled_shape r) ≡ on (pair only_first (lift (ruled_type a)) (lift b)) (λ (t, n). array_of (plain_types types.now) t n)) }
 {
     match both(a, b) {
         Ok(parts) => {
             let (ty, length) = parts;
-            let shape = array_of(alloc, types, ty, &length);
-            without(length, shape)
+            array_of(alloc, types, ty, length)
         }
         Err(r) => Ok(Err(r)),
     }
@@ -197,12 +202,13 @@ pub fn array_judged(
     ensures { IfOk result (λ r. judged_shape r ≡ array_judged only_first (plain_types types.now) name_at made (judged_value length) (judged_shape found)) }
 {
     let element = element_found(types, name_at, found);
-    let found = array_found(alloc, types, element, length.found)?;
+    let length = length_judged(length.found);
+    let found = array_found(alloc, types, element, length)?;
     let own = Problem {
         code: SubsetCode::IncompleteType,
         at: name_at,
     };
-    Ok(shape_refused(is_of_function(made), own, found))
+    Ok(shape_refused(lacks_size(made), own, found))
 }
 
 /// An array whose length is lacking, if its element is found.
@@ -230,5 +236,5 @@ pub fn open_array_judged(
         code: SubsetCode::IncompleteType,
         at: name_at,
     };
-    shape_refused(is_of_function(made), own, found)
+    shape_refused(lacks_size(made), own, found)
 }

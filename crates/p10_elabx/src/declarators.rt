@@ -4,7 +4,7 @@ ghost use Rattle.std.specs.Prelude.{◌≡◌, IfOk, map};
 ghost use Rattle.p10_core.specs.Types.{plain_type};
 ghost use Rattle.p10_base.specs.declared.codes.SubsetCode.TheVariants as subset;
 ghost use Rattle.p10_syn.specs.Built.{declarator_of, qualifier_of};
-ghost use Rattle.p10_elabx.specs.TypeNames.{declarator_place, name_place, made_by, is_const_word, has_const_word, other_word, is_of_function, is_of_aggregate, pointed, pointer_judged, also_word};
+ghost use Rattle.p10_elabx.specs.TypeNames.{declarator_place, name_place, made_by, is_const_word, has_const_word, other_word, is_of_function, is_of_open_array, lacks_size, is_of_aggregate, pointed, pointer_judged, also_word};
 ghost use Rattle.p10_elabx.specs.First.{only_first, on, lift};
 ghost use Rattle.p10_elabx.specs.Built.{ruled_shape, judged_shape, plain_shape};
 
@@ -52,7 +52,8 @@ pub fn made_by(made: Made, d: &Declarator<'_>) -> Made
         Declarator::Named(_) | Declarator::Unnamed(_) => made,
         Declarator::Pointer(_, _, inner) => made_by(Made::Pointer, inner),
         Declarator::Parenthesised(_, inner) => made_by(made, inner),
-        Declarator::Array(_, inner, _, _) => made_by(Made::Array, inner),
+        Declarator::Array(_, inner, _, None) => made_by(Made::OpenArray, inner),
+        Declarator::Array(_, inner, _, Some(_)) => made_by(Made::Array, inner),
         Declarator::Function(_, inner, _, _, _) => made_by(Made::Function, inner),
     }
 }
@@ -95,11 +96,25 @@ pub fn is_of_function(made: Made) -> bool
     matches!(made, Made::Function)
 }
 
+/// Whether an array without a length stands round.
+pub fn is_of_open_array(made: Made) -> bool
+    ensures { result ≡ is_of_open_array made }
+{
+    matches!(made, Made::OpenArray)
+}
+
+/// Whether what stands round has no size: a function, or an array without a length.
+pub fn lacks_size(made: Made) -> bool
+    ensures { result ≡ lacks_size made }
+{
+    matches!(made, Made::Function | Made::OpenArray)
+}
+
 /// Whether a function or an array stands round.
 pub fn is_of_aggregate(made: Made) -> bool
     ensures { result ≡ is_of_aggregate made }
 {
-    matches!(made, Made::Function | Made::Array)
+    matches!(made, Made::Function | Made::Array | Made::OpenArray)
 }
 
 /// A pointer to a type.
@@ -171,6 +186,11 @@ pub fn pointer_judged(
 {
     let found = pointer_found(alloc, at, name_at, qualifiers, found)?;
     let found = word_refused(other_word(qualifiers), found);
+    let incomplete = Problem {
+        code: SubsetCode::IncompleteType,
+        at: name_at,
+    };
+    let found = shape_refused(is_of_open_array(made), incomplete, found);
     let own = Problem {
         code: SubsetCode::BadPointer,
         at,

@@ -1,5 +1,6 @@
-//! What declarators make of types.
+//! What declarators make of types, and the lengths of arrays.
 
+use p10_base::At;
 use p10_core::CType;
 
 /// What a declarator makes of a type.
@@ -19,5 +20,16 @@ pub enum Made {
     Nothing,
     Pointer,
     Array,
+    /// An array whose length is lacking.
+    OpenArray,
     Function,
+}
+
+/// The length of an array.
+#[derive(Clone, Copy, Debug)]
+pub struct Length {
+    /// Where its expression stands.
+    pub at: At,
+    /// How many elements there are.
+    pub count: u64,
 }

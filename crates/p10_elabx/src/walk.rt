@@ -306,7 +306,7 @@ pub fn judge_declarator(
         }
         Declarator::Array(_, inner, _, None) => {
             let shape = open_array_judged(&scope.types, name_at, made, shape);
-            judge_declarator(alloc, scope, inner, name_at, Made::Array, shape)
+            judge_declarator(alloc, scope, inner, name_at, Made::OpenArray, shape)
         }
         Declarator::Array(_, inner, _, Some(length)) => {
             let evaluated = Situation {

@@ -1,6 +1,7 @@
 pub mod ListRows
 pub mod CutRoots
 mod BlockObjects
+mod DefiningOnce
 mod IsAt
 mod FirstNames
 mod Numbered

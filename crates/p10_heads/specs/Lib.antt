@@ -3,4 +3,5 @@ pub mod Heads
 pub mod HeadViews
 pub mod PlainHeads
 pub mod Roots
+pub mod Laws
 pub mod private

@@ -13,6 +13,7 @@ mod defined;
 mod first_names;
 mod head;
 mod heads;
+pub mod laws;
 mod numbers;
 mod outline;
 mod outlines;

@@ -61,7 +61,7 @@ members_joined ss ts j ms ks e = sym (members_through ss ts j ms) ∙ ap (map (b
 pub joined_itself : (ss : List PlainStructure) → StandsWell ss → IsJoined ss ss
 joined_itself ss w = record { long = refl; count = refl; bodies = λ n. refl; through = w.own }
 
-joined_on : (ss ts us : List PlainStructure) → IsJoined ss ts → IsJoined ts us → IsJoined ss us
+pub joined_on : (ss ts us : List PlainStructure) → IsJoined ss ts → IsJoined ts us → IsJoined ss us
 joined_on ss ts us j k = record {
   long = k.long ∙ j.long;
   count = k.count ∙ j.count;
@@ -101,7 +101,7 @@ stands_at ss old new n there = stands_in ss old new n n (λ past. elim (eqb_tell
   | inr (e, differ) ↦ e
 ])
 
-body_stays : (ss : List PlainStructure) (old new n : ℕ) → body_of (standing_for old new ss) n ≡ body_of ss n
+pub body_stays : (ss : List PlainStructure) (old new n : ℕ) → body_of (standing_for old new ss) n ≡ body_of ss n
 body_stays [] old new n = refl
 body_stays (s ∷ ss) old new zero = refl
 body_stays (s ∷ ss) old new (suc n) = body_stays ss old new n

@@ -1,4 +1,7 @@
+pub mod Agreements
 pub mod ByNumbers
+mod ComparedAlike
+mod Comparisons
 pub mod Joining
 pub mod LyingAlike
 pub mod OneType
@@ -6,3 +9,6 @@ pub mod Turns
 pub mod Groupings
 pub mod LastNames
 pub mod LinkedTypes
+mod UnitedAlike
+mod ComparedWell
+mod EachFound

@@ -36,7 +36,7 @@ pub some_then : {A : Type 0} (o : Option A) (go : A → Option A) (y : A) → an
 some_then None go y e = none_is_not y e
 some_then (Some x) go y e = (x, refl, e)
 
-both_true : (a b : Bool) → (a && b) ≡ true → b ≡ true
+pub both_true : (a b : Bool) → (a && b) ≡ true → b ≡ true
 both_true true b e = e
 both_true false b e = absurd cc
 
@@ -58,7 +58,7 @@ numbered ULong = refl
 numbered LLong = refl
 numbered ULLong = refl
 
-same_integers : (i j : IntType) → same_integer i j ≡ true → i ≡ j
+pub same_integers : (i j : IntType) → same_integer i j ≡ true → i ≡ j
 same_integers i j e = sym (numbered i) ∙ ap integer_numbered (eqb-true (number_of i) (number_of j) e) ∙ numbered j
 
 -- ## Types
@@ -118,7 +118,7 @@ types_kept unite h (structure c m) (structure d n) ss ts w e =
 
 -- ## Members
 
-members_kept : (unite : PlainType → PlainType → List PlainStructure → Option (List PlainStructure)) → UnitesTypes unite → (ms ks : List PlainMember) (ss ts : List PlainStructure) → StandsWell ss →
+pub members_kept : (unite : PlainType → PlainType → List PlainStructure → Option (List PlainStructure)) → UnitesTypes unite → (ms ks : List PlainMember) (ss ts : List PlainStructure) → StandsWell ss →
     members_united unite ms ks ss ≡ Some ts → IsKept ss ts × (map (bare_member ts) ms ≡ map (bare_member ts) ks)
 members_kept unite h [] [] ss ts w e = subst (λ us. IsKept ss us × (map (bare_member us) [] ≡ map (bare_member us) [])) (some_is ss ts e) (kept_itself ss w, refl)
 members_kept unite h (m ∷ ms) (k ∷ ks) ss ts w e =
@@ -137,7 +137,7 @@ members_kept unite h (m ∷ ms) [] ss ts w e = none_is_not ts e
 
 -- ## Structures
 
-turned : (m n : ℕ) → nat_eq m n ≡ false → nat_eq n m ≡ false
+pub turned : (m n : ℕ) → nat_eq m n ≡ false → nat_eq n m ≡ false
 turned m n e = elim (eqb_tells n m) as (λ _. nat_eq n m ≡ false) [
   | inl (is, same) ↦ absurd (apart (sym e ∙ eq-eqb m n (sym same)))
   | inr (is, differ) ↦ is
@@ -146,17 +146,17 @@ turned m n e = elim (eqb_tells n m) as (λ _. nat_eq n m ≡ false) [
     apart : false ≡ true → ⊥
     apart e = absurd cc
 
-there : (ss : List PlainStructure) (n : ℕ) → is_some (slice_get ss n) ≡ true → n < length ss
+pub there : (ss : List PlainStructure) (n : ℕ) → is_some (slice_get ss n) ≡ true → n < length ss
 there [] n e = absurd cc
 there (s ∷ ss) zero e = omega arith
 there (s ∷ ss) (suc n) e = omega (arith, there ss n e)
 
-alike_there : (o p : Option PlainStructure) → tagged_alike o p ≡ true → (is_some o ≡ true) × (is_some p ≡ true)
+pub alike_there : (o p : Option PlainStructure) → tagged_alike o p ≡ true → (is_some o ≡ true) × (is_some p ≡ true)
 alike_there None p e = absurd cc
 alike_there (Some s) None e = absurd cc
 alike_there (Some s) (Some t) e = (refl, refl)
 
-none_complete : {P : Type 0} → false ≡ true → P
+pub none_complete : {P : Type 0} → false ≡ true → P
 none_complete e = absurd cc
 
 -- what one structure that comes to stand for another does, where their members are one then

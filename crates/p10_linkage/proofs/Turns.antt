@@ -3,6 +3,7 @@ use Rattle.std.proofs.Common.{◌≡◌, ℕ, zero, suc, ◌+◌, ◌<◌, nat_e
 use Rattle.std.proofs.lemmas.List.{append-nil}
 use Rattle.std.proofs.lemmas.Option.{slice_get-get_or, slice_get-map}
 use Rattle.std.specs.Bool.{beq}
+use Rattle.std.specs.Option.{unwrap_or}
 use Rattle.p10_base.specs.Words.{Text}
 use Rattle.p10_base.specs.declared.codes.SubsetCode.TheVariants as subset
 use Rattle.p10_core.specs.Types.{PlainType, PlainStructure}
@@ -11,56 +12,80 @@ use Rattle.p10_elabx.specs.declared.problem.Problem.{Problem}
 use Rattle.p10_elabx.specs.First.{Keep, joined}
 use Rattle.p10_elabd.specs.Standing.{PlainStanding, refusing}
 use Rattle.p10_heads.specs.Heads.{Head}
-use Rattle.p10_linkage.specs.Linkage.{LinkedType, a_function, an_object, unknown_function, unknown_object, is_function, is_unknown, Linked}
-use Rattle.p10_linkage.specs.Uniting.{and_then, united}
-use Rattle.p10_linkage.specs.Between.{parameters_united, linked_united, is_other, agreed_with, agreed, agreed_noted, agreeing, all_agreeing, is_defined_before, definitions_noted}
+use Rattle.p10_linkage.specs.Linkage.{LinkedType, a_function, an_object, a_part_function, unknown_object, is_function, parameters_of, known_result, lists_agree, is_none_listed, Linked}
+use Rattle.p10_linkage.specs.Compatible.{are_compatible}
+use Rattle.p10_linkage.specs.Uniting.{and_then}
+use Rattle.p10_linkage.specs.Between.{known_united, parameters_united, listed_united, functions_united, objects_united, linked_united, unless_compatible, is_other, agreed_with, agreed, agreed_noted, agreeing, all_agreeing, is_defined_before, definitions_noted}
 use Rattle.p10_linkage.specs.private.Meetings.{given}
 use Rattle.p10_linkage.specs.private.Grouping.{with_row, rows_at, named}
 use Rattle.p10_linkage.specs.private.Agreeing.{agreed_row, stood, noted_where, is_defined_row}
 use Rattle.p10_linkage.proofs.ByNumbers.{then_none}
+use Rattle.p10_linkage.proofs.LinkedTypes.{drop_here, rest_of}
 use Rattle.p10_linkage.proofs.OneType.{some_is, none_is_not, some_if, some_then, united_built}
 
 -- ## Structures stay built
 
-parameters_built : (ts us : List PlainType) (ss rs : List PlainStructure) → AreBuilt ss → parameters_united ts us ss ≡ Some rs → AreBuilt rs
+known_built : (t u : Option PlainType) (ss rs : List PlainStructure) → AreBuilt ss → known_united t u ss ≡ Some rs → AreBuilt rs
+known_built (Some t) (Some u) ss rs b e = united_built t u ss rs b e
+known_built (Some t) None ss rs b e = subst AreBuilt (some_is ss rs e) b
+known_built None (Some u) ss rs b e = subst AreBuilt (some_is ss rs e) b
+known_built None None ss rs b e = subst AreBuilt (some_is ss rs e) b
+
+parameters_built : (ts us : List (Option PlainType)) (ss rs : List PlainStructure) → AreBuilt ss → parameters_united ts us ss ≡ Some rs → AreBuilt rs
 parameters_built [] [] ss rs b e = subst AreBuilt (some_is ss rs e) b
 parameters_built (t ∷ ts) (u ∷ us) ss rs b e =
-    let next : (qs : List PlainStructure) × (united t u ss ≡ Some qs) × (parameters_united ts us qs ≡ Some rs) = some_then (united t u ss) (parameters_united ts us) rs e in
-    parameters_built ts us next.0 rs (united_built t u ss next.0 b next.1) next.2
+    let next : (qs : List PlainStructure) × (known_united t u ss ≡ Some qs) × (parameters_united ts us qs ≡ Some rs) = some_then (known_united t u ss) (parameters_united ts us) rs e in
+    parameters_built ts us next.0 rs (known_built t u ss next.0 b next.1) next.2
 parameters_built [] (u ∷ us) ss rs b e = none_is_not rs e
 parameters_built (t ∷ ts) [] ss rs b e = none_is_not rs e
-
-as_before : (t u : LinkedType) (ss rs : List PlainStructure) → AreBuilt ss → (if beq (is_function t) (is_function u) && (is_unknown t || is_unknown u) then Some ss else None) ≡ Some rs → AreBuilt rs
-as_before t u ss rs b e = subst AreBuilt (some_is ss rs (some_if (beq (is_function t) (is_function u) && (is_unknown t || is_unknown u)) (Some ss) rs e).1) b
-
-linked_built : (t u : LinkedType) (ss rs : List PlainStructure) → AreBuilt ss → linked_united t u ss ≡ Some rs → AreBuilt rs
-linked_built (a_function vs r) (a_function ws q) ss rs b e =
-    let next : (qs : List PlainStructure) × (united r q ss ≡ Some qs) × (parameters_united vs ws qs ≡ Some rs) = some_then (united r q ss) (parameters_united vs ws) rs e in
-    parameters_built vs ws next.0 rs (united_built r q ss next.0 b next.1) next.2
-linked_built (a_function vs r) (an_object u) ss rs b e = as_before (a_function vs r) (an_object u) ss rs b e
-linked_built (a_function vs r) (unknown_function) ss rs b e = as_before (a_function vs r) (unknown_function) ss rs b e
-linked_built (a_function vs r) (unknown_object) ss rs b e = as_before (a_function vs r) (unknown_object) ss rs b e
-linked_built (an_object t) (a_function ws q) ss rs b e = as_before (an_object t) (a_function ws q) ss rs b e
-linked_built (an_object t) (an_object u) ss rs b e = united_built t u ss rs b e
-linked_built (an_object t) (unknown_function) ss rs b e = as_before (an_object t) (unknown_function) ss rs b e
-linked_built (an_object t) (unknown_object) ss rs b e = as_before (an_object t) (unknown_object) ss rs b e
-linked_built (unknown_function) (a_function ws q) ss rs b e = as_before (unknown_function) (a_function ws q) ss rs b e
-linked_built (unknown_function) (an_object u) ss rs b e = as_before (unknown_function) (an_object u) ss rs b e
-linked_built (unknown_function) (unknown_function) ss rs b e = as_before (unknown_function) (unknown_function) ss rs b e
-linked_built (unknown_function) (unknown_object) ss rs b e = as_before (unknown_function) (unknown_object) ss rs b e
-linked_built (unknown_object) (a_function ws q) ss rs b e = as_before (unknown_object) (a_function ws q) ss rs b e
-linked_built (unknown_object) (an_object u) ss rs b e = as_before (unknown_object) (an_object u) ss rs b e
-linked_built (unknown_object) (unknown_function) ss rs b e = as_before (unknown_object) (unknown_function) ss rs b e
-linked_built (unknown_object) (unknown_object) ss rs b e = as_before (unknown_object) (unknown_object) ss rs b e
 
 either_some : {A : Type 0} (t : Bool) (o p : Option A) (y : A) → (if t then o else p) ≡ Some y → (o ≡ Some y) ⊎ (p ≡ Some y)
 either_some true o p y e = inl e
 either_some false o p y e = inr e
 
+listed_built : (t u : LinkedType) (ss rs : List PlainStructure) → AreBuilt ss → listed_united t u ss ≡ Some rs → AreBuilt rs
+listed_built t u ss rs b e =
+    elim (either_some (is_none_listed t u) (Some ss) (parameters_united (parameters_of t) (parameters_of u) ss) rs e) as (λ _. AreBuilt rs) [
+      | inl none ↦ subst AreBuilt (some_is ss rs none) b
+      | inr both ↦ parameters_built (parameters_of t) (parameters_of u) ss rs b both
+    ]
+
+functions_built : (l now : Linked) (ss rs : List PlainStructure) → AreBuilt ss → functions_united l now ss ≡ Some rs → AreBuilt rs
+functions_built l now ss rs b e =
+    let both : Option (List PlainStructure) = and_then (known_united (known_result l.type) (known_result now.type) ss) (listed_united l.type now.type) in
+    let next : (qs : List PlainStructure) × (known_united (known_result l.type) (known_result now.type) ss ≡ Some qs) × (listed_united l.type now.type qs ≡ Some rs) =
+    some_then (known_united (known_result l.type) (known_result now.type) ss) (listed_united l.type now.type) rs (some_if (lists_agree l.defines now.defines l.type now.type) both rs e).1 in
+    listed_built l.type now.type next.0 rs (known_built (known_result l.type) (known_result now.type) ss next.0 b next.1) next.2
+
+as_before : (t u : LinkedType) (ss rs : List PlainStructure) → AreBuilt ss → (if beq (is_function t) (is_function u) then Some ss else None) ≡ Some rs → AreBuilt rs
+as_before t u ss rs b e = subst AreBuilt (some_is ss rs (some_if (beq (is_function t) (is_function u)) (Some ss) rs e).1) b
+
+objects_built : (t u : LinkedType) (ss rs : List PlainStructure) → AreBuilt ss → objects_united t u ss ≡ Some rs → AreBuilt rs
+objects_built (an_object t) (an_object u) ss rs b e = united_built t u ss rs b e
+objects_built (an_object t) (a_function ws q) ss rs b e = as_before (an_object t) (a_function ws q) ss rs b e
+objects_built (an_object t) (a_part_function p) ss rs b e = as_before (an_object t) (a_part_function p) ss rs b e
+objects_built (an_object t) unknown_object ss rs b e = as_before (an_object t) unknown_object ss rs b e
+objects_built (a_function vs r) u ss rs b e = as_before (a_function vs r) u ss rs b e
+objects_built (a_part_function p) u ss rs b e = as_before (a_part_function p) u ss rs b e
+objects_built unknown_object u ss rs b e = as_before unknown_object u ss rs b e
+
+linked_built : (l now : Linked) (ss rs : List PlainStructure) → AreBuilt ss → linked_united l now ss ≡ Some rs → AreBuilt rs
+linked_built l now ss rs b e =
+    elim (either_some (is_function l.type && is_function now.type) (functions_united l now ss) (objects_united l.type now.type ss) rs e) as (λ _. AreBuilt rs) [
+      | inl functions ↦ functions_built l now ss rs b functions
+      | inr objects ↦ objects_built l.type now.type ss rs b objects
+    ]
+
+unless_built : (l now : Linked) (ss rs : List PlainStructure) (found : Option (List PlainStructure)) → AreBuilt ss →
+    ((qs : List PlainStructure) → found ≡ Some qs → AreBuilt qs) → unless_compatible l now ss found ≡ Some rs → AreBuilt rs
+unless_built l now ss rs (Some after) b h e = h rs e
+unless_built l now ss rs None b h e = subst AreBuilt (some_is ss rs (some_if (are_compatible ss l now) (Some ss) rs e).1) b
+
 with_built : (l now : Linked) (ss rs : List PlainStructure) → AreBuilt ss → agreed_with l now ss ≡ Some rs → AreBuilt rs
 with_built l now ss rs b e =
-    elim (either_some (is_other l now) (if beq l.sensor now.sensor then linked_united l.type now.type ss else None) (Some ss) rs e) as (λ _. AreBuilt rs) [
-      | inl both ↦ linked_built l.type now.type ss rs b (some_if (beq l.sensor now.sensor) (linked_united l.type now.type ss) rs both).1
+    let found : Option (List PlainStructure) = unless_compatible l now ss (linked_united l now ss) in
+    elim (either_some (is_other l now) (if beq l.sensor now.sensor then found else None) (Some ss) rs e) as (λ _. AreBuilt rs) [
+      | inl both ↦ unless_built l now ss rs (linked_united l now ss) b (λ qs. linked_built l now ss qs b) (some_if (beq l.sensor now.sensor) found rs both).1
       | inr same ↦ subst AreBuilt (some_is ss rs same) b
     ]
 
@@ -76,11 +101,28 @@ turn_built true ls now ss rs b e same = agreed_built ls now ss rs b (sym e)
 turn_built false ls now ss rs b e same = subst AreBuilt (sym (same refl)) b
 
 -- parameters that aren't as many aren't made one
-pub parameters_apart : (ts us : List PlainType) (ss : List PlainStructure) → (length ts ≡ length us → ⊥) → parameters_united ts us ss ≡ None
+pub parameters_apart : (ts us : List (Option PlainType)) (ss : List PlainStructure) → (length ts ≡ length us → ⊥) → parameters_united ts us ss ≡ None
 parameters_apart [] [] ss h = absurd (h refl)
 parameters_apart [] (u ∷ us) ss h = refl
 parameters_apart (t ∷ ts) [] ss h = refl
-parameters_apart (t ∷ ts) (u ∷ us) ss h = then_none (united t u ss) (parameters_united ts us) (λ x. parameters_apart ts us x (λ e. h (ap suc e)))
+parameters_apart (t ∷ ts) (u ∷ us) ss h = then_none (known_united t u ss) (parameters_united ts us) (λ x. parameters_apart ts us x (λ e. h (ap suc e)))
+
+-- the parameters at a place of two functions are made one, and then those after them
+pub parameters_turn : (ts us : List (Option PlainType)) (k : ℕ) (ss rs : List PlainStructure) (agrees : Bool) → k < length ts → k < length us →
+    given agrees rs ≡ known_united (unwrap_or (slice_get ts k) None) (unwrap_or (slice_get us k) None) ss →
+    parameters_united (drop k ts) (drop k us) ss ≡ (if agrees then parameters_united (drop (k + 1) ts) (drop (k + 1) us) rs else None)
+parameters_turn ts us k ss rs agrees h g e =
+    (λ i. parameters_united (drop_here ts k h i) (drop_here us k g i) ss)
+    ∙ ap (λ o. and_then o (parameters_united (drop (k + 1) ts) (drop (k + 1) us))) (sym e)
+    ∙ by_answer agrees
+  where
+    by_answer : (t : Bool) → and_then (given t rs) (parameters_united (drop (k + 1) ts) (drop (k + 1) us)) ≡ (if t then parameters_united (drop (k + 1) ts) (drop (k + 1) us) rs else None)
+    by_answer true = refl
+    by_answer false = refl
+
+-- no parameters are left
+pub parameters_done : (ts us : List (Option PlainType)) (k : ℕ) (ss : List PlainStructure) → length ts ≤ k → length us ≤ k → parameters_united (drop k ts) (drop k us) ss ≡ Some ss
+parameters_done ts us k ss h g = λ i. parameters_united (rest_of ts k h i) (rest_of us k g i) ss
 
 -- ## Names
 
@@ -158,7 +200,7 @@ named_agreed (l ∷ ls) now ss = by_name (named_agreed ls now) (bytes_eq l.name 
         let differs : is_other l now ≡ false = ap (λ t. not (nat_eq l.root now.root) && (t && not (l.internal || now.internal))) e ∙ no_other (not (nat_eq l.root now.root)) (not (l.internal || now.internal)) in
         ap (λ t. agreed (if t then l ∷ rest else rest) now ss) e
         ∙ same ss
-        ∙ sym (ap (λ t. and_then (if t then (if beq l.sensor now.sensor then linked_united l.type now.type ss else None) else Some ss) (agreed ls now)) differs)
+        ∙ sym (ap (λ t. and_then (if t then (if beq l.sensor now.sensor then unless_compatible l now ss (linked_united l now ss) else None) else Some ss) (agreed ls now)) differs)
 
 -- a declaration is taken with those before it
 pub agreed_turn : (all : List Linked) (k : ℕ) (now : Linked) (places : List ℕ) (ss rs : List PlainStructure) (agrees : Bool) (h : Keep) (s : PlainStanding) (found : List Problem) → slice_get all k ≡ Some now →

@@ -3,5 +3,7 @@ pub mod Linkage
 pub mod LinkedViews
 pub mod LinkedLists
 pub mod Uniting
+pub mod Compatible
 pub mod Between
+pub mod Laws
 pub mod private

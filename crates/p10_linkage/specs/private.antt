@@ -1,5 +1,6 @@
 -- What the private functions of this crate rest on.
 pub mod Agreeing
+pub mod Comparing
 pub mod Grouping
 pub mod Lookups
 pub mod Meetings

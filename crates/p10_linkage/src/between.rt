@@ -40,7 +40,7 @@ pub fn agree_in_turn<'s>(
     let mut found = problem;
     for place in 0..linked.len() {
         let now = &linked[place];
-        let agrees = agree(types, stands, linked, groups.of(now.name), now)?;
+        let agrees = agree(alloc, types, stands, linked, groups.of(now.name), now)?;
         found = with_problem_where(!agrees, found, now.at);
         groups.add(alloc, now.name, place)?;
     }

@@ -8,15 +8,18 @@
 
 mod agreeing;
 mod between;
+mod compatible;
 mod groups;
+pub mod laws;
 mod linkage;
 mod linked;
 mod linked_names;
+mod listing;
 mod meeting;
 mod together;
 mod uniting;
 
-pub use linkage::{differs, internal_by, is_main, is_main_name, main_problem};
-pub use linked::{LinkedKind, LinkedName};
+pub use linkage::{differs, internal_by, is_function, is_main, is_main_name, main_problem};
+pub use linked::{LinkedKind, LinkedName, PartKind};
 pub use linked_names::LinkedNames;
 pub use together::taken_together;

@@ -1,14 +1,14 @@
 //! What declarations with linkage declare, whether they agree within a root, and the form of `main` (C99 6.2.2, 6.7p4, 5.1.2.2.1).
 
-ghost use Rattle.std.specs.Prelude.{◌≡◌, ◌&&◌, ◌||◌, map, option_map, option_copied};
-ghost use Rattle.std.specs.Bool.{beq};
+ghost use Rattle.std.specs.Prelude.{◌≡◌, option_map, option_copied};
 ghost use Rattle.p10_core.specs.Rows.{same, int_type};
 ghost use Rattle.p10_core.specs.Types.{plain_type};
 ghost use Rattle.p10_elabx.specs.First.{problems};
 ghost use Rattle.p10_linkage.specs.LinkedViews.{plain_kind, linked_of_name};
-ghost use Rattle.p10_linkage.specs.Linkage.{is_function, is_unknown, same_parameters, same_linked, is_static, is_like_extern, internal_by, differs, is_main_name, has_main_form, is_main, main_problem};
+ghost use Rattle.p10_linkage.specs.Linkage.{is_function, same_objects, same_linked, is_static, is_like_extern, internal_by, differs, is_main_name, has_main_form, is_main, main_problem};
 
 use crate::linked::{LinkedKind, LinkedName};
+use crate::listing::same_functions;
 use p10_base::{At, SubsetCode};
 use p10_core::{CType, TypeForm};
 use p10_elabd::Storage;
@@ -19,55 +19,33 @@ use p10_int::IntType;
 pub fn is_function(kind: &LinkedKind) -> bool
     ensures { result ≡ is_function (plain_kind kind.now) }
 {
-    matches!(
-        kind,
-        LinkedKind::Function(_, _) | LinkedKind::UnknownFunction
-    )
-}
-
-/// Whether no more is known of what is declared, since its type is refused.
-pub fn is_unknown(kind: &LinkedKind) -> bool
-    ensures { result ≡ is_unknown (plain_kind kind.now) }
-{
-    matches!(
-        kind,
-        LinkedKind::UnknownFunction | LinkedKind::UnknownObject
-    )
-}
-
-/// Whether types of parameters are the same.
-fn same_parameters(these: &[CType], those: &[CType]) -> bool
-    ensures { result ≡ same_parameters (map plain_type these.now) (map plain_type those.now) }
-{
-    if these.len() != those.len() {
-        return false;
+    match kind {
+        LinkedKind::Function(_, _) => true,
+        LinkedKind::Refused(_) => true,
+        LinkedKind::Object(_) | LinkedKind::UnknownObject => false,
     }
-    for place in 0..these.len() {
-        if !these[place].is_same(&those[place]) {
-            return false;
-        }
-    }
-    true
 }
 
-/// Whether two declarations of a root declare the same, as far as that is known.
-pub fn same_linked(one: &LinkedKind, other: &LinkedKind) -> bool
-    ensures { result ≡ same_linked (plain_kind one.now) (plain_kind other.now) }
+/// Whether two declarations of which one is no function declare the same, as far as that is known.
+fn same_objects(one: &LinkedKind, other: &LinkedKind) -> bool
+    ensures { result ≡ same_objects (plain_kind one.now) (plain_kind other.now) }
 {
     match (one, other) {
         (LinkedKind::Object(t), LinkedKind::Object(u)) => t.is_same(u),
-        (LinkedKind::Function(ts, r), LinkedKind::Function(us, q)) => {
-            same_parameters(ts.as_slice(), us.as_slice()) & r.is_same(q)
-        }
-        _ => agree_unknown(one, other),
+        _ => is_function(one) == is_function(other),
     }
 }
 
-/// Whether declarations agree of which one isn't known.
-pub fn agree_unknown(one: &LinkedKind, other: &LinkedKind) -> bool
-    ensures { result ≡ (beq (is_function (plain_kind one.now)) (is_function (plain_kind other.now)) && (is_unknown (plain_kind one.now) || is_unknown (plain_kind other.now))) }
+/// Whether two declarations of a root declare the same, as far as that is known.
+fn same_linked(before: &LinkedName<'_>, now: &LinkedName<'_>) -> bool
+    ensures { result ≡ same_linked (linked_of_name before.now) (linked_of_name now.now) }
 {
-    is_function(one) == is_function(other) && (is_unknown(one) || is_unknown(other))
+    let functions = is_function(&before.kind) && is_function(&now.kind);
+    if functions {
+        same_functions(before, now)
+    } else {
+        same_objects(&before.kind, &now.kind)
+    }
 }
 
 /// Whether `static` stands at a declaration.
@@ -105,8 +83,7 @@ pub fn internal_by(storage: Storage, kind: &LinkedKind, before: Option<&LinkedNa
 pub fn differs(before: &LinkedName<'_>, now: &LinkedName<'_>) -> bool
     ensures { result ≡ differs (linked_of_name before.now) (linked_of_name now.now) }
 {
-    !same_linked(&before.kind, &now.kind)
-        || (before.internal != now.internal || before.sensor != now.sensor)
+    !same_linked(before, now) || (before.internal != now.internal || before.sensor != now.sensor)
 }
 
 /// Whether a name is `main`.
@@ -129,7 +106,7 @@ fn has_main_form(kind: &LinkedKind) -> bool
 {
     match kind {
         LinkedKind::Function(parameters, result) => parameters.is_empty() && is_int(result),
-        LinkedKind::UnknownFunction => true,
+        LinkedKind::Refused(_) => true,
         LinkedKind::Object(_) | LinkedKind::UnknownObject => false,
     }
 }

@@ -2,6 +2,18 @@
 
 use p10_base::At;
 use p10_core::CType;
+use p10_elabd::ParameterList;
+
+/// A function of which a part is refused, as far as it is known.
+#[derive(Drop)]
+pub struct PartKind {
+    /// The types of its parameters without marks, unless they are refused.
+    pub parameters: Vec<Option<CType>>,
+    /// In which form they are listed.
+    pub list: ParameterList,
+    /// The type of its result, unless that is refused.
+    pub result: Option<CType>,
+}
 
 /// What is declared.
 #[derive(Drop)]
@@ -10,8 +22,8 @@ pub enum LinkedKind {
     Function(Vec<CType>, CType),
     /// An object.
     Object(CType),
-    /// A function of which no more is known, since its type is refused.
-    UnknownFunction,
+    /// A function of which a part is refused.
+    Refused(PartKind),
     /// An object of which no more is known, since its type is refused.
     UnknownObject,
 }

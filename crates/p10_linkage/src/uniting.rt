@@ -39,7 +39,7 @@ fn swapped(number: u32, old: u32, new: u32) -> u32
 }
 
 /// Whether two tags are the same, or there is none.
-fn same_tags(one: Option<&[u8]>, other: Option<&[u8]>) -> bool
+pub(crate) fn same_tags(one: Option<&[u8]>, other: Option<&[u8]>) -> bool
     ensures { result ≡ same_tags (option_map (λ t. t.now) one.entry) (option_map (λ t. t.now) other.entry) }
 {
     match (one, other) {

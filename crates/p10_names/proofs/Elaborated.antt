@@ -1,5 +1,5 @@
 -- The functions of a typed program are those that its trees define, with the names of their definitions.
-use Rattle.std.proofs.Common.{◌≡◌, ℕ, zero, suc, ◌+◌, ◌≤◌, Bool, true, false, if◌then◌else◌, cond, List, [], ◌∷◌, ◌++◌, Option, Some, None, refl, sym, ap, ◌∙◌, subst, arith}
+use Rattle.std.proofs.Common.{◌≡◌, ℕ, zero, suc, ◌+◌, ◌≤◌, Bool, true, false, ◌||◌, if◌then◌else◌, cond, List, [], ◌∷◌, ◌++◌, Option, Some, None, refl, sym, ap, ◌∙◌, subst, arith}
 use Rattle.std.specs.Prelude.{slice_get, codes}
 use Rattle.std.specs.List.{AllByRecursion, position_from}
 use Rattle.std.specs.Option.{unwrap_or}
@@ -18,16 +18,18 @@ use Rattle.p10_elabd.specs.declared.lifetime.Lifetime.TheVariants as life_is
 use Rattle.p10_elabd.specs.Words.{storage_of}
 use Rattle.p10_elabd.specs.Declaring.{specified, declarator_passed, based}
 use Rattle.p10_elabd.specs.Standing.{Passed}
-use Rattle.p10_elabd.specs.Shapes.{FunctionType, DeclaredType, of_type, of_open_array, of_function, name_in}
+use Rattle.p10_elabd.specs.Shapes.{FunctionType, DeclaredType, of_type, of_open_array, of_function, of_part_function, name_in}
 use Rattle.p10_elabs.specs.LocalDeclarations.{is_typedef}
 use Rattle.p10_elabs.specs.Addresses.{addresses_taken, constants_of}
-use Rattle.p10_elabs.specs.Locals.{Frame, Local, specified_in, makes_sensors, no_initializer, typedef_passed, brackets_of, initialized_by}
+use Rattle.p10_elabs.specs.Locals.{Frame, Local, specified_in, makes_sensors, no_initializer, typedef_passed, is_written, brackets_of, initialized_by}
 use Rattle.p10_elabs.specs.Statements.{in_nothing, Block', no_items_yet, items_done}
 use Rattle.p10_heads.specs.Heads.{Heads, number_in, heads_of_roots}
 use Rattle.p10_heads.specs.Roots.{root_follows, with_first, roots_of}
 use Rattle.p10_linkage.specs.Linkage.{an_object, Linked, is_main_name}
 use Rattle.p10_program.specs.Mains.{missing_main}
-use Rattle.p10_elab.specs.Outer.{Known, with_standing, with_linked, linked_of, without_linkage, is_written, is_site, with_defined, object_declared, outer_type, object_outside, function_type, by_type_outside, outer_named, outer_declarators, main_constants, declared_outside, names_noted, body_begun, function_made, body_done, function_by_type, allowed_at_definition, function_named, defined_outside, known_after, known_after_all, root_begun, root_passed, roots_passed, nothing_known}
+use Rattle.p10_elab.specs.Knowledge.{Known, with_standing, with_linked, linked_of, without_linkage}
+use Rattle.p10_elab.specs.Outer.{is_site, with_defined, is_extern, with_tentative, object_declared, before_in, open_outside, outer_type, object_outside, object_by_type, object_by_form, function_type, by_type_outside, outer_named, outer_declarators, main_constants, declared_outside, names_noted, body_begun, function_made, body_done, function_by_type, allowed_at_definition, function_named, defined_outside}
+use Rattle.p10_elab.specs.RootEnds.{known_after, known_after_all, root_begun, root_passed, roots_passed, nothing_known}
 use Rattle.p10_elab.specs.Programs.{program, main_among, known_of, whole_of, elaborated}
 use Rattle.p10_elab.specs.Laws.{IsAccepted}
 use Rattle.p10_elab.proofs.Answers.{answers_have_causes}
@@ -47,9 +49,9 @@ defined_same heads l name t (Some i) k = if_same (is_site heads name) _ k k.func
 made_same : (h : Keep) (heads : Heads) (name : Identifier At) (t : PlainType) (s : Storage) (sensor : Bool) (i : Option (Initializer At)) (k : Known) → (object_declared h heads name t s sensor i k).functions ≡ k.functions
 made_same h heads name t s sensor i k =
     let l : Linked = linked_of k name (an_object t) s (is_written i) sensor in
-    let m : Known = with_linked h heads l k in
+    let m : Known = with_tentative name t s i (with_linked h heads l k) in
     let p : Passed PlainInitializer = initialized_by h life_is.Static t i m.standing in
-    defined_same heads l name t p.made (with_standing m p.after)
+    defined_same heads l name t p.made (with_standing m p.after) ∙ if_same (is_written i || is_extern s) (with_linked h heads l k) _ k.functions refl refl
 
 object_same : (h : Keep) (heads : Heads) (name : Identifier At) (s : Storage) (sensor : Bool) (i : Option (Initializer At)) (k : Known) (t : Passed PlainType) → (object_outside h heads name s sensor i k t).functions ≡ k.functions
 object_same h heads name s sensor i k t = by_made t.made
@@ -58,11 +60,20 @@ object_same h heads name s sensor i k t = by_made t.made
     by_made None = refl
     by_made (Some u) = made_same h heads name u s sensor i (with_standing k t.after)
 
+typed_same : (h : Keep) (heads : Heads) (s : Storage) (sensor : Bool) (name : Identifier At) (d : InitDeclarator At) (k : Known) (o : Option DeclaredType) → (object_by_type h heads s sensor name d k o).functions ≡ k.functions
+typed_same h heads s sensor name d k None = refl
+typed_same h heads s sensor name d k (Some t) =
+    object_same h heads name s sensor d.initial k (outer_type h name (brackets_of d.declarator) s d.initial (before_in k name) t k.standing)
+
+formed_same : (h : Keep) (heads : Heads) (s : Storage) (sensor : Bool) (name : Identifier At) (d : InitDeclarator At) (k : Known) (o : Option DeclaredType) → (object_by_form h heads s sensor name d k o).functions ≡ k.functions
+formed_same h heads s sensor name d k o = typed_same h heads s sensor name d (with_standing k (open_outside h name d (before_in k name) o k.standing)) o
+
 type_same : (h : Keep) (heads : Heads) (s : Storage) (sensor : Bool) (name : Identifier At) (d : InitDeclarator At) (k : Known) (o : Option DeclaredType) → (by_type_outside h heads s sensor name d k o).functions ≡ k.functions
-type_same h heads s sensor name d k None = refl
+type_same h heads s sensor name d k None = formed_same h heads s sensor name d k None
 type_same h heads s sensor name d k (Some (of_function f)) = refl
-type_same h heads s sensor name d k (Some (of_type t)) = object_same h heads name s sensor d.initial k (outer_type h name (brackets_of d.declarator) s d.initial (of_type t) k.standing)
-type_same h heads s sensor name d k (Some (of_open_array t)) = object_same h heads name s sensor d.initial k (outer_type h name (brackets_of d.declarator) s d.initial (of_open_array t) k.standing)
+type_same h heads s sensor name d k (Some (of_part_function f)) = refl
+type_same h heads s sensor name d k (Some (of_type t)) = formed_same h heads s sensor name d k (Some (of_type t))
+type_same h heads s sensor name d k (Some (of_open_array t)) = formed_same h heads s sensor name d k (Some (of_open_array t))
 
 named_same : (h : Keep) (heads : Heads) (s : Storage) (sensor : Bool) (t : Option PlainType) (k : Known) (d : InitDeclarator At) (o : Option (Identifier At)) → (outer_named h heads s sensor t k d o).functions ≡ k.functions
 named_same h heads s sensor t k d None = refl
@@ -112,6 +123,7 @@ type_named h heads s d name k (Some (of_function f)) e n =
     let l : Linked = linked_of k name (function_type f) s true false in body_named h heads l f d.body (with_linked h heads l k) e n
 type_named h heads s d name k (Some (of_type t)) e n = n
 type_named h heads s d name k (Some (of_open_array t)) e n = n
+type_named h heads s d name k (Some (of_part_function f)) e n = n
 
 function_has : (h : Keep) (heads : Heads) (d : Definition At) (k : Known) (t : Option PlainType) (o : Option (Identifier At)) → ((x : Identifier At) → o ≡ Some x → is_name x.name ≡ true) → AreCNamed k → AreCNamed (function_named h heads d k t o)
 function_has h heads d k t None e n = n

@@ -8,4 +8,4 @@ pub programs_are_named : ProgramsAreNamed
 programs_are_named g p is = elaborated_named is.trees p (definitions_have_names g is.expansion is.trees is.expands is.spells) is.typed
 
 pub derived_of_files_have_text : DerivedCertificatesOfFilesHaveText
-derived_of_files_have_text g p is whole c certified = derived_have_text p whole (programs_are_named g p is) c certified
+derived_of_files_have_text o are g p is whole c certified = derived_have_text o are p whole (programs_are_named g p is) c certified

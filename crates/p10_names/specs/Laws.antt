@@ -12,6 +12,7 @@ use Rattle.p10_cert.specs.Certificate.{IsCertificate}
 use Rattle.p10_expand.specs.Expands.{Expansion, ExpandsTo}
 use Rattle.p10_elab.specs.Programs.{elaborated, program as the_program}
 use Rattle.p10_front.specs.Readings.{PlainReading, AreReadAs}
+use Rattle.p10_approach.specs.Offers.{Offers, AreOffers}
 use Rattle.p10_finder.specs.Answers.{IsCertified}
 use Rattle.p10_derived_texts.specs.Naming.{AreNamed}
 use Rattle.p10_names.specs.Defining.{HasName}
@@ -36,6 +37,6 @@ ReadingsArePrograms = (g : Gathered) (reading : PlainReading) (p : PlainProgram)
 abbrev pub ProgramsAreNamed : Type 0
 ProgramsAreNamed = (g : Gathered) (p : PlainProgram) → IsProgramOf g p → AreNamed p
 
--- so what is derived of one that is whole has a text
+-- so what is derived of one that is whole has a text, whatever is offered
 abbrev pub DerivedCertificatesOfFilesHaveText : Type 0
-DerivedCertificatesOfFilesHaveText = (g : Gathered) (p : PlainProgram) → IsProgramOf g p → IsWholeProgram p → (c : Claims) → IsCertified p c → IsCertificate c
+DerivedCertificatesOfFilesHaveText = (o : Offers) → AreOffers o → (g : Gathered) (p : PlainProgram) → IsProgramOf g p → IsWholeProgram p → (c : Claims) → IsCertified o p c → IsCertificate c

@@ -2,4 +2,5 @@ pub mod Fits
 mod FirstUses
 mod Merges
 mod Places
+mod UsesTold
 mod PragmaRows

@@ -4,6 +4,7 @@ pub mod Literals
 pub mod Pragmas
 pub mod FirstProblems
 pub mod Undefined
+pub mod Laws
 pub mod Mains
 pub mod Assembly
 pub mod Numbered

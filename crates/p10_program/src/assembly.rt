@@ -1,7 +1,7 @@
 //! A program of its structures, objects and functions.
 
 ghost use Rattle.std.specs.Prelude.{◌≡◌, ◌++◌, IfOk, map};
-ghost use Rattle.p10_core.specs.Views.{plain_types, plain_function, plain_object, plain_literal, plain_program};
+ghost use Rattle.p10_core.specs.Views.{plain_types, plain_function, plain_object, plain_literal, plain_seen, plain_program};
 ghost use Rattle.p10_program.specs.Assembly.{after_place, program_with};
 ghost use Rattle.p10_program.specs.Literals.{literals_among};
 ghost use Rattle.p10_program.specs.ProgramNodes.{nodes_of_functions, nodes_of_objects};
@@ -10,7 +10,7 @@ use crate::literals::literals_among;
 use crate::pragmas::pragma_in;
 use crate::program_nodes::nodes_of_program;
 use p10_base::ListBuf;
-use p10_core::{Func, Global as StaticObject, Literal, MarkKind, Program, Types};
+use p10_core::{Func, Global as StaticObject, Literal, MarkKind, Program, Seen, Types};
 use std::alloc::{AllocError, Global};
 
 /// The program of structures, objects and functions; `main` is the number of that function, if it is there. It fails only where memory
@@ -21,8 +21,9 @@ pub fn program_with<'s>(
     objects: Vec<StaticObject<'s>>,
     functions: Vec<Func<'s>>,
     main: Option<usize>,
+    outside: Vec<Seen<'s>>,
 ) -> Result<Program<'s>, AllocError>
-    ensures { IfOk result (λ p. plain_program p ≡ program_with (plain_types types.entry) (map plain_object objects.entry.items) (map plain_function functions.entry.items) main) }
+    ensures { IfOk result (λ p. plain_program p ≡ program_with (plain_types types.entry) (map plain_object objects.entry.items) (map plain_function functions.entry.items) main (map plain_seen outside.entry.items)) }
 {
     let literals = literals_in(alloc, functions.as_slice(), objects.as_slice())?;
     let mark = number_there(pragma_in(MarkKind::InitDone, main, functions.as_slice()))?;
@@ -36,6 +37,7 @@ pub fn program_with<'s>(
         main,
         mark,
         task,
+        outside: ListBuf::of(outside),
     })
 }
 

@@ -11,6 +11,7 @@
 
 mod assembly;
 mod earliest;
+pub mod laws;
 mod literals;
 mod main_calls;
 mod numbered;

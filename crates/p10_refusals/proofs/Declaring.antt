@@ -1,5 +1,5 @@
 -- What specifiers and declarators declare, where what stands is alike.
-use Rattle.std.proofs.Common.{◌≡◌, ℕ, ◌+◌, ℤ, Bool, true, false, if◌then◌else◌, Option, Some, None, option_map, List, [], refl, ap, subst}
+use Rattle.std.proofs.Common.{◌≡◌, ℕ, ◌+◌, ℤ, Bool, true, false, ◌||◌, if◌then◌else◌, Option, Some, None, option_map, List, [], ◌∷◌, ◌++◌, refl, ap, subst}
 use Rattle.p10_base.specs.declared.at.At.{At}
 use Rattle.p10_base.specs.declared.codes.SubsetCode.TheVariants as subset
 use Rattle.p10_syn.specs.declared.sign.Sign.{Sign}
@@ -12,17 +12,18 @@ use Rattle.p10_elabx.specs.First.{every, only_first, lift}
 use Rattle.p10_elabx.specs.Scopes.{local, unknown_name, named}
 use Rattle.p10_elabx.specs.TypeNames.{said_of, nothing_specified, is_bad_mixture, typedef_rule, specifiers_at, declarator_place}
 use Rattle.p10_elabx.proofs.Firsts.{kept_lift}
+use Rattle.p10_elabd.specs.declared.declaration.ParameterList.{ParameterList}
 use Rattle.p10_elabd.specs.declared.site.Site.{Site}
 use Rattle.p10_elabd.specs.declared.site.Site.TheVariants as site_is
 use Rattle.p10_elabd.specs.declared.site.Allowed.{Allowed}
-use Rattle.p10_elabd.specs.Standing.{PlainStanding, Passed, passed}
+use Rattle.p10_elabd.specs.Standing.{PlainStanding, Passed}
 use Rattle.p10_elabd.specs.Words.{none_allowed, word_row}
 use Rattle.p10_elabd.specs.Tagged.{structure_made, ended}
 use Rattle.p10_elabd.specs.Members.{member_declared}
-use Rattle.p10_elabd.specs.Shapes.{PlainParameter, DeclaredType, of_type, name_in, place_or, declares_function, pointer_declared, element_declared, function_inside, result_declared, parameter_declared, function_declared}
-use Rattle.p10_elabd.specs.Declaring.{both_named, word_passed, stored_by, type_specified, unless_union, tag_passed, enumeration_by_name, one_enumerator_passed, enumerators_passed, first_constant, enumeration_passed, begun_with, with_parameter, parameter_added, is_no_parameter, based, with_declared_parameter, specifiers_passed, specifier_passed, structure_passed, members_passed, member_passed, fields_passed, field_passed, declarator_passed, all_parameters_passed, only_parameter_passed, parameters_passed, one_parameter_passed, specified}
-use Rattle.p10_refusals.proofs.Alike.{Alike, AlikePassed, with_kept, for_alike, followed, alike_with, alike_passed, alike_nothing, alike_made, alike_map, alike_refusing, alike_noted, alike_where}
-use Rattle.p10_refusals.proofs.Shaping.{alike_declaring, alike_row, alike_pointer, alike_element, alike_array, alike_open, alike_inside, alike_result, alike_parameter, alike_among, alike_function}
+use Rattle.p10_elabd.specs.Shapes.{ListedParameter, DeclaredType, of_type, name_in, place_or, declares_function, declares_open_array, list_of, pointer_declared, element_declared, result_declared, parameter_declared, function_declared}
+use Rattle.p10_elabd.specs.Declaring.{both_named, word_passed, stored_by, type_specified, unless_union, tag_passed, enumeration_by_name, one_enumerator_passed, enumerators_passed, first_constant, enumeration_passed, begun_with, with_parameter, Listing, none_listed, is_no_parameter, based, with_declared_parameter, specifiers_passed, specifier_passed, structure_passed, members_passed, member_passed, fields_passed, field_passed, declarator_passed, all_parameters_passed, only_parameter_passed, parameters_passed, one_parameter_passed, specified}
+use Rattle.p10_refusals.proofs.Alike.{Alike, AlikePassed, with_kept, for_alike, followed, alike_with, alike_passed, alike_nothing, alike_made, alike_map, alike_refusing, alike_noted}
+use Rattle.p10_refusals.proofs.Shaping.{alike_declaring, alike_row, alike_pointer, alike_element, alike_array, alike_array_inside, alike_open, alike_inside, alike_result, alike_parameter, alike_among, alike_function}
 use Rattle.p10_refusals.proofs.Tagging.{AlikeBegun, alike_structure_named, alike_enumeration_named, alike_anew, alike_begun, alike_ended, alike_structure_made, alike_with_enumeration, alike_enumeration_begun, alike_member, alike_width, alike_with_member, alike_enumerator}
 
 -- ## Pieces
@@ -84,14 +85,26 @@ alike_with_parameter i (Some name) (Some u) a = alike_declaring name (local i u 
 pub alike_based : {s t : PlainStanding} (u : Option PlainType) → Alike s t → AlikePassed DeclaredType (based u s) (based u t)
 alike_based u a = alike_made (option_map of_type u) a
 
-alike_declared_parameter : {j k : Passed DeclaredType} (i : ℕ) (before after : Option (List PlainParameter)) (at : At) (d : Declarator At) → before ≡ after → AlikePassed DeclaredType j k →
-    AlikePassed (List PlainParameter) (with_declared_parameter every i before at d j) (with_declared_parameter only_first i after at d k)
+-- the same is listed, and what stands is alike
+pub record AlikeListing (p q : Listing) : Type 0 where
+  pub parameters : p.parameters ≡ q.parameters
+  pub after : Alike p.after q.after
+
+alike_none_listed : {s t : PlainStanding} → Alike s t → AlikeListing (none_listed s) (none_listed t)
+alike_none_listed a = record { parameters = refl; after = a }
+
+listing_where : {p q x y : Listing} (b : Bool) → AlikeListing p x → AlikeListing q y → AlikeListing (if b then p else q) (if b then x else y)
+listing_where true a b = a
+listing_where false a b = b
+
+alike_declared_parameter : {j k : Passed DeclaredType} (i : ℕ) (before after : List ListedParameter) (at : At) (d : Declarator At) → before ≡ after → AlikePassed DeclaredType j k →
+    AlikeListing (with_declared_parameter every i before at d j) (with_declared_parameter only_first i after at d k)
 alike_declared_parameter i before after at d e a =
     let b = alike_refusing (declares_function d) subset.BadPointer (declarator_place d) a.after in
     let u = followed (AlikePassed PlainType) (parameter_declared every at (place_or at (name_in d))) (parameter_declared only_first at (place_or at (name_in d))) (alike_with a b)
     (λ m. alike_parameter at (place_or at (name_in d)) m b) in
     record {
-      made = λ n. parameter_added (e n) at (name_in d) (u.made n);
+      parameters = λ n. e n ++ record { at = at; name = name_in d; type = u.made n } ∷ [];
       after = followed Alike (λ m s. with_parameter every i (name_in d) m s) (λ m s. with_parameter only_first i (name_in d) m s) u (λ m. alike_with_parameter i (name_in d) m u.after);
     }
 
@@ -112,11 +125,11 @@ alike_structure_with {s = s} {t = t} at tag n m members e a =
     subst (λ x. AlikePassed PlainType (structure_made every at tag n members (ended s)) (structure_made only_first at tag x members (ended t))) e (alike_structure_made at tag n members (alike_ended a))
 
 -- a function by its result and its parameters
-alike_function_by : {r x : Passed PlainType} {q y : Passed (List PlainParameter)} → AlikePassed PlainType r x → AlikePassed (List PlainParameter) q y →
-    AlikePassed DeclaredType (function_declared r.made q.made q.after) (function_declared x.made y.made y.after)
-alike_function_by {r = r} {q = q} {y = y} a b =
-    subst (λ z. AlikePassed DeclaredType (function_declared r.made q.made q.after) (function_declared z y.made y.after)) a.made
-    (followed (AlikePassed DeclaredType) (λ m s. function_declared r.made m s) (λ m s. function_declared r.made m s) b (λ m. alike_function r.made m b.after))
+alike_function_by : {r x : Passed PlainType} {q y : Listing} (list : ParameterList) → AlikePassed PlainType r x → AlikeListing q y →
+    AlikePassed DeclaredType (function_declared list r.made q.parameters q.after) (function_declared list x.made y.parameters y.after)
+alike_function_by {r = r} {q = q} {y = y} list a b =
+    subst (λ z. AlikePassed DeclaredType (function_declared list r.made q.parameters q.after) (function_declared list z y.parameters y.after)) a.made
+    (subst (λ ps. AlikePassed DeclaredType (function_declared list r.made q.parameters q.after) (function_declared list r.made ps y.after)) b.parameters (alike_function list r.made q.parameters b.after))
 
 -- ## The trees
 
@@ -165,7 +178,7 @@ mutual
   alike_field {p = p} {q = q} u (field at d width) a =
       let name_at : At = place_or (declarator_place d) (name_in d) in
       let j = alike_declarator name_at d (alike_based u (alike_width (declarator_place d) width a.after)) in
-      let b = alike_refusing (declares_function d) subset.IncompleteType name_at j.after in
+      let b = alike_refusing (declares_function d || declares_open_array d) subset.IncompleteType name_at j.after in
       alike_with_member name_at p.made q.made (name_in d) a.made
       (followed (AlikePassed PlainType) (member_declared every name_at) (member_declared only_first name_at) (alike_with j b) (λ m. alike_member name_at m b))
 
@@ -177,38 +190,40 @@ mutual
       (followed (AlikePassed DeclaredType) (pointer_declared every at name_at qualifiers) (pointer_declared only_first at name_at qualifiers) a (λ m. alike_pointer at name_at qualifiers m a.after))
   alike_declarator name_at (Parenthesised at d) a = alike_declarator name_at d a
   alike_declarator name_at (Array at d brackets Absent) a =
-      alike_declarator name_at d (alike_open (followed (AlikePassed PlainType) (element_declared every name_at) (element_declared only_first name_at) a (λ m. alike_element name_at m a.after)))
+      let b = alike_array_inside name_at true d a.after in
+      alike_declarator name_at d (alike_open (followed (AlikePassed PlainType) (element_declared every name_at) (element_declared only_first name_at) (alike_with a b) (λ m. alike_element name_at m b)))
   alike_declarator name_at (Array at d brackets (Present e)) a =
-      alike_declarator name_at d (alike_array e (followed (AlikePassed PlainType) (element_declared every name_at) (element_declared only_first name_at) a (λ m. alike_element name_at m a.after)))
+      let b = alike_array_inside name_at false d a.after in
+      alike_declarator name_at d (alike_array e (followed (AlikePassed PlainType) (element_declared every name_at) (element_declared only_first name_at) (alike_with a b) (λ m. alike_element name_at m b)))
   alike_declarator name_at (Function at d parentheses all more) a =
       let r = followed (AlikePassed PlainType) (result_declared every at name_at) (result_declared only_first at name_at) a (λ m. alike_result at name_at m a.after) in
-      alike_declarator name_at d (alike_function_by r (alike_all_parameters parentheses all (alike_among (alike_inside name_at d (alike_refusing more subset.NoPrototype parentheses r.after)))))
+      alike_declarator name_at d (alike_function_by (list_of all more) r (alike_all_parameters parentheses all (alike_among (alike_inside name_at d (alike_refusing more subset.NoPrototype parentheses r.after)))))
 
-  alike_all_parameters : {s t : PlainStanding} (at : At) (all : Parameters At) → Alike s t → AlikePassed (List PlainParameter) (all_parameters_passed every s at all) (all_parameters_passed only_first t at all)
-  alike_all_parameters at NoParameters a = alike_nothing (alike_refusing true subset.NoPrototype at a)
+  alike_all_parameters : {s t : PlainStanding} (at : At) (all : Parameters At) → Alike s t → AlikeListing (all_parameters_passed every s at all) (all_parameters_passed only_first t at all)
+  alike_all_parameters at NoParameters a = alike_none_listed (alike_refusing true subset.NoPrototype at a)
   alike_all_parameters at (MoreParameters one NoParameters) a = alike_only_parameter one a
-  alike_all_parameters at (MoreParameters one rest) a = alike_parameters 1 rest (alike_one_parameter 0 one (alike_passed [] a))
+  alike_all_parameters at (MoreParameters one rest) a = alike_parameters 1 rest (alike_one_parameter 0 one (alike_none_listed a))
 
-  alike_only_parameter : {s t : PlainStanding} (one : Parameter At) → Alike s t → AlikePassed (List PlainParameter) (only_parameter_passed every s one) (only_parameter_passed only_first t one)
+  alike_only_parameter : {s t : PlainStanding} (one : Parameter At) → Alike s t → AlikeListing (only_parameter_passed every s one) (only_parameter_passed only_first t one)
   alike_only_parameter (parameter at specifiers d) a =
       let u = alike_type_specified specifiers (alike_specifiers site_is.OfParameter none_allowed false false specifiers (alike_passed None a)) in
-      followed (AlikePassed (List PlainParameter))
-      (λ m s. if is_no_parameter d m then passed [] s else with_declared_parameter every 0 (Some []) at d (declarator_passed every (place_or at (name_in d)) (based m s) d))
-      (λ m s. if is_no_parameter d m then passed [] s else with_declared_parameter only_first 0 (Some []) at d (declarator_passed only_first (place_or at (name_in d)) (based m s) d)) u
-      (λ m. alike_where (is_no_parameter d m) (alike_passed [] u.after) (alike_declared_parameter 0 (Some []) (Some []) at d refl (alike_declarator (place_or at (name_in d)) d (alike_based m u.after))))
+      followed AlikeListing
+      (λ m s. if is_no_parameter d m then none_listed s else with_declared_parameter every 0 [] at d (declarator_passed every (place_or at (name_in d)) (based m s) d))
+      (λ m s. if is_no_parameter d m then none_listed s else with_declared_parameter only_first 0 [] at d (declarator_passed only_first (place_or at (name_in d)) (based m s) d)) u
+      (λ m. listing_where (is_no_parameter d m) (alike_none_listed u.after) (alike_declared_parameter 0 [] [] at d refl (alike_declarator (place_or at (name_in d)) d (alike_based m u.after))))
 
-  alike_parameters : {p q : Passed (List PlainParameter)} (i : ℕ) (all : Parameters At) → AlikePassed (List PlainParameter) p q → AlikePassed (List PlainParameter) (parameters_passed every i p all) (parameters_passed only_first i q all)
+  alike_parameters : {p q : Listing} (i : ℕ) (all : Parameters At) → AlikeListing p q → AlikeListing (parameters_passed every i p all) (parameters_passed only_first i q all)
   alike_parameters i NoParameters a = a
   alike_parameters {p = p} {q = q} i (MoreParameters one rest) a =
       alike_parameters {p = one_parameter_passed every i p one} {q = one_parameter_passed only_first i q one} (i + 1) rest (alike_one_parameter {p = p} {q = q} i one a)
 
-  alike_one_parameter : {p q : Passed (List PlainParameter)} (i : ℕ) (one : Parameter At) → AlikePassed (List PlainParameter) p q → AlikePassed (List PlainParameter) (one_parameter_passed every i p one) (one_parameter_passed only_first i q one)
+  alike_one_parameter : {p q : Listing} (i : ℕ) (one : Parameter At) → AlikeListing p q → AlikeListing (one_parameter_passed every i p one) (one_parameter_passed only_first i q one)
   alike_one_parameter {p = p} {q = q} i (parameter at specifiers d) a =
       let u = alike_type_specified specifiers (alike_specifiers site_is.OfParameter none_allowed false false specifiers (alike_passed None a.after)) in
-      followed (AlikePassed (List PlainParameter))
-      (λ m s. with_declared_parameter every i p.made at d (declarator_passed every (place_or at (name_in d)) (based m s) d))
-      (λ m s. with_declared_parameter only_first i q.made at d (declarator_passed only_first (place_or at (name_in d)) (based m s) d)) u
-      (λ m. alike_declared_parameter i p.made q.made at d a.made (alike_declarator (place_or at (name_in d)) d (alike_based m u.after)))
+      followed AlikeListing
+      (λ m s. with_declared_parameter every i p.parameters at d (declarator_passed every (place_or at (name_in d)) (based m s) d))
+      (λ m s. with_declared_parameter only_first i q.parameters at d (declarator_passed only_first (place_or at (name_in d)) (based m s) d)) u
+      (λ m. alike_declared_parameter i p.parameters q.parameters at d a.parameters (alike_declarator (place_or at (name_in d)) d (alike_based m u.after)))
 
 pub alike_specified : {s t : PlainStanding} (site : Site) (allowed : Allowed) (alone : Bool) (all : Specifiers At) → Alike s t →
     AlikePassed PlainType (specified every site allowed alone s all) (specified only_first site allowed alone t all)

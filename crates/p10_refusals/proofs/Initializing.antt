@@ -1,5 +1,5 @@
 -- Initialisers where what stands is alike.
-use Rattle.std.proofs.Common.{ℕ, ◌+◌, nat_le, true, List, [], length, slice_get, Option, Some, None, option_map, ap, subst}
+use Rattle.std.proofs.Common.{ℕ, ◌+◌, nat_le, true, if◌then◌else◌, is_some, Ok, List, [], length, slice_get, Option, Some, None, option_map, ap, subst}
 use Rattle.p10_base.specs.Words.{Text}
 use Rattle.p10_base.specs.declared.at.At.{At}
 use Rattle.p10_base.specs.declared.codes.SubsetCode.TheVariants as subset
@@ -9,12 +9,12 @@ use Rattle.p10_core.specs.Sizes.{scalars_of}
 use Rattle.p10_core.specs.Rows.{is_scalar}
 use Rattle.p10_core.specs.Typed.{at_of, scalars_of_text, PlainItem, PlainInitializer, listed}
 use Rattle.p10_core.specs.WholePrograms.{is_character}
-use Rattle.p10_elabx.specs.First.{every, only_first, refused}
+use Rattle.p10_elabx.specs.First.{every, only_first}
 use Rattle.p10_elabx.specs.Scopes.{PlainScope}
 use Rattle.p10_elabd.specs.declared.lifetime.Lifetime.{Lifetime}
 use Rattle.p10_elabd.specs.Standing.{PlainStanding, Passed}
-use Rattle.p10_elabd.specs.Initializers.{string_alone, string_for, is_zero_list, scalar_count, item_added, with_item, zero_item, expression_ruled, expression_item, text_item, surplus_item, no_surplus, braced_first, braced_scalar, Slots, slots_of, has_slot, slot_type, after_slot, element_of, length_of, by_string, braced_string, list_passed, item_passed, items_passed, only_value, as_listed, value_for, unbraced, initialized}
-use Rattle.p10_refusals.proofs.Alike.{Alike, AlikePassed, alike_passed, alike_nothing, alike_map, alike_refusing, alike_where}
+use Rattle.p10_elabd.specs.Initializers.{string_alone, string_for, is_zero_list, scalar_count, item_added, with_item, zero_item, expression_ruled, expression_item, text_item, place_if_made, unplaced, unplaced_items, differing_at, surplus_item, no_surplus, braced_first, braced_scalar, Slots, slots_of, has_slot, slot_type, after_slot, element_of, length_of, by_string, braced_string, list_passed, item_passed, items_passed, only_value, as_listed, value_for, unbraced, initialized}
+use Rattle.p10_refusals.proofs.Alike.{Alike, AlikePassed, followed, alike_passed, alike_nothing, alike_map, alike_refusing, alike_where}
 use Rattle.p10_refusals.proofs.Values.{alike_value}
 
 -- ## Items
@@ -30,9 +30,27 @@ alike_text_item : {s t : PlainStanding} (n scalar : ℕ) (text : At × Text) →
 alike_text_item n scalar (at, bytes) a =
     alike_where (nat_le (length bytes) n) (alike_passed (record { scalar = scalar; written = scalars_of_text bytes }) a) (alike_nothing (alike_refusing true subset.TypesDiffer at a))
 
+alike_unless : {p x q y : Passed At} → AlikePassed At p x → AlikePassed At q y → AlikePassed At (place_if_made p q) (place_if_made x y)
+alike_unless a b = record { made = λ i. if is_some (b.made i) then a.made i else None; after = b.after }
+
+mutual
+  alike_unplaced : {s t : PlainStanding} (i : Initializer At) → Alike s t → AlikePassed At (unplaced every s i) (unplaced only_first t i)
+  alike_unplaced (Value e) a = alike_value (λ v. Ok (at_of v)) e a
+  alike_unplaced (Braced at items comma) a = alike_unplaced_items items (alike_passed at a)
+
+  alike_unplaced_items : {p q : Passed At} (items : Initializers At) → AlikePassed At p q → AlikePassed At (unplaced_items every p items) (unplaced_items only_first q items)
+  alike_unplaced_items NoInitializers a = a
+  alike_unplaced_items {p = p} {q = q} (MoreInitializers i rest) a =
+      alike_unplaced_items {p = place_if_made p (unplaced every p.after i)} {q = place_if_made q (unplaced only_first q.after i)} rest (alike_unless a (alike_unplaced i a.after))
+
+alike_differing : {s t : PlainStanding} (o : Option At) → Alike s t → AlikePassed PlainItem (differing_at every o s) (differing_at only_first o t)
+alike_differing None a = alike_nothing a
+alike_differing (Some at) a = alike_nothing (alike_refusing true subset.TypesDiffer at a)
+
 pub alike_surplus : {s t : PlainStanding} (i : Initializer At) → Alike s t → AlikePassed PlainItem (surplus_item every s i) (surplus_item only_first t i)
-alike_surplus (Value e) a = alike_value (λ v. refused subset.TypesDiffer (at_of v)) e a
-alike_surplus (Braced at items comma) a = alike_nothing (alike_refusing true subset.TypesDiffer at a)
+alike_surplus i a =
+    let p = alike_unplaced i a in
+    followed (AlikePassed PlainItem) (differing_at every) (differing_at only_first) p (λ o. alike_differing o p.after)
 
 alike_no_surplus : {p q : Passed (List PlainItem)} (items : Initializers At) → AlikePassed (List PlainItem) p q → AlikePassed (List PlainItem) (no_surplus every p items) (no_surplus only_first q items)
 alike_no_surplus NoInitializers a = a
@@ -41,7 +59,7 @@ alike_no_surplus (MoreInitializers i rest) a = alike_with_item a (alike_surplus 
 alike_braced_first : {p q : Passed (List PlainItem)} (life : Lifetime) (u : PlainType) (scalar : ℕ) (i : Initializer At) → AlikePassed (List PlainItem) p q →
     AlikePassed (List PlainItem) (braced_first every life u scalar p i) (braced_first only_first life u scalar q i)
 alike_braced_first life u scalar (Value e) a = alike_with_item a (alike_expression_item life u scalar e a.after)
-alike_braced_first life u scalar (Braced at items comma) a = alike_with_item a (alike_nothing (alike_refusing true subset.TypesDiffer at a.after))
+alike_braced_first life u scalar (Braced at items comma) a = alike_with_item a (alike_surplus (Braced at items comma) a.after)
 
 alike_braced_scalar : {p q : Passed (List PlainItem)} (life : Lifetime) (u : PlainType) (scalar : ℕ) (items : Initializers At) → AlikePassed (List PlainItem) p q →
     AlikePassed (List PlainItem) (braced_scalar every life u scalar p items) (braced_scalar only_first life u scalar q items)

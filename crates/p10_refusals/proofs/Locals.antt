@@ -19,15 +19,15 @@ use Rattle.p10_elabd.specs.Words.{storage_of, is_volatile}
 use Rattle.p10_elabd.specs.declared.site.Site.{Site}
 use Rattle.p10_elabd.specs.declared.site.Storage.{Storage}
 use Rattle.p10_elabd.specs.declared.site.Storage.TheVariants as storage_is
-use Rattle.p10_elabd.specs.Shapes.{DeclaredType, of_type, of_open_array, of_function, name_in, declares_function}
+use Rattle.p10_elabd.specs.Shapes.{DeclaredType, of_type, of_open_array, of_function, of_part_function, name_in, declares_function, declares_open_array}
 use Rattle.p10_elabd.specs.Initializers.{elements_given}
 use Rattle.p10_elabd.specs.declared.lifetime.Lifetime.{Lifetime}
 use Rattle.p10_elabd.specs.declared.lifetime.Lifetime.TheVariants as life_is
 use Rattle.p10_heads.specs.Heads.{number_at}
-use Rattle.p10_elabs.specs.Locals.{Frame, Local, Done, with_standing, done_in, refusing_in, opened, closed, volatile_noted, declares_sensors, allowed_by, is_alone, sensors_noted, specified_in, makes_sensors, no_initializer, unknown_in, typedef_of, typedef_passed, counted_array, filled_array, object_type, brackets_of, initialized_by}
-use Rattle.p10_elabs.specs.LocalDeclarations.{Declaring, is_frame_variable, one_more, with_variable, variable_item, variable_of_type, variable_where, variable_passed, with_object, object_item, object_of_type, object_where, object_passed, no_items, declared_object, prototype_passed, by_storage, is_prototype, local_named, local_declarators, declared_locally}
+use Rattle.p10_elabs.specs.Locals.{Frame, Local, Done, with_standing, done_in, refusing_in, opened, closed, volatile_noted, declares_sensors, allowed_by, is_alone, sensors_noted, specified_in, makes_sensors, no_initializer, unknown_in, typedef_of, typedef_passed, counted_array, without_size, awaiting, awaited, measured, filled_array, is_written, open_noted, object_type, brackets_of, initialized_by}
+use Rattle.p10_elabs.specs.LocalDeclarations.{Declaring, is_frame_variable, one_more, with_variable, variable_item, variable_of_type, variable_where, variable_passed, with_object, object_item, object_of_type, object_where, object_passed, no_items, declared_object, object_in_block, prototype_passed, by_storage, is_prototype, local_named, local_declarators, declared_locally}
 use Rattle.p10_refusals.proofs.Alike.{Alike, AlikePassed, with_kept, followed, alike_passed, alike_nothing, alike_refusing, alike_where_in, alike_scoped}
-use Rattle.p10_refusals.proofs.Shaping.{alike_declaring}
+use Rattle.p10_refusals.proofs.Shaping.{alike_named, alike_declaring}
 use Rattle.p10_refusals.proofs.Declaring.{alike_specified, alike_declarator, alike_based}
 use Rattle.p10_refusals.proofs.Initializing.{alike_surplus, alike_initialized}
 
@@ -62,28 +62,47 @@ alike_unknown name a = alike_declaring name unknown_name a
 alike_typedef_of : {s t : PlainStanding} (name : Identifier At) (o : Option DeclaredType) → Alike s t → Alike (typedef_of every name o s) (typedef_of only_first name o t)
 alike_typedef_of name None a = alike_unknown name a
 alike_typedef_of name (Some (of_type u)) a = alike_declaring name (named_type u) a
-alike_typedef_of name (Some (of_open_array u)) a = alike_unknown name (alike_refusing true subset.IncompleteType name.place a)
+alike_typedef_of name (Some (of_open_array u)) a = alike_unknown name a
 alike_typedef_of name (Some (of_function f)) a = alike_unknown name a
+alike_typedef_of name (Some (of_part_function f)) a = alike_unknown name a
 
 pub alike_typedef : {s t : PlainStanding} (name : Identifier At) (d : Declarator At) (o : Option DeclaredType) → Alike s t → Alike (typedef_passed every name d o s) (typedef_passed only_first name d o t)
-alike_typedef name d o a = alike_typedef_of name o (alike_refusing (declares_function d) subset.BadSpecifier (declarator_place d) a)
+alike_typedef name d o a =
+    alike_typedef_of name o (alike_refusing (declares_open_array d) subset.IncompleteType name.place (alike_refusing (declares_function d) subset.BadSpecifier (declarator_place d) a))
 
 alike_counted : {s t : PlainStanding} (brackets : At) (u : PlainType) (n : ℕ) → Alike s t → AlikePassed PlainType (counted_array every brackets u n s) (counted_array only_first brackets u n t)
 alike_counted brackets u n a =
     alike_where_in (λ x. nat_le (n * size_of x.structures u) most_bytes) a (alike_passed (array false u n) a) (alike_nothing (alike_refusing true subset.BadLength brackets a))
 
-pub alike_filled : {s t : PlainStanding} (brackets : At) (u : PlainType) (i : Initializer At) (o : Option ℕ) → Alike s t →
-    AlikePassed PlainType (filled_array every brackets u i o s) (filled_array only_first brackets u i o t)
-alike_filled brackets u i None a = alike_nothing (alike_surplus i a).after
-alike_filled brackets u i (Some n) a = alike_counted brackets u n a
+alike_awaiting : {s t : PlainStanding} (name : Identifier At) (u : PlainType) → Alike s t → Alike (awaiting name u s) (awaiting name u t)
+alike_awaiting name u a = alike_named name.name (local 0 (without_size u) false) (alike_scoped (λ x. entered x) a)
 
-alike_object_type : {s t : PlainStanding} (name_at brackets : At) (d : DeclaredType) (i : Option (Initializer At)) → Alike s t →
-    AlikePassed PlainType (object_type every name_at brackets d i s) (object_type only_first name_at brackets d i t)
-alike_object_type name_at brackets (of_type u) i a =
-    alike_where_in (λ x. is_complete x.structures u) a (alike_passed u a) (alike_nothing (alike_refusing true subset.IncompleteType name_at a))
-alike_object_type name_at brackets (of_open_array u) None a = alike_nothing (alike_refusing true subset.IncompleteType name_at a)
-alike_object_type name_at brackets (of_open_array u) (Some i) a = alike_filled brackets u i (elements_given u i) a
-alike_object_type name_at brackets (of_function f) i a = alike_nothing a
+alike_awaited : {s t : PlainStanding} (name : Identifier At) (u whole : PlainType) (i : Initializer At) → Alike s t → Alike (awaited every name u whole i s) (awaited only_first name u whole i t)
+alike_awaited name u whole i a = alike_scoped (λ x. left x) (alike_initialized life_is.Automatic whole i (alike_awaiting name u a)).after
+
+alike_measured : {s t : PlainStanding} (name : Identifier At) (u : PlainType) (i : Initializer At) (o : Option PlainType) → Alike s t →
+    AlikePassed PlainType (measured every name u i o s) (measured only_first name u i o t)
+alike_measured name u i None a = alike_nothing a
+alike_measured name u i (Some whole) a = alike_passed whole (alike_awaited name u whole i a)
+
+pub alike_filled : {s t : PlainStanding} (name : Identifier At) (brackets : At) (u : PlainType) (i : Initializer At) (o : Option ℕ) → Alike s t →
+    AlikePassed PlainType (filled_array every name brackets u i o s) (filled_array only_first name brackets u i o t)
+alike_filled name brackets u i None a = alike_nothing (alike_surplus i a).after
+alike_filled name brackets u i (Some n) a =
+    let p = alike_counted brackets u n a in
+    followed (AlikePassed PlainType) (measured every name u i) (measured only_first name u i) p (λ o. alike_measured name u i o p.after)
+
+pub alike_open_noted : {s t : PlainStanding} (name_at : At) (d : Declarator At) (i : Option (Initializer At)) → Alike s t → Alike (open_noted every name_at d i s) (open_noted only_first name_at d i t)
+alike_open_noted name_at d i a = alike_refusing (declares_open_array d && not (is_written i)) subset.IncompleteType name_at a
+
+alike_object_type : {s t : PlainStanding} (name : Identifier At) (brackets : At) (d : DeclaredType) (i : Option (Initializer At)) → Alike s t →
+    AlikePassed PlainType (object_type every name brackets d i s) (object_type only_first name brackets d i t)
+alike_object_type name brackets (of_type u) i a =
+    alike_where_in (λ x. is_complete x.structures u) a (alike_passed u a) (alike_nothing (alike_refusing true subset.IncompleteType name.place a))
+alike_object_type name brackets (of_open_array u) None a = alike_nothing a
+alike_object_type name brackets (of_open_array u) (Some i) a = alike_filled name brackets u i (elements_given u i) a
+alike_object_type name brackets (of_function f) i a = alike_nothing a
+alike_object_type name brackets (of_part_function f) i a = alike_nothing a
 
 pub alike_initialized_by : {s t : PlainStanding} (life : Lifetime) (u : PlainType) (i : Option (Initializer At)) → Alike s t →
     AlikePassed PlainInitializer (initialized_by every life u i s) (initialized_by only_first life u i t)
@@ -221,10 +240,14 @@ alike_object_passed {l = l} {m = m} f at name sensor i a b =
 alike_no_items : {l m : Local} → AlikeLocal l m → AlikeDeclaring (no_items l) (no_items m)
 alike_no_items a = record { items = refl; after = a }
 
-alike_declared_object : {s t : PlainStanding} (name_at brackets : At) (o : Option DeclaredType) (i : Option (Initializer At)) → Alike s t →
-    AlikePassed PlainType (declared_object every name_at brackets o i s) (declared_object only_first name_at brackets o i t)
-alike_declared_object name_at brackets None i a = record { made = refl; after = a }
-alike_declared_object name_at brackets (Some d) i a = alike_object_type name_at brackets d i a
+alike_declared_object : {s t : PlainStanding} (name : Identifier At) (brackets : At) (o : Option DeclaredType) (i : Option (Initializer At)) → Alike s t →
+    AlikePassed PlainType (declared_object every name brackets o i s) (declared_object only_first name brackets o i t)
+alike_declared_object name brackets None i a = record { made = refl; after = a }
+alike_declared_object name brackets (Some d) i a = alike_object_type name brackets d i a
+
+alike_in_block : {s t : PlainStanding} (name : Identifier At) (d : InitDeclarator At) (o : Option DeclaredType) → Alike s t →
+    AlikePassed PlainType (object_in_block every name d o s) (object_in_block only_first name d o t)
+alike_in_block name d o a = alike_declared_object name (brackets_of d.declarator) o d.initial (alike_open_noted name.place d.declarator d.initial a)
 
 alike_prototype : {l m : Local} (name : Identifier At) (d : InitDeclarator At) → AlikeLocal l m → AlikeDeclaring (prototype_passed every name d l) (prototype_passed only_first name d m)
 alike_prototype name d a =
@@ -234,9 +257,9 @@ alike_by_storage : {l m : Local} (f : Frame) (at : At) (s : Storage) (sensor : B
     AlikeDeclaring (by_storage every f at s sensor name d l o) (by_storage only_first f at s sensor name d m o)
 alike_by_storage f at storage_is.Typedef sensor name d o a = alike_no_items (local_with a (alike_no_initializer d.initial (alike_typedef name d.declarator o a.standing)))
 alike_by_storage f at storage_is.Static sensor name d o a =
-    alike_object_passed f at name sensor d.initial a (alike_declared_object name.place (brackets_of d.declarator) o d.initial a.standing)
+    alike_object_passed f at name sensor d.initial a (alike_in_block name d o a.standing)
 alike_by_storage f at storage_is.Unnamed sensor name d o a =
-    alike_variable_passed f at name d.initial a (alike_declared_object name.place (brackets_of d.declarator) o d.initial a.standing)
+    alike_variable_passed f at name d.initial a (alike_in_block name d o a.standing)
 alike_by_storage f at storage_is.Extern sensor name d o a = alike_no_items (local_with a (alike_unknown name a.standing))
 
 alike_choice : {d e x y : Declaring} (b : Bool) → AlikeDeclaring d x → AlikeDeclaring e y → AlikeDeclaring (if b then d else e) (if b then x else y)

@@ -1,5 +1,5 @@
 -- Declarations and functions outside of functions, roots, and roots taken together, where what stands is alike.
-use Rattle.std.proofs.Common.{◌≡◌, ◌+◌, Bool, true, false, not, ◌&&◌, ◌||◌, if◌then◌else◌, List, [], ◌∷◌, ◌++◌, Option, Some, None, refl, ap, subst}
+use Rattle.std.proofs.Common.{◌≡◌, Bool, true, false, not, ◌||◌, if◌then◌else◌, List, [], ◌∷◌, ◌++◌, Option, Some, None, refl, ap, subst}
 use Rattle.p10_base.specs.declared.at.At.{At}
 use Rattle.p10_base.specs.declared.codes.SubsetCode.TheVariants as subset
 use Rattle.p10_core.specs.Types.{PlainType}
@@ -13,19 +13,20 @@ use Rattle.p10_elabd.specs.Standing.{PlainStanding, Passed}
 use Rattle.p10_elabd.specs.Words.{storage_of}
 use Rattle.p10_elabd.specs.declared.site.Site.TheVariants as site_is
 use Rattle.p10_elabd.specs.declared.site.Storage.{Storage}
-use Rattle.p10_elabd.specs.Shapes.{FunctionType, DeclaredType, of_type, of_open_array, of_function, name_in, declares_function}
+use Rattle.p10_elabd.specs.Shapes.{DeclaredType, of_type, of_open_array, of_function, of_part_function, name_in}
 use Rattle.p10_elabd.specs.Initializers.{elements_given}
 use Rattle.p10_elabd.specs.declared.lifetime.Lifetime.TheVariants as life_is
 use Rattle.p10_heads.specs.Heads.{Heads}
 use Rattle.p10_elabs.specs.Addresses.{constants_of}
-use Rattle.p10_elabs.specs.Locals.{makes_sensors, no_initializer, typedef_passed, brackets_of, initialized_by}
+use Rattle.p10_elabs.specs.Locals.{makes_sensors, no_initializer, typedef_passed, is_written, brackets_of, initialized_by}
 use Rattle.p10_elabs.specs.LocalDeclarations.{is_typedef}
-use Rattle.p10_linkage.specs.Linkage.{LinkedType, an_object, unknown_function, unknown_object, Linked, last_linked, is_refused, linked_noted, is_static, main_problem}
-use Rattle.p10_elab.specs.Outer.{Known, with_standing, linked_meaning, with_linked, linked_of, without_linkage, is_written, is_site, with_defined, object_declared, outer_type, object_outside, function_type, prototype_declared, by_type_outside, outer_named, outer_declarators, main_constants, declared_outside}
-use Rattle.p10_refusals.proofs.Alike.{Alike, AlikePassed, with_kept, for_alike, followed, alike_made, alike_refusing, alike_where_in}
+use Rattle.p10_linkage.specs.Linkage.{LinkedType, an_object, unknown_object, Linked, last_linked, is_refused, linked_noted, is_static, main_problem}
+use Rattle.p10_elab.specs.Knowledge.{Known, with_standing, linked_meaning, with_linked, linked_of, without_linkage}
+use Rattle.p10_elab.specs.Outer.{is_site, with_defined, is_extern, with_tentative, object_declared, before_in, composite, gets_length, open_outside, array_outside, outer_type, object_outside, function_type, part_type, prototype_declared, object_by_type, object_by_form, by_type_outside, outer_named, outer_declarators, main_constants, declared_outside}
+use Rattle.p10_refusals.proofs.Alike.{Alike, AlikePassed, with_kept, for_alike, followed, alike_passed, alike_nothing, alike_made, alike_refusing, alike_where_in}
 use Rattle.p10_refusals.proofs.Shaping.{alike_named}
 use Rattle.p10_refusals.proofs.Declaring.{alike_declarator, alike_based}
-use Rattle.p10_refusals.proofs.Locals.{alike_specified_in, alike_no_initializer, alike_typedef, alike_filled, alike_initialized_by}
+use Rattle.p10_refusals.proofs.Locals.{alike_specified_in, alike_no_initializer, alike_typedef, alike_filled, alike_open_noted, alike_initialized_by}
 
 -- ## What is known
 
@@ -40,6 +41,9 @@ pub record AlikeKnown (k j : Known) : Type 0 where
   pub sightings : k.sightings ≡ j.sightings
   pub visible : k.visible ≡ j.visible
   pub mains : k.mains ≡ j.mains
+  pub tentative : k.tentative ≡ j.tentative
+  pub undefined : k.undefined ≡ j.undefined
+  pub outside : k.outside ≡ j.outside
 
 -- what is known with other problems
 abbrev pub with_problems_of : List Problem → Known → Known
@@ -58,15 +62,18 @@ for_known P k j go a =
       sightings = a.sightings i;
       visible = a.visible i;
       mains = a.mains i;
+      tentative = a.tentative i;
+      undefined = a.undefined i;
+      outside = a.outside i;
     } in
     subst P e (go j.standing.problems a.standing.problems)
 
 -- the same is known, except for what stands
 pub known_with : {s t : PlainStanding} (k : Known) → Alike s t → AlikeKnown (with_standing k s) (with_standing k t)
-known_with k a = record { standing = a; root = refl; linked = refl; functions = refl; block_objects = refl; objects = refl; sightings = refl; visible = refl; mains = refl }
+known_with k a = record { standing = a; root = refl; linked = refl; functions = refl; block_objects = refl; objects = refl; sightings = refl; visible = refl; mains = refl; tentative = refl; undefined = refl; outside = refl }
 
 pub known_at : {k j : Known} {s t : PlainStanding} → AlikeKnown k j → Alike s t → AlikeKnown (with_standing k s) (with_standing j t)
-known_at a b = record { standing = b; root = a.root; linked = a.linked; functions = a.functions; block_objects = a.block_objects; objects = a.objects; sightings = a.sightings; visible = a.visible; mains = a.mains }
+known_at a b = record { standing = b; root = a.root; linked = a.linked; functions = a.functions; block_objects = a.block_objects; objects = a.objects; sightings = a.sightings; visible = a.visible; mains = a.mains; tentative = a.tentative; undefined = a.undefined; outside = a.outside }
 
 -- ## Names with linkage
 
@@ -88,6 +95,9 @@ alike_link {k = k} {j = j} heads l a =
       sightings = refl;
       visible = refl;
       mains = refl;
+      tentative = refl;
+      undefined = refl;
+      outside = refl;
     }) a
 
 -- a name that is linked by what is known
@@ -108,6 +118,9 @@ alike_unlinked name a b = record {
   sightings = a.sightings;
   visible = a.visible;
   mains = ap (λ ms. ms ++ main_problem false name.name name.place) a.mains;
+  tentative = a.tentative;
+  undefined = a.undefined;
+  outside = a.outside;
 }
 
 known_choice : {k j x y : Known} (b : Bool) → AlikeKnown k x → AlikeKnown j y → AlikeKnown (if b then k else j) (if b then x else y)
@@ -119,7 +132,7 @@ known_choice false a b = b
 alike_defined : (heads : Heads) (l : Linked) (name : Identifier At) (u : PlainType) (i : Option PlainInitializer) (k : Known) (ps : List Problem) → AreKept k.standing.problems ps →
     AlikeKnown (with_defined heads l name u i k) (with_defined heads l name u i (with_problems_of ps k))
 alike_defined heads l name u None k ps h = known_with k (with_kept k.standing ps h)
-alike_defined heads l name u (Some i) k ps h = known_choice (is_site heads name) (record { standing = with_kept k.standing ps h; root = refl; linked = refl; functions = refl; block_objects = refl; objects = refl; sightings = refl; visible = refl; mains = refl }) (known_with k (with_kept k.standing ps h))
+alike_defined heads l name u (Some i) k ps h = known_choice (is_site heads name) (record { standing = with_kept k.standing ps h; root = refl; linked = refl; functions = refl; block_objects = refl; objects = refl; sightings = refl; visible = refl; mains = refl; tentative = refl; undefined = refl; outside = refl }) (known_with k (with_kept k.standing ps h))
 
 alike_defined_in : {k j : Known} (heads : Heads) (l : Linked) (name : Identifier At) (u : PlainType) (i : Option PlainInitializer) → AlikeKnown k j →
     AlikeKnown (with_defined heads l name u i k) (with_defined heads l name u i j)
@@ -136,19 +149,50 @@ alike_object_by {k = k} {j = j} heads l name u i a =
     followed AlikeKnown (λ o s. with_defined heads l name u o (with_standing k s)) (λ o s. with_defined heads l name u o (with_standing j s)) p
     (λ o. alike_defined_in heads l name u o (known_at a p.after))
 
+alike_tentative : {k j : Known} (name : Identifier At) (u : PlainType) (s : Storage) (i : Option (Initializer At)) → AlikeKnown k j → AlikeKnown (with_tentative name u s i k) (with_tentative name u s i j)
+alike_tentative name u s i a = known_choice (is_written i || is_extern s) a (record {
+  standing = a.standing;
+  root = a.root;
+  linked = a.linked;
+  functions = a.functions;
+  block_objects = a.block_objects;
+  objects = a.objects;
+  sightings = a.sightings;
+  visible = a.visible;
+  mains = a.mains;
+  tentative = λ n. a.tentative n ++ record { name = name; type = u } ∷ [];
+  undefined = a.undefined;
+  outside = a.outside;
+})
+
 alike_object : {k j : Known} (heads : Heads) (name : Identifier At) (u : PlainType) (s : Storage) (sensor : Bool) (i : Option (Initializer At)) → AlikeKnown k j →
     AlikeKnown (object_declared every heads name u s sensor i k) (object_declared only_first heads name u s sensor i j)
 alike_object {k = k} {j = j} heads name u s sensor i a =
     for_known (λ j. AlikeKnown (object_declared every heads name u s sensor i k) (object_declared only_first heads name u s sensor i j)) k j
-    (λ ps h. alike_object_by heads (linked_of k name (an_object u) s (is_written i) sensor) name u i (alike_link heads (linked_of k name (an_object u) s (is_written i) sensor) (known_with k (with_kept k.standing ps h)))) a
+    (λ ps h. alike_object_by heads (linked_of k name (an_object u) s (is_written i) sensor) name u i
+    (alike_tentative name u s i (alike_link heads (linked_of k name (an_object u) s (is_written i) sensor) (known_with k (with_kept k.standing ps h))))) a
 
-alike_outer_type : {s t : PlainStanding} (name : Identifier At) (brackets : At) (storage : Storage) (i : Option (Initializer At)) (d : DeclaredType) → Alike s t →
-    AlikePassed PlainType (outer_type every name brackets storage i d s) (outer_type only_first name brackets storage i d t)
-alike_outer_type name brackets storage i (of_type u) a =
+alike_array_outside : {s t : PlainStanding} (name : Identifier At) (brackets : At) (u : PlainType) (i : Option (Initializer At)) (o : Option PlainType) → Alike s t →
+    AlikePassed PlainType (array_outside every name brackets u i o s) (array_outside only_first name brackets u i o t)
+alike_array_outside name brackets u i (Some v) a = alike_passed v a
+alike_array_outside name brackets u None None a = alike_nothing a
+alike_array_outside name brackets u (Some i) None a = alike_filled name brackets u i (elements_given u i) a
+
+alike_outer_type : {s t : PlainStanding} (name : Identifier At) (brackets : At) (storage : Storage) (i : Option (Initializer At)) (before : Option Linked) (d : DeclaredType) → Alike s t →
+    AlikePassed PlainType (outer_type every name brackets storage i before d s) (outer_type only_first name brackets storage i before d t)
+alike_outer_type name brackets storage i before (of_type u) a =
     alike_where_in (λ x. is_complete x.structures u || not (is_written i || (is_static storage || is_void u))) a (alike_made (Some u) a) (alike_made None (alike_refusing true subset.IncompleteType name.place a))
-alike_outer_type name brackets storage None (of_open_array u) a = alike_made None (alike_refusing true subset.IncompleteType name.place a)
-alike_outer_type name brackets storage (Some i) (of_open_array u) a = alike_filled brackets u i (elements_given u i) a
-alike_outer_type name brackets storage i (of_function f) a = alike_made None a
+alike_outer_type name brackets storage i before (of_open_array u) a = alike_array_outside name brackets u i (composite u before) a
+alike_outer_type name brackets storage i before (of_function f) a = alike_made None a
+alike_outer_type name brackets storage i before (of_part_function f) a = alike_made None a
+
+alike_open_outside : {s t : PlainStanding} (name : Identifier At) (d : InitDeclarator At) (before : Option Linked) (o : Option DeclaredType) → Alike s t →
+    Alike (open_outside every name d before o s) (open_outside only_first name d before o t)
+alike_open_outside {s = s} {t = t} name d before o a = standing_where (gets_length before o) a (alike_open_noted name.place d.declarator d.initial a)
+  where
+    standing_where : {s t x y : PlainStanding} (b : Bool) → Alike s x → Alike t y → Alike (if b then s else t) (if b then x else y)
+    standing_where true a b = a
+    standing_where false a b = b
 
 alike_object_where : {k j : Known} (heads : Heads) (name : Identifier At) (s : Storage) (sensor : Bool) (i : Option (Initializer At)) (o : Option PlainType) → AlikeKnown k j →
     AlikeKnown (object_outside every heads name s sensor i k (record { made = o; after = k.standing })) (object_outside only_first heads name s sensor i j (record { made = o; after = j.standing }))
@@ -163,21 +207,38 @@ alike_object_outside {k = k} {j = j} heads name s sensor i a b =
 
 -- ## Declarations
 
-alike_prototype : {k j : Known} (heads : Heads) (name : Identifier At) (f : FunctionType) (s : Storage) (i : Option (Initializer At)) → AlikeKnown k j →
-    AlikeKnown (prototype_declared every heads name f s i k) (prototype_declared only_first heads name f s i j)
-alike_prototype heads name f s i a =
-    let m = alike_link_of heads name (function_type f) s false false a in
+alike_prototype : {k j : Known} (heads : Heads) (name : Identifier At) (u : LinkedType) (s : Storage) (i : Option (Initializer At)) → AlikeKnown k j →
+    AlikeKnown (prototype_declared every heads name u s i k) (prototype_declared only_first heads name u s i j)
+alike_prototype heads name u s i a =
+    let m = alike_link_of heads name u s false false a in
     known_at m (alike_no_initializer i m.standing)
+
+-- an object by what its declarator declares, and the declaration of its name before
+alike_object_with : {k j : Known} (heads : Heads) (s : Storage) (sensor : Bool) (name : Identifier At) (d : InitDeclarator At) (u : DeclaredType) → AlikeKnown k j →
+    AlikeKnown (object_by_type every heads s sensor name d k (Some u)) (object_by_type only_first heads s sensor name d j (Some u))
+alike_object_with {k = k} {j = j} heads s sensor name d u a =
+    for_known (λ j. AlikeKnown (object_by_type every heads s sensor name d k (Some u)) (object_by_type only_first heads s sensor name d j (Some u))) k j
+    (λ ps h. alike_object_outside heads name s sensor d.initial (known_with k (with_kept k.standing ps h))
+    (alike_outer_type name (brackets_of d.declarator) s d.initial (before_in k name) u (with_kept k.standing ps h))) a
+
+alike_object_by_type : {k j : Known} (heads : Heads) (s : Storage) (sensor : Bool) (name : Identifier At) (d : InitDeclarator At) (o : Option DeclaredType) → AlikeKnown k j →
+    AlikeKnown (object_by_type every heads s sensor name d k o) (object_by_type only_first heads s sensor name d j o)
+alike_object_by_type heads s sensor name d None a = alike_link_of heads name unknown_object s (is_written d.initial) sensor a
+alike_object_by_type heads s sensor name d (Some u) a = alike_object_with heads s sensor name d u a
+
+alike_object_by_form : {k j : Known} (heads : Heads) (s : Storage) (sensor : Bool) (name : Identifier At) (d : InitDeclarator At) (o : Option DeclaredType) → AlikeKnown k j →
+    AlikeKnown (object_by_form every heads s sensor name d k o) (object_by_form only_first heads s sensor name d j o)
+alike_object_by_form {k = k} {j = j} heads s sensor name d o a =
+    for_known (λ j. AlikeKnown (object_by_form every heads s sensor name d k o) (object_by_form only_first heads s sensor name d j o)) k j
+    (λ ps h. alike_object_by_type heads s sensor name d o (known_with k (alike_open_outside name d (before_in k name) o (with_kept k.standing ps h)))) a
 
 alike_by_type : {k j : Known} (heads : Heads) (s : Storage) (sensor : Bool) (name : Identifier At) (d : InitDeclarator At) (o : Option DeclaredType) → AlikeKnown k j →
     AlikeKnown (by_type_outside every heads s sensor name d k o) (by_type_outside only_first heads s sensor name d j o)
-alike_by_type heads s sensor name d None a =
-    alike_link_of heads name (if declares_function d.declarator then unknown_function else unknown_object) s (is_written d.initial && not (declares_function d.declarator)) sensor a
-alike_by_type heads s sensor name d (Some (of_function f)) a = alike_prototype heads name f s d.initial a
-alike_by_type heads s sensor name d (Some (of_type u)) a =
-    alike_object_outside heads name s sensor d.initial a (alike_outer_type name (brackets_of d.declarator) s d.initial (of_type u) a.standing)
-alike_by_type heads s sensor name d (Some (of_open_array u)) a =
-    alike_object_outside heads name s sensor d.initial a (alike_outer_type name (brackets_of d.declarator) s d.initial (of_open_array u) a.standing)
+alike_by_type heads s sensor name d None a = alike_object_by_form heads s sensor name d None a
+alike_by_type heads s sensor name d (Some (of_function f)) a = alike_prototype heads name (function_type f) s d.initial a
+alike_by_type heads s sensor name d (Some (of_part_function f)) a = alike_prototype heads name (part_type f) s d.initial a
+alike_by_type heads s sensor name d (Some (of_type u)) a = alike_object_by_form heads s sensor name d (Some (of_type u)) a
+alike_by_type heads s sensor name d (Some (of_open_array u)) a = alike_object_by_form heads s sensor name d (Some (of_open_array u)) a
 
 alike_typedef_outside : {k j : Known} {p q : Passed DeclaredType} (name : Identifier At) (d : InitDeclarator At) → AlikeKnown k j → AlikePassed DeclaredType p q →
     AlikeKnown (without_linkage name (no_initializer every d.initial (typedef_passed every name d.declarator p.made p.after)) k) (without_linkage name (no_initializer only_first d.initial (typedef_passed only_first name d.declarator q.made q.after)) j)
@@ -214,6 +275,9 @@ alike_begun names a b = record {
   sightings = a.sightings;
   visible = a.visible;
   mains = ap (λ ms. ms ++ main_constants names) a.mains;
+  tentative = a.tentative;
+  undefined = a.undefined;
+  outside = a.outside;
 }
 
 pub alike_declared_outside : {k j : Known} (heads : Heads) (d : Declaration At) → AlikeKnown k j → AlikeKnown (declared_outside every heads k d) (declared_outside only_first heads j d)

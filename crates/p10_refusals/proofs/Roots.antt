@@ -1,9 +1,8 @@
 -- Functions with their bodies, roots, and roots taken together, where what stands is alike.
-use Rattle.std.proofs.Common.{◌≡◌, ℕ, ◌+◌, Bool, true, false, not, if◌then◌else◌, List, [], ◌∷◌, ◌++◌, length, drop, Option, Some, None, refl, ap, subst}
+use Rattle.std.proofs.Common.{◌≡◌, Bool, true, false, not, if◌then◌else◌, List, [], ◌∷◌, ◌++◌, Option, Some, None, refl, subst}
 use Rattle.p10_base.specs.declared.at.At.{At}
 use Rattle.p10_base.specs.declared.codes.SubsetCode.TheVariants as subset
 use Rattle.p10_core.specs.Types.{PlainType, PlainStructure}
-use Rattle.p10_core.specs.Rows.{is_complete}
 use Rattle.p10_syn.specs.Trees.{Identifier, Definition, Statements, External, Outer, Defines}
 use Rattle.p10_elabx.specs.declared.problem.Problem.{Problem}
 use Rattle.p10_elabx.specs.First.{every, only_first}
@@ -14,15 +13,17 @@ use Rattle.p10_elabd.specs.Standing.{PlainStanding, refusing}
 use Rattle.p10_elabd.specs.Words.{storage_of}
 use Rattle.p10_elabd.specs.declared.site.Site.TheVariants as site_is
 use Rattle.p10_elabd.specs.declared.site.Storage.{Storage}
-use Rattle.p10_elabd.specs.Shapes.{PlainParameter, FunctionType, DeclaredType, of_type, of_open_array, of_function, name_in}
+use Rattle.p10_elabd.specs.Shapes.{PlainParameter, ListedParameter, FunctionType, DeclaredType, of_type, of_open_array, of_function, of_part_function, name_in, has_parameters}
 use Rattle.p10_heads.specs.Heads.{Heads, Head, number_in}
 use Rattle.p10_elabs.specs.Addresses.{addresses_taken, constants_of}
 use Rattle.p10_elabs.specs.Locals.{Frame}
 use Rattle.p10_elabs.specs.Marks.{marks_noted}
 use Rattle.p10_elabs.specs.Statements.{in_nothing, Block'}
-use Rattle.p10_linkage.specs.Linkage.{unknown_function, Linked, is_main_name}
+use Rattle.p10_linkage.specs.Linkage.{Linked, is_main_name}
 use Rattle.p10_linkage.specs.Between.{agreed, agreed_noted, agreeing, all_agreeing, is_defined_before, definitions_noted, taken_together}
-use Rattle.p10_elab.specs.Outer.{Defined, Known, with_standing, linked_of, function_type, main_constants, is_nameless, names_noted, body_begun, body_scope, function_made, body_done, function_by_type, allowed_at_definition, function_named, defined_outside, known_after, known_after_all, root_begun, sizes_noted, root_ended, root_passed, roots_passed}
+use Rattle.p10_elab.specs.Knowledge.{Tentative, Known, with_standing, linked_of}
+use Rattle.p10_elab.specs.Outer.{function_type, part_type, main_constants, is_nameless, names_noted, listed_names_noted, bodyless, body_begun, body_scope, function_made, body_done, function_by_type, allowed_at_definition, function_named, defined_outside}
+use Rattle.p10_elab.specs.RootEnds.{known_after, known_after_all, root_begun, lacks_size_at_end, sizes_noted, root_ended, root_passed, roots_passed}
 use Rattle.p10_refusals.proofs.Alike.{Alike, with_kept, for_alike, followed, alike_refusing, alike_refusing_in, alike_scoped}
 use Rattle.p10_refusals.proofs.Declaring.{alike_specified, alike_declarator, alike_based}
 use Rattle.p10_refusals.proofs.Locals.{AlikeLocal, alike_unknown}
@@ -35,6 +36,11 @@ alike_names : {s t : PlainStanding} (parameters : List PlainParameter) → Alike
 alike_names [] a = a
 alike_names {s = s} {t = t} (p ∷ rest) a =
     alike_names {s = refusing every (is_nameless p.name) subset.NoPrototype p.at s} {t = refusing only_first (is_nameless p.name) subset.NoPrototype p.at t} rest (alike_refusing (is_nameless p.name) subset.NoPrototype p.at a)
+
+alike_listed_names : {s t : PlainStanding} (parameters : List ListedParameter) → Alike s t → Alike (listed_names_noted every parameters s) (listed_names_noted only_first parameters t)
+alike_listed_names [] a = a
+alike_listed_names {s = s} {t = t} (p ∷ rest) a =
+    alike_listed_names {s = refusing every (is_nameless p.name) subset.NoPrototype p.at s} {t = refusing only_first (is_nameless p.name) subset.NoPrototype p.at t} rest (alike_refusing (is_nameless p.name) subset.NoPrototype p.at a)
 
 alike_body_begun : {s t : PlainStanding} (f : Frame) (u : FunctionType) → Alike s t → AlikeLocal (body_begun f u s) (body_begun f u t)
 alike_body_begun {s = s} {t = t} f u a =
@@ -72,6 +78,9 @@ alike_body heads l u body a =
       sightings = a.sightings;
       visible = a.visible;
       mains = a.mains;
+      tentative = a.tentative;
+      undefined = a.undefined;
+      outside = a.outside;
     }
 
 alike_function_of : {k j : Known} (heads : Heads) (s : Storage) (d : Definition At) (name : Identifier At) (f : FunctionType) → AlikeKnown k j →
@@ -80,14 +89,17 @@ alike_function_of {k = k} {j = j} heads s d name f a =
     for_known (λ j. AlikeKnown (function_by_type every heads s d name k (Some (of_function f))) (function_by_type only_first heads s d name j (Some (of_function f)))) k j
     (λ ps h. alike_body heads (linked_of k name (function_type f) s true false) f d.body (alike_link heads (linked_of k name (function_type f) s true false) (known_with k (with_kept k.standing ps h)))) a
 
+alike_bodyless : {k j : Known} (d : Definition At) (name : Identifier At) → AlikeKnown k j → AlikeKnown (bodyless every d name k) (bodyless only_first d name j)
+alike_bodyless d name a =
+    alike_unlinked name a (alike_unknown name (alike_refusing (not (has_parameters d.declarator)) subset.NoPrototype (declarator_place d.declarator) a.standing))
+
 alike_function : {k j : Known} (heads : Heads) (s : Storage) (d : Definition At) (name : Identifier At) (o : Option DeclaredType) → AlikeKnown k j →
     AlikeKnown (function_by_type every heads s d name k o) (function_by_type only_first heads s d name j o)
-alike_function heads s d name None a = alike_link_of heads name unknown_function s true false a
+alike_function heads s d name None a = alike_bodyless d name a
 alike_function heads s d name (Some (of_function f)) a = alike_function_of heads s d name f a
-alike_function heads s d name (Some (of_type u)) a =
-    alike_unlinked name a (alike_unknown name (alike_refusing true subset.NoPrototype (declarator_place d.declarator) a.standing))
-alike_function heads s d name (Some (of_open_array u)) a =
-    alike_unlinked name a (alike_unknown name (alike_refusing true subset.NoPrototype (declarator_place d.declarator) a.standing))
+alike_function heads s d name (Some (of_part_function f)) a = alike_link_of heads name (part_type f) s true false (known_at a (alike_listed_names f.parameters a.standing))
+alike_function heads s d name (Some (of_type u)) a = alike_bodyless d name a
+alike_function heads s d name (Some (of_open_array u)) a = alike_bodyless d name a
 
 alike_function_named : {k j : Known} (heads : Heads) (d : Definition At) (u : Option PlainType) (name : Option (Identifier At)) → AlikeKnown k j →
     AlikeKnown (function_named every heads d k u name) (function_named only_first heads d j u name)
@@ -128,17 +140,20 @@ alike_root_begun a = record {
   sightings = refl;
   visible = a.visible;
   mains = a.mains;
+  tentative = refl;
+  undefined = refl;
+  outside = a.outside;
 }
 
-alike_sizes : {s t : PlainStanding} (all : List Defined) → Alike s t → Alike (sizes_noted every all s) (sizes_noted only_first all t)
+alike_sizes : {s t : PlainStanding} (all : List Tentative) → Alike s t → Alike (sizes_noted every all s) (sizes_noted only_first all t)
 alike_sizes [] a = a
 alike_sizes {s = s} {t = t} (d ∷ rest) a =
-    alike_sizes {s = refusing every (not (is_complete s.scope.structures d.type)) subset.IncompleteType d.name.place s} {t = refusing only_first (not (is_complete t.scope.structures d.type)) subset.IncompleteType d.name.place t} rest
-    (alike_refusing_in (λ x. not (is_complete x.structures d.type)) subset.IncompleteType d.name.place a)
+    alike_sizes {s = refusing every (lacks_size_at_end s.scope d.type) subset.IncompleteType d.name.place s} {t = refusing only_first (lacks_size_at_end t.scope d.type) subset.IncompleteType d.name.place t} rest
+    (alike_refusing_in (λ x. lacks_size_at_end x d.type) subset.IncompleteType d.name.place a)
 
-alike_ended : (before : ℕ) (k : Known) (ps : List Problem) → AreKept k.standing.problems ps → AlikeKnown (root_ended every before k) (root_ended only_first before (with_problems_of ps k))
-alike_ended before k ps h = record {
-  standing = alike_sizes (drop before k.objects) (with_kept k.standing ps h);
+alike_ended : (k : Known) (ps : List Problem) → AreKept k.standing.problems ps → AlikeKnown (root_ended every k) (root_ended only_first (with_problems_of ps k))
+alike_ended k ps h = record {
+  standing = alike_sizes k.tentative (with_kept k.standing ps h);
   root = refl;
   linked = refl;
   functions = refl;
@@ -147,16 +162,16 @@ alike_ended before k ps h = record {
   sightings = refl;
   visible = refl;
   mains = refl;
+  tentative = refl;
+  undefined = refl;
+  outside = refl;
 }
 
-alike_root_ended : {k j : Known} (before after : ℕ) → before ≡ after → AlikeKnown k j → AlikeKnown (root_ended every before k) (root_ended only_first after j)
-alike_root_ended {k = k} {j = j} before after e a =
-    subst (λ n. AlikeKnown (root_ended every before k) (root_ended only_first n j)) e
-    (for_known (λ j. AlikeKnown (root_ended every before k) (root_ended only_first before j)) k j (λ ps h. alike_ended before k ps h) a)
+alike_root_ended : {k j : Known} → AlikeKnown k j → AlikeKnown (root_ended every k) (root_ended only_first j)
+alike_root_ended {k = k} {j = j} a = for_known (λ j. AlikeKnown (root_ended every k) (root_ended only_first j)) k j (λ ps h. alike_ended k ps h) a
 
 alike_root : {k j : Known} (heads : Heads) (root : List (External At)) → AlikeKnown k j → AlikeKnown (root_passed every heads k root) (root_passed only_first heads j root)
-alike_root {k = k} {j = j} heads root a =
-    alike_root_ended (length k.objects) (length j.objects) (ap (λ (xs : List Defined). length xs) a.objects) (alike_after_all heads root (alike_root_begun a))
+alike_root heads root a = alike_root_ended (alike_after_all heads root (alike_root_begun a))
 
 pub alike_roots : {k j : Known} (heads : Heads) (roots : List (List (External At))) → AlikeKnown k j → AlikeKnown (roots_passed every heads k roots) (roots_passed only_first heads j roots)
 alike_roots heads [] a = a

@@ -1,5 +1,5 @@
 -- Statements where what stands is alike.
-use Rattle.std.proofs.Common.{◌≡◌, ◌∙◌, ℕ, ◌+◌, ℤ, Bool, true, false, not, ◌||◌, if◌then◌else◌, List, [], ◌∷◌, ◌++◌, map, length, Option, Some, None, refl, ap, subst}
+use Rattle.std.proofs.Common.{◌≡◌, ◌∙◌, ℕ, ◌+◌, ℤ, Bool, true, false, not, ◌||◌, if◌then◌else◌, List, [], ◌∷◌, ◌++◌, length, Option, Some, None, refl, ap, subst}
 use Rattle.p10_base.specs.declared.at.At.{At}
 use Rattle.p10_base.specs.declared.codes.SubsetCode.TheVariants as subset
 use Rattle.p10_syn.specs.Trees.{Expression, Optional, Absent, Present, Declaration, Statement, Empty, Evaluate, Block, If, IfElse, Switch, While, Do, For, Case, Default, Label, Goto, Break, Continue, Return, Declare, Pragma, Statements, NoStatements, MoreStatements}
@@ -86,7 +86,7 @@ alike_no_items a = record { made = refl; kinds = refl; after = a }
 alike_with_declared : {b c : Block'} {d e : Declaring} → AlikeBlock b c → AlikeDeclaring d e → AlikeBlock (with_declared b d) (with_declared c e)
 alike_with_declared a d = record {
   made = λ i. items_added (a.made i) (d.items i);
-  kinds = λ i. a.kinds i ++ map (λ _. item.Other) (d.items i);
+  kinds = λ i. a.kinds i ++ item.Other ∷ [];
   after = d.after;
 }
 

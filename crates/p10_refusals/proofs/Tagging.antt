@@ -22,7 +22,7 @@ use Rattle.p10_elabd.specs.Blocks.{declaring}
 use Rattle.p10_elabd.specs.Expressions.{constant_number}
 use Rattle.p10_elabd.specs.Tags.{with_tag}
 use Rattle.p10_elabd.specs.Tagged.{known_tag, structure_by_tag, structure_named, enumeration_by_tag, enumeration_named, Begun, begun_anew, begun_with_tag, begun_twice, begun_known, may_complete, begun_by_tag, begun_for, opened, begun, ended, completed_small, completed_by, with_unknown_tag, structure_made, with_hidden_tag, with_enumeration, enumeration_begun}
-use Rattle.p10_elabd.specs.Shapes.{DeclaredType, of_type, of_open_array, of_function}
+use Rattle.p10_elabd.specs.Shapes.{DeclaredType, of_type, of_open_array, of_function, of_part_function}
 use Rattle.p10_elabd.specs.Members.{member_type, member_declared, with_width, member_added, is_member, with_member, enumerator_value, int_value, enumerator_meaning, value_after, enumerator_passed}
 use Rattle.p10_refusals.proofs.Alike.{Alike, AlikePassed, with_kept, for_alike, followed, alike_passed, alike_nothing, alike_made, alike_refusing, alike_refusing_by, alike_refusing_in, alike_where, alike_where_in, alike_scoped}
 use Rattle.p10_refusals.proofs.Values.{alike_value}
@@ -152,8 +152,9 @@ alike_enumeration_begun (Some tag) a = alike_hidden_tag (Some tag) (alike_refusi
 alike_member_type : {s t : PlainStanding} (name_at : At) (d : DeclaredType) → Alike s t → AlikePassed PlainType (member_type every name_at d s) (member_type only_first name_at d t)
 alike_member_type name_at (of_type u) a =
     alike_where_in (λ x. is_complete x.structures u) a (alike_passed u a) (alike_nothing (alike_refusing true subset.IncompleteType name_at a))
-alike_member_type name_at (of_open_array u) a = alike_nothing (alike_refusing true subset.IncompleteType name_at a)
+alike_member_type name_at (of_open_array u) a = alike_nothing a
 alike_member_type name_at (of_function f) a = alike_nothing a
+alike_member_type name_at (of_part_function f) a = alike_nothing a
 
 pub alike_member : {s t : PlainStanding} (name_at : At) (o : Option DeclaredType) → Alike s t → AlikePassed PlainType (member_declared every name_at o s) (member_declared only_first name_at o t)
 alike_member name_at None a = alike_nothing a

@@ -9,7 +9,8 @@ use Rattle.p10_elabd.specs.Standing.{PlainStanding}
 use Rattle.p10_heads.specs.Heads.{heads_of_roots}
 use Rattle.p10_heads.specs.Roots.{roots_of}
 use Rattle.p10_linkage.specs.Between.{taken_together}
-use Rattle.p10_elab.specs.Outer.{Known, nothing_known}
+use Rattle.p10_elab.specs.Knowledge.{Known}
+use Rattle.p10_elab.specs.RootEnds.{nothing_known}
 use Rattle.p10_elab.specs.Programs.{Elaborated, unless_problem, names_settled, program_of, main_among, known_of, standing_of}
 use Rattle.p10_refusals.specs.Laws.{TellsFirst, TheFirstOfAllIsTold}
 use Rattle.p10_refusals.proofs.Alike.{Alike}
@@ -27,6 +28,9 @@ nothing_alike = record {
   sightings = refl;
   visible = refl;
   mains = refl;
+  tentative = refl;
+  undefined = refl;
+  outside = refl;
 }
 
 alike_known : (roots : List (List (External At))) → AlikeKnown (known_of every roots) (known_of only_first roots)
@@ -40,9 +44,9 @@ alike_standing roots =
     (alike_together (heads_of_roots 0 roots) (known_of every roots).linked a.standing)
 
 -- what comes where no row holds
-same_settled : (count : ℕ) (s t : PlainStanding) (k j : Known) → Alike s t → AlikeKnown k j →
-    names_settled (length j.functions) count (main_among j.functions) j.mains (program_of count t j) ≡ names_settled (length k.functions) count (main_among k.functions) k.mains (program_of count s k)
-same_settled count s t k j a b = sym (λ i. names_settled (length (b.functions i)) count (main_among (b.functions i)) (b.mains i)
+same_settled : (all : List (External At)) (count : ℕ) (s t : PlainStanding) (k j : Known) → Alike s t → AlikeKnown k j →
+    names_settled all (length j.functions) count (main_among j.functions) j.mains (program_of count t j) ≡ names_settled all (length k.functions) count (main_among k.functions) k.mains (program_of count s k)
+same_settled all count s t k j a b = sym (λ i. names_settled all (length (b.functions i)) count (main_among (b.functions i)) (b.mains i)
     (program_of count (record { scope = a.scope i; open_structures = a.open_structures i; problems = [] })
     (record {
       standing = k.standing;
@@ -54,6 +58,9 @@ same_settled count s t k j a b = sym (λ i. names_settled (length (b.functions i
       sightings = b.sightings i;
       visible = b.visible i;
       mains = b.mains i;
+      tentative = b.tentative i;
+      undefined = b.undefined i;
+      outside = b.outside i;
     })))
 
 told_by : (all few : List Problem) (this that : Elaborated) → that ≡ this → AreKept all few → TellsFirst all (unless_problem all this) (unless_problem few that)
@@ -68,4 +75,4 @@ the_first_of_all_is_told all =
     let roots : List (List (External At)) = roots_of all in
     let a = alike_standing roots in
     let count : ℕ = length (heads_of_roots 0 roots).objects in
-    told_by (standing_of every roots).problems (standing_of only_first roots).problems _ _ (same_settled count (standing_of every roots) (standing_of only_first roots) (known_of every roots) (known_of only_first roots) a (alike_known roots)) a.problems
+    told_by (standing_of every roots).problems (standing_of only_first roots).problems _ _ (same_settled all count (standing_of every roots) (standing_of only_first roots) (known_of every roots) (known_of only_first roots) a (alike_known roots)) a.problems

@@ -17,4 +17,4 @@ TellsFirst (r ∷ rest) otherwise told = (q : Problem) × (told ≡ refusal q) �
 -- none of these holds, the answer is what comes of the roots then: S27, S28, limit M8, or the program
 abbrev pub TheFirstOfAllIsTold : Type 0
 TheFirstOfAllIsTold =
-    (all : List (External At)) → TellsFirst (standing_of every (roots_of all)).problems (roots_elaborated every (roots_of all)) (elaborated all)
+    (all : List (External At)) → TellsFirst (standing_of every (roots_of all)).problems (roots_elaborated every all (roots_of all)) (elaborated all)

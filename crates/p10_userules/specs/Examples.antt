@@ -81,7 +81,7 @@ function_of parameters vs body =
 -- a program with objects and functions
 abbrev pub program_of : List PlainObject → List PlainFunction → PlainProgram
 program_of objects functions =
-    record { structures = []; objects = objects; functions = functions; literals = []; main = 0; mark = None; task = None }
+    record { structures = []; objects = objects; functions = functions; literals = []; main = 0; mark = None; task = None; outside = [] }
 
 -- ## Rules 6.1, 6.2, 7.1 and 7.2
 

@@ -11,6 +11,7 @@ use Rattle.p10_core.specs.Typed.{PlainObject, PlainProgram}
 use Rattle.p10_core.specs.WholePrograms.{is_among}
 use Rattle.p10_warn.specs.AllNodes.{all_nodes}
 use Rattle.p10_warn.specs.Naming.{HasNaming, named_object, called_function}
+use Rattle.p10_warn.specs.Scopes.{file_names}
 use Rattle.p10_warn.specs.Violations.{Violates, unused_object, unused_variable, unused_function, implicit_narrowing, signs_mixed, name_hidden, no_default, after_jump, end_reached}
 use Rattle.p10_warn.specs.private.Listing.{node_violations, unused_objects, functions_violations, program_violations}
 use Rattle.p10_warn.proofs.Rows.{Breaks, row_at, in_pieces, piece_in}
@@ -29,7 +30,7 @@ module _ (p : PlainProgram) where
   on_objects = unused_objects named 0 p.objects
 
   abbrev on_functions : List Violation
-  on_functions = functions_violations p.objects p.main (filter_map called_function (all_nodes p)) 0 p.functions
+  on_functions = functions_violations (file_names p) p.main (filter_map called_function (all_nodes p)) 0 p.functions
 
   object_is : (v : Violation) → Contains on_objects v → Breaks p v
   object_is v held =

@@ -7,15 +7,15 @@ use Rattle.std.proofs.lemmas.Option.{none-some, same_Some}
 use Rattle.p10_base.specs.declared.report.Violation.{Violation}
 use Rattle.p10_core.specs.Rows.{is_void}
 use Rattle.p10_core.specs.Nodes.{nodes_of_statements}
-use Rattle.p10_core.specs.Typed.{PlainStatement, PlainVariable, PlainFunction, PlainObject, PlainProgram, statement_at}
+use Rattle.p10_core.specs.Typed.{PlainStatement, PlainVariable, PlainFunction, PlainProgram, statement_at}
 use Rattle.p10_core.specs.WholePrograms.{is_among}
 use Rattle.p10_warn.specs.AllNodes.{all_nodes}
 use Rattle.p10_warn.specs.Naming.{HasNaming, named_variable, called_function}
-use Rattle.p10_warn.specs.Scopes.{ScopedDeclaration, declarations_of_function, Hides}
+use Rattle.p10_warn.specs.Scopes.{ScopedDeclaration, declarations_of_function, FileNames, file_names, Hides}
 use Rattle.p10_warn.specs.Jumps.{LabelledBlock, blocks_of, FollowsJump}
-use Rattle.p10_warn.specs.Ends.{reach_end}
+use Rattle.p10_warn.specs.Ends.{reach_end, lacks_return}
 use Rattle.p10_warn.specs.Violations.{unused_variable, unused_function, name_hidden, after_jump, end_reached}
-use Rattle.p10_warn.specs.private.Listing.{listed_if, unused_variables, hides, declaration_violations, block_violations, lacks_return, function_violations, functions_violations}
+use Rattle.p10_warn.specs.private.Listing.{listed_if, unused_variables, hides, declaration_violations, block_violations, function_violations, functions_violations}
 use Rattle.p10_warn.proofs.Booleans.{both, not_is, is_not, not_both_ways}
 use Rattle.p10_warn.proofs.Members.{none_in, here, there, first_or_later}
 use Rattle.p10_warn.proofs.Rows.{Breaks, row_at, row_is, is_row, in_pieces, piece_in}
@@ -25,29 +25,29 @@ use Rattle.p10_warn.proofs.JumpRows.{item_is, is_item}
 
 -- ## Functions by their numbers
 
-numbered : (objects : List PlainObject) (main : ℕ) (called : List ℕ) (f : PlainFunction) (m n : ℕ) (v : Violation) → m ≡ n → Contains (function_violations objects main called m f) v
-    → Contains (function_violations objects main called n f) v
-numbered objects main called f m n v e held = subst (λ (k : ℕ). Contains (function_violations objects main called k f) v) e held
+numbered : (file : FileNames) (main : ℕ) (called : List ℕ) (f : PlainFunction) (m n : ℕ) (v : Violation) → m ≡ n → Contains (function_violations file main called m f) v
+    → Contains (function_violations file main called n f) v
+numbered file main called f m n v e held = subst (λ (k : ℕ). Contains (function_violations file main called k f) v) e held
 
-function_at_is : (objects : List PlainObject) (main : ℕ) (called : List ℕ) (n : ℕ) (fs : List PlainFunction) (v : Violation) → Contains (functions_violations objects main called n fs) v
-    → (k : ℕ) × (f : PlainFunction) × (slice_get fs k ≡ Some f) × Contains (function_violations objects main called (n + k) f) v
-function_at_is objects main called n [] v held = absurd (none_in v held)
-function_at_is objects main called n (f ∷ fs) v held =
-    elim (Contains-append_cases (function_violations objects main called n f) (functions_violations objects main called (n + 1) fs) v held) [
-      | inl first ↦ (0, f, refl, numbered objects main called f n (n + 0) v (omega arith) first)
-      | inr later ↦ let h = function_at_is objects main called (n + 1) fs v later in
-          (suc h.0, h.1, h.2, numbered objects main called h.1 (n + 1 + h.0) (n + suc h.0) v (omega arith) h.3)
+function_at_is : (file : FileNames) (main : ℕ) (called : List ℕ) (n : ℕ) (fs : List PlainFunction) (v : Violation) → Contains (functions_violations file main called n fs) v
+    → (k : ℕ) × (f : PlainFunction) × (slice_get fs k ≡ Some f) × Contains (function_violations file main called (n + k) f) v
+function_at_is file main called n [] v held = absurd (none_in v held)
+function_at_is file main called n (f ∷ fs) v held =
+    elim (Contains-append_cases (function_violations file main called n f) (functions_violations file main called (n + 1) fs) v held) [
+      | inl first ↦ (0, f, refl, numbered file main called f n (n + 0) v (omega arith) first)
+      | inr later ↦ let h = function_at_is file main called (n + 1) fs v later in
+          (suc h.0, h.1, h.2, numbered file main called h.1 (n + 1 + h.0) (n + suc h.0) v (omega arith) h.3)
     ]
 
-is_function_at : (objects : List PlainObject) (main : ℕ) (called : List ℕ) (n : ℕ) (fs : List PlainFunction) (k : ℕ) (f : PlainFunction) (v : Violation) → slice_get fs k ≡ Some f
-    → Contains (function_violations objects main called (n + k) f) v → Contains (functions_violations objects main called n fs) v
-is_function_at objects main called n [] k f v at held = absurd (none-some f at)
-is_function_at objects main called n (g ∷ fs) zero f v at held =
-    Contains-append_left (function_violations objects main called n g) (functions_violations objects main called (n + 1) fs) v
-    (subst (λ (h : PlainFunction). Contains (function_violations objects main called n h) v) (sym (same_Some g f at)) (numbered objects main called f (n + 0) n v (omega arith) held))
-is_function_at objects main called n (g ∷ fs) (suc k) f v at held =
-    Contains-append_right (function_violations objects main called n g) (functions_violations objects main called (n + 1) fs) v
-    (is_function_at objects main called (n + 1) fs k f v at (numbered objects main called f (n + suc k) (n + 1 + k) v (omega arith) held))
+is_function_at : (file : FileNames) (main : ℕ) (called : List ℕ) (n : ℕ) (fs : List PlainFunction) (k : ℕ) (f : PlainFunction) (v : Violation) → slice_get fs k ≡ Some f
+    → Contains (function_violations file main called (n + k) f) v → Contains (functions_violations file main called n fs) v
+is_function_at file main called n [] k f v at held = absurd (none-some f at)
+is_function_at file main called n (g ∷ fs) zero f v at held =
+    Contains-append_left (function_violations file main called n g) (functions_violations file main called (n + 1) fs) v
+    (subst (λ (h : PlainFunction). Contains (function_violations file main called n h) v) (sym (same_Some g f at)) (numbered file main called f (n + 0) n v (omega arith) held))
+is_function_at file main called n (g ∷ fs) (suc k) f v at held =
+    Contains-append_right (function_violations file main called n g) (functions_violations file main called (n + 1) fs) v
+    (is_function_at file main called (n + 1) fs k f v at (numbered file main called f (n + suc k) (n + 1 + k) v (omega arith) held))
 
 -- an element by its place is an element
 pub held_at : {A : Type 0} (xs : List A) (k : ℕ) (x : A) → slice_get xs k ≡ Some x → Contains xs x
@@ -83,7 +83,7 @@ module _ (p : PlainProgram) where
   on_calls n f = listed_if 2 (f.static && not (is_among n called)) f.span
 
   abbrev on_names : ℕ → PlainFunction → List Violation
-  on_names n f = flat_map (declaration_violations p.objects n) (declarations_of_function p.objects f)
+  on_names n f = flat_map (declaration_violations (file_names p) n) (declarations_of_function p.objects f)
 
   abbrev on_jumps : PlainFunction → List Violation
   on_jumps f = flat_map block_violations (blocks_of f)
@@ -106,9 +106,9 @@ module _ (p : PlainProgram) where
 
   name_is : (n : ℕ) (f : PlainFunction) (v : Violation) → slice_get p.functions n ≡ Some f → Contains (on_names n f) v → Breaks p v
   name_is n f v at in' =
-      let found = in_pieces (declaration_violations p.objects n) (declarations_of_function p.objects f) v in' in
-      let h = row_is 5 (hides p.objects n found.0) found.0.declares.span v found.2 in
-      subst (Breaks p) h.1 (name_hidden n f found.0 at found.1 (hiding_is p.objects n found.0 h.0))
+      let found = in_pieces (declaration_violations (file_names p) n) (declarations_of_function p.objects f) v in' in
+      let h = row_is 5 (hides (file_names p) n found.0) found.0.declares.span v found.2 in
+      subst (Breaks p) h.1 (name_hidden n f found.0 at found.1 (hiding_is (file_names p) n found.0 h.0))
 
   jump_is : (f : PlainFunction) (v : Violation) → Contains p.functions f → Contains (on_jumps f) v → Breaks p v
   jump_is f v held in' =
@@ -123,7 +123,7 @@ module _ (p : PlainProgram) where
       let second = and_parts (not (is_void f.result)) (reach_end f.body) first.1 in
       subst (Breaks p) h.1 (end_reached n f at (other_number n p.main first.0) (not_is (is_void f.result) second.0) second.1)
 
-  function_is : (n : ℕ) (f : PlainFunction) (v : Violation) → slice_get p.functions n ≡ Some f → Contains (function_violations p.objects p.main called n f) v → Breaks p v
+  function_is : (n : ℕ) (f : PlainFunction) (v : Violation) → slice_get p.functions n ≡ Some f → Contains (function_violations (file_names p) p.main called n f) v → Breaks p v
   function_is n f v at in' =
       elim (Contains-append_cases (on_variables f) (on_calls n f ++ (on_names n f ++ (on_jumps f ++ on_end n f))) v in') [
         | inl in' ↦ variable_is n f v (held_at p.functions n f at) in'
@@ -139,30 +139,30 @@ module _ (p : PlainProgram) where
         ]
       ]
 
-  pub functions_are : (v : Violation) → Contains (functions_violations p.objects p.main called 0 p.functions) v → Breaks p v
+  pub functions_are : (v : Violation) → Contains (functions_violations (file_names p) p.main called 0 p.functions) v → Breaks p v
   functions_are v in' =
-      let h = function_at_is p.objects p.main called 0 p.functions v in' in
+      let h = function_at_is (file_names p) p.main called 0 p.functions v in' in
       let same : 0 + h.0 ≡ h.0 = omega arith in
-      function_is h.0 h.1 v h.2 (numbered p.objects p.main called h.1 (0 + h.0) h.0 v same h.3)
+      function_is h.0 h.1 v h.2 (numbered (file_names p) p.main called h.1 (0 + h.0) h.0 v same h.3)
 
-  in_function : (n : ℕ) (f : PlainFunction) (v : Violation) → slice_get p.functions n ≡ Some f → Contains (function_violations p.objects p.main called n f) v
-      → Contains (functions_violations p.objects p.main called 0 p.functions) v
-  in_function n f v at held = is_function_at p.objects p.main called 0 p.functions n f v at (numbered p.objects p.main called f n (0 + n) v (omega arith) held)
+  in_function : (n : ℕ) (f : PlainFunction) (v : Violation) → slice_get p.functions n ≡ Some f → Contains (function_violations (file_names p) p.main called n f) v
+      → Contains (functions_violations (file_names p) p.main called 0 p.functions) v
+  in_function n f v at held = is_function_at (file_names p) p.main called 0 p.functions n f v at (numbered (file_names p) p.main called f n (0 + n) v (omega arith) held)
 
-  on_variables_in : (n : ℕ) (f : PlainFunction) (v : Violation) → Contains (on_variables f) v → Contains (function_violations p.objects p.main called n f) v
+  on_variables_in : (n : ℕ) (f : PlainFunction) (v : Violation) → Contains (on_variables f) v → Contains (function_violations (file_names p) p.main called n f) v
   on_variables_in n f v held = Contains-append_left (on_variables f) (on_calls n f ++ (on_names n f ++ (on_jumps f ++ on_end n f))) v held
 
-  after_variables : (n : ℕ) (f : PlainFunction) (v : Violation) → Contains (on_calls n f ++ (on_names n f ++ (on_jumps f ++ on_end n f))) v → Contains (function_violations p.objects p.main called n f) v
+  after_variables : (n : ℕ) (f : PlainFunction) (v : Violation) → Contains (on_calls n f ++ (on_names n f ++ (on_jumps f ++ on_end n f))) v → Contains (function_violations (file_names p) p.main called n f) v
   after_variables n f v held = Contains-append_right (on_variables f) (on_calls n f ++ (on_names n f ++ (on_jumps f ++ on_end n f))) v held
 
-  after_calls : (n : ℕ) (f : PlainFunction) (v : Violation) → Contains (on_names n f ++ (on_jumps f ++ on_end n f)) v → Contains (function_violations p.objects p.main called n f) v
+  after_calls : (n : ℕ) (f : PlainFunction) (v : Violation) → Contains (on_names n f ++ (on_jumps f ++ on_end n f)) v → Contains (function_violations (file_names p) p.main called n f) v
   after_calls n f v held = after_variables n f v (Contains-append_right (on_calls n f) (on_names n f ++ (on_jumps f ++ on_end n f)) v held)
 
-  after_names : (n : ℕ) (f : PlainFunction) (v : Violation) → Contains (on_jumps f ++ on_end n f) v → Contains (function_violations p.objects p.main called n f) v
+  after_names : (n : ℕ) (f : PlainFunction) (v : Violation) → Contains (on_jumps f ++ on_end n f) v → Contains (function_violations (file_names p) p.main called n f) v
   after_names n f v held = after_calls n f v (Contains-append_right (on_names n f) (on_jumps f ++ on_end n f) v held)
 
   pub is_variable : (f : PlainFunction) (n : ℕ) (w : PlainVariable) → Contains p.functions f → slice_get f.variables n ≡ Some w → (HasNaming named_variable (nodes_of_statements f.body) n → ⊥)
-      → Contains (functions_violations p.objects p.main called 0 p.functions) (row_at 1 w.span)
+      → Contains (functions_violations (file_names p) p.main called 0 p.functions) (row_at 1 w.span)
   is_variable f n w held at unnamed =
       let place = place_of_held p.functions f held in
       let named = filter_map named_variable (nodes_of_statements f.body) in
@@ -171,20 +171,20 @@ module _ (p : PlainProgram) where
       (is_unused_variable named 0 f.variables n w at (ap (λ k. is_among k named) (sym same) ∙ is_unnamed named_variable (nodes_of_statements f.body) n unnamed)))
 
   pub is_call : (n : ℕ) (f : PlainFunction) → slice_get p.functions n ≡ Some f → f.static ≡ true → (HasNaming called_function (all_nodes p) n → ⊥)
-      → Contains (functions_violations p.objects p.main called 0 p.functions) (row_at 2 f.span)
+      → Contains (functions_violations (file_names p) p.main called 0 p.functions) (row_at 2 f.span)
   is_call n f at static uncalled =
       in_function n f (row_at 2 f.span) at (after_variables n f (row_at 2 f.span) (Contains-append_left (on_calls n f) (on_names n f ++ (on_jumps f ++ on_end n f)) (row_at 2 f.span)
       (is_row 2 (f.static && not (is_among n called)) f.span (both f.static (not (is_among n called)) static (is_not (is_among n called) (is_unnamed called_function (all_nodes p) n uncalled))))))
 
-  pub is_name : (n : ℕ) (f : PlainFunction) (d : ScopedDeclaration) → slice_get p.functions n ≡ Some f → Contains (declarations_of_function p.objects f) d → Hides p.objects n d
-      → Contains (functions_violations p.objects p.main called 0 p.functions) (row_at 5 d.declares.span)
+  pub is_name : (n : ℕ) (f : PlainFunction) (d : ScopedDeclaration) → slice_get p.functions n ≡ Some f → Contains (declarations_of_function p.objects f) d → Hides (file_names p) n d
+      → Contains (functions_violations (file_names p) p.main called 0 p.functions) (row_at 5 d.declares.span)
   is_name n f d at held hidden =
       in_function n f (row_at 5 d.declares.span) at (after_calls n f (row_at 5 d.declares.span) (Contains-append_left (on_names n f) (on_jumps f ++ on_end n f) (row_at 5 d.declares.span)
-      (piece_in (declaration_violations p.objects n) (declarations_of_function p.objects f) d (row_at 5 d.declares.span) held
-      (is_row 5 (hides p.objects n d) d.declares.span (is_hiding p.objects n d hidden)))))
+      (piece_in (declaration_violations (file_names p) n) (declarations_of_function p.objects f) d (row_at 5 d.declares.span) held
+      (is_row 5 (hides (file_names p) n d) d.declares.span (is_hiding (file_names p) n d hidden)))))
 
   pub is_after_jump : (f : PlainFunction) (b : LabelledBlock) (s : PlainStatement) → Contains p.functions f → Contains (blocks_of f) b → FollowsJump b.labelled 0 b.items s
-      → Contains (functions_violations p.objects p.main called 0 p.functions) (row_at 7 (statement_at s).span)
+      → Contains (functions_violations (file_names p) p.main called 0 p.functions) (row_at 7 (statement_at s).span)
   is_after_jump f b s held in' after =
       let place = place_of_held p.functions f held in
       let v = row_at 7 (statement_at s).span in
@@ -192,7 +192,7 @@ module _ (p : PlainProgram) where
       (piece_in block_violations (blocks_of f) b v in' (is_item b.labelled false 0 b.items s after))))
 
   pub is_end : (n : ℕ) (f : PlainFunction) → slice_get p.functions n ≡ Some f → (n ≡ p.main → ⊥) → is_void f.result ≡ false → reach_end f.body ≡ true
-      → Contains (functions_violations p.objects p.main called 0 p.functions) (row_at 8 f.span)
+      → Contains (functions_violations (file_names p) p.main called 0 p.functions) (row_at 8 f.span)
   is_end n f at other result reached =
       in_function n f (row_at 8 f.span) at (after_names n f (row_at 8 f.span) (Contains-append_right (on_jumps f) (on_end n f) (row_at 8 f.span)
       (is_row 8 (lacks_return p.main n f) f.span (both (not (n == p.main)) (not (is_void f.result) && reach_end f.body) (is_other_number n p.main other)

@@ -1,6 +1,7 @@
 -- Whether the end of a statement can be reached, by syntax (C99 6.8.6, 6.9.1p12; row 8 of rule 10).
-use Rattle.std.specs.Prelude.{Bool, true, false, ◌&&◌, ◌||◌, if◌then◌else◌, Option, Some, None}
-use Rattle.p10_core.specs.Typed.{PlainValue, PlainStatement, statement, PlainStatementForm, block, if_then, if_else, loop, break, continue, return, PlainStatements, no_statements, more_statements}
+use Rattle.std.specs.Prelude.{ℕ, nat_eq, not, Bool, true, false, ◌&&◌, ◌||◌, if◌then◌else◌, Option, Some, None}
+use Rattle.p10_core.specs.Rows.{is_void}
+use Rattle.p10_core.specs.Typed.{PlainFunction, PlainValue, PlainStatement, statement, PlainStatementForm, block, if_then, if_else, loop, break, continue, return, PlainStatements, no_statements, more_statements}
 use Rattle.p10_core.specs.WholePrograms.{is_true_test}
 
 abbrev mutual
@@ -46,3 +47,7 @@ abbrev mutual
   pub reach_end : PlainStatements → Bool
   reach_end no_statements = true
   reach_end (more_statements s rest) = reaches_end s && reach_end rest
+
+-- whether a function that isn't `main` has a result and an end that is reached
+abbrev pub lacks_return : ℕ → ℕ → PlainFunction → Bool
+lacks_return main n f = not (nat_eq n main) && (not (is_void f.result) && reach_end f.body)

@@ -4,7 +4,7 @@ use Rattle.std.specs.List.{list_any}
 use Rattle.p10_base.specs.declared.span.Span.{Span}
 use Rattle.p10_base.specs.Words.{Text}
 use Rattle.p10_core.specs.declared.program.Extent.{Extent}
-use Rattle.p10_core.specs.Typed.{PlainVariable, PlainFunction, PlainObject, PlainStatement, statement, PlainStatementForm, declare, declare_static, block, if_then, if_else, loop, switch, PlainStatements, no_statements, more_statements}
+use Rattle.p10_core.specs.Typed.{PlainVariable, PlainFunction, PlainObject, PlainSeen, PlainProgram, PlainStatement, statement, PlainStatementForm, declare, declare_static, block, if_then, if_else, loop, switch, PlainStatements, no_statements, more_statements}
 
 -- a name that is declared, with its span
 pub record DeclaredName : Type 0 where
@@ -96,8 +96,18 @@ covers n e = nat_le e.from n && nat_lt n e.to
 abbrev pub is_in_scope_at : ℕ → PlainObject → Bool
 is_in_scope_at n o = list_any (covers n) o.visible
 
+-- what stands at file scope: the objects of a program, and those that it declares and doesn't define
+pub record FileNames : Type 0 where
+  pub objects : List PlainObject
+  pub outside : List PlainSeen
+
+-- those of a program
+abbrev pub file_names : PlainProgram → FileNames
+file_names p = record { objects = p.objects; outside = p.outside }
+
 -- A declaration in the function with a number hides an outer object or parameter: one of the function, or an object of file scope
--- that is in scope at the function.
-pub data Hides (objects : List PlainObject) (n : ℕ) (d : ScopedDeclaration) : Type 0 where
-  of_function : Contains d.around d.declares.name → Hides objects n d
-  of_file : (o : PlainObject) → Contains objects o → o.name ≡ d.declares.name → is_in_scope_at n o ≡ true → Hides objects n d
+-- that is in scope at the function, which may be defined elsewhere (C99 6.2.1p4, 6.2.2p4).
+pub data Hides (file : FileNames) (n : ℕ) (d : ScopedDeclaration) : Type 0 where
+  of_function : Contains d.around d.declares.name → Hides file n d
+  of_file : (o : PlainObject) → Contains file.objects o → o.name ≡ d.declares.name → is_in_scope_at n o ≡ true → Hides file n d
+  of_elsewhere : (o : PlainSeen) → Contains file.outside o → o.name ≡ d.declares.name → covers n o.visible ≡ true → Hides file n d

@@ -82,7 +82,7 @@ small_function name n parameters variables body = record {
 
 -- a program, with the number of `main`
 abbrev pub small_program : List PlainObject → List PlainFunction → ℕ → PlainProgram
-small_program objects functions main = record { structures = []; objects = objects; functions = functions; literals = []; main = main; mark = None; task = None }
+small_program objects functions main = record { structures = []; objects = objects; functions = functions; literals = []; main = main; mark = None; task = None; outside = [] }
 
 -- ## Names
 

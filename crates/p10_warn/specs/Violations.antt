@@ -11,7 +11,7 @@ use Rattle.p10_warn.specs.AllNodes.{all_nodes}
 use Rattle.p10_warn.specs.Naming.{HasNaming, named_variable, named_object, called_function}
 use Rattle.p10_warn.specs.Conversions.{NarrowsAt}
 use Rattle.p10_warn.specs.Comparisons.{MixesSignsAt}
-use Rattle.p10_warn.specs.Scopes.{ScopedDeclaration, declarations_of_function, Hides}
+use Rattle.p10_warn.specs.Scopes.{ScopedDeclaration, declarations_of_function, file_names, Hides}
 use Rattle.p10_warn.specs.Jumps.{LabelledBlock, blocks_of, FollowsJump}
 use Rattle.p10_warn.specs.Ends.{reach_end}
 
@@ -36,7 +36,7 @@ pub data Violates (p : PlainProgram) : Sub → Span → Type 0 where
   signs_mixed : (node : PlainNode) (span : Span) → Contains (all_nodes p) node → MixesSignsAt node span → Violates p (rule_ten 4) span
   -- 10.5: an object or parameter hides an outer one, at its name
   name_hidden : (n : ℕ) (f : PlainFunction) (d : ScopedDeclaration) → slice_get p.functions n ≡ Some f
-      → Contains (declarations_of_function p.objects f) d → Hides p.objects n d → Violates p (rule_ten 5) d.declares.span
+      → Contains (declarations_of_function p.objects f) d → Hides (file_names p) n d → Violates p (rule_ten 5) d.declares.span
   -- 10.6: a `switch` without `default`, at its keyword
   no_default : (at : At) (span : Span) (v : PlainValue) (labels : PlainLabels) (body : PlainStatement)
       → Contains (all_nodes p) (a_statement (statement at (switch span v labels body))) → labels.otherwise ≡ None → Violates p (rule_ten 6) span

@@ -1,8 +1,10 @@
 //! Violations by functions.
 
 ghost use Rattle.std.specs.Prelude.{◌≡◌, ◌++◌, IfOk, map};
-ghost use Rattle.p10_core.specs.Views.{plain_object, plain_function};
-ghost use Rattle.p10_warn.specs.private.Listing.{lacks_return, function_violations, functions_violations};
+ghost use Rattle.p10_core.specs.Views.{plain_function};
+ghost use Rattle.p10_warn.specs.Ends.{lacks_return};
+ghost use Rattle.p10_warn.specs.private.Contexts.{names_at};
+ghost use Rattle.p10_warn.specs.private.Listing.{function_violations, functions_violations};
 
 use crate::ends::reach_end;
 use crate::file_scope::FileScope;
@@ -25,7 +27,7 @@ pub(crate) fn push_by_functions<'s>(
     called: &NumberSet,
     violations: &mut Vec<Violation>,
 ) -> Result<(), AllocError>
-    ensures { IfOk result (λ _. violations.new.items ≡ violations.old.items ++ functions_violations (map plain_object file.now.objects.now) main called.now.list.items 0 (map plain_function functions.now)) }
+    ensures { IfOk result (λ _. violations.new.items ≡ violations.old.items ++ functions_violations (names_at file.now) main called.now.list.items 0 (map plain_function functions.now)) }
 {
     for (number, function) in functions.iter().enumerate() {
         push_unused_in(alloc, function, violations)?;

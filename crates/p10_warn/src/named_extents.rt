@@ -1,7 +1,7 @@
 //! The functions at which objects of file scope are in scope, by the names of the objects.
 
 use p10_base::NameList;
-use p10_core::{Extent, Global as StaticObject};
+use p10_core::{Extent, Global as StaticObject, Seen};
 use std::alloc::{AllocError, Global};
 
 /// The functions at which objects of file scope are in scope, by the names of the objects: those of one name are found in the
@@ -19,12 +19,27 @@ impl<'s> NamedExtents<'s> {
     ghost use Rattle.std.specs.Prelude.{◌≡◌, ◌++◌, ◌∷◌, [], if◌then◌else◌, bytes_eq, IfOk, List, ℕ, None, map};
     ghost use Rattle.std.specs.List.{list_any};
     ghost use Rattle.p10_base.specs.Names.{place_in};
-    ghost use Rattle.p10_core.specs.Views.{plain_object};
+    ghost use Rattle.p10_core.specs.Views.{plain_object, plain_seen};
     ghost use Rattle.p10_warn.specs.Scopes.{covers};
-    ghost use Rattle.p10_warn.specs.private.NamedExtents.{noted_for, extents_named};
+    ghost use Rattle.p10_warn.specs.private.NamedExtents.{noted_for, extents_named, extents_outside};
+
+    /// Those of these objects, and of these names that are declared and not defined.
+    pub(crate) fn of(
+        alloc: Global,
+        objects: &[StaticObject<'s>],
+        outside: &[Seen<'s>],
+    ) -> Result<NamedExtents<'s>, AllocError>
+        ensures { IfOk result (λ e. (name : List ℕ) → noted_for e name ≡ extents_named (map plain_object objects.now) name ++ extents_outside (map plain_seen outside.now) name) }
+    {
+        let mut extents = NamedExtents::of_objects(alloc, objects)?;
+        for seen in outside {
+            extents.add(alloc, seen.name, seen.visible)?;
+        }
+        Ok(extents)
+    }
 
     /// Those of these objects.
-    pub(crate) fn of(
+    fn of_objects(
         alloc: Global,
         objects: &[StaticObject<'s>],
     ) -> Result<NamedExtents<'s>, AllocError>

@@ -45,7 +45,7 @@ fn violations_of(alloc: Global, program: &Program<'_>) -> Result<Vec<Violation>,
     let named = numbers_in(alloc, Named::Object, functions, objects)?;
     push_unused_objects(objects, &named, &mut violations)?;
     let called = numbers_in(alloc, Named::Function, functions, objects)?;
-    let file = FileScope::of(alloc, objects)?;
+    let file = FileScope::of(alloc, objects, program.outside.as_slice())?;
     push_by_functions(
         alloc,
         functions,

@@ -5,7 +5,7 @@ ghost use Rattle.std.specs.List.{list_any};
 ghost use Rattle.p10_core.specs.Views.{plain_object, plain_variable, plain_function, plain_statement, plain_statements};
 ghost use Rattle.p10_warn.specs.Scopes.{name_declared, scope_after, scoped_declaration, names_after, declarations_in, declarations_among, declarations_of_parameters, declarations_of_function};
 ghost use Rattle.p10_warn.specs.private.Branches.{declarations_in_branch};
-ghost use Rattle.p10_warn.specs.private.Contexts.{objects_known, variables_known, listed_by};
+ghost use Rattle.p10_warn.specs.private.Contexts.{names_at, objects_known, file_known, variables_known, listed_by};
 ghost use Rattle.p10_warn.specs.private.ScopeNames.{names_in};
 ghost use Rattle.p10_warn.specs.private.Listing.{declaration_violations};
 
@@ -28,7 +28,7 @@ pub(crate) fn push_hidden<'s>(
     function: &Func<'s>,
     violations: &mut Vec<Violation>,
 ) -> Result<(), AllocError>
-    ensures { IfOk result (λ _. violations.new.items ≡ violations.old.items ++ flat_map (declaration_violations (map plain_object file.now.objects.now) number) (declarations_of_function (map plain_object file.now.objects.now) (plain_function function.now))) }
+    ensures { IfOk result (λ _. violations.new.items ≡ violations.old.items ++ flat_map (declaration_violations (names_at file.now) number) (declarations_of_function (map plain_object file.now.objects.now) (plain_function function.now))) }
 {
     let variables = function.vars.as_slice();
     let context = Context {
@@ -97,7 +97,7 @@ fn push_name<'s>(
     violations: &mut Vec<Violation>,
 ) -> Result<(), AllocError>
     ensures names { IfOk result (λ _. names_in names.new ≡ names_in names.old ++ name.now ∷ []) }
-    ensures violations { IfOk result (λ _. violations.new.items ≡ violations.old.items ++ declaration_violations (objects_known context.now) context.now.function (record { declares = record { name = name.now; span = span }; around = names_in names.old })) }
+    ensures violations { IfOk result (λ _. violations.new.items ≡ violations.old.items ++ declaration_violations (file_known context.now) context.now.function (record { declares = record { name = name.now; span = span }; around = names_in names.old })) }
 {
     let hides = is_declared(names, name) || context.file.has(name, context.function);
     push_if(5, hides, span, violations)?;

@@ -49,17 +49,13 @@ main_is p f items x y a b c d e g is xs ys result none static order init_done ta
 pub has_main_by : (p : PlainProgram) (f : PlainFunction) (r : Bool) → Some f ≡ slice_get p.functions p.main → Shows r (IsMain p f) → Shows r (HasMain p)
 has_main_by p f r there h = record { shows = λ k. record { function = f; there = sym there; is = h.shows k } }
 
-pub init_done_is : (items : List PlainStatement) (task : Option ℕ) (n count : ℕ) (item : Option PlainStatement) (a b c d : Bool) → count ≡ length items → item ≡ slice_get items n → Shows a (0 < n) → Shows b (n + 1 < count) → c ≡ is_marked InitDone item → Shows d (IfSome task (λ t. n < t)) → Shows ((a && b) && (c && d)) (IsInitDone items task n)
-init_done_is items task n count item a b c d many there first last marked before = record {
+pub init_done_is : (items : List PlainStatement) (task : Option ℕ) (n : ℕ) (item : Option PlainStatement) (a b : Bool) → item ≡ slice_get items n → a ≡ is_marked InitDone item → Shows b (IfSome task (λ t. n < t)) → Shows (a && b) (IsInitDone items task n)
+init_done_is items task n item a b there marked before = record {
   shows = λ k.
-      let outer = both_true (a && b) (c && d) k in
-      let between = both_true a b outer.0 in
-      let rest = both_true c d outer.1 in
+      let both = both_true a b k in
       record {
-        after_first = first.shows between.0;
-        before_last = subst (λ m. n + 1 < m) many (last.shows between.1);
-        is = ap (is_marked InitDone) (sym there) ∙ sym marked ∙ rest.0;
-        before_task = before.shows rest.1;
+        is = ap (is_marked InitDone) (sym there) ∙ sym marked ∙ both.0;
+        before_task = before.shows both.1;
       };
 }
 

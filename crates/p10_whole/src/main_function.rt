@@ -61,14 +61,11 @@ fn is_maybe_init_done(items: &[Stmt], task: Option<u32>, mark: Option<u32>) -> b
     }
 }
 
-/// Whether the pragma `init_done` stands at a place among the items of `main`, between two of them and before the task
-/// loop.
+/// Whether the pragma `init_done` stands at a place among the items of `main`, before the task loop.
 fn is_init_done(items: &[Stmt], task: Option<u32>, n: u32) -> bool
     ensures { Shows result (IsInitDone (map plain_statement items.now) task n) }
 {
-    let place = n as usize;
-    let between = (0 < n) & (place + 1 < items.len());
-    between & (is_marked(MarkKind::InitDone, item_at(items, place)) & is_before(n, task))
+    is_marked(MarkKind::InitDone, item_at(items, n as usize)) & is_before(n, task)
 }
 
 /// The item at a place.

@@ -1,23 +1,22 @@
 -- Bodies of functions, by what is known of a function before its body.
 use Rattle.std.specs.Prelude.{ℕ, Bool, true, false, if◌then◌else◌, List, [], ◌∷◌, ◌++◌, length, Option, Some, None}
 use Rattle.p10_base.specs.declared.at.At.{At}
-use Rattle.p10_base.specs.declared.codes.SubsetCode.TheVariants as subset
-use Rattle.p10_syn.specs.Trees.{Identifier, Statements, Definition}
+use Rattle.p10_syn.specs.Trees.{Identifier, Statements}
 use Rattle.p10_core.specs.Types.{PlainType}
 use Rattle.p10_core.specs.Typed.{PlainVariable, PlainFunction, PlainStatement, statements_of_list}
 use Rattle.p10_elabx.specs.First.{Keep}
 use Rattle.p10_elabx.specs.Scopes.{left}
-use Rattle.p10_elabx.specs.TypeNames.{declarator_place}
-use Rattle.p10_elabd.specs.Standing.{PlainStanding, refusing}
+use Rattle.p10_elabd.specs.Standing.{PlainStanding}
 use Rattle.p10_elabd.specs.Shapes.{PlainParameter, FunctionType}
 use Rattle.p10_heads.specs.Heads.{Heads, number_in}
 use Rattle.p10_linkage.specs.Linkage.{Linked, is_main_name}
 use Rattle.p10_elabs.specs.declared.kind.Kind.{Kind}
 use Rattle.p10_elabs.specs.Addresses.{addresses_taken}
-use Rattle.p10_elabs.specs.Locals.{Frame, unknown_in}
+use Rattle.p10_elabs.specs.Locals.{Frame}
 use Rattle.p10_elabs.specs.Marks.{marks_noted}
 use Rattle.p10_elabs.specs.Statements.{in_nothing, Block', no_items_yet, items_done}
-use Rattle.p10_elab.specs.Outer.{Known, without_linkage, names_noted, body_begun}
+use Rattle.p10_elab.specs.Knowledge.{Known}
+use Rattle.p10_elab.specs.Outer.{names_noted, body_begun}
 
 -- what is known of a function before its body: its name, its number, whether it is internal to its root, how many parameters it has, and
 -- the type of its result
@@ -78,7 +77,3 @@ body_ended h x b k =
 -- its body
 abbrev pub body_by : Keep → Heads → PlainBodyHead → FunctionType → Statements At → Known → Known
 body_by h heads x t body k = body_ended h x (items_of_body h heads x t body k.standing) k
-
--- a body after a declarator that declares no function
-abbrev pub bodyless : Keep → Definition At → Identifier At → Known → Known
-bodyless h d name k = without_linkage name (unknown_in h name (refusing h true subset.NoPrototype (declarator_place d.declarator) k.standing)) k

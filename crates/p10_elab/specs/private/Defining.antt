@@ -5,7 +5,8 @@ use Rattle.p10_syn.specs.Trees.{Identifier}
 use Rattle.p10_core.specs.Types.{PlainType}
 use Rattle.p10_core.specs.Typed.{PlainInitializer}
 use Rattle.p10_heads.specs.Heads.{Heads, Head}
-use Rattle.p10_elab.specs.Outer.{Defined, is_site}
+use Rattle.p10_elab.specs.Knowledge.{Defined}
+use Rattle.p10_elab.specs.Outer.{is_site}
 
 -- objects with one more, if there is one and it is defined where its name stands
 abbrev pub defined_after : Heads → Option Defined → List Defined → List Defined

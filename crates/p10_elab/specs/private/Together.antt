@@ -5,7 +5,8 @@ use Rattle.p10_syn.specs.Trees.{External}
 use Rattle.p10_elabx.specs.First.{only_first}
 use Rattle.p10_heads.specs.Heads.{Heads}
 use Rattle.p10_linkage.specs.Between.{taken_together}
-use Rattle.p10_elab.specs.Outer.{Known, with_standing, nothing_known, roots_passed}
+use Rattle.p10_elab.specs.Knowledge.{Known, with_standing}
+use Rattle.p10_elab.specs.RootEnds.{nothing_known, roots_passed}
 
 -- what is known of roots, with what stands where they are taken together
 abbrev pub known_together : Heads → List (List (External At)) → Known

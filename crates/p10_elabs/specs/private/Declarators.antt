@@ -12,7 +12,7 @@ use Rattle.p10_elabs.specs.declared.local.Local.{Local as CodeLocal}
 use Rattle.p10_elabs.specs.Locals.{Frame}
 use Rattle.p10_elabs.specs.LocalDeclarations.{Declaring, no_items, local_named}
 use Rattle.p10_elabs.specs.LocalViews.{plain_local}
-use Rattle.p10_elabs.specs.Statements.{Block', with_declared}
+use Rattle.p10_elabs.specs.Statements.{Block', with_items}
 
 -- one item, which may be refused, and what the body has then
 abbrev pub one_item : Option Stmt → CodeLocal → Declaring
@@ -27,4 +27,4 @@ items_as (Some made) l = one_item made l
 abbrev pub declarators_added : Keep → Frame → At → Storage → Bool → Option PlainType → Block' → List (InitDeclarator At) → Block'
 declarators_added h f at s sensor t b [] = b
 declarators_added h f at s sensor t b (d ∷ rest) =
-    declarators_added h f at s sensor t (with_declared b (local_named h f at s sensor t b.after d (name_in d.declarator))) rest
+    declarators_added h f at s sensor t (with_items b (local_named h f at s sensor t b.after d (name_in d.declarator))) rest

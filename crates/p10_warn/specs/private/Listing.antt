@@ -1,5 +1,5 @@
 -- The violations of a program as the code lists them, before they are sorted.
-use Rattle.std.specs.Prelude.{ℕ, ◌+◌, nat_eq, Bool, true, false, not, ◌&&◌, ◌||◌, if◌then◌else◌, List, [], ◌∷◌, ◌++◌, flat_map, bytes_eq, Option, Some, None}
+use Rattle.std.specs.Prelude.{ℕ, ◌+◌, Bool, true, false, not, ◌&&◌, ◌||◌, if◌then◌else◌, List, [], ◌∷◌, ◌++◌, flat_map, bytes_eq, Option, Some, None}
 use Rattle.std.specs.List.{list_any, filter_map}
 use Rattle.p10_base.specs.declared.at.At.{At}
 use Rattle.p10_base.specs.declared.span.Span.{Span}
@@ -8,7 +8,6 @@ use Rattle.p10_int.specs.declared.operators.BinOp.{BinOp}
 use Rattle.p10_core.specs.declared.statements.UpdateKind.{UpdateKind}
 use Rattle.p10_core.specs.declared.statements.UpdateKind.TheVariants.{Compound, Step}
 use Rattle.p10_core.specs.Types.{PlainType}
-use Rattle.p10_core.specs.Rows.{is_void}
 use Rattle.p10_core.specs.Constants.{is_constant, inconstant_part}
 use Rattle.p10_core.specs.Typed.{PlainValue, value, PlainForm, convert, binary, at_of, type_of, PlainPlace, place_at, place_type, statement, PlainStatementForm, update, switch, PlainStatements, no_statements, more_statements, statement_at, PlainVariable, PlainFunction, PlainObject, PlainProgram}
 use Rattle.p10_core.specs.Nodes.{PlainNode, a_statement, a_value, a_place, nodes_of_statements}
@@ -17,9 +16,9 @@ use Rattle.p10_warn.specs.AllNodes.{all_nodes}
 use Rattle.p10_warn.specs.Naming.{named_variable, named_object, called_function}
 use Rattle.p10_warn.specs.Conversions.{narrows}
 use Rattle.p10_warn.specs.Comparisons.{compares, as_written, differ_in_sign, is_natural_constant}
-use Rattle.p10_warn.specs.Scopes.{ScopedDeclaration, declarations_of_function}
+use Rattle.p10_warn.specs.Scopes.{ScopedDeclaration, declarations_of_function, FileNames, file_names}
 use Rattle.p10_warn.specs.Jumps.{is_jump, LabelledBlock, blocks_of}
-use Rattle.p10_warn.specs.Ends.{reach_end}
+use Rattle.p10_warn.specs.Ends.{lacks_return}
 use Rattle.p10_warn.specs.Violations.{rule_ten}
 use Rattle.p10_warn.specs.private.NamedExtents.{is_name_in_scope}
 
@@ -82,12 +81,12 @@ unused_variables named n (v ∷ rest) = listed_if 1 (not (is_among n named)) v.s
 -- ## Hidden names
 
 -- whether a declaration hides something
-abbrev pub hides : List PlainObject → ℕ → ScopedDeclaration → Bool
-hides objects n d = list_any (λ x. bytes_eq x d.declares.name) d.around || is_name_in_scope objects n d.declares.name
+abbrev pub hides : FileNames → ℕ → ScopedDeclaration → Bool
+hides file n d = list_any (λ x. bytes_eq x d.declares.name) d.around || is_name_in_scope file n d.declares.name
 
 -- the violation by a declaration
-abbrev pub declaration_violations : List PlainObject → ℕ → ScopedDeclaration → List Violation
-declaration_violations objects n d = listed_if 5 (hides objects n d) d.declares.span
+abbrev pub declaration_violations : FileNames → ℕ → ScopedDeclaration → List Violation
+declaration_violations file n d = listed_if 5 (hides file n d) d.declares.span
 
 -- ## After jumps
 
@@ -103,24 +102,20 @@ block_violations b = items_after_jumps b.labelled false 0 b.items
 
 -- ## Functions
 
--- whether a function that isn't `main` has a result and an end that is reached
-abbrev pub lacks_return : ℕ → ℕ → PlainFunction → Bool
-lacks_return main n f = not (nat_eq n main) && (not (is_void f.result) && reach_end f.body)
-
 -- the violations by a function
-abbrev pub function_violations : List PlainObject → ℕ → List ℕ → ℕ → PlainFunction → List Violation
-function_violations objects main called n f =
+abbrev pub function_violations : FileNames → ℕ → List ℕ → ℕ → PlainFunction → List Violation
+function_violations file main called n f =
     unused_variables (filter_map named_variable (nodes_of_statements f.body)) 0 f.variables
     ++ (listed_if 2 (f.static && not (is_among n called)) f.span
-    ++ (flat_map (declaration_violations objects n) (declarations_of_function objects f)
+    ++ (flat_map (declaration_violations file n) (declarations_of_function file.objects f)
     ++ (flat_map block_violations (blocks_of f)
     ++ listed_if 8 (lacks_return main n f) f.span)))
 
 -- the violations by functions, of which the first has the number n
-abbrev pub functions_violations : List PlainObject → ℕ → List ℕ → ℕ → List PlainFunction → List Violation
-functions_violations objects main called n [] = []
-functions_violations objects main called n (f ∷ rest) =
-    function_violations objects main called n f ++ functions_violations objects main called (n + 1) rest
+abbrev pub functions_violations : FileNames → ℕ → List ℕ → ℕ → List PlainFunction → List Violation
+functions_violations file main called n [] = []
+functions_violations file main called n (f ∷ rest) =
+    function_violations file main called n f ++ functions_violations file main called (n + 1) rest
 
 -- ## Programs
 
@@ -129,4 +124,4 @@ abbrev pub program_violations : PlainProgram → List Violation
 program_violations p =
     flat_map node_violations (all_nodes p)
     ++ (unused_objects (filter_map named_object (all_nodes p)) 0 p.objects
-    ++ functions_violations p.objects p.main (filter_map called_function (all_nodes p)) 0 p.functions)
+    ++ functions_violations (file_names p) p.main (filter_map called_function (all_nodes p)) 0 p.functions)

@@ -5,7 +5,7 @@ use Rattle.p10_elabx.specs.First.{only_first}
 use Rattle.p10_elabd.specs.Views.{plain_standing, plain_function}
 use Rattle.p10_heads.specs.PlainHeads.{plain_heads}
 use Rattle.p10_elabs.specs.Statements.{Block'}
-use Rattle.p10_elab.specs.Outer.{Known}
+use Rattle.p10_elab.specs.Knowledge.{Known}
 use Rattle.p10_elab.specs.KnownViews.{plain_known}
 use Rattle.p10_elab.specs.private.Bodies.{items_of_body, body_ended}
 use Rattle.p10_elab.specs.private.BodyHeads.{plain_body_head}

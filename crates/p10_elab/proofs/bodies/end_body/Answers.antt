@@ -5,7 +5,7 @@ use Rattle.p10_elabx.specs.Scopes.{left}
 use Rattle.p10_elabd.specs.Standing.{PlainStanding}
 use Rattle.p10_elabd.specs.Views.{plain_standing}
 use Rattle.p10_elabs.specs.LocalViews.{numbered_object}
-use Rattle.p10_elab.specs.Outer.{Known}
+use Rattle.p10_elab.specs.Knowledge.{Known}
 use Rattle.p10_elab.specs.KnownViews.{plain_known}
 use Rattle.p10_elab.specs.private.Bodies.{marks_where}
 use Rattle.p10_elab.proofs.bodies.end_body.Goals as goal

@@ -1,7 +1,7 @@
 use Rattle.std.proofs.Common.{refl, ap, ◌∙◌}
 use Rattle.p10_elabx.specs.First.{only_first}
 use Rattle.p10_heads.specs.PlainHeads.{plain_heads}
-use Rattle.p10_elab.specs.Outer.{Known, with_linked}
+use Rattle.p10_elab.specs.Knowledge.{Known, with_linked}
 use Rattle.p10_elab.specs.KnownViews.{plain_known}
 use Rattle.p10_elab.proofs.declared_names.declare_name.Goals as goal
 

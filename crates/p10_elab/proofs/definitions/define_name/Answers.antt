@@ -9,7 +9,8 @@ use Rattle.p10_elabd.specs.Shapes.{DeclaredType}
 use Rattle.p10_elabd.specs.Declaring.{declarator_passed}
 use Rattle.p10_elabd.specs.Views.{plain_standing, plain_declared}
 use Rattle.p10_heads.specs.PlainHeads.{plain_heads}
-use Rattle.p10_elab.specs.Outer.{Known, with_standing, function_by_type}
+use Rattle.p10_elab.specs.Knowledge.{Known, with_standing}
+use Rattle.p10_elab.specs.Outer.{function_by_type}
 use Rattle.p10_elab.specs.KnownViews.{plain_known}
 use Rattle.p10_elab.proofs.definitions.define_name.Goals as goal
 

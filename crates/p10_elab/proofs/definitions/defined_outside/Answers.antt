@@ -11,7 +11,8 @@ use Rattle.p10_elabd.specs.declared.site.Site.TheVariants as site_is
 use Rattle.p10_elabd.specs.Views.{plain_standing}
 use Rattle.p10_heads.specs.PlainHeads.{plain_heads}
 use Rattle.p10_elabs.specs.Addresses.{constants_of}
-use Rattle.p10_elab.specs.Outer.{Known, main_constants, function_named, defined_outside}
+use Rattle.p10_elab.specs.Knowledge.{Known}
+use Rattle.p10_elab.specs.Outer.{main_constants, function_named, defined_outside}
 use Rattle.p10_elab.specs.KnownViews.{plain_known}
 use Rattle.p10_elab.proofs.definitions.defined_outside.Goals as goal
 

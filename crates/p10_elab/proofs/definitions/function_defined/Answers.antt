@@ -9,7 +9,7 @@ use Rattle.p10_elabd.specs.Views.{plain_parameter, plain_function}
 use Rattle.p10_heads.specs.Heads.{number_in}
 use Rattle.p10_heads.specs.PlainHeads.{plain_heads}
 use Rattle.p10_linkage.specs.LinkedViews.{linked_of_name}
-use Rattle.p10_elab.specs.Outer.{Known, linked_of}
+use Rattle.p10_elab.specs.Knowledge.{Known, linked_of}
 use Rattle.p10_elab.specs.KnownViews.{plain_known}
 use Rattle.p10_elab.specs.private.Bodies.{body_by}
 use Rattle.p10_elab.proofs.FunctionBodies.{defined_function}

@@ -10,7 +10,8 @@ use Rattle.p10_elabd.specs.Views.{plain_standing}
 use Rattle.p10_heads.specs.PlainHeads.{plain_heads}
 use Rattle.p10_elabs.specs.Addresses.{constants_of}
 use Rattle.p10_elabs.specs.Locals.{makes_sensors}
-use Rattle.p10_elab.specs.Outer.{Known, main_constants, outer_declarators, declared_outside}
+use Rattle.p10_elab.specs.Knowledge.{Known}
+use Rattle.p10_elab.specs.Outer.{main_constants, outer_declarators, declared_outside}
 use Rattle.p10_elab.specs.KnownViews.{plain_known}
 use Rattle.p10_elab.proofs.outer_declarations.declared_outside.Goals as goal
 

@@ -2,7 +2,7 @@ use Rattle.std.proofs.Common.{ap, ◌∙◌}
 use Rattle.p10_syn.specs.BuiltStatements.{initial_of}
 use Rattle.p10_elabx.specs.First.{only_first}
 use Rattle.p10_elabs.specs.Locals.{no_initializer}
-use Rattle.p10_elab.specs.Outer.{Known}
+use Rattle.p10_elab.specs.Knowledge.{Known}
 use Rattle.p10_elab.specs.KnownViews.{plain_known}
 use Rattle.p10_elab.proofs.outer_declarations.typedef_outside.Goals as goal
 

@@ -1,5 +1,5 @@
 use Rattle.std.proofs.Common.{◌≡◌, ◌++◌, drop}
-use Rattle.p10_elab.specs.Outer.{extents_of}
+use Rattle.p10_elab.specs.RootEnds.{extents_of}
 use Rattle.p10_elab.proofs.root_end.extents_of.Given as goal
 
 abbrev pub invariant-loop-sighting : goal.invariant-loop-sighting

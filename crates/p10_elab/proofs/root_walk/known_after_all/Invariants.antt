@@ -2,7 +2,7 @@ use Rattle.std.proofs.Common.{◌≡◌, map, drop}
 use Rattle.p10_syn.specs.BuiltStatements.{external_of}
 use Rattle.p10_elabx.specs.First.{only_first}
 use Rattle.p10_heads.specs.PlainHeads.{plain_heads}
-use Rattle.p10_elab.specs.Outer.{known_after_all}
+use Rattle.p10_elab.specs.RootEnds.{known_after_all}
 use Rattle.p10_elab.specs.KnownViews.{plain_known}
 use Rattle.p10_elab.proofs.root_walk.known_after_all.Given as goal
 

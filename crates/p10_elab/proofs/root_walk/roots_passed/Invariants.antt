@@ -3,7 +3,7 @@ use Rattle.p10_syn.specs.BuiltStatements.{external_of}
 use Rattle.p10_elabx.specs.First.{only_first}
 use Rattle.p10_heads.specs.PlainHeads.{plain_heads}
 use Rattle.p10_heads.specs.Roots.{roots_of}
-use Rattle.p10_elab.specs.Outer.{roots_passed}
+use Rattle.p10_elab.specs.RootEnds.{roots_passed}
 use Rattle.p10_elab.specs.KnownViews.{plain_known}
 use Rattle.p10_elab.proofs.root_walk.roots_passed.Given as goal
 

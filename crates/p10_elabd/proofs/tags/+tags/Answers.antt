@@ -1,8 +1,8 @@
 use Rattle.std.proofs.Common.{◌∙◌, sym}
 use Rattle.p10_elabx.specs.PlainScopes.{plain_scope}
-use Rattle.p10_elabx.proofs.TreeRows.{cut_expressions}
-use Rattle.p10_elabd.proofs.TagArms.{call_tags, comma_tags, cast_tags, sizeof_tags, binary_tags, assign_tags, index_tags, conditional_tags, type_tags, array_tags}
-use Rattle.p10_elabd.proofs.TagLists.{step_expressions}
+use Rattle.p10_elabx.proofs.TreeRows.{cut_expressions, cut_parameters}
+use Rattle.p10_elabd.proofs.TagArms.{call_tags, comma_tags, cast_tags, sizeof_tags, binary_tags, assign_tags, index_tags, conditional_tags, type_tags, array_tags, function_tags, parameter_tags}
+use Rattle.p10_elabd.proofs.TagLists.{step_expressions, step_parameters}
 use Rattle.p10_elabd.proofs.tags.+tags.Goals as goal
 
 pub add_all-loop-e-preserved : goal.add_all-loop-e-preserved
@@ -55,3 +55,17 @@ pub add_declarator-returns-in_ok-add_tags-in-Some : goal.add_declarator-returns-
 add_declarator-returns-in_ok-add_tags-in-Some t c =
     array_tags _ _ _ c.args.d.now c.deref-in-Some.result.now c.deref-in-Some-2.result.now _ c.in-Array.inner _ c.in-Array.length c.in-Some.e
     c.in-Array.is c.in-Some.is c.deref-in-Some.ensures c.deref-in-Some-2.ensures c.in_ok-add_declarator-in-Some.ensures c.in_ok-add_tags-in-Some.ensures
+
+pub add_parameters-loop-one-preserved : goal.add_parameters-loop-one-preserved
+add_parameters-loop-one-preserved t c =
+    let cut = cut_parameters c.args.all.now c.loop-one.one-index c.one-item.result c.loop-one-test.true c.one-item.is in
+    sym (step_parameters (plain_scope c.loop-one.scope) _ _ _ _ cut c.in_ok-add_parameter.ensures) ∙ c.loop-one.invariant
+
+pub add_declarator-returns-in_ok-add_parameters-in-Function : goal.add_declarator-returns-in_ok-add_parameters-in-Function
+add_declarator-returns-in_ok-add_parameters-in-Function t c =
+    let parts = c.in-Function in
+    function_tags _ _ _ c.args.d.now c.deref-in-Function.result.now _ parts.inner _ parts.all _ c.deref-in-Function-2.result.now
+    parts.is c.deref-in-Function.ensures c.deref-in-Function-2.ensures.value c.in_ok-add_declarator-in-Function.ensures c.in_ok-add_parameters-in-Function.ensures
+
+pub add_parameter-returns : goal.add_parameter-returns
+add_parameter-returns t c = parameter_tags _ _ _ c.args.one.now c.deref.result.now c.deref.ensures.value c.in_ok-add_specifiers.ensures c.in_ok-add_declarator.ensures

@@ -1,4 +1,4 @@
-use Rattle.std.specs.Prelude.{map, None, [], option_map}
+use Rattle.std.specs.Prelude.{map, [], option_map}
 use Rattle.std.proofs.Common.{◌≡◌, ◌∙◌, ap, sym, subst, rules, arith, option_copied}
 use Rattle.std.proofs.lemmas.Grind.{common_steps}
 use Rattle.p10_syn.specs.declared.tree.Declarator.TheViews.{the_lemmas}
@@ -10,7 +10,7 @@ use Rattle.p10_elabx.specs.First.{only_first}
 use Rattle.p10_elabx.proofs.TreeRows.{cut_specifiers, cut_parameters}
 use Rattle.p10_elabd.specs.Standing.{passed}
 use Rattle.p10_elabd.specs.Declaring.{members_passed}
-use Rattle.p10_elabd.specs.Views.{plain_standing, plain_named, plain_members, plain_declared, plain_parameters, told}
+use Rattle.p10_elabd.specs.Views.{plain_standing, plain_named, plain_members, plain_declared, plain_placed, lists, told}
 use Rattle.p10_elabd.proofs.TreeRows.{cut_members, cut_fields}
 use Rattle.p10_elabd.proofs.Walks.{step_specifiers, step_members, step_fields, step_parameters}
 use Rattle.p10_elabd.proofs.Bodies.{without_members, with_members}
@@ -37,7 +37,7 @@ fields_passed-loop-field-preserved t c =
 pub parameters_passed-loop-one-preserved : goal.parameters_passed-loop-one-preserved
 parameters_passed-loop-one-preserved t c =
     let cut = cut_parameters c.args.all.now c.loop-one.one-index c.one-item.result c.loop-one-test.true c.one-item.is in
-    sym (step_parameters c.loop-one.number _ (told (option_map plain_parameters c.loop-one.parameters) c.loop-one.standing) _ _ _ _ cut c.in_ok-parameters.ensures c.in_ok-number.ensures) ∙ c.loop-one.invariant
+    sym (step_parameters c.loop-one.number _ (lists c.loop-one.parameters c.loop-one.standing) _ _ _ _ cut c.in_ok-parameters.ensures c.in_ok-number.ensures) ∙ c.loop-one.invariant
 
 pub declarator_passed-returns-in_ok-made-in-Function : goal.declarator_passed-returns-in_ok-made-in-Function
 declarator_passed-returns-in_ok-made-in-Function t c =
@@ -58,7 +58,8 @@ structure_passed-returns t c =
 
 pub all_parameters_passed-returns-in-None : goal.all_parameters_passed-returns-in-None
 all_parameters_passed-returns-in-None t c =
-    ap (λ s. record { made = None; after = s }) c.refuse.ensures ∙ no_parameter (plain_standing c.args.standing.now) c.args.at c.args.all.now (sym (ap option_copied c.in-None.is) ∙ c.first.ensures.value)
+    ap (λ xs. record { parameters = map plain_placed xs; after = plain_standing c.refuse.new.self }) c.new.ensures.items
+    ∙ ap (λ s. record { parameters = []; after = s }) c.refuse.ensures ∙ no_parameter (plain_standing c.args.standing.now) c.args.at c.args.all.now (sym (ap option_copied c.in-None.is) ∙ c.first.ensures.value)
 
 pub all_parameters_passed-returns-in_ok-parameters-in-Some : goal.all_parameters_passed-returns-in_ok-parameters-in-Some
 all_parameters_passed-returns-in_ok-parameters-in-Some t c =

@@ -4,8 +4,8 @@ use Rattle.p10_syn.specs.Built.{specifier_of, member_of, field_of, parameter_of}
 use Rattle.p10_core.specs.Types.{plain_type}
 use Rattle.p10_elabx.specs.First.{only_first}
 use Rattle.p10_elabd.specs.Standing.{passed}
-use Rattle.p10_elabd.specs.Declaring.{specifiers_passed, members_passed, fields_passed, parameters_passed}
-use Rattle.p10_elabd.specs.Views.{plain_standing, plain_named, plain_members, plain_parameters, told}
+use Rattle.p10_elabd.specs.Declaring.{specifiers_passed, members_passed, fields_passed, none_listed, parameters_passed}
+use Rattle.p10_elabd.specs.Views.{plain_standing, plain_named, plain_members, lists, told}
 use Rattle.p10_elabd.proofs.walk.+declare.Given as goal
 
 abbrev pub invariant-specifiers_passed-loop-spec : goal.invariant-specifiers_passed-loop-spec
@@ -25,8 +25,8 @@ invariant-fields_passed-loop-field l =
 
 abbrev pub invariant-parameters_passed-loop-one : goal.invariant-parameters_passed-loop-one
 invariant-parameters_passed-loop-one l =
-    parameters_passed only_first l.number (told (option_map plain_parameters l.parameters) l.standing) (parameter_row (map parameter_of (drop l.one-index l.all)))
-    ≡ parameters_passed only_first 0 (passed [] (plain_standing l.initial.standing)) (parameter_row (map parameter_of l.all))
+    parameters_passed only_first l.number (lists l.parameters l.standing) (parameter_row (map parameter_of (drop l.one-index l.all)))
+    ≡ parameters_passed only_first 0 (none_listed (plain_standing l.initial.standing)) (parameter_row (map parameter_of l.all))
 
 -- what is passed on unchanged goes to a function that is lower
 

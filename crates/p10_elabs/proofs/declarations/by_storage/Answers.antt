@@ -11,10 +11,10 @@ use Rattle.p10_elabs.proofs.declarations.by_storage.Goals as goal
 
 pub returns-in_ok-item-in-Static : goal.returns-in_ok-item-in-Static
 returns-in_ok-item-in-Static c =
-    static_done only_first (plain_frame c.args.frame.now) c.args.manner.at c.args.manner.storage c.args.manner.sensor (identifier_of c.args.name) (init_declarator_of c.args.d.now) (plain_local c.args.local.now) (option_map plain_declared c.args.declared) _ (told (option_map plain_type c.in_ok-ty-in-Static.ty) c.declared_object.new.standing) _
-    c.in-Static.is c.brackets_of-brackets.ensures c.in_ok-ty-in-Static.ensures c.in_ok-item-in-Static.ensures
+    static_done only_first (plain_frame c.args.frame.now) c.args.manner.at c.args.manner.storage c.args.manner.sensor (identifier_of c.args.name) (init_declarator_of c.args.d.now) (plain_local c.args.local.now) (option_map plain_declared c.args.declared) (told (option_map plain_type c.in_ok-ty-in-Static.ty) c.object_in_block.new.standing) _
+    c.in-Static.is c.in_ok-ty-in-Static.ensures c.in_ok-item-in-Static.ensures
 
 pub returns-in_ok-item-in-Unnamed : goal.returns-in_ok-item-in-Unnamed
 returns-in_ok-item-in-Unnamed c =
-    automatic_done only_first (plain_frame c.args.frame.now) c.args.manner.at c.args.manner.storage c.args.manner.sensor (identifier_of c.args.name) (init_declarator_of c.args.d.now) (plain_local c.args.local.now) (option_map plain_declared c.args.declared) _ (told (option_map plain_type c.in_ok-ty-in-Unnamed.ty) c.declared_object-in-Unnamed.new.standing) _
-    c.in-Unnamed.is c.brackets_of-brackets.ensures c.in_ok-ty-in-Unnamed.ensures c.in_ok-item-in-Unnamed.ensures
+    automatic_done only_first (plain_frame c.args.frame.now) c.args.manner.at c.args.manner.storage c.args.manner.sensor (identifier_of c.args.name) (init_declarator_of c.args.d.now) (plain_local c.args.local.now) (option_map plain_declared c.args.declared) (told (option_map plain_type c.in_ok-ty-in-Unnamed.ty) c.object_in_block-in-Unnamed.new.standing) _
+    c.in-Unnamed.is c.in_ok-ty-in-Unnamed.ensures c.in_ok-item-in-Unnamed.ensures

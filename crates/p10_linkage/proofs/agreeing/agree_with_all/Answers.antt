@@ -10,15 +10,15 @@ use Rattle.p10_linkage.specs.private.Agreeing.{agreed_row}
 use Rattle.p10_linkage.proofs.Turns.{agreed_on}
 use Rattle.p10_linkage.proofs.agreeing.agree_with_all.Goals as goal
 
-pub returns-then-not-agree_with_row-clause-agreed : goal.returns-then-not-agree_with_row-clause-agreed
-returns-then-not-agree_with_row-clause-agreed c =
+pub returns-then-not-agrees-clause-agreed : goal.returns-then-not-agrees-clause-agreed
+returns-then-not-agrees-clause-agreed c =
     let all : List Linked = map linked_of_name c.args.linked.now in
     let ss : List PlainStructure = represented (plain_types c.args.types.now) c.loop-place.stands.items in
     let rs : List PlainStructure = represented (plain_types c.args.types.now) c.agree_with_row.new.stands.items in
     let next : List Linked = rows_at (drop (c.loop-place.place-index + 1) c.args.before.now) all in
-    let row = c.agree_with_row.ensures.agreed ∙ ap (λ o. agreed_row o (linked_of_name c.args.now.now) ss) c.row_at.ensures in
-    sym (ap (λ t. if t then agreed next (linked_of_name c.args.now.now) rs else None) c.if-not-agree_with_row.true)
-    ∙ sym (agreed_on c.args.before.now c.loop-place.place-index all (linked_of_name c.args.now.now) ss rs c.agree_with_row.result c.loop-place-test.true row)
+    let row = c.in_ok-agrees.ensures.agreed ∙ ap (λ o. agreed_row o (linked_of_name c.args.now.now) ss) c.row_at.ensures in
+    sym (ap (λ t. if t then agreed next (linked_of_name c.args.now.now) rs else None) c.if-not-agrees.true)
+    ∙ sym (agreed_on c.args.before.now c.loop-place.place-index all (linked_of_name c.args.now.now) ss rs c.in_ok-agrees.agrees c.loop-place-test.true row)
     ∙ c.loop-place.invariant.same
 
 pub loop-place-preserved : goal.loop-place-preserved
@@ -27,11 +27,11 @@ loop-place-preserved c =
     let ss : List PlainStructure = represented (plain_types c.args.types.now) c.loop-place.stands.items in
     let rs : List PlainStructure = represented (plain_types c.args.types.now) c.agree_with_row.new.stands.items in
     let next : List Linked = rows_at (drop (c.loop-place.place-index + 1) c.args.before.now) all in
-    let row = c.agree_with_row.ensures.agreed ∙ ap (λ o. agreed_row o (linked_of_name c.args.now.now) ss) c.row_at.ensures in
+    let row = c.in_ok-agrees.ensures.agreed ∙ ap (λ o. agreed_row o (linked_of_name c.args.now.now) ss) c.row_at.ensures in
     record {
       long = c.agree_with_row.ensures.as_many ∙ c.loop-place.invariant.long;
       same =
-          sym (ap (λ t. if t then agreed next (linked_of_name c.args.now.now) rs else None) c.if-not-agree_with_row.false)
-          ∙ sym (agreed_on c.args.before.now c.loop-place.place-index all (linked_of_name c.args.now.now) ss rs c.agree_with_row.result c.loop-place-test.true row)
+          sym (ap (λ t. if t then agreed next (linked_of_name c.args.now.now) rs else None) c.if-not-agrees.false)
+          ∙ sym (agreed_on c.args.before.now c.loop-place.place-index all (linked_of_name c.args.now.now) ss rs c.in_ok-agrees.agrees c.loop-place-test.true row)
           ∙ c.loop-place.invariant.same;
     }

@@ -8,7 +8,7 @@ use Rattle.p10_core.proofs.StatementRows.{plain_block}
 use Rattle.p10_base.specs.Words.{Text}
 use Rattle.p10_warn.specs.Scopes.{ScopedDeclaration, name_declared, names_after, declarations_in, declarations_among}
 use Rattle.p10_warn.specs.private.Branches.{declarations_in_branch}
-use Rattle.p10_warn.specs.private.Contexts.{objects_known, variables_known, listed_by}
+use Rattle.p10_warn.specs.private.Contexts.{objects_known, file_known, variables_known, listed_by}
 use Rattle.p10_warn.specs.private.ScopeNames.{names_in}
 use Rattle.p10_warn.specs.private.Listing.{declaration_violations}
 use Rattle.p10_warn.proofs.ScopeSteps.{names_kept, names_grow, declared_grows, loop_names}
@@ -43,7 +43,7 @@ push_in-returns-in_ok-push_part-in-If-clause-violations t c =
     let around : List Text = names_in c.args.names.now in
     let branch : Option PlainStatement = option_map (λ b. plain_statement b.value) c.in-If.other in
     IfOk-weaker c.push_branch.result _ _
-    (λ _ e. both_listed (declaration_violations objects c.args.context.now.function) (declarations_in objects variables around (plain_statement c.in-If.then.value)) (declarations_in_branch objects variables around branch)
+    (λ _ e. both_listed (declaration_violations (file_known c.args.context.now) c.args.context.now.function) (declarations_in objects variables around (plain_statement c.in-If.then.value)) (declarations_in_branch objects variables around branch)
     (declarations_in objects variables around (plain_statement c.args.statement.now)) c.args.violations.now.items c.push_part.new.violations.items c.push_branch.new.violations.items
     (c.in_ok-push_part-in-If.ensures.violations ∙ ap (λ s. c.args.violations.now.items ++ listed_by c.args.context.now (declarations_in objects variables around (plain_statement s))) c.deref.ensures)
     (e ∙ ap (λ names. c.push_part.new.violations.items ++ listed_by c.args.context.now (declarations_in_branch objects variables names branch)) c.in_ok-push_part-in-If.ensures.names)
@@ -68,7 +68,7 @@ push_in-returns-in_ok-push_part-in-Loop-clause-violations t c =
     let around : List Text = names_in c.args.names.now in
     let opened : names_in c.push_among.new.names ≡ names_after objects variables around (plain_statements c.in-Loop.first) =
     c.in_ok-push_among-in-Loop.ensures.names ∙ ap (λ all. names_after objects variables around (plain_statements all)) c.as_slice-in-Loop.ensures in
-    both_listed (declaration_violations objects c.args.context.now.function) (declarations_among objects variables around (plain_statements c.in-Loop.first))
+    both_listed (declaration_violations (file_known c.args.context.now) c.args.context.now.function) (declarations_among objects variables around (plain_statements c.in-Loop.first))
     (declarations_in objects variables (names_after objects variables around (plain_statements c.in-Loop.first)) (plain_statement c.in-Loop.body.value))
     (declarations_in objects variables around (plain_statement c.args.statement.now)) c.args.violations.now.items c.push_among.new.violations.items c.push_part-in-Loop.new.violations.items
     (c.in_ok-push_among-in-Loop.ensures.violations ∙ ap (λ all. c.args.violations.now.items ++ listed_by c.args.context.now (declarations_among objects variables around (plain_statements all))) c.as_slice-in-Loop.ensures)
