@@ -6,7 +6,8 @@ use Rattle.std.proofs.lemmas.Option.{cond_some, same_Some}
 use Rattle.std.proofs.lemmas.Slice.Eq.{bytes_eq-Decides}
 use Rattle.std.specs.Fmt.{digit_glyph}
 use Rattle.std.specs.List.{AllByRecursion}
-use Rattle.p10_cert.specs.Lines.{hex_text, IsByte, IsDigest}
+use Rattle.p10_base.specs.Hex.{hex_text}
+use Rattle.p10_cert.specs.Lines.{IsByte, IsDigest}
 use Rattle.p10_cert.specs.private.Reading.{after_front, nibble, spelled, digest_of, digest_at}
 use Rattle.p10_cert.proofs.Steps.{then_some, bind_is, if_some, else_some, after_front_takes, after_front_again}
 

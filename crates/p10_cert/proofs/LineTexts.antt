@@ -10,7 +10,8 @@ use Rattle.p10_range.specs.Ranges.{Interval}
 use Rattle.p10_cert.specs.declared.claims.Rank.{Rank}
 use Rattle.p10_cert.specs.declared.claims.Rank.TheVariants.{Up, Down, One, Task}
 use Rattle.p10_cert.specs.Claims.{Value, Number, Address, Nothing}
-use Rattle.p10_cert.specs.Lines.{Line, FirstLine, FuncLine, ParamLine, ResultLine, LoopLine, VarLine, TotalLine, LastLine, SealedLine, DigestLine, OutsideLine, SectionLine, BodyLine, hex_text, ends_then, value_then, loop_then, line_then, text_of, flag_number, greatest_size, IsEnd, AreEnds, is_name_byte, is_name, is_section_byte, is_body_byte, IsRank, IsResult, IsLine}
+use Rattle.p10_base.specs.Hex.{hex_text}
+use Rattle.p10_cert.specs.Lines.{Line, FirstLine, FuncLine, ParamLine, ResultLine, LoopLine, VarLine, TotalLine, LastLine, SealedLine, DigestLine, OutsideLine, SectionLine, BodyLine, ends_then, value_then, loop_then, line_then, text_of, flag_number, greatest_size, IsEnd, AreEnds, is_name_byte, is_name, is_section_byte, is_body_byte, IsRank, IsResult, IsLine}
 use Rattle.p10_cert.specs.WrongLines.{first_lines}
 use Rattle.p10_cert.specs.private.Reading.{after_front, after_first, after_total, body_at, sealed_at, inner_at, outer_at, line_at}
 use Rattle.p10_cert.proofs.Steps.{both_true}

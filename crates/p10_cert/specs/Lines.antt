@@ -1,7 +1,8 @@
 -- The lines of a certificate's text: what each says, what it may say, and its bytes.
 use Rattle.std.specs.Prelude.{◌≡◌, ℕ, ◌^◌, ◌/◌, ◌%◌, ◌<◌, ◌≤◌, nat_le, Bool, true, false, ◌&&◌, ◌||◌, ◌==◌, List, [], ◌∷◌, ◌++◌, length, ℤ, pos, neg_ℤ, ◌≤ℤ◌, codes, decimal}
 use Rattle.std.specs.Char.{is_ascii_alphabetic, is_ascii_alphanumeric, is_ascii_digit, is_ascii_lowercase}
-use Rattle.std.specs.Fmt.{signed_decimal, digit_glyph}
+use Rattle.std.specs.Fmt.{signed_decimal}
+use Rattle.p10_base.specs.Hex.{hex_text}
 use Rattle.std.specs.List.{list_all, AllByRecursion}
 use Rattle.p10_base.specs.declared.report.Bounds.{Bounds}
 use Rattle.p10_cert.specs.declared.claims.Rank.{Rank}
@@ -75,11 +76,6 @@ loop_then depth (Down var bound) turns rest =
     codes "loop " then decimal depth then codes " down " then decimal var then codes " " then signed_decimal bound then codes " turns " then decimal turns then rest
 loop_then depth One turns rest = codes "loop " then decimal depth then codes " one turns " then decimal turns then rest
 loop_then depth Task turns rest = codes "task steps " then decimal turns then rest
-
--- bytes, each as two digits of 0 to 9 and a to f, the high one first
-abbrev pub hex_text : List ℕ → List ℕ
-hex_text [] = []
-hex_text (byte ∷ bytes) = digit_glyph false (byte / 16) ∷ digit_glyph false (byte % 16) ∷ hex_text bytes
 
 -- a line of a text with its LF, and what stands after it
 unfoldable pub line_then : Line → List ℕ → List ℕ

@@ -8,7 +8,7 @@ ghost use Rattle.p10_cert.specs.private.Reading.{after_front, after_run, name_at
 
 /// What stands after the label, if the text begins with it.
 #[tactic(auto, unfolding(crate::specs::private::Reading::after_front))]
-pub(crate) fn after<'t>(text: &'t [u8], label: &[u8]) -> Option<&'t [u8]>
+pub fn after<'t>(text: &'t [u8], label: &[u8]) -> Option<&'t [u8]>
     ensures { option_copied result ≡ after_front label.now text.now }
 {
     text.strip_prefix(label)

@@ -1,13 +1,11 @@
-//! Digests as text: two hexadecimal digits a byte, with lower-case letters.
+//! Digests that a text spells: two hexadecimal digits a byte, with lower-case letters.
 
-ghost use Rattle.std.specs.Prelude.{◌≡◌, ◌<◌, false, length, option_map};
-ghost use Rattle.std.specs.Fmt.{digit_glyph};
-ghost use Rattle.p10_cert.specs.Lines.{hex_text};
+ghost use Rattle.std.specs.Prelude.{◌≡◌, ◌<◌, length, option_map};
 ghost use Rattle.p10_cert.specs.Sealed.{bytes_of};
 ghost use Rattle.p10_cert.specs.private.Reading.{digest_at, digest_of, nibble, spelled};
 
 use crate::bytes::after;
-use p10_base::Digest;
+use p10_base::{Digest, hex};
 
 /// The digest that the text begins with, at the end of its line, and what stands after the line.
 #[tactic(auto, unfolding(crate::specs::private::Reading::digest_at))]
@@ -67,30 +65,4 @@ fn nibble(byte: u8) -> u8
         byte.saturating_sub(48)
     };
     digit % 16
-}
-
-/// The text of a digest's bytes.
-pub(crate) fn hex(bytes: &[u8; 32]) -> [u8; 64]
-    ensures { result ≡ hex_text bytes.now }
-{
-    let mut text = [0u8; 64];
-    for i in 0..32 {
-        let high = hex_digit(bytes[i] / 16);
-        let low = hex_digit(bytes[i] % 16);
-        text[2 * i] = high;
-        text[2 * i + 1] = low;
-    }
-    text
-}
-
-/// The digit of a number below 16.
-fn hex_digit(number: u8) -> u8
-    requires { number < 16 }
-    ensures { result ≡ digit_glyph false number }
-{
-    if number < 10 {
-        b'0' + number
-    } else {
-        b'a' - 10 + number
-    }
 }

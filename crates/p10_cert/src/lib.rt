@@ -32,8 +32,10 @@ mod texts;
 mod writing;
 mod writing_sealed;
 
+pub use bytes::after;
 pub use claims::{Cert, FuncClaim, LoopClaim, Rank, ValueClaim, VarRange};
 pub use fault::CertFault;
+pub use numbers::{GREATEST_INDEX, labelled, signed};
 pub use reader::Records;
 pub use reading::{claim, read, read2, records, version};
 pub use record::{BadLine, FuncRecord};

@@ -9,7 +9,7 @@ use crate::bytes::{after, after_digits};
 pub(crate) const GREATEST_COUNT: u128 = 1_000_000_000_000_000_000;
 
 /// The greatest rank of a function, depth of a loop and number of a variable.
-pub(crate) const GREATEST_INDEX: u128 = 4_294_967_295;
+pub const GREATEST_INDEX: u128 = 4_294_967_295;
 
 /// The greatest size of an end of a range and of a bound.
 const GREATEST_SIZE: u128 = 100_000_000_000_000_000_000;
@@ -19,7 +19,7 @@ const MOST_DIGITS: usize = 21;
 
 /// A number after a label.
 #[tactic(auto, unfolding(crate::specs::private::Reading::labelled_at))]
-pub(crate) fn labelled<'t>(text: &'t [u8], label: &[u8], most: u128) -> Option<(u128, &'t [u8])>
+pub fn labelled<'t>(text: &'t [u8], label: &[u8], most: u128) -> Option<(u128, &'t [u8])>
     ensures exact { option_map (λ x. (x.0, x.1.now)) result ≡ labelled_at label.now most text.now }
     ensures small { IfSome result (λ x. x.0 ≤ most) }
 {
@@ -28,7 +28,7 @@ pub(crate) fn labelled<'t>(text: &'t [u8], label: &[u8], most: u128) -> Option<(
 
 /// A number with its sign, of at most `GREATEST_SIZE`.
 #[tactic(auto, unfolding(crate::specs::private::Reading::signed_at))]
-pub(crate) fn signed(text: &[u8]) -> Option<(i128, &[u8])>
+pub fn signed(text: &[u8]) -> Option<(i128, &[u8])>
     ensures { option_map (λ x. (x.0, x.1.now)) result ≡ signed_at text.now }
 {
     match text {

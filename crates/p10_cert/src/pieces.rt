@@ -3,10 +3,9 @@
 ghost use Rattle.std.specs.Prelude.{◌≡◌};
 ghost use Rattle.p10_cert.specs.Lines.{flag_number};
 
-use crate::hex::hex;
 use crate::writing::Text;
 use itoa::Buffer;
-use p10_base::{Digest, ListBuf};
+use p10_base::{Digest, ListBuf, hex};
 use p10_world::{Sink, SinkFault};
 
 /// A piece of a line.

@@ -6,7 +6,7 @@ pub mod Functions
 pub mod Holding
 pub mod Alike
 pub mod ByTurn
-pub mod Windows
+pub mod Keeping
 pub mod Telling
 pub mod Stales
 pub mod TextVerdicts

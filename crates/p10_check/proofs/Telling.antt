@@ -1,5 +1,5 @@
 -- What claims tell that are read one after the other.
-use Rattle.std.proofs.Common.{◌≡◌, ◌∙◌, ℕ, zero, suc, ◌+◌, ◌<◌, nat_eq, nat_lt, Bool, true, false, List, [], ◌∷◌, ◌++◌, length, Option, Some, None, Ok, sym, ap, refl, subst, arith}
+use Rattle.std.proofs.Common.{◌≡◌, ◌∙◌, ℕ, zero, suc, ◌+◌, nat_eq, nat_lt, Bool, true, false, List, [], ◌∷◌, ◌++◌, length, Option, Some, None, Ok, sym, ap, refl, subst, arith}
 use Rattle.std.specs.Prelude.{if◌then◌else◌, slice_get}
 use Rattle.std.specs.Option.{option_or}
 use Rattle.std.proofs.lemmas.Bool.{eqb-true, eq-eqb, lt-ltb, le-ltb, ltb-true, ltb-false}
@@ -10,34 +10,22 @@ use Rattle.p10_cert.specs.Claims.{Loop, Func}
 use Rattle.p10_cert.specs.declared.record.FuncRecord.{FuncRecord}
 use Rattle.p10_cert.specs.Records.{Progress, GivesNext, statement_from}
 use Rattle.p10_cert.specs.Statements.{Entry, IsStatement, statement_text}
-use Rattle.p10_cert.proofs.Collecting.{map-append}
 use Rattle.p10_cert.proofs.Wholes.{is_end}
 use Rattle.p10_fit.specs.Fits.{fits_function, unfit_from}
 use Rattle.p10_graph.proofs.Places.{slice_get-last}
 use Rattle.p10_sums.specs.Counting.{loops_claimed}
 use Rattle.p10_check.specs.Shapes.{task_head, turn_claimed, main_turn}
 use Rattle.p10_check.specs.Texts.{funcs_in, StaleAt, differing_digests, first_stale}
-use Rattle.p10_check.specs.private.FirstReadings.{stale_at, stale_or, misfit, misfit_by, misfit_at, misfit_or, lacking, misfit_at_end, HasEnded}
+use Rattle.p10_check.specs.private.Readings.{stale_at, stale_or, misfit, misfit_by, misfit_at, misfit_or, lacking, misfit_at_end, HasEnded}
 use Rattle.p10_check.specs.private.ShapesByTurn.{turn_at, turn_by_loops, turn_or}
-use Rattle.p10_check.specs.private.Windows.{AreReading}
-use Rattle.p10_check.proofs.Windows.{same_length}
+use Rattle.p10_check.specs.private.Keeping.{AreKept}
+use Rattle.p10_check.proofs.Keeping.{funcs_more, same_length}
 
 -- ## Claims
 
-pub funcs_more : (given : List Entry) (e : Entry) → funcs_in (given ++ e ∷ []) ≡ funcs_in given ++ e.func ∷ []
-funcs_more given e = map-append (λ (e : Entry). e.func) given e
-
-pub funcs_given : (old new : List Entry) (e : Entry) → new ≡ old ++ e ∷ [] → funcs_in new ≡ funcs_in old ++ e.func ∷ []
-funcs_given old new e more = ap funcs_in more ∙ funcs_more old e
-
--- what is kept of one claim more
-pub window_told : (given : List Entry) (e : Entry) (own : Func) (kept : List Func) (until room : ℕ) → own ≡ e.func → AreReading (funcs_in given ++ own ∷ []) kept 0 until room
-    → AreReading (funcs_in (given ++ e ∷ [])) kept 0 until room
-window_told given e own kept until room is reading = subst (λ fs. AreReading fs kept 0 until room) (ap (λ f. funcs_in given ++ f ∷ []) is ∙ sym (funcs_more given e)) reading
-
 -- how many were read
-pub count_told : (given : List Entry) (kept : List Func) (until room number : ℕ) → number ≡ length kept → AreReading (funcs_in given) kept 0 until room → number ≡ length given
-count_told given kept until room number at reading = at ∙ same_length (funcs_in given) kept reading.whole.alike ∙ length-map given (λ (e : Entry). e.func)
+pub count_told : (given : List Entry) (claims : List Func) (lines : List (List ℕ)) (number : ℕ) → number ≡ length claims → AreKept given claims lines → number ≡ length given
+count_told given claims lines number at kept = at ∙ same_length given claims lines kept
 
 -- all was read
 pub has_ended : (old new : Progress) (next : Option FuncRecord) → GivesNext old new (Ok next) → next ≡ None → HasEnded new

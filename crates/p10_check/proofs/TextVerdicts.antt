@@ -1,17 +1,14 @@
 -- Verdicts on texts.
-use Rattle.std.proofs.Common.{◌≡◌, ◌∙◌, ℕ, ◌+◌, List, [], ◌∷◌, map, Option, Some, None, Ok, sym, ap, refl, subst}
+use Rattle.std.proofs.Common.{◌≡◌, ◌∙◌, ℕ, ◌+◌, List, [], ◌∷◌, map, Option, Some, None, sym, ap, refl, subst}
 use Rattle.p10_base.specs.declared.digest.Digest.{Digest}
 use Rattle.p10_base.specs.declared.span.Span.{Span}
 use Rattle.p10_core.specs.Typed.{PlainProgram}
-use Rattle.p10_cert.specs.declared.record.FuncRecord.{FuncRecord}
 use Rattle.p10_cert.specs.Claims.{Func, Claims}
-use Rattle.p10_cert.specs.Records.{Progress, GivesNext, statement_from}
 use Rattle.p10_cert.specs.Sealed.{bytes_of}
 use Rattle.p10_cert.specs.Statements.{Entry, Statement, IsStatement, statement_text, plain_entry, plain_statement}
 use Rattle.p10_cert.specs.WrongLines.{IsFirstWrong}
 use Rattle.p10_cert.proofs.TextLaws.{text_tells_statement, no_wrong_statement, one_wrong_line_of_both}
 use Rattle.p10_cert.proofs.VersionLaws.{plain_good, plain_text}
-use Rattle.p10_cert.proofs.Wholes.{is_end}
 use Rattle.p10_check.specs.declared.verdict.Verdict.{Verdict}
 use Rattle.p10_check.specs.declared.verdict.Verdict.TheVariants as plain
 use Rattle.p10_check.specs.declared.verdict.TextVerdict.{TextVerdict}
@@ -24,14 +21,7 @@ use Rattle.p10_check.proofs.Stales.{finds_first_stale}
 
 -- ## Texts of certificates
 
--- what was read to the end of a text is what a certificate says
-pub all_read : (old new : Progress) (next : Option FuncRecord) (bytes : List ℕ) (s : Statement) → GivesNext old new (Ok next) → next ≡ None → old.text ≡ bytes → IsStatement s → bytes ≡ statement_text s
-    → funcs_in old.given ≡ (claims_in s).funcs
-all_read old new next bytes s gives is same good exact =
-    let end = is_end old new next gives is in
-    ap (λ (t : Statement). funcs_in t.entries) (text_tells_statement (statement_from old.given end.ending) s end.good good (sym end.exact ∙ same ∙ exact))
-
--- no line of it is wrong
+-- no line of one is wrong
 pub never_wrong : (text : List ℕ) (line : ℕ) (s : Statement) → IsStatement s → text ≡ statement_text s → IsFirstWrong text line → ⊥
 never_wrong text line s good exact wrong = no_wrong_statement s line good (subst (λ t. IsFirstWrong t line) exact wrong)
 

@@ -5,7 +5,7 @@ use Rattle.p10_base.specs.declared.span.Span.{Span}
 use Rattle.p10_base.specs.declared.report.Bounds.{Bounds}
 use Rattle.p10_core.specs.declared.statements.LoopHead.{LoopHead}
 use Rattle.p10_core.specs.Typed.{PlainStatement, statement, loop, PlainFunction, PlainProgram}
-use Rattle.p10_core.specs.WholePrograms.{main_items}
+use Rattle.p10_core.specs.WholePrograms.{main_items, task_item}
 use Rattle.p10_cert.specs.Claims.{Func, Claims}
 use Rattle.p10_absx.specs.Entering.{claims_on}
 use Rattle.p10_calls.specs.declared.sites.CallSite.{CallSite}
@@ -69,8 +69,7 @@ head_in s = None
 
 -- what the loop begins with that stands at a place among items
 abbrev pub head_at : List PlainStatement → Option ℕ → Option LoopHead
-head_at items None = None
-head_at items (Some n) = head_in (slice_get items n)
+head_at items task = head_in (task_item task items)
 
 -- what the task loop begins with, if the function with a number has it
 abbrev pub task_head : PlainProgram → ℕ → PlainFunction → Option LoopHead

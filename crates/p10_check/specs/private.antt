@@ -3,5 +3,5 @@ pub mod Firsts
 pub mod Shortfalls
 pub mod Ranked
 pub mod ShapesByTurn
-pub mod Windows
-pub mod FirstReadings
+pub mod Keeping
+pub mod Readings

@@ -2,9 +2,9 @@
 //!
 //! Entry points: [`check`], the verdict, which is the certificate's total or the first condition that fails, with its place, by number,
 //! then in program order, then in text order (`specs/Conditions.antt`); its parts [`check_shape`], the conditions that speak of no
-//! values and sums, and [`check_one`], those of one function; and [`check_text`], the verdict on a certificate's text, whose claims aren't
-//! all in memory at once, and which comes to K0 first: whether it speaks of the program's words (`specs/Texts.antt`). [`Evidence`] is what
-//! may help a loop to K8 to K10. So a certificate for
+//! values and sums, and [`check_one`], those of one function; and [`check_text`], the verdict on a certificate's text, of whose claims
+//! the loops of one function are in memory at a time, and which comes to K0 first: whether it speaks of the program's words
+//! (`specs/Texts.antt`). [`Evidence`] is what may help a loop to K8 to K10. So a certificate for
 //!
 //! ```c
 //! static int f(int n) { return n + 1; }                    // 5 steps
@@ -21,18 +21,18 @@ mod claimed;
 mod effects;
 mod evidence;
 mod failing;
-mod first_reading;
 mod function;
+mod kept;
 pub mod laws;
 mod main_claims;
 mod places;
 mod ranked;
 mod ranks;
+mod reading;
 mod shape;
 mod sums;
 mod text;
 mod verdict;
-mod window;
 
 pub use checking::check;
 pub use evidence::Evidence;

@@ -1,31 +1,33 @@
 //! The verdict on the text of a certificate, of either version.
 //!
-//! The text is read once where its claims are short, and else once for each window of functions (`window`): what is tried of each claim
-//! by itself, and K0, is tried in the first reading (`first_reading`), and the other conditions after it.
+//! The text is read once (`reading`): what is tried of each claim by itself, and K0, is tried then. Of the claims all but loops are
+//! kept (`kept`), and for the other conditions the claim on one function at a time stands whole among them.
 
-ghost use Rattle.std.specs.Prelude.{◌≡◌, ℕ, ◌<◌, List, IfOk, length, option_map, slice_get};
+ghost use Rattle.std.specs.Prelude.{◌≡◌, ℕ, ◌<◌, List, IfOk, OnOk, length, option_map, slice_get};
 ghost use Rattle.p10_core.specs.Views.{plain_program};
 ghost use Rattle.p10_core.specs.WholePrograms.{IsWholeProgram};
-ghost use Rattle.p10_cert.specs.Statements.{Statement, IsStatement, statement_text};
+ghost use Rattle.p10_cert.specs.Claims.{func_of, claims_of};
+ghost use Rattle.p10_cert.specs.Statements.{Statement, IsStatement};
 ghost use Rattle.p10_fit.specs.Fits.{unfit};
 ghost use Rattle.p10_pass.specs.Leaving.{failing_of};
 ghost use Rattle.p10_check.specs.Conditions.{IsVerdict, first_failing, function_failures_at};
 ghost use Rattle.p10_check.specs.Fails.{failures_of};
 ghost use Rattle.p10_check.specs.Texts.{claims_in, digests_of, text_verdict, TellsStale, IsStatementVerdict, IsTextVerdict};
 ghost use Rattle.p10_check.specs.declared.verdict.Verdict.{Verdict as PlainVerdict};
-ghost use Rattle.p10_check.specs.private.FirstReadings.{stale_of, CertificateTells};
+ghost use Rattle.p10_check.specs.private.Readings.{stale_of, CertificateTells};
 ghost use Rattle.p10_check.specs.private.Firsts.{earliest_from, first_after};
-ghost use Rattle.p10_check.specs.private.Windows.{claims_kept, AreWhole};
+ghost use Rattle.p10_check.specs.private.Keeping.{claims_kept, lines_kept, claims_with, AreKept};
 
 use crate::checking::{earlier, first_fail, verdict_by};
 use crate::evidence::Evidence;
-use crate::first_reading::{StaleAt, Told, first_reading, nothing_told};
 use crate::function::check_one;
+use crate::kept::{Kept, lines_at};
 use crate::places::name_at;
+use crate::reading::{StaleAt, Told, nothing_told, read_text};
 use crate::shape::shape_by_turn;
 use crate::verdict::{TextVerdict, Verdict};
-use crate::window::{Window, reach};
 use p10_base::Digests;
+use p10_cert::{Cert, FuncClaim, claim};
 use p10_core::Program;
 use p10_pass::Fail;
 use std::alloc::{AllocError, Global};
@@ -47,11 +49,11 @@ pub fn check_text<E: Evidence>(
     ensures { IfOk result (IsTextVerdict (E.standing evidence.now (plain_program program.now)) (plain_program program.now) (digests_of found.now) bytes.now) }
 {
     let mut told = nothing_told(alloc);
-    let bad = first_reading(alloc, program, found, bytes, &mut told)?;
+    let bad = read_text(alloc, program, found, bytes, &mut told)?;
     match bad {
         Some(line) => Ok(TextVerdict::BadLine(line)),
         None => {
-            let verdict = verdict_told(alloc, program, bytes, &mut told, evidence)?;
+            let verdict = verdict_told(alloc, program, &mut told, evidence)?;
             Ok(verdict)
         }
     }
@@ -61,17 +63,16 @@ pub fn check_text<E: Evidence>(
 fn verdict_told<E: Evidence>(
     alloc: Global,
     program: &Program<'_>,
-    bytes: &[u8],
-    told: &mut Told,
+    told: &mut Told<'_>,
     evidence: &E,
 ) -> Result<TextVerdict, AllocError>
     requires { IsWholeProgram (plain_program program.now) }
-    ensures { IfOk result (λ verdict. (digests : List (List ℕ)) (s : Statement) → IsStatement s → bytes.now ≡ statement_text s → CertificateTells (plain_program program.now) digests s told.old
+    ensures { IfOk result (λ verdict. (digests : List (List ℕ)) (s : Statement) → IsStatement s → CertificateTells (plain_program program.now) digests s told.old
         → IsStatementVerdict (E.standing evidence.now (plain_program program.now)) (plain_program program.now) digests s verdict) }
 {
     match told.stale {
         Some(stale) => Ok(stale_verdict(program, stale)),
-        None => verdict_on_claims(alloc, program, bytes, told, evidence),
+        None => verdict_on_claims(alloc, program, told, evidence),
     }
 }
 
@@ -90,17 +91,16 @@ fn stale_verdict(program: &Program<'_>, stale: StaleAt) -> TextVerdict
 fn verdict_on_claims<E: Evidence>(
     alloc: Global,
     program: &Program<'_>,
-    bytes: &[u8],
-    told: &mut Told,
+    told: &mut Told<'_>,
     evidence: &E,
 ) -> Result<TextVerdict, AllocError>
     requires { IsWholeProgram (plain_program program.now) }
-    ensures { IfOk result (λ verdict. (digests : List (List ℕ)) (s : Statement) → IsStatement s → bytes.now ≡ statement_text s → CertificateTells (plain_program program.now) digests s told.old
+    ensures { IfOk result (λ verdict. (digests : List (List ℕ)) (s : Statement) → IsStatement s → CertificateTells (plain_program program.now) digests s told.old
         → (v : PlainVerdict) × IsVerdict (E.standing evidence.now (plain_program program.now)) (plain_program program.now) (claims_in s) v × (verdict ≡ text_verdict v)) }
 {
-    let total = told.window.certificate.total;
-    let shape = shape_by_turn(alloc, program, &told.window.certificate, told.turn)?;
-    let first = first_told(alloc, program, bytes, told, evidence, shape.as_slice())?;
+    let total = told.kept.certificate.total;
+    let shape = shape_by_turn(alloc, program, &told.kept.certificate, told.turn)?;
+    let first = first_told(alloc, program, told, evidence, shape.as_slice())?;
     Ok(text_verdict(verdict_by(total, first)))
 }
 
@@ -118,13 +118,12 @@ fn text_verdict(verdict: Verdict) -> TextVerdict
 fn first_told<E: Evidence>(
     alloc: Global,
     program: &Program<'_>,
-    bytes: &[u8],
-    told: &mut Told,
+    told: &mut Told<'_>,
     evidence: &E,
     shape: &[Fail],
 ) -> Result<Option<Fail>, AllocError>
     requires { IsWholeProgram (plain_program program.now) }
-    ensures { IfOk result (λ first. (digests : List (List ℕ)) (s : Statement) → IsStatement s → bytes.now ≡ statement_text s → CertificateTells (plain_program program.now) digests s told.old
+    ensures { IfOk result (λ first. (digests : List (List ℕ)) (s : Statement) → IsStatement s → CertificateTells (plain_program program.now) digests s told.old
         → option_map failing_of first ≡ first_after (plain_program program.now) (unfit (plain_program program.now) (claims_in s)) (earliest_from (E.standing evidence.now (plain_program program.now)) (plain_program program.now) (claims_in s) (first_failing (failures_of shape.now)) 0 (plain_program program.now).functions)) }
 {
     match told.unfit {
@@ -134,7 +133,7 @@ fn first_told<E: Evidence>(
         })),
         None => {
             let first = first_fail(shape);
-            earliest_in_text(alloc, program, bytes, &mut told.window, evidence, first)
+            earliest_in_text(alloc, program, &mut told.kept, evidence, first)
         }
     }
 }
@@ -143,13 +142,12 @@ fn first_told<E: Evidence>(
 fn earliest_in_text<E: Evidence>(
     alloc: Global,
     program: &Program<'_>,
-    bytes: &[u8],
-    window: &mut Window,
+    kept: &mut Kept<'_>,
     evidence: &E,
     first: Option<Fail>,
 ) -> Result<Option<Fail>, AllocError>
     requires { IsWholeProgram (plain_program program.now) }
-    ensures { IfOk result (λ found. (s : Statement) → IsStatement s → bytes.now ≡ statement_text s → AreWhole (claims_in s).funcs (claims_kept window.old) 0 window.old.until → length (claims_in s).funcs ≡ length (plain_program program.now).functions
+    ensures { IfOk result (λ found. (s : Statement) → IsStatement s → AreKept s.entries (claims_kept kept.old) (lines_kept kept.old) → length (claims_in s).funcs ≡ length (plain_program program.now).functions
         → option_map failing_of found ≡ earliest_from (E.standing evidence.now (plain_program program.now)) (plain_program program.now) (claims_in s) (option_map failing_of first) 0 (plain_program program.now).functions) }
 {
     let count = program.functions.as_slice().len();
@@ -158,28 +156,50 @@ fn earliest_in_text<E: Evidence>(
     }
     let mut found = first;
     for number in 0..count {
-        let fails = check_in_text(alloc, program, bytes, window, evidence, number as u32)?;
+        let fails = check_in_text(alloc, program, kept, evidence, number as u32)?;
         found = earlier(found, first_fail(fails.as_slice()));
     }
     Ok(found)
 }
 
-/// All failing K3 and K5 to K12 of the function with a number, after which the window has that function.
+/// All failing K3 and K5 to K12 of the function with a number, by what its lines claim.
 fn check_in_text<E: Evidence>(
     alloc: Global,
     program: &Program<'_>,
-    bytes: &[u8],
-    window: &mut Window,
+    kept: &mut Kept<'_>,
     evidence: &E,
     number: u32,
 ) -> Result<Vec<Fail>, AllocError>
     requires { IsWholeProgram (plain_program program.now) }
-    ensures fails { IfOk result (λ fails. (s : Statement) → IsStatement s → bytes.now ≡ statement_text s → AreWhole (claims_in s).funcs (claims_kept window.old) number window.old.until → number < length (claims_in s).funcs
+    ensures fails { IfOk result (λ fails. (s : Statement) → IsStatement s → AreKept s.entries (claims_kept kept.old) (lines_kept kept.old) → number < length (claims_in s).funcs
         → failures_of fails.items ≡ function_failures_at (E.standing evidence.now (plain_program program.now)) (plain_program program.now) (claims_in s) number (slice_get (plain_program program.now).functions number)) }
-    ensures kept { IfOk result (λ fails. (s : Statement) → IsStatement s → bytes.now ≡ statement_text s → AreWhole (claims_in s).funcs (claims_kept window.old) number window.old.until → number < length (claims_in s).funcs
-        → AreWhole (claims_in s).funcs (claims_kept window.new) number window.new.until) }
+    ensures same { OnOk result (kept.new ≡ kept.old) }
 {
-    reach(alloc, bytes, window, number as usize)?;
-    let fails = check_one(alloc, program, &window.certificate, number, evidence)?;
+    match lines_at(kept, number as usize) {
+        Some(lines) => {
+            let own = claim(alloc, &lines)?;
+            check_whole(alloc, program, &mut kept.certificate, own, number, evidence)
+        }
+        None => Ok(Vec::new(alloc)),
+    }
+}
+
+/// The same by its claim, which stands among the others for as long.
+fn check_whole<E: Evidence>(
+    alloc: Global,
+    program: &Program<'_>,
+    certificate: &mut Cert,
+    own: FuncClaim,
+    number: u32,
+    evidence: &E,
+) -> Result<Vec<Fail>, AllocError>
+    requires { IsWholeProgram (plain_program program.now) }
+    ensures fails { IfOk result (λ fails. failures_of fails.items ≡ function_failures_at (E.standing evidence.now (plain_program program.now)) (plain_program program.now) (claims_with (claims_of certificate.old) number (func_of own)) number (slice_get (plain_program program.now).functions number)) }
+    ensures same { OnOk result (certificate.new ≡ certificate.old) }
+{
+    let mut own = own;
+    certificate.funcs.exchange(number as usize, &mut own);
+    let fails = check_one(alloc, program, certificate, number, evidence)?;
+    certificate.funcs.exchange(number as usize, &mut own);
     Ok(fails)
 }

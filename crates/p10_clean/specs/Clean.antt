@@ -1,23 +1,17 @@
 -- Clean certificates: at every place to which the pass comes, with what it knows there, conditions C1 to C8 hold. What they exclude is every
 -- operation that C99 leaves undefined.
-use Rattle.std.specs.Prelude.{ℕ, suc, nat_lt, ◌&&◌, not, Bool, if◌then◌else◌, List, [], ◌∷◌, ◌++◌, Option, Some, None}
-use Rattle.std.specs.Bool.{nat_eq}
-use Rattle.p10_core.specs.Rows.{is_void}
+use Rattle.std.specs.Prelude.{ℕ, suc, nat_lt, if◌then◌else◌, List, [], ◌∷◌, ◌++◌, Option, Some, None}
 use Rattle.p10_core.specs.Typed.{PlainFunction, PlainProgram}
 use Rattle.p10_cert.specs.Claims.{Claims}
 use Rattle.p10_absx.specs.Entering.{entry_at}
 use Rattle.p10_pass.specs.Passing.{manner_of}
-use Rattle.p10_warn.specs.Ends.{reach_end}
+use Rattle.p10_warn.specs.Ends.{lacks_return}
 use Rattle.p10_clean.specs.declared.flaw.Flaw.{Flaw}
 use Rattle.p10_clean.specs.declared.flaw.Clean.{Clean}
 use Rattle.p10_clean.specs.declared.flaw.Clean.TheVariants.{Yes, No}
 use Rattle.p10_clean.specs.Settings.{set_at_entry}
 use Rattle.p10_clean.specs.Values.{flaw_if}
 use Rattle.p10_clean.specs.Statements.{flaws_in_statements}
-
--- whether a function with a number has a result, isn't `main`, and has an end that can be reached by syntax: row 8 of Holzmann's rule 10
-abbrev pub lacks_return : ℕ → ℕ → PlainFunction → Bool
-lacks_return main n f = not (nat_eq n main) && (not (is_void f.result) && reach_end f.body)
 
 -- the flaws in the function with a number: C7 at its name, and those of its body, from the claims on its parameters on
 abbrev pub flaws_in_function : PlainProgram → Claims → ℕ → PlainFunction → List Flaw

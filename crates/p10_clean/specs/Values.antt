@@ -8,11 +8,11 @@ use Rattle.p10_int.specs.declared.operators.BinOp.{BinOp}
 use Rattle.p10_int.specs.declared.operators.BinOp.TheVariants.{Eq, Ne}
 use Rattle.p10_int.specs.declared.operators.UnOp.{UnOp}
 use Rattle.p10_range.specs.Ranges.{Interval}
-use Rattle.p10_core.specs.declared.typed.Library.{Library}
-use Rattle.p10_core.specs.declared.typed.Library.TheVariants.{Malloc, Calloc, Free}
-use Rattle.p10_core.specs.Types.{PlainType, array}
+use Rattle.p10_core.specs.Types.{PlainType}
 use Rattle.p10_core.specs.Typed.{PlainValue, value, PlainForm, constant, read, sense, address, decay, convert, cast, unary, binary, logic, conditional, call, built_in, PlainPlace, place, PlainPlaceForm, variable, global, literal, index, member, dereference, PlainValues, no_values, more_values, place_type, PlainVariable}
+use Rattle.p10_core.specs.Uses.{manages_memory}
 use Rattle.p10_core.specs.Constants.{integer_of}
+use Rattle.p10_meaning.specs.Values.{element_count}
 use Rattle.p10_absx.specs.Abstract.{Abstract}
 use Rattle.p10_absx.specs.Environments.{Environment}
 use Rattle.p10_absx.specs.Assessing.{assess, known_where, are_integers, abstract_value}
@@ -67,11 +67,6 @@ abbrev pub read_flaws : Manner → Settings → PlainPlace → List Flaw
 read_flaws m set (place at t (variable n)) = flaw_if (is_frame (slice_get m.variables n) && not (is_set set n)) 6 at.span
 read_flaws m set p = []
 
--- how many elements an array has
-abbrev pub element_count : PlainType → ℕ
-element_count (array c t n) = n
-element_count t = 0
-
 -- whether an index lies in an array, where it has a value
 abbrev pub index_lies : ℕ → Option Abstract → Bool
 index_lies count None = true
@@ -82,19 +77,12 @@ abbrev pub index_flaws : Manner → Span → PlainValue → PlainValue → Envir
 index_flaws m at (value at2 t (decay p)) i env = flaw_if (not (index_lies (element_count (place_type p)) (abstract_value m.calls env i))) 4 at
 index_flaws m at v i env = flaw_if true 5 at
 
--- whether a library function allocates or frees
-abbrev pub is_memory_call : Library → Bool
-is_memory_call Malloc = true
-is_memory_call Calloc = true
-is_memory_call Free = true
-is_memory_call f = false
-
 -- the flaws of a value itself, by its form
 abbrev pub value_flaws : Manner → Settings → At → PlainType → PlainForm → Environment → List Flaw
 value_flaws m set at t (read p) env = read_flaws m set p
 value_flaws m set at t (unary op v) env = unary_flaws at.span op (integer_of t) (abstract_value m.calls env v)
 value_flaws m set at t (binary op a b) env = binary_flaws m at.span op (integer_of t) a b env
-value_flaws m set at t (built_in name f arguments) env = flaw_if (is_memory_call f) 5 at.span
+value_flaws m set at t (built_in name f arguments) env = flaw_if (manages_memory f) 5 at.span
 value_flaws m set at t form env = []
 
 -- the flaws of a place itself, by its form: C4, and C5 of a dereference

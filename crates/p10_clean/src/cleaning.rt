@@ -3,7 +3,8 @@
 ghost use Rattle.std.specs.Prelude.{◌≡◌, ◌++◌, map, OnOk, IfOk};
 ghost use Rattle.p10_core.specs.Views.{plain_function, plain_program};
 ghost use Rattle.p10_cert.specs.Claims.{claims_of};
-ghost use Rattle.p10_clean.specs.Clean.{lacks_return, flaws_in_function, flaws_in_functions, flaws_of, first_flaw, said_of, cleanness};
+ghost use Rattle.p10_warn.specs.Ends.{lacks_return};
+ghost use Rattle.p10_clean.specs.Clean.{flaws_in_function, flaws_in_functions, flaws_of, first_flaw, said_of, cleanness};
 ghost use Rattle.p10_clean.specs.private.Telling.{earlier};
 
 use crate::flaw::{Clean, Flaw, push_if};

@@ -8,7 +8,8 @@ ghost use Rattle.p10_absx.specs.Abstract.{abstract_of};
 ghost use Rattle.p10_absx.specs.Assessing.{assess, known_where, are_integers};
 ghost use Rattle.p10_pass.specs.Arguments.{has_value, where_reached, goes_on_where};
 ghost use Rattle.p10_pass.specs.Manners.{manner_by};
-ghost use Rattle.p10_clean.specs.Values.{compares_equal, binary_flaws, is_frame, read_flaws, element_count, index_lies, index_flaws, is_memory_call, flaws_in_value, flaws_in_values, flaws_in_place, flaws_in_maybe};
+ghost use Rattle.p10_meaning.specs.Values.{element_count};
+ghost use Rattle.p10_clean.specs.Values.{compares_equal, binary_flaws, is_frame, read_flaws, index_lies, index_flaws, flaws_in_value, flaws_in_values, flaws_in_place, flaws_in_maybe};
 ghost use Rattle.p10_clean.specs.private.Code.{settings_of, own_flaws, place_own_flaws, parts_flaws, place_parts_flaws};
 
 use crate::flaw::{Flaw, push_if};
@@ -17,7 +18,8 @@ use crate::settings::Settings;
 use p10_absx::{Abs, Env};
 use p10_base::Span;
 use p10_core::{
-    CType, Library, LogicOp, Place, PlaceForm, TypeForm, Value, ValueForm, Variable, integer_of,
+    CType, LogicOp, Place, PlaceForm, TypeForm, Value, ValueForm, Variable, integer_of,
+    manages_memory,
 };
 use p10_int::{BinOp, IntType};
 use p10_pass::Manner;
@@ -102,7 +104,7 @@ impl Look<'_, '_> {
                 };
                 self.push_binary(operator, a, b, env, flaws)
             }
-            ValueForm::Builtin(_, f, _) => push_if(is_memory_call(*f), 5, v.at.span, flaws),
+            ValueForm::Builtin(_, f, _) => push_if(manages_memory(*f), 5, v.at.span, flaws),
             ValueForm::Const(_)
             | ValueForm::Sense(_)
             | ValueForm::Addr(_)
@@ -367,23 +369,13 @@ fn compares_equal(op: BinOp) -> bool
     }
 }
 
-/// Whether a library function allocates or frees.
-fn is_memory_call(f: Library) -> bool
-    ensures { result ≡ is_memory_call f }
-{
-    match f {
-        Library::Malloc | Library::Calloc | Library::Free => true,
-        Library::Assert | Library::CAssert | Library::Getchar | Library::Putchar => false,
-    }
-}
-
-/// How many elements an array has.
+/// How many elements an array has; anything else is as an array of one.
 fn element_count(t: &CType) -> u64
     ensures { result ≡ element_count (plain_type t.now) }
 {
     match &t.form {
         TypeForm::Array(_, count) => *count,
-        TypeForm::Void | TypeForm::Int(_) | TypeForm::Pointer(_) | TypeForm::Struct(_) => 0,
+        TypeForm::Void | TypeForm::Int(_) | TypeForm::Pointer(_) | TypeForm::Struct(_) => 1,
     }
 }
 

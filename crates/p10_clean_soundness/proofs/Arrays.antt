@@ -25,7 +25,7 @@ use Rattle.p10_meaning.specs.Pointers.{window_in, scalar_of, read_of}
 use Rattle.p10_meaning.specs.Objects.{declared, Object, find, on_ok, or_stop, cell_at, placed, shift, inner}
 use Rattle.p10_meaning.specs.States.{State, gives, or_undefined}
 use Rattle.p10_meaning.specs.Scalars.{number_of, pointer_of}
-use Rattle.p10_meaning.specs.Values.{Setting, Held, holds, stands, absent, width, element_type, element_count as count_of, held_cell, sensed_from, sensed, read_target, Target, Variable, Sensor, Element, pointer_to, used, evaluate, perform, locate}
+use Rattle.p10_meaning.specs.Values.{Setting, Held, holds, stands, absent, width, element_type, element_count, held_cell, sensed_from, sensed, read_target, Target, Variable, Sensor, Element, pointer_to, used, evaluate, perform, locate}
 use Rattle.p10_meaning.specs.Statements.{Frame}
 use Rattle.p10_meaning.specs.Calling.{Depth, setting_of, call_at}
 use Rattle.p10_meaning.specs.Sound.{region_at}
@@ -42,7 +42,7 @@ use Rattle.p10_evaluation.specs.Laws.{IsHeldBy}
 use Rattle.p10_evaluation.proofs.Failing.{in_decay, in_index}
 use Rattle.p10_clean.specs.Settings.{Settings, is_set}
 use Rattle.p10_clean.specs.Literals.{lies_in_literal, points_in_literal}
-use Rattle.p10_clean.specs.Values.{is_frame, read_flaws, element_count, index_lies}
+use Rattle.p10_clean.specs.Values.{is_frame, read_flaws, index_lies}
 use Rattle.p10_clean_soundness.specs.private.Stays.{Stays, HasValue}
 use Rattle.p10_clean_soundness.specs.private.Setting.{IsFilled, StandsFor}
 use Rattle.p10_clean_soundness.specs.private.Objects.{Survives, LeavesClean, IsReached}
@@ -198,7 +198,7 @@ module _ (p : PlainProgram) (whole : IsWholeProgram p) (n : ℕ) (depth : Depth)
       (after_place p whole n depth number f there calls loops result lie scope opening settings head frame q i finds env (record { lies = in_decay calls at t q env clear.lies; clean = clear.clean; describes = clear.describes }) (record w { left = left }) (step_on p whole n depth number f there calls loops result lie scope opening settings head frame w left less st)) (λ target u g.
       let r : IsElementTarget (lies_in_literal q) opening u.objects target = element_of p whole n depth number f there calls loops result lie scope opening settings head frame q (record w { left = left }) target u g (ap is_scalar d.place_is) in
       let stride : ℕ = width p (element_type (place_type q)) in
-      let count : ℕ = count_of (place_type q) in
+      let count : ℕ = element_count (place_type q) in
       stays_or (IsArray q w) (inner u.objects (pointer_to target) 0 stride count) (To r.number (window_in r.window r.position 0 stride count) 0) at.span u _
       (ap (λ target. inner u.objects (pointer_to target) 0 stride count) r.is ∙ inner_is u.objects r.number r.window r.position 0 stride count r.reaches.object r.reaches.there)
       (record {
@@ -206,7 +206,7 @@ module _ (p : PlainProgram) (whole : IsWholeProgram p) (n : ℕ) (depth : Depth)
         object_number = r.number;
         window = window_in r.window r.position 0 stride count;
         is = refl;
-        count_is = ap count_of d.place_is ∙ sym (ap element_count d.place_is);
+        count_is = refl;
         object = r.reaches.object;
         is_live = r.reaches.there;
         apart = r.reaches.apart;

@@ -7,13 +7,13 @@ use Rattle.p10_core.specs.Typed.{PlainFunction, PlainProgram}
 use Rattle.p10_cert.specs.Claims.{Claims}
 use Rattle.p10_absx.specs.Entering.{entry_at}
 use Rattle.p10_pass.specs.Passing.{manner_of}
-use Rattle.p10_warn.specs.Ends.{reach_end}
+use Rattle.p10_warn.specs.Ends.{reach_end, lacks_return}
 use Rattle.p10_clean.specs.declared.flaw.Flaw.{Flaw}
 use Rattle.p10_clean.specs.declared.flaw.Clean.TheVariants.{Yes}
 use Rattle.p10_clean.specs.Settings.{set_at_entry}
 use Rattle.p10_clean.specs.Values.{flaw_if}
 use Rattle.p10_clean.specs.Statements.{flaws_in_statements}
-use Rattle.p10_clean.specs.Clean.{lacks_return, flaws_in_function, flaws_in_functions, flaws_of, first_flaw, said_of, cleanness}
+use Rattle.p10_clean.specs.Clean.{flaws_in_function, flaws_in_functions, flaws_of, first_flaw, said_of, cleanness}
 use Rattle.p10_clean_soundness.proofs.Flawless.{parts_empty, no_flaw}
 
 -- a function has no flaws: it returns a value if it has a result and may be called, and its body is clean from its entry on

@@ -12,6 +12,8 @@ use Rattle.p10_core.specs.declared.typed.LogicOp.{LogicOp}
 use Rattle.p10_core.specs.Types.{PlainType}
 use Rattle.p10_core.specs.Typed.{PlainValue, value, read, unary, binary, logic, conditional, built_in, PlainPlace, place, place_type, index, decay, PlainValues, more_values}
 use Rattle.p10_core.specs.Constants.{integer_of}
+use Rattle.p10_core.specs.Uses.{manages_memory}
+use Rattle.p10_meaning.specs.Values.{element_count}
 use Rattle.p10_absx.specs.Environments.{Environment}
 use Rattle.p10_absx.specs.Assessing.{assess, known_where, abstract_value}
 use Rattle.p10_pass.specs.Arguments.{has_value, where_reached, goes_on_where}
@@ -19,7 +21,7 @@ use Rattle.p10_pass.specs.Passing.{Manner}
 use Rattle.p10_clean.specs.declared.flaw.Flaw.{Flaw}
 use Rattle.p10_clean.specs.Settings.{Settings}
 use Rattle.p10_clean.specs.Operations.{overflows, misdivides, misshifts}
-use Rattle.p10_clean.specs.Values.{flaw_if, operation_flaws, binary_flaws, unary_flaws, read_flaws, element_count, index_lies, is_memory_call, flaws_in_value, flaws_in_values, flaws_in_place}
+use Rattle.p10_clean.specs.Values.{flaw_if, operation_flaws, binary_flaws, unary_flaws, read_flaws, index_lies, flaws_in_value, flaws_in_values, flaws_in_place}
 
 -- ## Lists that are empty
 
@@ -104,9 +106,9 @@ module _ (m : Manner) (set : Settings) where
       }
 
   pub in_built_in : (at : At) (t : PlainType) (name : Span) (f : Library) (arguments : PlainValues) (env : Environment) → flaws_in_value m set (value at t (built_in name f arguments)) env ≡ [] →
-      (is_memory_call f ≡ false) × (flaws_in_values m set arguments env ≡ [])
+      (manages_memory f ≡ false) × (flaws_in_values m set arguments env ≡ [])
   in_built_in at t name f arguments env e =
-      let p = parts_empty (flaw_if (is_memory_call f) 5 at.span) (flaws_in_values m set arguments env) e in (no_flaw (is_memory_call f) 5 at.span p.0, p.1)
+      let p = parts_empty (flaw_if (manages_memory f) 5 at.span) (flaws_in_values m set arguments env) e in (no_flaw (manages_memory f) 5 at.span p.0, p.1)
 
   pub in_values : (v : PlainValue) (vs : PlainValues) (env : Environment) → flaws_in_values m set (more_values v vs) env ≡ [] → (flaws_in_value m set v env ≡ []) × (has_value m.calls v env ≡ true → flaws_in_values m set vs env ≡ [])
   in_values v vs env e =

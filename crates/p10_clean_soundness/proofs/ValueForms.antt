@@ -17,6 +17,7 @@ use Rattle.p10_core.specs.Constants.{integer_of}
 use Rattle.p10_core.specs.Typed.{PlainValue, value, type_of, constant, read, sense, address, convert, cast, unary, binary, logic, conditional, call, built_in, PlainPlace, place_at, place_type, PlainValues, no_values, more_values, PlainVariable, PlainFunction, PlainProgram}
 use Rattle.p10_core.specs.Whole.{SeenFunction, Surroundings, Reads, UnaryAgrees, BinaryAgrees, Calls, CallsLibrary, IsWholeValue, AreWholeValues, IsWholePlace}
 use Rattle.p10_core.specs.WholePrograms.{seen_function, around, IsWholeProgram}
+use Rattle.p10_core.specs.Uses.{manages_memory}
 use Rattle.p10_cert.specs.Claims.{Value, Loop, Claims}
 use Rattle.p10_meaning.specs.declared.pointers.Scalar.{Scalar}
 use Rattle.p10_meaning.specs.States.{State, gives, and_then}
@@ -35,7 +36,7 @@ use Rattle.p10_evaluation.specs.Claimed.{IsCoveredCall, ResultsLie}
 use Rattle.p10_evaluation.proofs.Failing.{in_read, in_address, in_convert, in_cast, in_unary, in_binary, in_logic, InConditional, in_conditional, in_call, in_built_in, in_values, failing_among}
 use Rattle.p10_evaluation.proofs.WholeFunctions.{values_make_covered}
 use Rattle.p10_clean.specs.Settings.{Settings}
-use Rattle.p10_clean.specs.Values.{read_flaws, unary_flaws, is_memory_call, flaws_in_value, flaws_in_values, flaws_in_place}
+use Rattle.p10_clean.specs.Values.{read_flaws, unary_flaws, flaws_in_value, flaws_in_values, flaws_in_place}
 use Rattle.p10_clean_soundness.specs.private.Stays.{Stays, HasValue}
 use Rattle.p10_clean_soundness.specs.private.Objects.{LeavesClean}
 use Rattle.p10_clean_soundness.specs.private.Standing.{StandsClean, CallsStayClean}
@@ -259,7 +260,7 @@ module _ (p : PlainProgram) (whole : IsWholeProgram p) (n : ℕ) (depth : Depth)
       (yield_all env (record { lies = in_built_in calls at t name g arguments env clear.lies; clean = (clean_built_in m settings at t name g arguments env clear.clean).1; describes = clear.describes }) (record w { left = left }) (step_on p whole n depth number f there calls loops result lie scope opening settings head frame w left less st))
       (λ xs u l. gives_it xs u w l))
 
-  memory_form : (at : At) (t : PlainType) (name : Span) (g : Library) (arguments : PlainValues) → is_memory_call g ≡ true → Acts (value at t (built_in name g arguments))
+  memory_form : (at : At) (t : PlainType) (name : Span) (g : Library) (arguments : PlainValues) → manages_memory g ≡ true → Acts (value at t (built_in name g arguments))
   memory_form at t name g arguments h env clear w st = let e : true ≡ false = sym h ∙ (clean_built_in m settings at t name g arguments env clear.clean).0 in absurd cc
 
   pub built_in_form : (at : At) (t : PlainType) (name : Span) (g : Library) (arguments : PlainValues) → CallsLibrary c t g arguments → YieldAll arguments → Acts (value at t (built_in name g arguments))

@@ -13,6 +13,7 @@ use Rattle.p10_core.specs.Rows.{UnaryRow, is_void, is_pointer, is_scalar}
 use Rattle.p10_core.specs.Typed.{PlainValue, value, type_of, constant, read, sense, address, decay, convert, cast, unary, binary, logic, conditional, call, built_in, PlainPlace, place, variable, global, literal, index, member, dereference, PlainValues, no_values, more_values, PlainFunction, PlainProgram}
 use Rattle.p10_core.specs.Whole.{SeenFunction, Surroundings, Converts, integers, pointers, nulls, Casts, to_void, integers as cast_integers, nulls as cast_nulls, allocations, ArgumentsFit, Calls, CallsLibrary, IsWholeValue, AreWholeValues, IsWholePlace}
 use Rattle.p10_core.specs.WholePrograms.{seen_function, parameter_types, around, IsWholeProgram}
+use Rattle.p10_core.specs.Uses.{manages_memory}
 use Rattle.p10_cert.specs.Claims.{Value, Loop, Claims}
 use Rattle.p10_meaning.specs.declared.pointers.Scalar.{Scalar}
 use Rattle.p10_meaning.specs.States.{State}
@@ -24,7 +25,6 @@ use Rattle.p10_absx.specs.Environments.{Environment}
 use Rattle.p10_pass.specs.Passing.{Manner, manner_in}
 use Rattle.p10_evaluation.specs.Claimed.{ResultsLie}
 use Rattle.p10_clean.specs.Settings.{Settings}
-use Rattle.p10_clean.specs.Values.{is_memory_call}
 use Rattle.p10_clean_soundness.specs.private.Objects.{LeavesClean}
 use Rattle.p10_clean_soundness.specs.private.Standing.{StandsClean, CallsStayClean}
 use Rattle.p10_clean_soundness.proofs.Flawless.{in_built_in as clean_built_in}
@@ -80,7 +80,7 @@ callee_there p k seen e = by (nat_eq k p.main) (slice_get p.functions k) refl e
     by false None h e = absurd (none-some _ e)
     by false (Some g) h e = (g, h, same_Some _ _ e)
 
-library_scalar : (c : Surroundings) (t : PlainType) (g : Library) (vs : PlainValues) → CallsLibrary c t g vs → is_memory_call g ≡ false → AreScalars vs
+library_scalar : (c : Surroundings) (t : PlainType) (g : Library) (vs : PlainValues) → CallsLibrary c t g vs → manages_memory g ≡ false → AreScalars vs
 library_scalar c t Getchar no_values l h = tt
 library_scalar c t Putchar (more_values v no_values) l h = (ap is_scalar l.1, tt)
 library_scalar c t CAssert (more_values v no_values) l h = (l.1, tt)

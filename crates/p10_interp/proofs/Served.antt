@@ -1,5 +1,6 @@
 -- What the machine's dealings with a source and a sink come to, one after another.
 use Rattle.std.proofs.Common.{◌≡◌, ℕ, ◌≤◌, ◌<◌, ◌⊎◌, inl, inr, arith, OnOk, IfOk, Bool, true, false, List, [], ◌++◌, refl, sym, ap, ◌∙◌, append-nil, append_assoc, subst, Option, Result, Ok, Err}
+use Rattle.std.proofs.lemmas.List.Elements.{All-nil, All-append}
 use Rattle.std.proofs.KnownBytes.{Consumes-nil, Consumes-trans, Appends-nil, Appends-trans}
 use Rattle.std.specs.Io.KnownBytes.{Appends, IsAtEnd}
 use Rattle.p10_world.specs.Sink.{TakesFront}
@@ -30,8 +31,8 @@ stays_asked left = record { none = refl; ended = refl; same = refl }
 
 -- the source isn't asked
 pub asks_nothing : (b : Bool) (left : Option (List ℕ)) → Asks b b left left []
-asks_nothing true left = record { taken = Consumes-nil left; once = λ e. stays_asked left; end = λ e d. true_false e }
-asks_nothing false left = record { taken = Consumes-nil left; once = λ e. true_false (sym e); end = λ e d. true_false (sym d) }
+asks_nothing true left = record { taken = Consumes-nil left; bytes = All-nil (λ byte. byte < 256); once = λ e. stays_asked left; end = λ e d. true_false e }
+asks_nothing false left = record { taken = Consumes-nil left; bytes = All-nil (λ byte. byte < 256); once = λ e. true_false (sym e); end = λ e d. true_false (sym d) }
 
 none_given : (xs ys : List ℕ) → xs ≡ [] → ys ≡ [] → xs ++ ys ≡ []
 none_given xs ys e d = subst (λ zs. zs ++ ys ≡ []) (sym e) d
@@ -47,6 +48,7 @@ end_twice a false c l m n xs ys x y e d = y.end refl d
 asks_twice : (a b c : Bool) (l m n : Option (List ℕ)) (xs ys : List ℕ) → Asks a b l m xs → Asks b c m n ys → Asks a c l n (xs ++ ys)
 asks_twice a b c l m n xs ys x y = record {
   taken = Consumes-trans l m n xs ys x.taken y.taken;
+  bytes = All-append (λ byte. byte < 256) xs ys x.bytes y.bytes;
   once = λ e. stays_twice b c l m n xs ys (x.once e) y;
   end = end_twice a b c l m n xs ys x y;
 }

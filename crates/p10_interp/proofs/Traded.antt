@@ -1,5 +1,8 @@
 -- What the source gives and the sink takes at one time.
-use Rattle.std.proofs.Common.{◌≡◌, ℕ, zero, suc, ◌==◌, ◌≤◌, Bool, true, false, ◌⊎◌, inl, inr, List, [], ◌∷◌, ◌++◌, length, take, refl, sym, ap, ◌∙◌, append-nil, append_assoc, subst, Option, Result, Ok, Err, OnOk, OnErr, IfErr, arith}
+use Rattle.std.proofs.Common.{◌≡◌, ℕ, zero, suc, ◌==◌, ◌<◌, ◌≤◌, Bool, true, false, ◌⊎◌, inl, inr, List, [], ◌∷◌, ◌++◌, length, take, refl, sym, ap, ◌∙◌, append-nil, append_assoc, subst, Option, Result, Ok, Err, OnOk, OnErr, IfErr, arith, get_or, Fits, w8}
+use Rattle.std.specs.List.{All}
+use Rattle.std.proofs.lemmas.Bool.{eqb-true}
+use Rattle.std.proofs.lemmas.Option.{slice_get-get_or, get_or_from_slice_get}
 use Rattle.std.proofs.KnownBytes.{Consumes-nil, Appends-nil}
 use Rattle.std.specs.Io.KnownBytes.{Consumes, Appends, IsAtEnd}
 use Rattle.p10_world.specs.Sink.{TakesFront}
@@ -99,10 +102,27 @@ none_taken zero xs few e = refl
 none_taken (suc n) [] few e = absurd (omega (arith, few))
 none_taken (suc n) (x ∷ xs) few e = absurd (let no : x ∷ take n xs ≡ [] = e in cc)
 
+-- what a slice of bytes has is below 256
+pub small_bytes : (bytes : List ℕ) → ((i : ℕ) → Fits w8 (get_or bytes i 0)) → All (λ b. b < 256) bytes
+small_bytes bytes f k d h = omega (arith, f k, get_or_from_slice_get bytes k (get_or bytes k 0) d (slice_get-get_or bytes k 0 h))
+
+-- what is taken where a source gave the front of a buffer, which was put before what was pending
+pub takes_piece : (old new : Option (List ℕ)) (pending now buffer given : List ℕ) (count : ℕ) → given ≡ take count buffer → count ≤ length buffer → 0 < length buffer → Consumes old new (take count buffer)
+    → (count ≡ 0 → 0 < length buffer → IsAtEnd new) → All (λ b. b < 256) given → now ≡ given ++ pending → TakesPiece old new pending now (count == 0)
+takes_piece old new pending now buffer given count is within some taken end bytes put = record {
+  given = given;
+  taken = subst (λ xs. Consumes old new xs) (sym is) taken;
+  bytes = bytes;
+  pending_is = put;
+  end = λ none. let nothing : count ≡ 0 = eqb-true count 0 none in (is ∙ ap (λ n. take n buffer) nothing, end nothing some);
+  noted = λ none. none_taken count buffer within (sym is ∙ none);
+}
+
 module _ {A : Type 0} (from : State → Progress A) (s t : Outside) (left left_after taken : Option (List ℕ)) where
   piece_asked : (ended : Bool) (pending : List ℕ) (piece : TakesPiece left left_after pending t.pending ended) → Asks false ended left left_after piece.given
   piece_asked ended pending piece = record {
     taken = piece.taken;
+    bytes = piece.bytes;
     once = λ e. absurd (let no : false ≡ true = e in cc);
     end = λ e d. (piece.end d).1;
   }
@@ -131,7 +151,7 @@ module _ {A : Type 0} (from : State → Progress A) (s t : Outside) (left left_a
       subst (λ b. Serves from (record { outside = s; ended = b; left = left; taken = taken }) from (record { outside = t; ended = ended; left = left_after; taken = taken })) (sym e) (serves_new ended same none waiting piece)
 
   some_asked : (c : Consumed left left_after) → Asks false false left left_after c.given
-  some_asked c = record { taken = c.taken; once = λ e. absurd (let no : false ≡ true = e in cc); end = λ e d. absurd (let no : false ≡ true = d in cc) }
+  some_asked c = record { taken = c.taken; bytes = c.bytes; once = λ e. absurd (let no : false ≡ true = e in cc); end = λ e d. absurd (let no : false ≡ true = d in cc) }
 
   some_lost : (n : ℕ) → GoesOn from n → s.left ≤ n → Consumed left left_after → Loses from (record { outside = s; ended = false; left = left; taken = taken }) left_after taken
   some_lost n goes few c = loses_given from n (record { outside = s; ended = false; left = left; taken = taken }) left_after c.given goes few (some_asked c)

@@ -1,6 +1,7 @@
 -- A machine between its calls, and what each of them comes to: a part of a run, whose input is taken from a source in pieces and
 -- whose output is put into a sink.
-use Rattle.std.specs.Prelude.{◌≡◌, ℕ, Bool, true, false, List, [], ◌++◌, Option}
+use Rattle.std.specs.Prelude.{◌≡◌, ℕ, ◌<◌, Bool, true, false, List, [], ◌++◌, Option}
+use Rattle.std.specs.List.{All}
 use Rattle.std.specs.Io.KnownBytes.{Consumes, Appends, IsAtEnd}
 use Rattle.p10_core.specs.Typed.{PlainProgram}
 use Rattle.p10_meaning.specs.States.{State, AssertionFailed as HasFailed, Undefined as IsUndefined, StepsSpent as HasSpent, Progress, gives, ends}
@@ -50,9 +51,10 @@ pub record StaysAsked (is : Bool) (old new : Option (List ℕ)) (given : List �
   pub ended : is ≡ true
   pub same : new ≡ old
 
--- a source gave these bytes; after it has ended it isn't asked again
+-- a source gave these bytes, each a number below 256, whether it tells them or not; after it has ended it isn't asked again
 pub record Asks (was is : Bool) (old new : Option (List ℕ)) (given : List ℕ) : Type 0 where
   pub taken : Consumes old new given
+  pub bytes : All (λ byte. byte < 256) given
   pub once : was ≡ true → StaysAsked is old new given
   pub end : was ≡ false → is ≡ true → IsAtEnd new
 

@@ -1,6 +1,7 @@
 //! Bytes from a source and to a sink, in pieces.
 
-ghost use Rattle.std.specs.Prelude.{◌≡◌, ◌≤◌, ◌++◌, ◌∷◌, ◌⊎◌, ℕ, [], Some, neg_ℤ, pos, IfOk, IfErr, OnOk, OnErr};
+ghost use Rattle.std.specs.Prelude.{◌≡◌, ◌≤◌, ◌<◌, ◌++◌, ◌∷◌, ◌⊎◌, ℕ, [], Some, neg_ℤ, pos, IfOk, IfErr, OnOk, OnErr};
+ghost use Rattle.std.specs.List.{All};
 ghost use Rattle.std.specs.Io.KnownBytes.{Appends};
 ghost use Rattle.p10_world.specs.Faults.{Rose};
 ghost use Rattle.p10_world.specs.Sink.{TakesFront};
@@ -52,12 +53,19 @@ pub fn take_piece<I: Source>(pending: &mut Queue<u8>, input: &mut I) -> Result<b
     let mut piece = [0u8; PIECE];
     match input.piece(&mut piece) {
         Ok(count) => {
-            put_before(&piece[..count], pending)?;
+            let bytes = &piece[..count];
+            are_bytes(bytes);
+            put_before(bytes, pending)?;
             Ok(count == 0)
         }
         Err(_) => Err(Broken::Read),
     }
 }
+
+/// Each byte is a number below 256.
+fn are_bytes(bytes: &[u8])
+    ensures { All (λ byte. byte < 256) bytes.now }
+{}
 
 /// Puts bytes before those that are pending.
 fn put_before(bytes: &[u8], pending: &mut Queue<u8>) -> Result<(), Broken>

@@ -5,7 +5,7 @@ use Rattle.p10_cert.specs.Claims.{Func}
 use Rattle.p10_loopless.specs.Loopless.{without_loops, all_without_loops, AgreeOn}
 
 -- loops are left out once
-loopless_twice : (functions : List Func) → all_without_loops (all_without_loops functions) ≡ all_without_loops functions
+pub loopless_twice : (functions : List Func) → all_without_loops (all_without_loops functions) ≡ all_without_loops functions
 loopless_twice [] = refl
 loopless_twice (g ∷ functions) = ap (λ fs. without_loops g ∷ fs) (loopless_twice functions)
 

@@ -5,6 +5,7 @@ pub mod Renewals
 pub mod Marked
 pub mod Claimed
 pub mod Failing
+pub mod Uncalled
 pub mod Following
 pub mod PassedLists
 pub mod Restoring

@@ -1,4 +1,5 @@
 -- What only the code of this crate speaks of.
+pub mod Calling
 pub mod Items
 pub mod Lying
 pub mod Marking

@@ -1,6 +1,6 @@
 //! Which calls in values have arguments that aren't in their claimed ranges (K3).
 
-ghost use Rattle.std.specs.Prelude.{◌≡◌, ◌++◌, ◌∷◌, [], ◌&&◌, not, Bool, true, false, map, slice_get, if◌then◌else◌, Some, OnOk, IfOk};
+ghost use Rattle.std.specs.Prelude.{◌≡◌, ◌++◌, ◌∷◌, [], ◌&&◌, not, true, false, map, slice_get, if◌then◌else◌, Some, OnOk, IfOk};
 ghost use Rattle.std.specs.Option.{option_map, option_copied};
 ghost use Rattle.p10_core.specs.Views.{plain_value, plain_place, plain_values};
 ghost use Rattle.p10_range.specs.Ranges.{interval_of};
@@ -11,6 +11,7 @@ ghost use Rattle.p10_absx.specs.Entering.{claims_on};
 ghost use Rattle.p10_pass.specs.Arguments.{has_value, all_have_values, lies_in, arguments_lie, where_reached, goes_on_where, failing_calls, failing_in_values, failing_in_place, failing_in, failing_at};
 ghost use Rattle.p10_pass.specs.private.Lying.{argument_lies, arguments_lie_from};
 
+use crate::calling::has_call;
 use p10_absx::{Abs, Env, lies_within};
 use p10_base::Span;
 use p10_cert::{Cert, FuncClaim, ValueClaim};
@@ -229,9 +230,29 @@ impl Calls<'_> {
         }
     }
 
-    /// The same for the second one of two values, where the first one leaves a state.
+    /// The same for the second one of two values, where the first one leaves a state. The first one is tried only where something is called
+    /// in the second one: so a high expression isn't gone over again at each of its operators.
     #[cycle(failing)]
     fn put_after(
+        &self,
+        second: &Value,
+        first: &Value,
+        env: &mut Env,
+        names: &mut Vec<Span>,
+    ) -> Result<(), AllocError>
+        ensures same { OnOk result (env.new ≡ env.old) }
+        ensures names { OnOk result (names.new.items ≡ names.old.items ++ (if has_value (Some (claims_of self.now.cert.now)) (plain_value first.now) env.old.values then failing_calls (claims_of self.now.cert.now) (plain_value second.now) env.old.values else [])) }
+    {
+        if has_call(second) {
+            self.put_called(second, first, env, names)
+        } else {
+            Ok(())
+        }
+    }
+
+    /// The same where something is called in the second one.
+    #[cycle(failing)]
+    fn put_called(
         &self,
         second: &Value,
         first: &Value,
@@ -248,9 +269,29 @@ impl Calls<'_> {
         }
     }
 
-    /// The same for a value that is evaluated where a test is true or false.
+    /// The same for a value that is evaluated where a test is true or false. The test is tried only where something is called in the value.
     #[cycle(failing)]
     fn put_where(
+        &self,
+        v: &Value,
+        truth: bool,
+        test: &Value,
+        env: &mut Env,
+        names: &mut Vec<Span>,
+    ) -> Result<(), AllocError>
+        ensures same { OnOk result (env.new ≡ env.old) }
+        ensures names { OnOk result (names.new.items ≡ names.old.items ++ where_reached (known_where truth env.old.values (assess (Some (claims_of self.now.cert.now)) (plain_value test.now) env.old.values)) (λ e. failing_calls (claims_of self.now.cert.now) (plain_value v.now) e)) }
+    {
+        if has_call(v) {
+            self.put_entered(v, truth, test, env, names)
+        } else {
+            Ok(())
+        }
+    }
+
+    /// The same for a value in which something is called.
+    #[cycle(failing)]
+    fn put_entered(
         &self,
         v: &Value,
         truth: bool,

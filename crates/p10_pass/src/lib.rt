@@ -19,6 +19,7 @@
 
 mod arguments;
 mod assigning;
+mod calling;
 mod calls;
 mod claiming;
 pub mod laws;

@@ -1,5 +1,6 @@
 -- The inputs that a source may have held.
-use Rattle.std.proofs.Common.{◌≡◌, ℕ, Bool, true, false, List, [], ◌++◌, refl, sym, ap, ◌∙◌, subst, Option, Some, None, IfSome}
+use Rattle.std.proofs.Common.{◌≡◌, ℕ, ◌<◌, Bool, true, false, List, [], ◌++◌, refl, sym, ap, ◌∙◌, subst, Option, Some, None, IfSome}
+use Rattle.std.proofs.lemmas.List.Elements.{All-append}
 use Rattle.std.specs.Io.KnownBytes.{Consumes, IsAtEnd}
 use Rattle.p10_interp.specs.Resting.{rest_of, StaysAsked, Asks}
 use Rattle.std.proofs.KnownBytes.{Consumes-trans}
@@ -22,6 +23,7 @@ end_twice a false c l m n xs ys x y e d = y.end refl d
 pub asks_twice : (a b c : Bool) (l m n : Option (List ℕ)) (xs ys : List ℕ) → Asks a b l m xs → Asks b c m n ys → Asks a c l n (xs ++ ys)
 asks_twice a b c l m n xs ys x y = record {
   taken = Consumes-trans l m n xs ys x.taken y.taken;
+  bytes = All-append (λ byte. byte < 256) xs ys x.bytes y.bytes;
   once = λ e. stays_twice b c l m n xs ys (x.once e) y;
   end = end_twice a b c l m n xs ys x y;
 }

@@ -17,9 +17,10 @@ use Rattle.p10_meaning.specs.States.{State, counted}
 use Rattle.p10_meaning.specs.Scalars.{number_of, pointer_of, is_true, operated, operated_unary, unset_cells, zero_cells}
 use Rattle.p10_meaning.specs.Values.{Setting, Held, Target, Variable, Sensor, Element, width, size, variable_target, global_target, literal_number, literal_target, pointer_to, held_cell, sensed_from, sensed, read_target, first_argument, asserted, next_byte, elements, pointee, is_denied, granted, requested, library, is_void, is_structure, element_type, element_count, scalars_before, is_decided, evaluate, discard, perform, evaluate_all, locate}
 use Rattle.p10_meaning.specs.Calling.{Depth}
+use Rattle.p10_core.specs.Uses.{manages_memory}
 use Rattle.p10_sums.specs.Counting.{Counting, steps_claimed, calls_claimed, bytes_claimed, alloc_claimed}
 use Rattle.p10_sums.specs.Costs.{value_cost, form_cost, place_cost, values_cost}
-use Rattle.p10_sums.specs.Depths.{manages_memory, have_effect}
+use Rattle.p10_sums.specs.Depths.{have_effect}
 use Rattle.p10_sums.specs.Keeping.{ValueKeeps, FormKeeps, PlaceKeeps, ValuesKeep}
 use Rattle.p10_sums.specs.Laws.{Spends, Takes, counting_in, CallKeeps}
 use Rattle.p10_sums.proofs.Telling.{calls_of, bytes_of}

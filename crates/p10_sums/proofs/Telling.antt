@@ -7,12 +7,12 @@ use Rattle.p10_core.specs.declared.statements.LoopKeyword.TheVariants.{While, Do
 use Rattle.p10_core.specs.declared.uses.FunctionUse.{FunctionUse}
 use Rattle.p10_core.specs.declared.typed.Library.{Library}
 use Rattle.p10_core.specs.Nodes.{PlainNode, in_loop_order}
-use Rattle.p10_core.specs.Uses.{function_used}
+use Rattle.p10_core.specs.Uses.{function_used, manages_memory}
 use Rattle.p10_cert.specs.Claims.{Func}
 use Rattle.p10_sums.specs.declared.tally.Tally.{Tally}
 use Rattle.p10_sums.specs.Counting.{steps_claimed, calls_claimed, bytes_claimed, alloc_claimed}
 use Rattle.p10_sums.specs.Costs.{loop_cost}
-use Rattle.p10_sums.specs.Depths.{with_callee, callees, greatest_number, manages_memory, node_manages_memory, callee_manages_memory, have_effect}
+use Rattle.p10_sums.specs.Depths.{with_callee, callees, greatest_number, node_manages_memory, callee_manages_memory, have_effect}
 use Rattle.p10_sums.specs.private.Tallies.{capped, no_tally, some_steps, in_turn, one_of, as_often, of_callee, of_library}
 use Rattle.p10_sums.specs.private.Walks.{paying, loop_tally}
 use Rattle.p10_sums.proofs.Adding.{capped_sum, capped_max, capped_product}

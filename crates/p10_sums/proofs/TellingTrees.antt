@@ -7,10 +7,11 @@ use Rattle.p10_core.specs.Typed.{PlainWritten, one_scalar, scalars_of_text, Plai
 use Rattle.p10_core.specs.Nodes.{PlainNode, nodes_of_value, nodes_of_place, nodes_of_values, nodes_of_maybe, nodes_of_written, nodes_of_items, nodes_of_initializer, nodes_of_statement, nodes_of_statements}
 use Rattle.p10_cert.specs.Claims.{Func}
 use Rattle.p10_meaning.specs.Values.{width}
+use Rattle.p10_core.specs.Uses.{manages_memory}
 use Rattle.p10_sums.specs.declared.tally.Tally.{Tally}
 use Rattle.p10_sums.specs.Counting.{Counting, turns_claimed, steps_claimed, calls_claimed, bytes_claimed, alloc_claimed}
 use Rattle.p10_sums.specs.Costs.{value_cost, place_cost, values_cost, written_cost, items_cost, initializer_cost, variable_width, test_cost, return_cost, statement_cost, statements_cost}
-use Rattle.p10_sums.specs.Depths.{have_effect, manages_memory}
+use Rattle.p10_sums.specs.Depths.{have_effect}
 use Rattle.p10_sums.specs.private.Tallies.{some_steps, in_turn, one_of, of_callee, of_library, of_width}
 use Rattle.p10_sums.specs.private.Walks.{paying, value_tally, place_tally, values_tally, written_tally, items_tally, initializer_tally, variable_tally, test_tally, return_tally, statement_tally, statements_tally}
 use Rattle.p10_sums.proofs.Telling.{calls_of, bytes_of, or_swap, Has, Tells, has_none, has_steps, has_turn, has_same, has_paying, has_callee, has_library, tells_turn, tells_one, tells_paying, tells_loop}

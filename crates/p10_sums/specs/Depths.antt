@@ -1,11 +1,9 @@
 -- How deeply calls of a function nest, and whether they may allocate or free memory, by what is claimed of callees.
-use Rattle.std.specs.Prelude.{ℕ, ◌+◌, max, Bool, true, false, ◌||◌, List, [], ◌∷◌, map, Option, Some, None, slice_get}
-use Rattle.p10_core.specs.declared.typed.Library.{Library}
-use Rattle.p10_core.specs.declared.typed.Library.TheVariants.{Assert, CAssert, Getchar, Putchar, Malloc, Calloc, Free}
+use Rattle.std.specs.Prelude.{ℕ, ◌+◌, max, Bool, false, ◌||◌, List, [], ◌∷◌, map, Option, Some, None, slice_get}
 use Rattle.p10_core.specs.declared.uses.FunctionUse.{FunctionUse}
 use Rattle.p10_core.specs.Typed.{value, PlainForm, built_in, PlainFunction}
 use Rattle.p10_core.specs.Nodes.{PlainNode, a_statement, a_value, a_place, nodes_of_statements}
-use Rattle.p10_core.specs.Uses.{function_used}
+use Rattle.p10_core.specs.Uses.{function_used, manages_memory}
 use Rattle.p10_core.specs.WholePrograms.{frame_bytes}
 use Rattle.p10_cert.specs.Claims.{Func}
 use Rattle.p10_meaning.specs.Calling.{Depth}
@@ -35,16 +33,6 @@ depth_of functions f =
       calls = 1 + greatest_number (map (λ g. calls_claimed (slice_get functions g)) called);
       bytes = frame_bytes f + greatest_number (map (λ g. bytes_claimed (slice_get functions g)) called);
     }
-
--- whether a function of the library allocates or frees memory (C99 7.20.3)
-abbrev pub manages_memory : Library → Bool
-manages_memory Assert = false
-manages_memory CAssert = false
-manages_memory Getchar = false
-manages_memory Putchar = false
-manages_memory Malloc = true
-manages_memory Calloc = true
-manages_memory Free = true
 
 -- whether a form of value is a call that allocates or frees memory
 abbrev pub form_manages_memory : PlainForm → Bool

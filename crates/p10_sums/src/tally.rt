@@ -2,12 +2,11 @@
 
 ghost use Rattle.std.specs.Prelude.{◌≡◌, ◌+◌, ◌*◌, option_map, option_copied};
 ghost use Rattle.p10_cert.specs.Claims.{func_of};
-ghost use Rattle.p10_sums.specs.Depths.{manages_memory};
 ghost use Rattle.p10_sums.specs.private.Tallies.{capped, no_tally, some_steps, in_turn, one_of, as_often, of_callee, of_library};
 
 use p10_base::Limit;
 use p10_cert::FuncClaim;
-use p10_core::Library;
+use p10_core::{Library, manages_memory};
 
 /// Steps, up to one more than the greatest sum that is allowed; and the greatest depths that are claimed of callees, and
 /// whether memory may be allocated or freed.
@@ -150,15 +149,5 @@ pub(crate) fn of_library(library: Library) -> Tally
         calls: 0,
         bytes: 0,
         alloc: manages_memory(library),
-    }
-}
-
-/// Whether a function of the library allocates or frees memory.
-fn manages_memory(library: Library) -> bool
-    ensures { result ≡ manages_memory library }
-{
-    match library {
-        Library::Assert | Library::CAssert | Library::Getchar | Library::Putchar => false,
-        Library::Malloc | Library::Calloc | Library::Free => true,
     }
 }

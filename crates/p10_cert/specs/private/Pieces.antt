@@ -1,7 +1,8 @@
 -- The pieces of which a line is written.
 use Rattle.std.specs.Prelude.{ℕ, List, ◌++◌, codes, decimal}
 use Rattle.std.specs.Fmt.{signed_decimal}
-use Rattle.p10_cert.specs.Lines.{flag_number, hex_text}
+use Rattle.p10_base.specs.Hex.{hex_text}
+use Rattle.p10_cert.specs.Lines.{flag_number}
 use Rattle.p10_cert.specs.Sealed.{bytes_of}
 use Rattle.p10_cert.specs.declared.pieces.Piece.{Piece}
 use Rattle.p10_cert.specs.declared.pieces.Piece.TheVariants.{Bytes, Name, Number, Index, Flag, Signed, Digest}

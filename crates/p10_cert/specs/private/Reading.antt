@@ -5,7 +5,8 @@ use Rattle.p10_cert.specs.declared.claims.Rank.{Rank}
 use Rattle.p10_cert.specs.declared.claims.Rank.TheVariants.{Up, Down, One, Task}
 use Rattle.p10_range.specs.Ranges.{Interval}
 use Rattle.p10_cert.specs.Claims.{Value, Number, Address, Nothing}
-use Rattle.p10_cert.specs.Lines.{SectionHead, Line, FirstLine, FuncLine, ParamLine, ResultLine, LoopLine, VarLine, TotalLine, LastLine, SealedLine, DigestLine, OutsideLine, SectionLine, BodyLine, hex_text, greatest_count, greatest_size, is_name_byte, is_name, is_section_byte, is_section_name, is_body_byte}
+use Rattle.p10_base.specs.Hex.{hex_text}
+use Rattle.p10_cert.specs.Lines.{SectionHead, Line, FirstLine, FuncLine, ParamLine, ResultLine, LoopLine, VarLine, TotalLine, LastLine, SealedLine, DigestLine, OutsideLine, SectionLine, BodyLine, greatest_count, greatest_size, is_name_byte, is_name, is_section_byte, is_section_name, is_body_byte}
 
 -- the second, of what the first gives
 infixl 10 ◌>>=◌

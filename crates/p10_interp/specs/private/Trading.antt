@@ -1,5 +1,6 @@
 -- What is taken from a source, and how a part of a run breaks off.
-use Rattle.std.specs.Prelude.{◌≡◌, ℕ, Bool, true, List, [], ◌++◌, Option}
+use Rattle.std.specs.Prelude.{◌≡◌, ℕ, ◌<◌, Bool, true, List, [], ◌++◌, Option}
+use Rattle.std.specs.List.{All}
 use Rattle.std.specs.Io.KnownBytes.{Consumes, IsAtEnd}
 use Rattle.p10_interp.specs.declared.work.Halt.{Halt}
 use Rattle.p10_interp.specs.declared.work.Halt.TheVariants.{Failed as HasFailed, Undefined as IsUndefined, Spent as HasSpent, Memory as WantsMemory}
@@ -10,6 +11,7 @@ use Rattle.p10_interp.specs.declared.broken.Broken.TheVariants.{Failed, Undefine
 pub record TakesPiece (old new : Option (List ℕ)) (pending pending_now : List ℕ) (ended : Bool) : Type 0 where
   pub given : List ℕ
   pub taken : Consumes old new given
+  pub bytes : All (λ byte. byte < 256) given
   pub pending_is : pending_now ≡ given ++ pending
   pub end : ended ≡ true → (given ≡ []) × IsAtEnd new
   pub noted : given ≡ [] → ended ≡ true
@@ -18,6 +20,7 @@ pub record TakesPiece (old new : Option (List ℕ)) (pending pending_now : List 
 pub record Consumed (old new : Option (List ℕ)) : Type 0 where
   pub given : List ℕ
   pub taken : Consumes old new given
+  pub bytes : All (λ byte. byte < 256) given
 
 -- how a part of a run breaks off where an act halts
 abbrev pub breaks_by : Halt → Broken

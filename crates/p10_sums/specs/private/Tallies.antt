@@ -6,10 +6,10 @@ use Rattle.p10_core.specs.Views.{plain_program, plain_variable}
 use Rattle.p10_core.specs.declared.typed.Library.{Library}
 use Rattle.p10_cert.specs.Claims.{Func, func_of, loop_of}
 use Rattle.p10_meaning.specs.Values.{width}
+use Rattle.p10_core.specs.Uses.{manages_memory}
 use Rattle.p10_sums.specs.declared.basis.Basis.{Basis}
 use Rattle.p10_sums.specs.declared.tally.Tally.{Tally}
 use Rattle.p10_sums.specs.Counting.{Counting, steps_claimed, calls_claimed, bytes_claimed, alloc_claimed}
-use Rattle.p10_sums.specs.Depths.{manages_memory}
 
 -- what the code counts under
 abbrev pub counting_by : Basis → Counting

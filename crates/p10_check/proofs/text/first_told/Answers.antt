@@ -22,7 +22,7 @@ pub returns-in-Some : goal.returns-in-Some
 returns-in-Some g c =
     let p = plain_program c.args.program.now in
     let stands = g.E.Evidence.standing c.args.evidence.now p in
-    λ digests s good exact told.
+    λ digests s good told.
     ap fails_at c.name_at.ensures
     ∙ ap (λ o. first_after p o (earliest_from stands p (claims_in s) (first_failing (failures_of c.args.shape.now)) 0 p.functions)) (sym c.in-Some.is ∙ told.unfit)
 
@@ -31,9 +31,9 @@ returns-in-None g c =
     let p = plain_program c.args.program.now in
     let stands = g.E.Evidence.standing c.args.evidence.now p in
     IfOk-weaker c.earliest_in_text.result _ _
-    (λ found earliest digests s good exact told.
+    (λ found earliest digests s good told.
     let fits = sym c.in-None.is ∙ told.unfit in
-    earliest s good exact told.window (fitting_length p 0 p.functions (claims_in s).funcs (sym fits))
+    earliest s good told.kept (fitting_length p 0 p.functions (claims_in s).funcs (sym fits))
     ∙ ap (λ first. earliest_from stands p (claims_in s) first 0 p.functions) c.first_fail-first.ensures
     ∙ ap (λ o. first_after p o (earliest_from stands p (claims_in s) (first_failing (failures_of c.args.shape.now)) 0 p.functions)) fits)
     c.earliest_in_text.ensures

@@ -6,6 +6,7 @@ use Rattle.p10_core.proofs.Lists.{plain_call, plain_built_in}
 use Rattle.p10_cert.specs.Claims.{claims_of}
 use Rattle.p10_absx.specs.Trails.{Branching}
 use Rattle.p10_pass.proofs.Failing.{logic_put, conditional_put, call_put, built_in_put}
+use Rattle.p10_pass.proofs.Uncalled.{no_more, no_more_after}
 use Rattle.p10_pass.proofs.arguments.Calls.+failing.Goals as goal
 
 pub put_value-returns-in_ok-put_value-in-Logic-clause-names : goal.put_value-returns-in_ok-put_value-in-Logic-clause-names
@@ -40,3 +41,11 @@ put_value-returns-in_ok-put_call-in-Call-clause-names t c =
     on_ok_weaker _ (λ q. call_put (claims_of c.args.self.now.cert.now) (plain_form c.args.v.now.form) c.in-Call.name c.in-Call.n (plain_values c.as_slice.result.now) (plain_values c.as_slice-in-Call.result.now) c.args.env.now.values c.put_call.new.env.values
     c.args.names.now.items c.put_call.new.names.items c.put_values.new.names.items form (ap plain_values (c.as_slice-in-Call.ensures ∙ sym c.as_slice.ensures)) (ap (λ (b : Branching). b.values) c.in_ok-put_call-in-Call.ensures.same)
     c.in_ok-put_call-in-Call.ensures.names q) c.put_values.ensures.names
+
+pub put_after-returns-else-has_call-clause-names : goal.put_after-returns-else-has_call-clause-names
+put_after-returns-else-has_call-clause-names t c =
+    no_more_after (claims_of c.args.self.now.cert.now) (plain_value c.args.second.now) (plain_value c.args.first.now) c.args.env.now.values c.args.names.now.items (sym c.has_call.ensures ∙ c.if-has_call.false)
+
+pub put_where-returns-else-has_call-clause-names : goal.put_where-returns-else-has_call-clause-names
+put_where-returns-else-has_call-clause-names t c =
+    no_more (claims_of c.args.self.now.cert.now) c.args.truth (plain_value c.args.v.now) (plain_value c.args.test.now) c.args.env.now.values c.args.names.now.items (sym c.has_call.ensures ∙ c.if-has_call.false)
