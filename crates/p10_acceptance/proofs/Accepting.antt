@@ -24,24 +24,32 @@ use Rattle.p10_flowrules.specs.TaskExits.{task_exits}
 use Rattle.p10_flowrules.specs.FlowRows.{task_row, allocation_row, task_end, late_allocation}
 use Rattle.p10_turns.specs.Ranked.{is_ranked}
 use Rattle.p10_turns.specs.Evidence.{stands_by_ranges}
+use Rattle.p10_turns.specs.Laws.{IsLawful}
+use Rattle.p10_turns.proofs.Bounded.{ranges_lawful}
+use Rattle.p10_diff.proofs.Lawful.{differences_lawful}
 use Rattle.p10_check.specs.Places.{place_if, places_from, name_at}
 use Rattle.p10_check.specs.Shapes.{has_some, wrong_main, has_hidden_effect, late_names, hidden_effects}
 use Rattle.p10_check.specs.declared.verdict.Verdict.TheVariants.{Accepted}
 use Rattle.p10_check.specs.Conditions.{IsVerdict}
+use Rattle.p10_check.specs.Passes.{Standing}
 use Rattle.p10_check.specs.Accepting.{Holds}
 use Rattle.p10_check.proofs.Holding.{holding_accepts}
-use Rattle.p10_soundness.proofs.Sound.{accepted_by_ranges_bound}
+use Rattle.p10_soundness.proofs.Sound.{accepted_bound}
 use Rattle.p10_derived_texts.proofs.Texts.{derived_have_text}
-use Rattle.p10_finder.specs.Trials.{counted}
+use Rattle.p10_candidates.specs.Trials.{counted}
 use Rattle.p10_finder.specs.Functions.{any_value, loops_of, with_turn_steps}
 use Rattle.p10_finder.specs.Answers.{ViolatesBounds, no_bound, flow, AreClaims, IsCertified}
+use Rattle.p10_finder.specs.Ranking.{ranks_of}
 use Rattle.p10_finder.proofs.OneClaims.{claims_have_results}
-use Rattle.p10_acceptance.specs.Laws.{DerivedCertificatesHold, DerivedCertificatesAreAccepted, DerivedCertificatesBoundRuns, DerivedTextsAreAccepted}
+use Rattle.p10_acceptance.specs.Laws.{SupportedCertificatesHold, DerivedCertificatesHold, DerivedCertificatesAreAccepted, DerivedCertificatesBoundRuns, DerivedTextsAreAccepted}
+use Rattle.p10_acceptance.specs.Supporting.{Supports, standing_if}
 use Rattle.p10_acceptance.proofs.Results.{is_there, there_below, mapped_at, claim_there}
 use Rattle.p10_acceptance.proofs.Functions.{ranked_same, function_holds}
 use Rattle.p10_acceptance.proofs.Calls.{none_passes, ranks_hold}
 use Rattle.p10_acceptance.proofs.Speaking.{speaks}
+use Rattle.p10_acceptance.proofs.Differing.{differences_support}
 use Rattle.p10_acceptance.proofs.Summing.{steps_hold, depths_hold, total_holds}
+use Rattle.p10_approach.specs.Offers.{Offers, AreOffers, no_offers, approach_offers, offers_if}
 
 -- ## Lists
 
@@ -69,25 +77,25 @@ no_places places k (f ∷ fs) h =
 
 -- ## The certificate
 
-module _ (p : PlainProgram) (whole : IsWholeProgram p) (c : Claims) (k : IsCertified p c) where
-  is : AreClaims p c
+module _ (o : Offers) (are : AreOffers o) (p : PlainProgram) (whole : IsWholeProgram p) (c : Claims) (k : IsCertified o p c) where
+  is : AreClaims o p c
   is = k.claims.claims
 
-  no_violation : (sub : Sub) (span : Span) → ViolatesBounds p c sub span → ⊥
+  no_violation : (sub : Sub) (span : Span) → ViolatesBounds o p c sub span → ⊥
   no_violation sub span v = none_in (record { sub = sub; span = span }) ((k.claims.lawful.exact (record { sub = sub; span = span })).1 v)
 
-  bounded : (n : ℕ) (f : PlainFunction) → slice_get p.functions n ≡ Some f → (loops_of p c n f).unbounded ≡ []
-  bounded n f there = nothing_in (loops_of p c n f).unbounded (λ span held. no_violation _ span (no_bound span (record { number = n; function = f; there = there; lacks = held })))
+  bounded : (n : ℕ) (f : PlainFunction) → slice_get p.functions n ≡ Some f → (loops_of o p c n f).unbounded ≡ []
+  bounded n f there = nothing_in (loops_of o p c n f).unbounded (λ span held. no_violation _ span (no_bound span (record { number = n; function = f; there = there; lacks = held })))
 
-  short : (n : ℕ) (f : PlainFunction) → slice_get p.functions n ≡ Some f → (j : ℕ) (l : Loop) → slice_get (loops_of p c n f).claims j ≡ Some l → is_ranked l.rank ≡ true → l.turns ≤ MOST_SUM
+  short : (n : ℕ) (f : PlainFunction) → slice_get p.functions n ≡ Some f → (j : ℕ) (l : Loop) → slice_get (loops_of o p c n f).claims j ≡ Some l → is_ranked l.rank ≡ true → l.turns ≤ MOST_SUM
   short n f there j l e ranked = elim (cases_lt MOST_SUM l.turns) [
     | inr low ↦ low
     | inl long ↦
-        let same : length c.funcs ≡ length p.functions = (claims_have_results p c is).each in
+        let same : length c.funcs ≡ length p.functions = (claims_have_results o p c is).each in
         let inside : n < length p.functions = there_below p.functions n f there in
         let a = is_there c.funcs n (omega (arith, same, inside)) in
-        let loops : a.0.loops ≡ map (with_turn_steps (counted (sum_at p c.funcs n).turn)) (loops_of p c n f).claims = ap (λ (x : Func). x.loops) (is.each n f a.0 there a.1) in
-        let held : Contains a.0.loops l = got a.0.loops j l (ap (λ (ls : List Loop). slice_get ls j) loops ∙ (mapped_at (with_turn_steps (counted (sum_at p c.funcs n).turn)) (loops_of p c n f).claims j l e ∙ ap Some (ranked_same (counted (sum_at p c.funcs n).turn) l ranked))) in
+        let loops : a.0.loops ≡ map (with_turn_steps (counted (sum_at p c.funcs n).turn)) (loops_of o p c n f).claims = ap (λ (x : Func). x.loops) (is.each n f a.0 there a.1) in
+        let held : Contains a.0.loops l = got a.0.loops j l (ap (λ (ls : List Loop). slice_get ls j) loops ∙ (mapped_at (with_turn_steps (counted (sum_at p c.funcs n).turn)) (loops_of o p c n f).claims j l e ∙ ap Some (ranked_same (counted (sum_at p c.funcs n).turn) l ranked))) in
         absurd (k.sums (inr (record { func = a.0; loop = l; among = got c.funcs n a.0 a.1; inside = held; long = long })))
   ]
 
@@ -99,7 +107,7 @@ module _ (p : PlainProgram) (whole : IsWholeProgram p) (c : Claims) (k : IsCerti
   no_parameters : claims_on (slice_get c.funcs p.main) ≡ []
   no_parameters =
       let main = whole.main in
-      let a = claim_there p whole c is bounded short p.main main.function main.there in
+      let a = claim_there o are p whole c is bounded short p.main main.function main.there in
       ap claims_on a.1 ∙ (ap (λ (x : Func). x.params) (is.each p.main main.function a.0 main.there a.1) ∙ ap (λ (n : ℕ). map any_value (map (λ (v : PlainVariable). v.type) (take n main.function.variables))) main.is.no_parameters)
 
   -- K4
@@ -129,7 +137,7 @@ module _ (p : PlainProgram) (whole : IsWholeProgram p) (c : Claims) (k : IsCerti
   -- K13
   effects_hold : hidden_effects p c.funcs [] ≡ []
   effects_hold = no_places (λ n f. place_if (has_hidden_effect c.funcs n f) f.span ++ late_names p [] n) 0 p.functions (λ i f there.
-      let a = claim_there p whole c is bounded short i f there in
+      let a = claim_there o are p whole c is bounded short i f there in
       let alloc : alloc_claimed (slice_get c.funcs i) ≡ effect_of c.funcs f = ap alloc_claimed a.1 ∙ (ap (λ (x : Func). x.alloc) (is.each i f a.0 there a.1) ∙ ap (λ o. (function_sum p c.funcs i o).alloc) there) in
       subst (λ (n : ℕ). place_if (has_hidden_effect c.funcs n f) f.span ++ late_names p [] n ≡ []) (plain i)
       (ap (λ b. place_if (effect_of c.funcs f && not b) f.span ++ late_names p [] i) alloc
@@ -140,14 +148,14 @@ module _ (p : PlainProgram) (whole : IsWholeProgram p) (c : Claims) (k : IsCerti
 
   -- ## All conditions
 
-  pub all_hold : Holds (stands_by_ranges p) p c
-  all_hold = record {
-    fits = speaks p whole c is bounded short;
-    ranks = ranks_hold p whole c is;
+  pub all_hold : (stands : Standing) → Supports o stands p c → Holds stands p c
+  all_hold stands supports = record {
+    fits = speaks o are p whole c is bounded short;
+    ranks = ranks_hold o p whole c is;
     main = main_holds;
     functions = λ n f there.
-        let a = claim_there p whole c is bounded short n f there in
-        let h = function_holds p whole c is bounded short n f there a.0 a.1 in
+        let a = claim_there o are p whole c is bounded short n f there in
+        let h = function_holds o are p whole c is bounded short stands supports n f there a.0 a.1 in
         record {
           arguments = h.arguments;
           results = h.results;
@@ -156,31 +164,46 @@ module _ (p : PlainProgram) (whole : IsWholeProgram p) (c : Claims) (k : IsCerti
           entered = h.ranked 8;
           falling = h.ranked 9;
           turns = h.ranked 10;
-          steps = steps_hold p whole c is bounded short (λ x. k.sums (inl x)) n f there a.0 a.1;
-          depths = depths_hold p whole c is bounded short (λ x. k.sums (inl x)) n f there a.0 a.1;
+          steps = steps_hold o are p whole c is bounded short (λ x. k.sums (inl x)) n f there a.0 a.1;
+          depths = depths_hold o are p whole c is bounded short (λ x. k.sums (inl x)) n f there a.0 a.1;
         };
     late = [];
     late_are = none_late;
     effects = effects_hold;
-    total = total_holds p whole c is bounded short (λ x. k.sums (inl x));
+    total = total_holds o are p whole c is bounded short (λ x. k.sums (inl x));
   }
 
 -- ## The laws
 
+pub supported_hold : SupportedCertificatesHold
+supported_hold o stands p whole c k supports = all_hold o supports.are p whole c k stands supports
+
+-- where nothing is offered, the evidence of ranges is enough
+ranges_support : (p : PlainProgram) (c : Claims) → Supports no_offers (stands_by_ranges p) p c
+ranges_support p c = record { are = λ n f k depth parts l. tt; by_ranges = λ n k entry l e. e; by_offers = λ n f there k depth parts l a placed e marked offered. absurd (none-some _ offered) }
+
+supports_if : (diff : Bool) (p : PlainProgram) (c : Claims) → Supports (offers_if diff) (standing_if diff p c) p c
+supports_if false p c = ranges_support p c
+supports_if true p c = differences_support p c
+
+lawful_if : (diff : Bool) (p : PlainProgram) → IsWholeProgram p → (c : Claims) → IsLawful p (standing_if diff p c)
+lawful_if false p whole c = ranges_lawful p whole
+lawful_if true p whole c = differences_lawful p whole (ranks_of approach_offers p c)
+
 pub derived_hold : DerivedCertificatesHold
-derived_hold p whole c k = all_hold p whole c k
+derived_hold diff p whole c k = supported_hold (offers_if diff) (standing_if diff p c) p whole c k (supports_if diff p c)
 
 pub derived_are_accepted : DerivedCertificatesAreAccepted
-derived_are_accepted p whole c k = holding_accepts (stands_by_ranges p) p c (all_hold p whole c k)
+derived_are_accepted diff p whole c k = holding_accepts (standing_if diff p c) p c (derived_hold diff p whole c k)
 
 pub derived_bound : DerivedCertificatesBoundRuns
-derived_bound p whole c k = accepted_by_ranges_bound p whole c c.total (derived_are_accepted p whole c k)
+derived_bound diff p whole c k = accepted_bound p whole (standing_if diff p c) (lawful_if diff p whole c) c c.total (derived_are_accepted diff p whole c k)
 
 pub derived_texts_accepted : DerivedTextsAreAccepted
 derived_texts_accepted p whole named c k =
-    let text : IsCertificate c = derived_have_text p whole named c k in (
+    let text : IsCertificate c = derived_have_text no_offers (λ n f k depth parts l. tt) p whole named c k in (
       text,
       λ d other same.
           let claims : d ≡ c = text_tells_claims d c other text same in
-          subst (λ (x : Claims). IsVerdict (stands_by_ranges p) p x (Accepted c.total)) (sym claims) (derived_are_accepted p whole c k),
+          subst (λ (x : Claims). IsVerdict (stands_by_ranges p) p x (Accepted c.total)) (sym claims) (derived_are_accepted false p whole c k),
     )

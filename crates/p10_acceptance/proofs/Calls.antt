@@ -27,6 +27,7 @@ use Rattle.p10_finder.proofs.Called.{OfUse, EachCalled, both_called}
 use Rattle.p10_finder.proofs.OneClaims.{claims_have_results}
 use Rattle.p10_acceptance.proofs.Statements.{IsIn, in_after, in_after_all}
 use Rattle.p10_acceptance.proofs.Results.{is_there, there_below, index_is, mapped_at, seen_is}
+use Rattle.p10_approach.specs.Offers.{Offers}
 
 -- ## Values
 
@@ -143,7 +144,7 @@ pub none_passes : {A : Type 0} (test : A → Bool) (xs : List A) → ((x : A) �
 none_passes test [] h = refl
 none_passes test (x ∷ xs) h = ap (λ b. cond b (x ∷ filter test xs) (filter test xs)) (h x (here x xs)) ∙ none_passes test xs (λ y held. h y (there x xs y held))
 
-module _ (p : PlainProgram) (whole : IsWholeProgram p) (c : Claims) (is : AreClaims p c) where
+module _ (o : Offers) (p : PlainProgram) (whole : IsWholeProgram p) (c : Claims) (is : AreClaims o p c) where
   lower : (s : CallSite) → Contains (call_sites p) s → goes_down c.funcs s ≡ true
   lower s held =
       let at = stands_in 0 p.functions s held in
@@ -155,7 +156,7 @@ module _ (p : PlainProgram) (whole : IsWholeProgram p) (c : Claims) (is : AreCla
       let called_low : s.call.function < length p.functions = called_of (λ m. m < length p.functions) (nodes_of_statements at.function.body) each used.0 s.call used.1 used.2 in
       let caller_low : s.caller < length p.functions = let low = there_below p.functions at.place at.function function in omega (arith, low, inside) in
       let edge = edge_there p s s.caller s.call.function held (record { caller_is = refl; called_is = refl; caller_low = caller_low; called_low = called_low }) in
-      let same : length c.funcs ≡ length p.functions = (claims_have_results p c is).each in
+      let same : length c.funcs ≡ length p.functions = (claims_have_results o p c is).each in
       let nodes : length (call_graph p) ≡ length p.functions = length-map p.functions (callees_of (length p.functions)) in
       let up = (is.ranks.exact s.caller (omega (arith, caller_low, nodes))).above s.call.function edge in
       let first = is_there c.funcs s.call.function (omega (arith, called_low, same)) in

@@ -35,10 +35,10 @@ use Rattle.p10_pass.specs.Claiming.{range_claimed, ranges_hold_reached, rank_in,
 use Rattle.p10_pass.specs.Passing.{Round}
 use Rattle.p10_execution.proofs.Entries.{changed_at, changed_knows}
 use Rattle.p10_execution.proofs.AssessedScopes.{SameScope, learned_scope, scope_trans}
-use Rattle.p10_finder.specs.declared.course.Course.{Course}
-use Rattle.p10_finder.specs.declared.course.Course.TheVariants.{Below, AtMost, Above, AtLeast}
-use Rattle.p10_finder.specs.Candidates.{LoopEntry, guard_conjuncts, courses_of, rank_along, range_along, Candidate, any_trial, moved_along, trial_along, is_that, is_variable_in, candidate_along, course_candidates, variable_under, side_candidates, zero_for, conjunct_candidates, one_candidate, candidates}
-use Rattle.p10_finder.specs.Trials.{Rounds, with_known, with_back, head_after, is_whole_range, line_for, lines_from, counted, turns_of_rank, claim_of, stands_alone, first_standing}
+use Rattle.p10_candidates.specs.declared.course.Course.{Course}
+use Rattle.p10_candidates.specs.declared.course.Course.TheVariants.{Below, AtMost, Above, AtLeast}
+use Rattle.p10_candidates.specs.Candidates.{LoopEntry, guard_conjuncts, courses_of, rank_along, range_along, Candidate, any_trial, moved_along, trial_along, is_that, is_variable_in, candidate_along, course_candidates, variable_under, side_candidates, zero_for, conjunct_candidates, one_candidate, candidates}
+use Rattle.p10_candidates.specs.Trials.{Rounds, with_known, with_back, head_after, is_whole_range, line_for, lines_from, counted, turns_of_rank, claim_of, stands_alone, first_standing}
 use Rattle.p10_acceptance.proofs.Narrowing.{within_itself, whole_typed, hull_typed, hull_left, Fair, learned_fair}
 use Rattle.p10_acceptance.proofs.Ends.{Each, each_both, changed_fair}
 use Rattle.p10_acceptance.proofs.Fitting.{ClaimFits}
@@ -187,6 +187,28 @@ module _ (l : LoopEntry) (assigned : ℕ → Bool) (same : (n : ℕ) (v : PlainV
       more false = within_itself a.range
 
       stays : (c : Bool) → c ≡ false → IsWithin (if c then only_range (with_back back n a.range) else a).range a.range
+      stays true k = absurd cc
+      stays false k = within_itself a.range
+
+  -- the head of the rank 1 that isn't tried
+  pub any_has : HeadHas l.variables assigned l.entry (any_trial l)
+  any_has n v a there e = record {
+    entry = if l.assigned n then whole_type (integer_of v.type) else a;
+    there = changed_at _ 0 l.variables l.entry n n v there (omega arith) ∙ ap (option_map _) e;
+    typed = typed (l.assigned n);
+    more = more (l.assigned n);
+    same = λ k. stays (l.assigned n) (same n v there ∙ k);
+  }
+    where
+      typed : (c : Bool) → IsOfType (integer_of v.type) (if c then whole_type (integer_of v.type) else a).range
+      typed true = whole_typed (integer_of v.type)
+      typed false = fair.typed n a v e there
+
+      more : (c : Bool) → IsWithin a.range (if c then whole_type (integer_of v.type) else a).range
+      more true = (fair.typed n a v e there).1
+      more false = within_itself a.range
+
+      stays : (c : Bool) → c ≡ false → IsWithin (if c then whole_type (integer_of v.type) else a).range a.range
       stays true k = absurd cc
       stays false k = within_itself a.range
 

@@ -1,6 +1,6 @@
 -- The claim of one loop that is found fits what is known at its entry.
 use Rattle.std.proofs.Common.{◌≡◌, ℕ, zero, suc, ◌<◌, ◌≤◌, length, Bool, true, false, List, [], ◌∷◌, ◌++◌, Option, Some, None, refl, ap, sym, ◌∙◌, subst, inl, inr, arith}
-use Rattle.std.specs.Prelude.{slice_get, if◌then◌else◌, is_some, ◌||◌, ◌&&◌, not, nat_lt, IfSome}
+use Rattle.std.specs.Prelude.{◌⊎◌, slice_get, if◌then◌else◌, is_some, ◌||◌, ◌&&◌, not, nat_lt, IfSome}
 use Rattle.std.specs.Option.{option_map}
 use Rattle.std.specs.List.{list_all}
 use Rattle.std.proofs.lemmas.Option.{same_Some, none-some}
@@ -34,8 +34,10 @@ use Rattle.p10_execution.proofs.Entries.{changed_at, changed_knows}
 use Rattle.p10_execution.proofs.ScopedEnds.{nothing, third_declares, MaybeScoped, maybe_trans, scoped_same, changed_scope, before_same}
 use Rattle.p10_turns.specs.Ranked.{is_ranked}
 use Rattle.p10_turns.specs.Evidence.{has_none, holds_by_ranges}
-use Rattle.p10_finder.specs.Candidates.{LoopEntry, Candidate, any_trial, one_candidate, candidates}
-use Rattle.p10_finder.specs.Trials.{with_known, with_back, head_after, tried_head, is_whole_range, line_for, lines_from, turns_of_rank, claim_by, first_standing, LoopFound, found_by}
+use Rattle.p10_candidates.specs.Candidates.{LoopEntry, Candidate, any_trial, one_candidate, candidates}
+use Rattle.p10_candidates.specs.Trials.{with_known, with_back, head_after, tried_head, is_whole_range, line_for, lines_from, turns_of_rank, claim_by, first_standing, LoopFound, found_by}
+use Rattle.p10_approach.specs.Approaches.{Approached}
+use Rattle.p10_approach.specs.Offers.{IsOffer}
 use Rattle.p10_finder.specs.Loops.{entered_found}
 use Rattle.p10_acceptance.proofs.Narrowing.{within_itself, within_trans, hull_right, Fair, Narrower, MaybeNarrower, narrower_itself}
 use Rattle.p10_acceptance.proofs.Operating.{is_within_of}
@@ -44,7 +46,7 @@ use Rattle.p10_acceptance.proofs.Ends.{changed_narrower}
 use Rattle.p10_acceptance.proofs.Fitting.{ClaimFits}
 use Rattle.p10_acceptance.proofs.Rounds.{some_is, holds_by, under_is, held_narrower, RoundFits}
 use Rattle.p10_acceptance.proofs.Statements.{IsIn}
-use Rattle.p10_acceptance.proofs.Claims.{HeadEntry, HeadHas, claim_fits, tried_has, RankKnown, IsGood, one_good, candidates_good, Stood, stood, turns_enough, rank_there, lines_at}
+use Rattle.p10_acceptance.proofs.Claims.{HeadEntry, HeadHas, claim_fits, tried_has, any_has, RankKnown, IsGood, one_good, candidates_good, Stood, stood, turns_enough, rank_there, lines_at}
 use Rattle.p10_acceptance.proofs.Trials.{NoneAsked, trial, rounds_narrower, trial_scoped}
 
 -- ## Ranks
@@ -131,57 +133,16 @@ module _ (p : PlainProgram) (f : PlainFunction) (Stands : ℕ → Environment �
             (rank_holds claim.rank claim.depth claim.turns claim.vars head.span entry (round (head_of claim f.variables entry)) there c d enough)
             ∙ (ap (λ x. x && ranges_hold_reached claim f.variables (round (head_of claim f.variables entry)).back) a ∙ b)
 
-    -- ## The task
+    -- ## Claims with the lines of a head
 
     abbrev any : Environment
     any = any_trial l
 
-    abbrev task_head : Environment
-    task_head = head_after l (round any).back
-
-    abbrev task_claim : Loop
-    task_claim = claim_by l depth Task 0 task_head
-
-    -- what is known of a variable at the head
-    at_task : (n : ℕ) (a : Abstract) → Abstract
-    at_task n a = if nat_lt n (length f.variables) && assigned n then only_range (with_back (round any).back n a.range) else a
-
     any_good : IsGood l assigned same fair (one_candidate l)
     any_good = one_good l assigned same fair
 
-    task_has : HeadHas f.variables assigned entry task_head
-    task_has = tried_has l assigned same fair (round any).back (back_fair any any_good.holds any_good.scope)
-
-    task_typed : (n : ℕ) (v : PlainVariable) (a : Abstract) → slice_get f.variables n ≡ Some v → known entry n ≡ Some a → range_claimed (lines_from 0 f.variables task_head) n (integer_of v.type) ≡ (at_task n a).range
-    unfolding at_task
-    task_typed n v a there e = lines_at 0 f.variables task_head n n v (at_task n a) there (omega arith) (changed_at _ 0 f.variables entry n n v there (omega arith) ∙ ap (option_map _) e)
-
-    claimed_entry : (n : ℕ) (v : PlainVariable) (a : Abstract) → slice_get f.variables n ≡ Some v → known entry n ≡ Some a → (h : HeadEntry task_head (integer_of v.type) n a (assigned n)) → range_claimed (lines_from 0 f.variables task_head) n (integer_of v.type) ≡ h.entry.range
-    claimed_entry n v a there e h = lines_at 0 f.variables task_head n n v h.entry there (omega arith) h.there
-
-    abbrev turn_head : Environment
-    turn_head = head_of task_claim f.variables entry
-
-    turn_narrower : Narrower f.variables turn_head any
-    turn_narrower = changed_narrower f.variables _ _ entry entry before.knows (narrower_itself f.variables entry fair)
-        (λ n v a there e. let k = task_has n v a there e in subst (IsOfType (integer_of v.type)) (sym (claimed_entry n v a there e k)) k.typed)
-        (λ n v a b there e q w.
-        let k = task_has n v a there e in
-        subst (λ (x : Interval). IsWithin x (if nat_lt n (length f.variables) && assigned n then whole_type (integer_of v.type) else b).range) (sym (claimed_entry n v a there e k))
-        (within n v a b k w (nat_lt n (length f.variables) && assigned n) (sym (same n v there))))
-      where
-        within : (n : ℕ) (v : PlainVariable) (a b : Abstract) (k : HeadEntry task_head (integer_of v.type) n a (assigned n)) → IsWithin a.range b.range → (c : Bool) → assigned n ≡ c → IsWithin k.entry.range (if c then whole_type (integer_of v.type) else b).range
-        within n v a b k w true e = k.typed.1
-        within n v a b k w false e = within_trans k.entry.range a.range b.range (k.same e) w
-
-    turn_before : IsBefore f.variables (declared_in body) turn_head
-    turn_before = before_same f.variables (declared_in body) entry turn_head before (changed_scope f.variables _ entry)
-
     any_before : IsBefore f.variables (declared_in body) any
     any_before = before_same f.variables (declared_in body) entry any before (changed_scope f.variables _ entry)
-
-    turns_fit : RoundFits f.variables None None None (integer_of f.result) NoneAsked (round turn_head) (round any)
-    turns_fit = rounds_narrower p f r h at head first tested third body i turn_head any turn_before turn_narrower
 
     -- what is known of a variable that the loop doesn't assign
     not_assigned : (n : ℕ) (a : Abstract) (v : PlainVariable) → slice_get f.variables n ≡ Some v → known entry n ≡ Some a → (nat_lt n (length f.variables) && assigned n) ≡ false → known any n ≡ Some a
@@ -205,6 +166,66 @@ module _ (p : PlainProgram) (f : PlainFunction) (Stands : ℕ → Environment �
         of None z u = absurd (none-some _ z)
         of (Some d) z u = subst (λ (y : Environment). Under (known y n) (known any n)) (same_Some _ _ z) u
 
+    -- a claim whose ranges contain what a round from any values brings back
+    module _ (claim : Loop) (lined : Environment) (lines : claim.vars ≡ lines_from 0 f.variables lined) (has : HeadHas f.variables assigned entry lined)
+        (brings : (n : ℕ) (v : PlainVariable) (a x : Abstract) (b : Environment) → slice_get f.variables n ≡ Some v → known entry n ≡ Some a → (round any).back ≡ Some b → known b n ≡ Some x → (h : HeadEntry lined (integer_of v.type) n a (assigned n)) → IsWithin x.range h.entry.range) where
+      claimed_entry : (n : ℕ) (v : PlainVariable) (a : Abstract) → slice_get f.variables n ≡ Some v → known entry n ≡ Some a → (h : HeadEntry lined (integer_of v.type) n a (assigned n)) → range_claimed claim.vars n (integer_of v.type) ≡ h.entry.range
+      claimed_entry n v a there e h = ap (λ (ls : List Var). range_claimed ls n (integer_of v.type)) lines ∙ lines_at 0 f.variables lined n n v h.entry there (omega arith) h.there
+
+      abbrev turn_head : Environment
+      turn_head = head_of claim f.variables entry
+
+      turn_narrower : Narrower f.variables turn_head any
+      turn_narrower = changed_narrower f.variables _ _ entry entry before.knows (narrower_itself f.variables entry fair)
+          (λ n v a there e. let k = has n v a there e in subst (IsOfType (integer_of v.type)) (sym (claimed_entry n v a there e k)) k.typed)
+          (λ n v a b there e q w.
+          let k = has n v a there e in
+          subst (λ (x : Interval). IsWithin x (if nat_lt n (length f.variables) && assigned n then whole_type (integer_of v.type) else b).range) (sym (claimed_entry n v a there e k))
+          (within n v a b k w (nat_lt n (length f.variables) && assigned n) (sym (same n v there))))
+        where
+          within : (n : ℕ) (v : PlainVariable) (a b : Abstract) (k : HeadEntry lined (integer_of v.type) n a (assigned n)) → IsWithin a.range b.range → (c : Bool) → assigned n ≡ c → IsWithin k.entry.range (if c then whole_type (integer_of v.type) else b).range
+          within n v a b k w true e = k.typed.1
+          within n v a b k w false e = within_trans k.entry.range a.range b.range (k.same e) w
+
+      turn_before : IsBefore f.variables (declared_in body) turn_head
+      turn_before = before_same f.variables (declared_in body) entry turn_head before (changed_scope f.variables _ entry)
+
+      turns_fit : RoundFits f.variables None None None (integer_of f.result) NoneAsked (round turn_head) (round any)
+      turns_fit = rounds_narrower p f r h at head first tested third body i turn_head any turn_before turn_narrower
+
+      -- its ranges hold again where a round from any values goes back
+      holds_any : (o : Option Environment) → (round any).back ≡ o → MaybeScoped f.variables nothing any o → ranges_hold_reached claim f.variables o ≡ true
+      holds_any None is scoped = refl
+      holds_any (Some b) is scoped = holds_by claim 0 f.variables b (λ n j v x s there e.
+          let a = some_is (known entry n) (sym (changed_knows _ 0 f.variables entry n) ∙ (sym (scoped.same n refl) ∙ ap is_some e)) in
+          let h = has n v a.0 there a.1 in
+          let q : n ≡ j = omega (arith, s) in
+          subst (λ (k : ℕ). IsWithin x.range (range_claimed claim.vars k (integer_of v.type))) q
+          (subst (IsWithin x.range) (sym (claimed_entry n v a.0 there a.1 h)) (brings n v a.0 x b there a.1 is e h)))
+
+      pub lined_fits : (claim.rank ≡ Task) ⊎ Stands head.number entry → ClaimFits f.variables Stands claim head.number assigned round entry
+      lined_fits ranked = claim_fits f.variables Stands claim head.number assigned round entry lined lines has
+          (held_narrower claim f.variables entry (round turn_head).back (round any).back turns_fit.back
+          (maybe_trans f.variables nothing entry turn_head (round turn_head).back (scoped_same f.variables nothing entry turn_head before.knows (changed_scope f.variables _ entry)) (trial_scoped p f r h at head first tested third body i turn_head turn_before).back)
+          (maybe_trans f.variables nothing entry any (round any).back (scoped_same f.variables nothing entry any before.knows (changed_scope f.variables _ entry)) (trial_scoped p f r h at head first tested third body i any any_before).back)
+          (holds_any (round any).back refl (trial_scoped p f r h at head first tested third body i any any_before).back))
+          ranked
+
+    -- ## The task
+
+    abbrev task_head : Environment
+    task_head = head_after l (round any).back
+
+    abbrev task_claim : Loop
+    task_claim = claim_by l depth Task 0 task_head
+
+    -- what is known of a variable at the head
+    at_task : (n : ℕ) (a : Abstract) → Abstract
+    at_task n a = if nat_lt n (length f.variables) && assigned n then only_range (with_back (round any).back n a.range) else a
+
+    task_has : HeadHas f.variables assigned entry task_head
+    task_has = tried_has l assigned same fair (round any).back (back_fair any any_good.holds any_good.scope)
+
     task_part : (n : ℕ) (v : PlainVariable) (a x : Abstract) (b : Environment) → slice_get f.variables n ≡ Some v → known entry n ≡ Some a → (round any).back ≡ Some b → known b n ≡ Some x → IsWithin x.range (at_task n a).range
     unfolding at_task
     task_part n v a x b there e is q = by_assigned (nat_lt n (length f.variables) && assigned n) refl
@@ -221,32 +242,43 @@ module _ (p : PlainProgram) (f : PlainFunction) (Stands : ℕ → Environment �
         by_assigned true k = hulled (round any).back is
         by_assigned false k = back_part n v a x b there e is q k
 
-    -- the claim's ranges hold again where a round from any values goes back
-    holds_any : (o : Option Environment) → (round any).back ≡ o → MaybeScoped f.variables nothing any o → ranges_hold_reached task_claim f.variables o ≡ true
-    holds_any None is scoped = refl
-    holds_any (Some b) is scoped = holds_by task_claim 0 f.variables b (λ n j v x s there e.
-        let a = some_is (known entry n) (sym (changed_knows _ 0 f.variables entry n) ∙ (sym (scoped.same n refl) ∙ ap is_some e)) in
-        let q : n ≡ j = omega (arith, s) in
-        subst (λ (k : ℕ). IsWithin x.range (range_claimed (lines_from 0 f.variables task_head) k (integer_of v.type))) q
-        (subst (IsWithin x.range) (sym (task_typed n v a.0 there a.1)) (task_part n v a.0 x b there a.1 is e)))
-
     -- the claim of the task
     pub task_fits : ClaimFits f.variables Stands task_claim head.number assigned round entry
-    task_fits = claim_fits f.variables Stands task_claim head.number assigned round entry task_head refl task_has
-        (held_narrower task_claim f.variables entry (round turn_head).back (round any).back turns_fit.back
-        (maybe_trans f.variables nothing entry turn_head (round turn_head).back (scoped_same f.variables nothing entry turn_head before.knows (changed_scope f.variables _ entry)) (trial_scoped p f r h at head first tested third body i turn_head turn_before).back)
-        (maybe_trans f.variables nothing entry any (round any).back (scoped_same f.variables nothing entry any before.knows (changed_scope f.variables _ entry)) (trial_scoped p f r h at head first tested third body i any any_before).back)
-        (holds_any (round any).back refl (trial_scoped p f r h at head first tested third body i any any_before).back))
+    unfolding at_task
+    task_fits = lined_fits task_claim task_head refl task_has
+        (λ n v a x b there e is q k. subst (λ (y : Abstract). IsWithin x.range y.range) (same_Some _ _ (sym (changed_at _ 0 f.variables entry n n v there (omega arith) ∙ ap (option_map _) e) ∙ k.there)) (task_part n v a x b there e is q))
         (inl refl)
+
+    -- ## What is offered
+
+    -- a claim of the rank 1 whose ranges aren't tried, where it stands
+    pub offered_fits : (claim : Loop) → claim ≡ claim_by l depth One claim.turns any → Stands head.number entry → ClaimFits f.variables Stands claim head.number assigned round entry
+    offered_fits claim is stands = lined_fits claim any (ap (λ (x : Loop). x.vars) is) (any_has l assigned same fair) brings (inr stands)
+      where
+        brings : (n : ℕ) (v : PlainVariable) (a x : Abstract) (b : Environment) → slice_get f.variables n ≡ Some v → known entry n ≡ Some a → (round any).back ≡ Some b → known b n ≡ Some x → (k : HeadEntry any (integer_of v.type) n a (assigned n)) → IsWithin x.range k.entry.range
+        brings n v a x b there e comes q k = by_assigned (nat_lt n (length f.variables) && assigned n) refl
+          where
+            known_any : (c : Bool) → (nat_lt n (length f.variables) && assigned n) ≡ c → (if c then whole_type (integer_of v.type) else a) ≡ k.entry
+            known_any c z = same_Some _ _ (sym (changed_at _ 0 f.variables entry n n v there (omega arith) ∙ (ap (option_map _) e ∙ ap (λ (d : Bool). Some (if d then whole_type (integer_of v.type) else a)) z)) ∙ k.there)
+
+            of_type : (o : Option Environment) → o ≡ Some b → IfSome o (Fair f.variables) → IsOfType (integer_of v.type) x.range
+            of_type None z w = absurd (none-some _ z)
+            of_type (Some d) z w = (subst (λ (y : Environment). Fair f.variables y) (same_Some _ _ z) w).typed n x v q there
+
+            by_assigned : (c : Bool) → (nat_lt n (length f.variables) && assigned n) ≡ c → IsWithin x.range k.entry.range
+            by_assigned true z = subst (λ (y : Abstract). IsWithin x.range y.range) (known_any true z) (of_type (round any).back comes (back_fair any any_good.holds any_good.scope)).1
+            by_assigned false z = subst (λ (y : Abstract). IsWithin x.range y.range) (known_any false z) (back_part n v a x b there e comes q z)
 
     -- ## Either
 
     -- what is found of the loop, if it is bounded
-    pub found_fits : (task : Bool) (found : LoopFound) → found ≡ entered_found task head.span round l depth → found.unbounded ≡ [] → (is_ranked found.claim.rank ≡ true → found.claim.turns ≤ MOST_SUM) →
+    pub found_fits : (offered : Option Approached) (task : Bool) → ((a : Approached) → offered ≡ Some a → task ≡ false → IsOffer f l depth a × Stands head.number entry) → (found : LoopFound) → found ≡ entered_found offered task head.span round l depth → found.unbounded ≡ [] → (is_ranked found.claim.rank ≡ true → found.claim.turns ≤ MOST_SUM) →
         (is_ranked found.claim.rank ≡ true → holds_by_ranges f.variables (record { head = head; first = first; tested = tested; third = third; body = body }) entry found.claim ≡ true → Stands head.number entry) →
         ClaimFits f.variables Stands found.claim head.number assigned round entry
-    found_fits true found is bounded short stands = subst (λ (x : LoopFound). ClaimFits f.variables Stands x.claim head.number assigned round entry) (sym is) task_fits
-    found_fits false found is bounded short stands = by_candidate (first_standing round l depth (candidates l)) refl is
+    found_fits offered true held found is bounded short stands = subst (λ (x : LoopFound). ClaimFits f.variables Stands x.claim head.number assigned round entry) (sym is) task_fits
+    found_fits (Some a) false held found is bounded short stands =
+        let k = held a refl refl in subst (λ (x : Loop). ClaimFits f.variables Stands x head.number assigned round entry) (sym (ap (λ (x : LoopFound). x.claim) is)) (offered_fits a.claim k.0.claim k.1)
+    found_fits None false held found is bounded short stands = by_candidate (first_standing round l depth (candidates l)) refl is
       where
         by_candidate : (o : Option Loop) → first_standing round l depth (candidates l) ≡ o → found ≡ found_by head.span l depth o → ClaimFits f.variables Stands found.claim head.number assigned round entry
         by_candidate None e q = let none : head.span ∷ [] ≡ [] = sym (ap (λ (x : LoopFound). x.unbounded) q) ∙ bounded in absurd cc
@@ -312,15 +344,19 @@ module _ (p : PlainProgram) (f : PlainFunction) (Stands : ℕ → Environment �
       head_lines : (back : Option Environment) → IfSome back (Fair f.variables) → list_all (fits_variable f scope) (lines_from 0 f.variables (head_after l back)) ≡ true
       head_lines back k = lines_speak 0 f.variables (head_after l back) (line_speaks (head_after l back) (tried_has l assigned same fair back k) (λ n e. sym (changed_knows _ 0 f.variables entry n) ∙ e))
 
+      any_lines : list_all (fits_variable f scope) (lines_from 0 f.variables any) ≡ true
+      any_lines = lines_speak 0 f.variables any (line_speaks any (any_has l assigned same fair) (λ n e. sym (changed_knows _ 0 f.variables entry n) ∙ e))
+
       -- the claim of the loop may be made of it
       pub record Speaks (task : Bool) (claim : Loop) : Type 0 where
         pub depth_is : claim.depth ≡ depth
         pub rank : fits_rank f scope task claim.rank ≡ true
         pub vars : list_all (fits_variable f scope) claim.vars ≡ true
 
-      pub found_speaks : (task : Bool) (found : LoopFound) → found ≡ entered_found task head.span round l depth → found.unbounded ≡ [] → Speaks task found.claim
-      found_speaks true found is bounded = subst (λ (x : LoopFound). Speaks true x.claim) (sym is) (record { depth_is = refl; rank = refl; vars = head_lines (round any).back (back_fair any any_good.holds any_good.scope) })
-      found_speaks false found is bounded = by_candidate (first_standing round l depth (candidates l)) refl is
+      pub found_speaks : (offered : Option Approached) → IfSome offered (IsOffer f l depth) → (task : Bool) (found : LoopFound) → found ≡ entered_found offered task head.span round l depth → found.unbounded ≡ [] → Speaks task found.claim
+      found_speaks (Some a) offer false found is bounded = subst (Speaks false) (sym (ap (λ (x : LoopFound). x.claim) is ∙ offer.claim)) (record { depth_is = refl; rank = refl; vars = any_lines })
+      found_speaks offered offer true found is bounded = subst (λ (x : LoopFound). Speaks true x.claim) (sym is) (record { depth_is = refl; rank = refl; vars = head_lines (round any).back (back_fair any any_good.holds any_good.scope) })
+      found_speaks None offer false found is bounded = by_candidate (first_standing round l depth (candidates l)) refl is
         where
           by_candidate : (o : Option Loop) → first_standing round l depth (candidates l) ≡ o → found ≡ found_by head.span l depth o → Speaks false found.claim
           by_candidate None e q = let none : head.span ∷ [] ≡ [] = sym (ap (λ (x : LoopFound). x.unbounded) q) ∙ bounded in absurd cc

@@ -21,9 +21,9 @@ use Rattle.p10_pass.specs.Claiming.{head_of, ranges_hold, ranges_hold_reached, r
 use Rattle.p10_pass.specs.Passing.{Manner, Weakness, Left, Round, place_unless, result_lies, loop_left, pass_statements, claimed_manner, manner_of, pass_body, pass_of, as_block}
 use Rattle.p10_turns.specs.LoopParts.{LoopParts, loops_among}
 use Rattle.p10_turns.specs.Ranked.{is_ranked}
-use Rattle.p10_turns.specs.Evidence.{holds_by_ranges, loop_stands, stands_in, stands_by_ranges}
-use Rattle.p10_check.specs.Passes.{left_by, places_of, unranked, unranked_loops}
-use Rattle.p10_finder.specs.Trials.{counted}
+use Rattle.p10_turns.specs.Evidence.{holds_by_ranges, loop_stands, stands_in}
+use Rattle.p10_check.specs.Passes.{Standing, left_by, places_of, unranked, unranked_loops}
+use Rattle.p10_candidates.specs.Trials.{counted}
 use Rattle.p10_finder.specs.Functions.{known_at_start, loops_of, range_returned_by, result_by, result_of, with_turn_steps}
 use Rattle.p10_finder.specs.Answers.{AreClaims}
 use Rattle.p10_acceptance.proofs.Operating.{is_within_of}
@@ -34,6 +34,10 @@ use Rattle.p10_acceptance.proofs.Alike.{Differs, statements_alike}
 use Rattle.p10_acceptance.proofs.Beginning.{start_is}
 use Rattle.p10_acceptance.proofs.Bodies.{each_by_place, body_fine}
 use Rattle.p10_acceptance.proofs.Results.{params_are, all_typed, all_taken}
+use Rattle.p10_candidates.specs.Candidates.{LoopEntry}
+use Rattle.p10_approach.specs.Approaches.{Approached}
+use Rattle.p10_approach.specs.Offers.{Offers, IsOffer, AreOffers}
+use Rattle.p10_acceptance.specs.Supporting.{Supports}
 
 -- ## Claims of loops with the steps of a turn
 
@@ -121,19 +125,19 @@ all_stand k stands [] h = refl
 all_stand k stands (w ∷ rest) h = ap (λ b. (if b then [] else places_of k w.fails) ++ unranked k stands rest) h.0 ∙ all_stand k stands rest h.1
 
 -- what holds of the pass over a function
-pub record FunctionHolds (p : PlainProgram) (c : Claims) (n : ℕ) : Type 0 where
+pub record FunctionHolds (stands : Standing) (p : PlainProgram) (c : Claims) (n : ℕ) : Type 0 where
   pub arguments : (left_by p c n).arguments ≡ []
   pub results : (left_by p c n).results ≡ []
   pub entries : (left_by p c n).entries ≡ []
   pub backs : (left_by p c n).backs ≡ []
-  pub ranked : (k : ℕ) → unranked_loops (stands_by_ranges p) c n k (left_by p c n).weak ≡ []
+  pub ranked : (k : ℕ) → unranked_loops stands c n k (left_by p c n).weak ≡ []
 
-module _ (p : PlainProgram) (whole : IsWholeProgram p) (c : Claims) (is : AreClaims p c)
-    (bounded : (n : ℕ) (f : PlainFunction) → slice_get p.functions n ≡ Some f → (loops_of p c n f).unbounded ≡ [])
-    (short : (n : ℕ) (f : PlainFunction) → slice_get p.functions n ≡ Some f → (k : ℕ) (l : Loop) → slice_get (loops_of p c n f).claims k ≡ Some l → is_ranked l.rank ≡ true → l.turns ≤ MOST_SUM)
-    (n : ℕ) (f : PlainFunction) (there : slice_get p.functions n ≡ Some f) (a : Func) (claimed : slice_get c.funcs n ≡ Some a) where
+module _ (o : Offers) (are : AreOffers o) (p : PlainProgram) (whole : IsWholeProgram p) (c : Claims) (is : AreClaims o p c)
+    (bounded : (n : ℕ) (f : PlainFunction) → slice_get p.functions n ≡ Some f → (loops_of o p c n f).unbounded ≡ [])
+    (short : (n : ℕ) (f : PlainFunction) → slice_get p.functions n ≡ Some f → (k : ℕ) (l : Loop) → slice_get (loops_of o p c n f).claims k ≡ Some l → is_ranked l.rank ≡ true → l.turns ≤ MOST_SUM)
+    (stands : Standing) (supports : Supports o stands p c) (n : ℕ) (f : PlainFunction) (there : slice_get p.functions n ≡ Some f) (a : Func) (claimed : slice_get c.funcs n ≡ Some a) where
   abbrev loops : List Loop
-  loops = (loops_of p c n f).claims
+  loops = (loops_of o p c n f).claims
 
   abbrev turn : ℕ
   turn = counted (sum_at p c.funcs n).turn
@@ -141,23 +145,31 @@ module _ (p : PlainProgram) (whole : IsWholeProgram p) (c : Claims) (is : AreCla
   pub loops_are : a.loops ≡ map (with_turn_steps turn) loops
   loops_are = ap (λ (x : Func). x.loops) (is.each n f a there claimed)
 
-  result_is : a.result ≡ result_of p c n f
+  result_is : a.result ≡ result_of o p c n f
   result_is = ap (λ (x : Func). x.result) (is.each n f a there claimed)
 
   -- evidence stands for a loop
   abbrev Good : ℕ → Environment → Type 0
-  Good i e = stands_by_ranges p n i e (loop_claimed a.loops i) ≡ true
+  Good i e = stands n i e (loop_claimed a.loops i) ≡ true
+
+  -- a claim with a rank is that of the certificate
+  claim_is : (i : ℕ) (l : Loop) → slice_get loops i ≡ Some l → is_ranked l.rank ≡ true → loop_claimed a.loops i ≡ l
+  claim_is i l e ranked = ap (λ (x : List Loop). loop_claimed x i) loops_are ∙ (claimed_turned turn loops i ∙ (ap (λ (o : Option Loop). with_turn_steps turn (claim_or_none o)) e ∙ ranked_same turn l ranked))
 
   good : (i : ℕ) (parts : LoopParts) (l : Loop) → slice_get (loops_among f.body) i ≡ Some parts → slice_get loops i ≡ Some l → (entry : Environment) → is_ranked l.rank ≡ true → holds_by_ranges f.variables parts entry l ≡ true → Good i entry
   good i parts l placed e entry ranked holds =
-      let same : loop_claimed a.loops i ≡ l = ap (λ (x : List Loop). loop_claimed x i) loops_are ∙ (claimed_turned turn loops i ∙ (ap (λ (o : Option Loop). with_turn_steps turn (claim_or_none o)) e ∙ ranked_same turn l ranked)) in
-      ap (stands_by_ranges p n i entry) same ∙ (ap (λ o. stands_in o i entry l) there ∙ (ap (λ o. loop_stands f.variables o entry l) placed ∙ holds))
+      ap (stands n i entry) (claim_is i l e ranked) ∙ supports.by_ranges n i entry l (ap (λ o. stands_in o i entry l) there ∙ (ap (λ o. loop_stands f.variables o entry l) placed ∙ holds))
+
+  good_offer : (k depth : ℕ) (parts : LoopParts) (l : LoopEntry) (x : Approached) → slice_get (loops_among f.body) k ≡ Some parts → slice_get loops k ≡ Some x.claim → slice_get (loops_of o p c n f).approaches k ≡ Some (Some x.approach) → o n f k depth (Some parts) l ≡ Some x → Good k l.entry
+  good_offer k depth parts l x placed e marked offered =
+      let offer : IsOffer f l depth x = subst (λ (y : Option Approached). IfSome y (IsOffer f l depth)) offered (supports.are n f k depth (Some parts) l) in
+      ap (stands n k l.entry) (claim_is k x.claim e (ap (λ (y : Loop). is_ranked y.rank) offer.claim)) ∙ supports.by_offers n f there k depth parts l x placed e marked offered
 
   typed : AreTyped (surroundings_of p) (Some c)
-  typed = all_typed p whole c is bounded short
+  typed = all_typed o are p whole c is bounded short
 
   taken : MaybeTaken (surroundings_of p) (Some c)
-  taken = all_taken p whole c is bounded short
+  taken = all_taken o are p whole c is bounded short
 
   -- the pass without a claim of the result, and as the certificate has it
   abbrev found_manner : Manner
@@ -171,19 +183,19 @@ module _ (p : PlainProgram) (whole : IsWholeProgram p) (c : Claims) (is : AreCla
 
   found_fits : Fits (pass_statements found_manner f.body (known_at_start f))
   found_fits =
-      let h = body_fine p whole n f there c typed taken Good (bounded n f there) (short n f there) good in
+      let h = body_fine o are p whole n f there c typed taken Good (bounded n f there) (short n f there) good good_offer in
       (h.arguments, h.results, h.entries, h.backs, h.weak)
 
   passes_same : pass_statements found_manner f.body (known_at_start f) ≡ pass_statements claimed_loops f.body (known_at_start f)
   passes_same = statements_alike (Some c) f.variables loops (map (with_turn_steps turn) loops) None (Some a.result) (LiesIn a.result) (with_turn_steps turn) (differs a.result turn) (region_of p n f) f.body (whole.functions n f there).body
       (each_by_place _ (heads_of f.body) (λ k h e. claimed_turned turn loops h.number)) (known_at_start f)
-      (subst (λ (v : Value). IfSome (range_returned_by p c n f) (LiesIn v)) (sym result_is) (returned_lies f.result (range_returned_by p c n f)))
+      (subst (λ (v : Value). IfSome (range_returned_by o p c n f) (LiesIn v)) (sym result_is) (returned_lies f.result (range_returned_by o p c n f)))
 
   manner_is : claimed_loops ≡ manner_of f (Some c) n
   manner_is = (λ i. record { calls = Some c; loops = Some (sym loops_are i); result = Some a.result; variables = f.variables }) ∙ ap (λ o. claimed_manner c o f.variables) (sym claimed)
 
   left_is : left_by p c n ≡ as_block f.body (pass_statements claimed_loops f.body (known_at_start f))
-  left_is = ap (pass_of p c n) (start_is p c n f a there claimed (params_are p whole c is bounded short n f a there claimed)) ∙ (pass_is (known_at_start f) ∙ ap (λ (m : Manner). as_block f.body (pass_statements m f.body (known_at_start f))) (sym manner_is))
+  left_is = ap (pass_of p c n) (start_is p c n f a there claimed (params_are o are p whole c is bounded short n f a there claimed)) ∙ (pass_is (known_at_start f) ∙ ap (λ (m : Manner). as_block f.body (pass_statements m f.body (known_at_start f))) (sym manner_is))
     where
       pass_is : (env : Environment) → pass_of p c n env ≡ pass_body f (Some c) n env
       pass_is env = rw there refl
@@ -192,12 +204,12 @@ module _ (p : PlainProgram) (whole : IsWholeProgram p) (c : Claims) (is : AreCla
   left_fits = subst Fits (sym left_is) (subst (λ (l : Left). Fits (as_block f.body l)) passes_same found_fits)
 
   -- K3 and K5 to K10
-  pub function_holds : FunctionHolds p c n
+  pub function_holds : FunctionHolds stands p c n
   function_holds = record {
     arguments = left_fits.0;
     results = left_fits.1;
     entries = left_fits.2;
     backs = left_fits.3;
-    ranked = λ k. subst (λ (o : Option Func). unranked k (λ w. stands_by_ranges p n w.at w.entry (loop_claimed (loops_claimed o) w.at)) (left_by p c n).weak ≡ []) (sym claimed)
-        (all_stand k (λ w. stands_by_ranges p n w.at w.entry (loop_claimed a.loops w.at)) (left_by p c n).weak left_fits.4);
+    ranked = λ k. subst (λ (o : Option Func). unranked k (λ w. stands n w.at w.entry (loop_claimed (loops_claimed o) w.at)) (left_by p c n).weak ≡ []) (sym claimed)
+        (all_stand k (λ w. stands n w.at w.entry (loop_claimed a.loops w.at)) (left_by p c n).weak left_fits.4);
   }

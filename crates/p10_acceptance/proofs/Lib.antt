@@ -24,4 +24,5 @@ pub mod Calls
 pub mod Sites
 pub mod Speaking
 pub mod Summing
+pub mod Differing
 pub mod Accepting

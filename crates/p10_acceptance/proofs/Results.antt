@@ -36,6 +36,7 @@ use Rattle.p10_acceptance.proofs.Values.{AreTyped}
 use Rattle.p10_acceptance.proofs.Calling.{AreTaken, same_bare}
 use Rattle.p10_acceptance.proofs.Trials.{NoneAsked}
 use Rattle.p10_acceptance.proofs.Bodies.{body_fine}
+use Rattle.p10_approach.specs.Offers.{Offers, AreOffers}
 
 -- ## Lists
 
@@ -85,11 +86,11 @@ seen_is p n x e = at (nat_eq n p.main) (slice_get p.functions n) refl e
     at false None q e = absurd (none-some _ e)
     at false (Some f) q e = record { function = f; there = q; is = sym (same_Some _ _ e) }
 
-module _ (p : PlainProgram) (whole : IsWholeProgram p) (c : Claims) (is : AreClaims p c)
-    (bounded : (n : ℕ) (f : PlainFunction) → slice_get p.functions n ≡ Some f → (loops_of p c n f).unbounded ≡ [])
-    (short : (n : ℕ) (f : PlainFunction) → slice_get p.functions n ≡ Some f → (k : ℕ) (l : Loop) → slice_get (loops_of p c n f).claims k ≡ Some l → is_ranked l.rank ≡ true → l.turns ≤ MOST_SUM) where
+module _ (o : Offers) (are : AreOffers o) (p : PlainProgram) (whole : IsWholeProgram p) (c : Claims) (is : AreClaims o p c)
+    (bounded : (n : ℕ) (f : PlainFunction) → slice_get p.functions n ≡ Some f → (loops_of o p c n f).unbounded ≡ [])
+    (short : (n : ℕ) (f : PlainFunction) → slice_get p.functions n ≡ Some f → (k : ℕ) (l : Loop) → slice_get (loops_of o p c n f).claims k ≡ Some l → is_ranked l.rank ≡ true → l.turns ≤ MOST_SUM) where
   pub same_length : length c.funcs ≡ length p.functions
-  same_length = (claims_have_results p c is).each
+  same_length = (claims_have_results o p c is).each
 
   pub claim_there : (n : ℕ) (f : PlainFunction) → slice_get p.functions n ≡ Some f → (a : Func) × (slice_get c.funcs n ≡ Some a)
   claim_there n f there = let low = there_below p.functions n f there in let e = same_length in is_there c.funcs n (omega (arith, low, e))
@@ -196,18 +197,18 @@ module _ (p : PlainProgram) (whole : IsWholeProgram p) (c : Claims) (is : AreCla
     called : EachCalled (Same c d) (nodes_of_statements f.body)
     called = edges_each p (Same c d) n f there callee past
 
-    loops_same : loops_of p c n f ≡ loops_of p d n f
-    loops_same = loops_of_same p c d n f called
+    loops_same : loops_of o p c n f ≡ loops_of o p d n f
+    loops_same = loops_of_same o p c d n f called
 
-    returned : IfSome (range_returned_by p d n f) (IsOfType (integer_of f.result))
-    returned = (body_fine p whole n f there d (below_typed a.rank h) (below_taken a.rank) NoneAsked
+    returned : IfSome (range_returned_by o p d n f) (IsOfType (integer_of f.result))
+    returned = (body_fine o are p whole n f there d (below_typed a.rank h) (below_taken a.rank) NoneAsked
         (subst (λ (l : LoopsFound). l.unbounded ≡ []) loops_same (bounded n f there))
         (subst (λ (l : LoopsFound). (k : ℕ) (x : Loop) → slice_get l.claims k ≡ Some x → is_ranked x.rank ≡ true → x.turns ≤ MOST_SUM) loops_same (short n f there))
-        (λ k parts l e g entry r z. tt)).returned
+        (λ k parts l e g entry r z. tt) (λ k depth parts l a e g z q. tt)).returned
 
     one_typed : ResultTyped f a
-    one_typed r e = result_typed f.result (range_returned_by p d n f) returned r
-        (sym (result_same p c d n f called) ∙ (sym (ap (λ (x : Func). x.result) (is.each n f a there claimed)) ∙ e))
+    one_typed r e = result_typed f.result (range_returned_by o p d n f) returned r
+        (sym (result_same o p c d n f called) ∙ (sym (ap (λ (x : Func). x.result) (is.each n f a there claimed)) ∙ e))
 
   -- ## All functions
 

@@ -31,8 +31,8 @@ use Rattle.p10_execution.proofs.PassedScopes.{statement_scoped}
 use Rattle.p10_turns.specs.LoopParts.{LoopParts, loops_within, loops_within_form, loops_among}
 use Rattle.p10_turns.specs.Ranked.{is_ranked}
 use Rattle.p10_turns.specs.Evidence.{holds_by_ranges}
-use Rattle.p10_finder.specs.Trials.{LoopFound, unreached_found}
-use Rattle.p10_finder.specs.Loops.{Search, LoopsFound, known_in_body, assigned_in, loop_entry, trial_rounds, reached_found, known_after_statement, known_where_value, known_after_value, known_at_entry, loop_passed, LoopPassed, loops_in, loops_in_form, loops_in_all, loops_in_switch, loops_in_cases, loops_from}
+use Rattle.p10_candidates.specs.Trials.{LoopFound, unreached_found, trial_rounds}
+use Rattle.p10_finder.specs.Loops.{Search, LoopsFound, known_in_body, assigned_in, loop_entry, reached_found, known_after_statement, known_where_value, known_after_value, known_at_entry, loop_passed, LoopPassed, loops_in, loops_in_form, loops_in_all, loops_in_switch, loops_in_cases, loops_from}
 use Rattle.p10_acceptance.proofs.Narrowing.{Fair, narrower_itself, hull_narrower}
 use Rattle.p10_acceptance.proofs.Values.{AreTyped}
 use Rattle.p10_acceptance.proofs.Calling.{MaybeTaken}
@@ -43,7 +43,10 @@ use Rattle.p10_acceptance.proofs.Statements.{IsIn, in_after, in_after_all, tests
 use Rattle.p10_acceptance.proofs.Alike.{each_left, each_right, clauses_alike}
 use Rattle.p10_acceptance.proofs.Found.{found_speaks}
 use Rattle.p10_acceptance.proofs.Walk.{extends, all_extend, from_extends, last_one, Numbered, numbered_left, numbered_right}
-use Rattle.p10_acceptance.proofs.Walking.{no_difference, if_there, s, whole, In, Prefix, Placed, Comes, same_pass, lf, at_entry, entry_scoped, entry_fair, before_in, lf_is, bounded, at_head, head_knows, of_body, entered_fair, inside_same, walk}
+use Rattle.p10_acceptance.proofs.Walking.{no_difference, if_there, s, whole, In, Prefix, earlier, Placed, Comes, same_pass, lf, is_offer, at_entry, entry_scoped, entry_fair, before_in, lf_is, bounded, at_head, head_knows, of_body, entered_fair, inside_same, walk}
+use Rattle.p10_approach.specs.Approaches.{Approached}
+use Rattle.p10_approach.specs.Offers.{IsOffer}
+use Rattle.p10_candidates.specs.Candidates.{LoopEntry}
 
 -- ## Scopes
 
@@ -117,9 +120,11 @@ sites_count depth scope x = sym (length-map (loop_sites_in depth scope x) (λ (y
 
 -- ## The walk
 
-module _ (p : PlainProgram) (f : PlainFunction) (c : Claims) (typed : AreTyped (surroundings_of p) (Some c)) (taken : MaybeTaken (surroundings_of p) (Some c)) (task : Option ℕ) (all : List Loop) (Stands : ℕ → Environment → Type 0)
-    (short : (n : ℕ) (l : Loop) → slice_get all n ≡ Some l → is_ranked l.rank ≡ true → l.turns ≤ MOST_SUM)
-    (stands : (n : ℕ) (parts : LoopParts) (l : Loop) → slice_get (loops_among f.body) n ≡ Some parts → slice_get all n ≡ Some l → (entry : Environment) → is_ranked l.rank ≡ true → holds_by_ranges f.variables parts entry l ≡ true → Stands n entry) where
+module _ (p : PlainProgram) (f : PlainFunction) (c : Claims) (typed : AreTyped (surroundings_of p) (Some c)) (taken : MaybeTaken (surroundings_of p) (Some c)) (task : Option ℕ) (offers : ℕ → ℕ → Option LoopParts → LoopEntry → Option Approached) (all : LoopsFound)
+    (Stands : ℕ → Environment → Type 0) (short : (n : ℕ) (l : Loop) → slice_get all.claims n ≡ Some l → is_ranked l.rank ≡ true → l.turns ≤ MOST_SUM)
+    (stands : (n : ℕ) (parts : LoopParts) (l : Loop) → slice_get (loops_among f.body) n ≡ Some parts → slice_get all.claims n ≡ Some l → (entry : Environment) → is_ranked l.rank ≡ true → holds_by_ranges f.variables parts entry l ≡ true → Stands n entry)
+    (are : (k depth : ℕ) (parts : Option LoopParts) (l : LoopEntry) → IfSome (offers k depth parts l) (IsOffer f l depth))
+    (offered : (k depth : ℕ) (parts : LoopParts) (l : LoopEntry) (a : Approached) → slice_get (loops_among f.body) k ≡ Some parts → slice_get all.claims k ≡ Some a.claim → slice_get all.approaches k ≡ Some (Some a.approach) → offers k depth (Some parts) l ≡ Some a → Stands k l.entry) where
   -- an environment as it may be where a part stands
   abbrev pub Here : List ℕ → List ℕ → Environment → Type 0
   Here numbers scope e = IsBefore f.variables numbers e × Fair f.variables e × InScope e scope
@@ -131,15 +136,15 @@ module _ (p : PlainProgram) (f : PlainFunction) (c : Claims) (typed : AreTyped (
   pub record Sited (numbers : List ℕ) (heads : List LoopHead) (parts : List LoopParts) (scope : List ℕ) (o : Option Environment) (found next : LoopsFound) : Type 0 where
     pub here : MaybeHere numbers scope o
     pub numbered : Numbered (length found.claims) heads
-    pub placed : Each (Placed p f c typed taken task all Stands short stands) parts
-    pub prefix : Prefix p f c typed taken task all Stands short stands next
+    pub placed : Each (Placed p f c typed taken task offers all Stands short stands are offered) parts
+    pub prefix : Prefix p f c typed taken task offers all Stands short stands are offered next
     pub unbounded : next.unbounded ≡ []
 
   abbrev look : Search
-  look = s p f c typed taken task all Stands short stands
+  look = s p f c typed taken task offers all Stands short stands are offered
 
   abbrev Fits : ℕ → List LoopSite → Type 0
-  Fits k sites = SitesFit f task all k sites
+  Fits k sites = SitesFit f task all.claims k sites
 
   -- ## Environments on the way
 
@@ -173,10 +178,10 @@ module _ (p : PlainProgram) (f : PlainFunction) (c : Claims) (typed : AreTyped (
   branch_here : (r : Region) → IsIn p f r → (numbers scope : List ℕ) (truth : Bool) (v : PlainValue) → IsWholeValue (around r) v → (o : Option Environment) → MaybeHere numbers scope o → MaybeHere numbers scope (known_where_value look v truth o)
   branch_here r h numbers scope truth v i None k = tt
   branch_here r h numbers scope truth v i (Some env) k = if_there (known_where truth env (assess (Some c) v env)) (λ e. Here numbers scope e) (λ e q.
-      let scoped : Scoped f.variables nothing env e = maybe_is f.variables nothing env (known_where truth env (assess (Some c) v env)) e (truth_scope p f (Some c) typed taken (Some all) None (λ r. refl) Stands truth v env k.0.knows) q in (
+      let scoped : Scoped f.variables nothing env e = maybe_is f.variables nothing env (known_where truth env (assess (Some c) v env)) e (truth_scope p f (Some c) typed taken (Some all.claims) None (λ r. refl) Stands truth v env k.0.knows) q in (
         before_scoped f.variables nothing numbers env e k.0 scoped (λ n o. refl),
-        fair_is p f (Some c) typed taken (Some all) None (λ r. refl) Stands (known_where truth env (assess (Some c) v env)) (known_where truth env (assess None v env)) e
-            (tests p f (Some c) typed taken (Some all) None (λ r. refl) Stands r h truth v i env env (narrower_itself f.variables env k.1)) q,
+        fair_is p f (Some c) typed taken (Some all.claims) None (λ r. refl) Stands (known_where truth env (assess (Some c) v env)) (known_where truth env (assess None v env)) e
+            (tests p f (Some c) typed taken (Some all.claims) None (λ r. refl) Stands r h truth v i env env (narrower_itself f.variables env k.1)) q,
         λ n z. k.2 n (sym (scoped.same n refl) ∙ z),
       ))
 
@@ -186,19 +191,19 @@ module _ (p : PlainProgram) (f : PlainFunction) (c : Claims) (typed : AreTyped (
 
   -- what is known after a statement
   after_here : (r : Region) → IsIn p f r → (x : PlainStatement) → IsWholeStatement r x → (rest : PlainStatements) (scope : List ℕ) (depth : ℕ) (o : Option Environment) (found : LoopsFound) → MaybeHere (declared_in x ++ declared_of rest) scope o →
-      Numbered (length found.claims) (heads_in x) → Each (Placed p f c typed taken task all Stands short stands) (loops_within x) → Prefix p f c typed taken task all Stands short stands (loops_in look depth x o found) → (loops_in look depth x o found).unbounded ≡ [] →
+      Numbered (length found.claims) (heads_in x) → Each (Placed p f c typed taken task offers all Stands short stands are offered) (loops_within x) → Prefix p f c typed taken task offers all Stands short stands are offered (loops_in look depth x o found) → (loops_in look depth x o found).unbounded ≡ [] →
       MaybeHere (declared_of rest) (in_scope_after scope x) (known_after_statement look (loops_in look depth x o found) x o)
   after_here r h x i rest scope depth None found k numbered placed prefix unbounded = tt
   after_here r h x i rest scope depth (Some env) found k numbered placed prefix unbounded =
       let early : IsBefore f.variables (declared_in x) env = before_left f.variables (declared_in x) (declared_of rest) env k.0 in
-      let one = walk p f c typed taken task all Stands short stands r h x i depth env found (record { before = early; fair = k.1; numbered = numbered; placed = placed; prefix = prefix; bounded = unbounded }) in
-      let same = ap (λ (a : Left). a.normal) (same_pass p f c typed taken task all Stands short stands r x i found (loops_in look depth x (Some env) found) (extends look depth x (Some env) found).count numbered prefix env) in
+      let one = walk p f c typed taken task offers all Stands short stands are offered r h x i depth env found (record { before = early; fair = k.1; numbered = numbered; placed = placed; prefix = prefix; bounded = unbounded }) in
+      let same = ap (λ (a : Left). a.normal) (same_pass p f c typed taken task offers all Stands short stands are offered r x i found (loops_in look depth x (Some env) found) (extends look depth x (Some env) found).count numbered prefix env) in
       subst (λ o. MaybeHere (declared_of rest) (in_scope_after scope x) o) (sym same)
-      (if_there (pass_statement (whole p f c typed taken task all Stands short stands) x env).normal (λ e. Here (declared_of rest) (in_scope_after scope x) e) (λ e q.
-      let scoped = maybe_is f.variables (λ j. declares_here j x) env (pass_statement (whole p f c typed taken task all Stands short stands) x env).normal e (statement_scoped f.variables (Some c) (Some all) None r x i env early).normal q in (
+      (if_there (pass_statement (whole p f c typed taken task offers all Stands short stands are offered) x env).normal (λ e. Here (declared_of rest) (in_scope_after scope x) e) (λ e q.
+      let scoped = maybe_is f.variables (λ j. declares_here j x) env (pass_statement (whole p f c typed taken task offers all Stands short stands are offered) x env).normal e (statement_scoped f.variables (Some c) (Some all.claims) None r x i env early).normal q in (
         before_rest f.variables x rest env e k.0 scoped,
-        fair_is p f (Some c) typed taken (Some all) None (λ r. refl) Stands (pass_statement (whole p f c typed taken task all Stands short stands) x env).normal (pass_statement (trial_manner f.variables) x env).normal e
-            (statement_fits p f (Some c) typed taken (Some all) None (λ r. refl) Stands r h x i env env early (narrower_itself f.variables env k.1) one).normal q,
+        fair_is p f (Some c) typed taken (Some all.claims) None (λ r. refl) Stands (pass_statement (whole p f c typed taken task offers all Stands short stands are offered) x env).normal (pass_statement (trial_manner f.variables) x env).normal e
+            (statement_fits p f (Some c) typed taken (Some all.claims) None (λ r. refl) Stands r h x i env env early (narrower_itself f.variables env k.1) one).normal q,
         after_scope f.variables x env e scope scoped k.2,
       )))
 
@@ -235,18 +240,18 @@ module _ (p : PlainProgram) (f : PlainFunction) (c : Claims) (typed : AreTyped (
 
   module _ (r : Region) (h : IsIn p f r) (at : At) (head : LoopHead) (first : PlainStatements) (tested : Option PlainValue) (third : PlainStatements) (body : PlainStatement) (i : IsWholeStatement r (statement at (loop head first tested third body)))
       (depth : ℕ) (scope : List ℕ) (env : Environment) (found : LoopsFound)
-      (comes : Comes p f c typed taken task all Stands short stands (declared_of first ++ declared_in body) (head ∷ heads_in body) (record { head = head; first = first; tested = tested; third = third; body = body } ∷ loops_within body) env found (loops_in look depth (statement at (loop head first tested third body)) (Some env) found))
+      (comes : Comes p f c typed taken task offers all Stands short stands are offered (declared_of first ++ declared_in body) (head ∷ heads_in body) (record { head = head; first = first; tested = tested; third = third; body = body } ∷ loops_within body) env found (loops_in look depth (statement at (loop head first tested third body)) (Some env) found))
       (in_scope : InScope env scope)
-      (body_walk : (e : Environment) (more : LoopsFound) → Comes p f c typed taken task all Stands short stands (declared_in body) (heads_in body) (loops_within body) e more (loops_in look (suc depth) body (Some e) more) → In p f c typed taken task all Stands short stands body e) where
+      (body_walk : (e : Environment) (more : LoopsFound) → Comes p f c typed taken task offers all Stands short stands are offered (declared_in body) (heads_in body) (loops_within body) e more (loops_in look (suc depth) body (Some e) more) → In p f c typed taken task offers all Stands short stands are offered body e) where
     abbrev found_one : LoopFound
-    found_one = lf p f c typed taken task all Stands short stands r h at head first tested third body i depth env found comes body_walk
+    found_one = lf p f c typed taken task offers all Stands short stands are offered r h at head first tested third body i depth env found comes body_walk
 
     abbrev entry_of : Option Environment
-    entry_of = (pass_statements (whole p f c typed taken task all Stands short stands) first env).normal
+    entry_of = (pass_statements (whole p f c typed taken task offers all Stands short stands are offered) first env).normal
 
     speaks_at : (q : Option Environment) → entry_of ≡ q → known_at_entry look found first (Some env) ≡ q → LoopSpeaks r h at head first tested third body i depth scope (Some env) found found_one.claim (loop_passed look depth head first tested third body (Some env) found).inside
     speaks_at None e q =
-        let one : found_one ≡ unreached_found depth (if is_task task head.number then Task else One) = ap (λ o. reached_found (is_task task head.number) head.span (trial_rounds f.variables head.keyword tested third body) (loop_entry look (assigned_in look (loop head first tested third body)) tested) depth o) q in
+        let one : found_one ≡ unreached_found depth (if is_task task head.number then Task else One) = ap (λ o. reached_found (offers head.number depth (Some (record { head = head; first = first; tested = tested; third = third; body = body }))) (is_task task head.number) head.span (trial_rounds f.variables head.keyword tested third body) (loop_entry look (assigned_in look (loop head first tested third body)) tested) depth o) q in
         record {
           depth_is = ap (λ (x : LoopFound). x.claim.depth) one;
           rank = ap (λ (x : LoopFound). fits_rank f (inside_scope r h at head first tested third body i depth scope (Some env) found) (is_task task head.number) x.claim.rank) one ∙ unreached_rank r h at head first tested third body i depth scope (Some env) found (is_task task head.number);
@@ -254,22 +259,22 @@ module _ (p : PlainProgram) (f : PlainFunction) (c : Claims) (typed : AreTyped (
           here = subst (λ o. MaybeHere (declared_in body) (in_scope_after_all scope first) (option_and_then (λ entry. known_in_body look head.keyword tested (head_of found_one.claim f.variables entry)) o)) (sym q) tt;
         }
     speaks_at (Some entry) e q =
-        let fair_entry = entry_fair p f c typed taken task all Stands short stands r h at head first tested third body i depth env found comes body_walk entry e in
-        let before_entry = before_in p f c typed taken task all Stands short stands r h at head first tested third body i depth env found comes body_walk entry e in
-        let scoped_entry = entry_scoped p f c typed taken task all Stands short stands r h at head first tested third body i depth env found comes body_walk entry e in
+        let fair_entry = entry_fair p f c typed taken task offers all Stands short stands are offered r h at head first tested third body i depth env found comes body_walk entry e in
+        let before_entry = before_in p f c typed taken task offers all Stands short stands are offered r h at head first tested third body i depth env found comes body_walk entry e in
+        let scoped_entry = entry_scoped p f c typed taken task offers all Stands short stands are offered r h at head first tested third body i depth env found comes body_walk entry e in
         let entry_in : InScope entry (in_scope_after_all scope first) = after_all_scope f.variables first env entry scope scoped_entry in_scope in
-        let k = found_speaks p f Stands r h at head first tested third body i depth entry fair_entry before_entry (in_scope_after_all scope first) entry_in (is_task task head.number) found_one
-        (lf_is p f c typed taken task all Stands short stands r h at head first tested third body i depth env found comes body_walk entry e) (bounded p f c typed taken task all Stands short stands r h at head first tested third body i depth env found comes body_walk entry e) in
+        let k = found_speaks p f Stands r h at head first tested third body i depth entry fair_entry before_entry (in_scope_after_all scope first) entry_in _ (is_offer p f c typed taken task offers all Stands short stands are offered r h at head first tested third body i depth env found comes body_walk entry e) (is_task task head.number) found_one
+        (lf_is p f c typed taken task offers all Stands short stands are offered r h at head first tested third body i depth env found comes body_walk entry e) (bounded p f c typed taken task offers all Stands short stands are offered r h at head first tested third body i depth env found comes body_walk entry e) in
         record {
           depth_is = k.depth_is;
           rank = k.rank;
           vars = k.vars;
-          here = subst (λ o. MaybeHere (declared_in body) (in_scope_after_all scope first) o) (sym (inside_same p f c typed taken task all Stands short stands r h at head first tested third body i depth env found comes body_walk entry e))
-              (if_there (entered f.variables (Some c) (Some all) None Stands head.keyword tested (at_head p f c typed taken task all Stands short stands r h at head first tested third body i depth env found comes body_walk entry e)) (λ d. Here (declared_in body) (in_scope_after_all scope first) d) (λ d z.
-              let head_env = at_head p f c typed taken task all Stands short stands r h at head first tested third body i depth env found comes body_walk entry e in
-              let scoped = maybe_is f.variables nothing head_env (entered f.variables (Some c) (Some all) None Stands head.keyword tested head_env) d (entered_scope p f (Some c) typed taken (Some all) None (λ r. refl) Stands head.keyword tested head_env (head_knows p f c typed taken task all Stands short stands r h at head first tested third body i depth env found comes body_walk entry e)) z in (
-                before_scoped f.variables nothing (declared_in body) head_env d (of_body p f c typed taken task all Stands short stands r h at head first tested third body i depth env found comes body_walk entry e) scoped (λ n o. refl),
-                entered_fair p f c typed taken task all Stands short stands r h at head first tested third body i depth env found comes body_walk entry e head.keyword d z,
+          here = subst (λ o. MaybeHere (declared_in body) (in_scope_after_all scope first) o) (sym (inside_same p f c typed taken task offers all Stands short stands are offered r h at head first tested third body i depth env found comes body_walk entry e))
+              (if_there (entered f.variables (Some c) (Some all.claims) None Stands head.keyword tested (at_head p f c typed taken task offers all Stands short stands are offered r h at head first tested third body i depth env found comes body_walk entry e)) (λ d. Here (declared_in body) (in_scope_after_all scope first) d) (λ d z.
+              let head_env = at_head p f c typed taken task offers all Stands short stands are offered r h at head first tested third body i depth env found comes body_walk entry e in
+              let scoped = maybe_is f.variables nothing head_env (entered f.variables (Some c) (Some all.claims) None Stands head.keyword tested head_env) d (entered_scope p f (Some c) typed taken (Some all.claims) None (λ r. refl) Stands head.keyword tested head_env (head_knows p f c typed taken task offers all Stands short stands are offered r h at head first tested third body i depth env found comes body_walk entry e)) z in (
+                before_scoped f.variables nothing (declared_in body) head_env d (of_body p f c typed taken task offers all Stands short stands are offered r h at head first tested third body i depth env found comes body_walk entry e) scoped (λ n o. refl),
+                entered_fair p f c typed taken task offers all Stands short stands are offered r h at head first tested third body i depth env found comes body_walk entry e head.keyword d z,
                 λ n y. entry_in n (sym (changed_knows _ 0 f.variables entry n) ∙ (sym (scoped.same n refl) ∙ y)),
               )));
         }
@@ -278,18 +283,18 @@ module _ (p : PlainProgram) (f : PlainFunction) (c : Claims) (typed : AreTyped (
     loop_speaks = at_q entry_of refl
       where
         at_q : (q : Option Environment) → entry_of ≡ q → LoopSpeaks r h at head first tested third body i depth scope (Some env) found found_one.claim (loop_passed look depth head first tested third body (Some env) found).inside
-        at_q None e = speaks_at None e (ap (λ (a : Left). a.normal) (clauses_alike (Some c) f.variables found.claims all None None (λ r. Unit {0}) (λ l. l) no_difference first (first_plain f.variables (Some c) (Some all) None Stands head.keyword first tested third i.4) env) ∙ e)
-        at_q (Some entry) e = speaks_at (Some entry) e (at_entry p f c typed taken task all Stands short stands r h at head first tested third body i depth env found comes body_walk entry e)
+        at_q None e = speaks_at None e (ap (λ (a : Left). a.normal) (clauses_alike (Some c) f.variables found.claims all.claims None None (λ r. Unit {0}) (λ l. l) no_difference first (first_plain f.variables (Some c) (Some all.claims) None Stands head.keyword first tested third i.4) env) ∙ e)
+        at_q (Some entry) e = speaks_at (Some entry) e (at_entry p f c typed taken task offers all Stands short stands are offered r h at head first tested third body i depth env found comes body_walk entry e)
 
   loop_some : (r : Region) (h : IsIn p f r) (at : At) (head : LoopHead) (first : PlainStatements) (tested : Option PlainValue) (third : PlainStatements) (body : PlainStatement) (i : IsWholeStatement r (statement at (loop head first tested third body)))
       (depth : ℕ) (scope : List ℕ) (o : Option Environment) (found : LoopsFound) → Sited (declared_of first ++ declared_in body) (head ∷ heads_in body) (record { head = head; first = first; tested = tested; third = third; body = body } ∷ loops_within body) scope o found (loops_in look depth (statement at (loop head first tested third body)) o found) →
       let turned : LoopPassed = loop_passed look depth head first tested third body o found in
-      let lf : LoopFound = reached_found (is_task task head.number) head.span (trial_rounds f.variables head.keyword tested third body) (loop_entry look (assigned_in look (loop head first tested third body)) tested) depth (known_at_entry look found first o) in
+      let lf : LoopFound = reached_found (offers head.number depth (Some (record { head = head; first = first; tested = tested; third = third; body = body }))) (is_task task head.number) head.span (trial_rounds f.variables head.keyword tested third body) (loop_entry look (assigned_in look (loop head first tested third body)) tested) depth (known_at_entry look found first o) in
       LoopSpeaks r h at head first tested third body i depth scope o found lf.claim turned.inside
   loop_some r h at head first tested third body i depth scope None found k = record { depth_is = refl; rank = unreached_rank r h at head first tested third body i depth scope None found (is_task task head.number); vars = refl; here = tt }
   loop_some r h at head first tested third body i depth scope (Some env) found k = loop_speaks r h at head first tested third body i depth scope env found
       (record { before = k.here.0; fair = k.here.1; numbered = k.numbered; placed = k.placed; prefix = k.prefix; bounded = k.unbounded }) k.here.2
-      (λ e more z. walk p f c typed taken task all Stands short stands (record (after_all r first) { in_loop = true }) (let j = in_after_all p f r first h in record { program_is = j.program_is; function_is = j.function_is }) body i.3 (suc depth) e more z)
+      (λ e more z. walk p f c typed taken task offers all Stands short stands are offered (record (after_all r first) { in_loop = true }) (let j = in_after_all p f r first h in record { program_is = j.program_is; function_is = j.function_is }) body i.3 (suc depth) e more z)
 
   -- the claim of a loop speaks of it
   site_fits : (depth : ℕ) (scope : List ℕ) (head : LoopHead) (claim : Loop) → claim.depth ≡ depth → fits_rank f scope (is_task task head.number) claim.rank ≡ true → list_all (fits_variable f scope) claim.vars ≡ true → fits_loop f task (record { depth = depth; head = head; scope = scope }) claim ≡ true
@@ -316,27 +321,27 @@ module _ (p : PlainProgram) (f : PlainFunction) (c : Claims) (typed : AreTyped (
         let count = (extends look depth x first found).count in
         let here_left : MaybeHere (declared_in x) scope o = part_here (declared_in x ++ declared_in y) (declared_in x) scope o (λ e. before_left f.variables (declared_in x) (declared_in y) e) k.here in
         let here_right : MaybeHere (declared_in y) scope o = part_here (declared_in x ++ declared_in y) (declared_in y) scope o (λ e. before_right f.variables (declared_in x) (declared_in y) e) k.here in
-        sites_both f task all (length found.claims) (length next.claims) (loop_sites_in depth scope x) (loop_sites_in depth scope y) (count ∙ ap (λ n. length found.claims + n) (sym (sites_count depth scope x)))
+        sites_both f task all.claims (length found.claims) (length next.claims) (loop_sites_in depth scope x) (loop_sites_in depth scope y) (count ∙ ap (λ n. length found.claims + n) (sym (sites_count depth scope x)))
         (sites r h x i.1 depth scope first found (record {
           here = branch_here r h (declared_in x) scope true v i.0.whole o here_left;
           numbered = numbered_left (length found.claims) (heads_in x) (heads_in y) k.numbered;
-          placed = each_left (Placed p f c typed taken task all Stands short stands) (loops_within x) (loops_within y) k.placed;
-          prefix = λ j l z. k.prefix j l (more.keeps j l z);
+          placed = each_left (Placed p f c typed taken task offers all Stands short stands are offered) (loops_within x) (loops_within y) k.placed;
+          prefix = earlier p f c typed taken task offers all Stands short stands are offered _ _ _ more k.prefix;
           unbounded = more.bounded k.unbounded;
         }))
         (sites r h y i.2 depth scope other next (record {
           here = branch_here r h (declared_in y) scope false v i.0.whole o here_right;
           numbered = numbered_right (length found.claims) (length next.claims) (heads_in x) (heads_in y) count k.numbered;
-          placed = each_right (Placed p f c typed taken task all Stands short stands) (loops_within x) (loops_within y) k.placed;
+          placed = each_right (Placed p f c typed taken task offers all Stands short stands are offered) (loops_within x) (loops_within y) k.placed;
           prefix = k.prefix;
           unbounded = k.unbounded;
         }))
     form_sites r h at (loop head first tested third body) i depth scope o found k =
         let turned : LoopPassed = loop_passed look depth head first tested third body o found in
-        let lf : LoopFound = reached_found (is_task task head.number) head.span (trial_rounds f.variables head.keyword tested third body) (loop_entry look (assigned_in look (loop head first tested third body)) tested) depth (known_at_entry look found first o) in
+        let lf : LoopFound = reached_found (offers head.number depth (Some (record { head = head; first = first; tested = tested; third = third; body = body }))) (is_task task head.number) head.span (trial_rounds f.variables head.keyword tested third body) (loop_entry look (assigned_in look (loop head first tested third body)) tested) depth (known_at_entry look found first o) in
         let more = extends look (suc depth) body turned.inside turned.found in
         let speaks = loop_some r h at head first tested third body i depth scope o found (record { here = k.here; numbered = k.numbered; placed = k.placed; prefix = k.prefix; unbounded = k.unbounded }) in
-        let there : slice_get all (length found.claims) ≡ Some lf.claim = k.prefix (length found.claims) lf.claim (more.keeps (length found.claims) lf.claim (last_one found.claims lf.claim)) in
+        let there : slice_get all.claims (length found.claims) ≡ Some lf.claim = k.prefix.claims (length found.claims) lf.claim (more.keeps (length found.claims) lf.claim (last_one found.claims lf.claim)) in
         let count : length turned.found.claims ≡ length found.claims + 1 = length-append found.claims (lf.claim ∷ []) in
         let next : length turned.found.claims ≡ suc (length found.claims) = omega (arith, count) in
         let deeper : suc depth ≡ depth + 1 = omega arith in
@@ -364,14 +369,14 @@ module _ (p : PlainProgram) (f : PlainFunction) (c : Claims) (typed : AreTyped (
         let more = all_extend look depth rest later next in
         let count = (extends look depth x o found).count in
         let numbers = numbered_left (length found.claims) (heads_in x) (heads_of rest) k.numbered in
-        let places = each_left (Placed p f c typed taken task all Stands short stands) (loops_within x) (loops_among rest) k.placed in
-        let prefix : Prefix p f c typed taken task all Stands short stands next = λ j l z. k.prefix j l (more.keeps j l z) in
-        sites_both f task all (length found.claims) (length next.claims) (loop_sites_in depth scope x) (loop_sites_of depth (in_scope_after scope x) rest) (count ∙ ap (λ n. length found.claims + n) (sym (sites_count depth scope x)))
+        let places = each_left (Placed p f c typed taken task offers all Stands short stands are offered) (loops_within x) (loops_among rest) k.placed in
+        let prefix : Prefix p f c typed taken task offers all Stands short stands are offered next = earlier p f c typed taken task offers all Stands short stands are offered _ _ _ more k.prefix in
+        sites_both f task all.claims (length found.claims) (length next.claims) (loop_sites_in depth scope x) (loop_sites_of depth (in_scope_after scope x) rest) (count ∙ ap (λ n. length found.claims + n) (sym (sites_count depth scope x)))
         (sites r h x i.0 depth scope o found (record { here = part_here (declared_in x ++ declared_of rest) (declared_in x) scope o (λ e. before_left f.variables (declared_in x) (declared_of rest) e) k.here; numbered = numbers; placed = places; prefix = prefix; unbounded = more.bounded k.unbounded }))
         (all_sites (after r x) (in_after p f r x h) rest i.1 depth (in_scope_after scope x) later next (record {
           here = after_here r h x i.0 rest scope depth o found k.here numbers places prefix (more.bounded k.unbounded);
           numbered = numbered_right (length found.claims) (length next.claims) (heads_in x) (heads_of rest) count k.numbered;
-          placed = each_right (Placed p f c typed taken task all Stands short stands) (loops_within x) (loops_among rest) k.placed;
+          placed = each_right (Placed p f c typed taken task offers all Stands short stands are offered) (loops_within x) (loops_among rest) k.placed;
           prefix = k.prefix;
           unbounded = k.unbounded;
         }))
@@ -398,16 +403,16 @@ module _ (p : PlainProgram) (f : PlainFunction) (c : Claims) (typed : AreTyped (
         let more = from_extends look depth labels (suc n) rest o later next in
         let count = (extends look depth x enters found).count in
         let numbers = numbered_left (length found.claims) (heads_in x) (heads_of rest) k.numbered in
-        let places = each_left (Placed p f c typed taken task all Stands short stands) (loops_within x) (loops_among rest) k.placed in
-        let prefix : Prefix p f c typed taken task all Stands short stands next = λ j l z. k.prefix j l (more.keeps j l z) in
+        let places = each_left (Placed p f c typed taken task offers all Stands short stands are offered) (loops_within x) (loops_among rest) k.placed in
+        let prefix : Prefix p f c typed taken task offers all Stands short stands are offered next = earlier p f c typed taken task offers all Stands short stands are offered _ _ _ more k.prefix in
         let coming : MaybeHere (declared_in x ++ declared_of rest) scope enters = if_here (declared_in x ++ declared_of rest) scope (is_labelled n labels) (hull_reached before o) before (hull_here (declared_in x ++ declared_of rest) scope before o b k.here) b in
-        sites_both f task all (length found.claims) (length next.claims) (loop_sites_in depth scope x) (loop_sites_of depth (in_scope_after scope x) rest) (count ∙ ap (λ n. length found.claims + n) (sym (sites_count depth scope x)))
+        sites_both f task all.claims (length found.claims) (length next.claims) (loop_sites_in depth scope x) (loop_sites_of depth (in_scope_after scope x) rest) (count ∙ ap (λ n. length found.claims + n) (sym (sites_count depth scope x)))
         (sites r h x i.0 depth scope enters found (record { here = part_here (declared_in x ++ declared_of rest) (declared_in x) scope enters (λ e. before_left f.variables (declared_in x) (declared_of rest) e) coming; numbered = numbers; placed = places; prefix = prefix; unbounded = more.bounded k.unbounded }))
         (from_sites labels (after r x) (in_after p f r x h) (suc n) rest i.1 (All-tail (λ s. is_declaration s ≡ false) x (statements_list rest) d) depth (in_scope_after scope x) o later next
         (after_here r h x i.0 rest scope depth enters found coming numbers places prefix (more.bounded k.unbounded)) (record {
           here = wider_here (declared_of rest) scope x o (part_here (declared_in x ++ declared_of rest) (declared_of rest) scope o (λ e. before_right f.variables (declared_in x) (declared_of rest) e) k.here);
           numbered = numbered_right (length found.claims) (length next.claims) (heads_in x) (heads_of rest) count k.numbered;
-          placed = each_right (Placed p f c typed taken task all Stands short stands) (loops_within x) (loops_among rest) k.placed;
+          placed = each_right (Placed p f c typed taken task offers all Stands short stands are offered) (loops_within x) (loops_among rest) k.placed;
           prefix = k.prefix;
           unbounded = k.unbounded;
         }))

@@ -23,7 +23,7 @@ use Rattle.p10_fit.specs.Fits.{fits_type, fits_types, fits_loop, fits_loops, fit
 use Rattle.p10_turns.specs.LoopParts.{loops_among}
 use Rattle.p10_turns.specs.Ranked.{is_ranked}
 use Rattle.p10_turns.proofs.Numbering.{loops_numbered}
-use Rattle.p10_finder.specs.Trials.{counted}
+use Rattle.p10_candidates.specs.Trials.{counted}
 use Rattle.p10_finder.specs.Loops.{no_loops}
 use Rattle.p10_finder.specs.Functions.{any_value, known_at_start, loops_of, search_in, range_returned_by, result_by, result_of, with_turn_steps}
 use Rattle.p10_finder.specs.Answers.{AreClaims}
@@ -31,12 +31,12 @@ use Rattle.p10_sums.specs.Sums.{sum_at}
 use Rattle.p10_acceptance.proofs.Narrowing.{within_itself}
 use Rattle.p10_acceptance.proofs.Operating.{is_within_of}
 use Rattle.p10_acceptance.proofs.Trials.{NoneAsked}
-use Rattle.p10_acceptance.proofs.Walk.{all_extend}
+use Rattle.p10_acceptance.proofs.Walk.{all_extend, loops_even}
 use Rattle.p10_acceptance.proofs.Beginning.{parameter_known, some_is, start_fair, start_before}
 use Rattle.p10_acceptance.proofs.Bodies.{numbered_from, each_by_place}
 use Rattle.p10_acceptance.proofs.Results.{same_length, params_are, results_typed, all_typed, all_taken}
-use Rattle.p10_acceptance.proofs.Functions.{loops_are}
 use Rattle.p10_acceptance.proofs.Sites.{SitesFit, all_sited, all_sites}
+use Rattle.p10_approach.specs.Offers.{Offers, AreOffers}
 
 -- ## Values
 
@@ -117,12 +117,12 @@ unfit_none p k (f ∷ fs) (a ∷ xs) e h =
     moved : (k i : ℕ) → k + suc i ≡ k + 1 + i
     moved k i = omega arith
 
-module _ (p : PlainProgram) (whole : IsWholeProgram p) (c : Claims) (is : AreClaims p c)
-    (bounded : (n : ℕ) (f : PlainFunction) → slice_get p.functions n ≡ Some f → (loops_of p c n f).unbounded ≡ [])
-    (short : (n : ℕ) (f : PlainFunction) → slice_get p.functions n ≡ Some f → (k : ℕ) (l : Loop) → slice_get (loops_of p c n f).claims k ≡ Some l → is_ranked l.rank ≡ true → l.turns ≤ MOST_SUM) where
+module _ (o : Offers) (are : AreOffers o) (p : PlainProgram) (whole : IsWholeProgram p) (c : Claims) (is : AreClaims o p c)
+    (bounded : (n : ℕ) (f : PlainFunction) → slice_get p.functions n ≡ Some f → (loops_of o p c n f).unbounded ≡ [])
+    (short : (n : ℕ) (f : PlainFunction) → slice_get p.functions n ≡ Some f → (k : ℕ) (l : Loop) → slice_get (loops_of o p c n f).claims k ≡ Some l → is_ranked l.rank ≡ true → l.turns ≤ MOST_SUM) where
   module _ (n : ℕ) (f : PlainFunction) (there : slice_get p.functions n ≡ Some f) where
     abbrev loops : List Loop
-    loops = (loops_of p c n f).claims
+    loops = (loops_of o p c n f).claims
 
     abbrev task : Option ℕ
     task = task_loop_number p n f
@@ -132,7 +132,7 @@ module _ (p : PlainProgram) (whole : IsWholeProgram p) (c : Claims) (is : AreCla
 
     -- the claims of the loops speak of them
     pub sites_fit : SitesFit f task loops 0 (loop_sites f)
-    sites_fit = all_sites p f c (all_typed p whole c is bounded short) (all_taken p whole c is bounded short) task loops NoneAsked (short n f there) (λ k parts l e g entry r z. tt) (region_of p n f) (record { program_is = refl; function_is = refl }) f.body function.body 0
+    sites_fit = all_sites p f c (all_typed o are p whole c is bounded short) (all_taken o are p whole c is bounded short) task (o n f) (loops_of o p c n f) NoneAsked (short n f there) (λ k parts l e g entry r z. tt) (are n f) (λ k depth parts l a e g z q. tt) (region_of p n f) (record { program_is = refl; function_is = refl }) f.body function.body 0
         (numbers_from 0 f.parameters) (Some (known_at_start f)) no_loops (record {
           here = (
             start_before p n f function,
@@ -145,13 +145,13 @@ module _ (p : PlainProgram) (whole : IsWholeProgram p) (c : Claims) (is : AreCla
           );
           numbered = numbered_from 0 (heads_of f.body) function.loops_in_order;
           placed = each_by_place _ (loops_among f.body) (λ k x e. subst (λ (i : ℕ). slice_get (loops_among f.body) i ≡ Some x) (sym (loops_numbered p whole n f there k x e)) e);
-          prefix = λ j l e. e;
+          prefix = record { claims = λ j l e. e; marks = λ j x e. e; even = loops_even (search_in o p c n f) f (Some (known_at_start f)) };
           unbounded = bounded n f there;
         })
 
     -- there are as many
     pub loops_count : length loops ≡ length (heads_of f.body)
-    loops_count = let e : length loops ≡ 0 + length (heads_of f.body) = (all_extend (search_in p c n f) 0 f.body (Some (known_at_start f)) no_loops).count in omega (arith, e)
+    loops_count = let e : length loops ≡ 0 + length (heads_of f.body) = (all_extend (search_in o p c n f) 0 f.body (Some (known_at_start f)) no_loops).count in omega (arith, e)
 
     pub sites_count : length (loop_sites f) ≡ length loops
     sites_count = sym (length-map (loop_sites f) (λ (y : LoopSite). y.head)) ∙ (ap length (all_sited 0 (numbers_from 0 f.parameters) f.body) ∙ sym loops_count)
@@ -159,27 +159,27 @@ module _ (p : PlainProgram) (whole : IsWholeProgram p) (c : Claims) (is : AreCla
     function_fits : (a : Func) → slice_get c.funcs n ≡ Some a → fits_function p n f a ≡ true
     function_fits a claimed =
         ap (λ b. b && fits_loops f task (loop_sites f) a.loops) heading
-        ∙ (ap (fits_loops f task (loop_sites f)) (loops_are p whole c is bounded short n f there a claimed)
+        ∙ (ap (fits_loops f task (loop_sites f)) (ap (λ (x : Func). x.loops) (is.each n f a there claimed))
         ∙ loops_fit (counted (sum_at p c.funcs n).turn) f task loops 0 (loop_sites f) loops sites_count (λ j l e. subst (λ (i : ℕ). slice_get loops i ≡ Some l) (plain j) e) sites_fit)
       where
         plain : (j : ℕ) → j ≡ 0 + j
         plain j = omega arith
 
-        result_is : a.result ≡ result_of p c n f
+        result_is : a.result ≡ result_of o p c n f
         result_is = ap (λ (x : Func). x.result) (is.each n f a there claimed)
 
         heading : fits_heading f a ≡ true
         heading =
             ap (λ (x : List ℕ). bytes_eq x f.name && (fits_types (parameter_types f) a.params && fits_type f.result a.result)) (ap (λ (x : Func). x.name) (is.each n f a there claimed))
             ∙ (ap (λ b. b && (fits_types (parameter_types f) a.params && fits_type f.result a.result)) (same_bytes f.name)
-            ∙ (ap (λ l. fits_types (parameter_types f) l && fits_type f.result a.result) (params_are p whole c is bounded short n f a there claimed)
+            ∙ (ap (λ l. fits_types (parameter_types f) l && fits_type f.result a.result) (params_are o are p whole c is bounded short n f a there claimed)
             ∙ (ap (λ b. b && fits_type f.result a.result) (all_fit (parameter_types f) function.parameters_scalar)
             ∙ (ap (fits_type f.result) result_is
-            ∙ result_fits f.result (range_returned_by p c n f) function.result.scalar_or_none (λ r e. results_typed p whole c is bounded short n f a there claimed r (result_is ∙ e))))))
+            ∙ result_fits f.result (range_returned_by o p c n f) function.result.scalar_or_none (λ r e. results_typed o are p whole c is bounded short n f a there claimed r (result_is ∙ e))))))
 
   -- K1
   pub speaks : unfit p c ≡ None
-  speaks = unfit_none p 0 p.functions c.funcs (sym (same_length p whole c is bounded short)) (λ i f a there claimed. subst (λ (n : ℕ). fits_function p n f a ≡ true) (plain i) (function_fits i f there a claimed))
+  speaks = unfit_none p 0 p.functions c.funcs (sym (same_length o are p whole c is bounded short)) (λ i f a there claimed. subst (λ (n : ℕ). fits_function p n f a ≡ true) (plain i) (function_fits i f there a claimed))
     where
       plain : (i : ℕ) → i ≡ 0 + i
       plain i = omega arith

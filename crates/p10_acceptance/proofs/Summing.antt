@@ -23,15 +23,15 @@ use Rattle.p10_turns.specs.Ranked.{is_ranked}
 use Rattle.p10_check.specs.Places.{place_if, name_at}
 use Rattle.p10_check.specs.Shapes.{head_in, head_at, task_head, turn_claimed, main_turn, bounds_main, low_total}
 use Rattle.p10_check.specs.Sums.{covers_sum, sum_claimed, short_turn, short_steps, short_depths}
-use Rattle.p10_finder.specs.Trials.{counted}
+use Rattle.p10_candidates.specs.Trials.{counted}
 use Rattle.p10_finder.specs.Functions.{loops_of, with_turn_steps}
 use Rattle.p10_finder.specs.Answers.{AreClaims}
 use Rattle.p10_acceptance.proofs.Walk.{Numbered}
 use Rattle.p10_acceptance.proofs.Bodies.{numbered_from}
 use Rattle.p10_acceptance.proofs.Results.{is_there, there_below, mapped_at, claim_there}
-use Rattle.p10_acceptance.proofs.Functions.{loops_are}
 use Rattle.p10_acceptance.proofs.Sites.{SitesFit, all_sited}
 use Rattle.p10_acceptance.proofs.Speaking.{sites_fit, loops_count, sites_count}
+use Rattle.p10_approach.specs.Offers.{Offers, AreOffers}
 
 -- ## Numbers up to the limit
 
@@ -103,9 +103,9 @@ turn_steps k l e = subst (λ (r : Rank). (with_turn_steps k (record l { rank = r
 
 -- ## The conditions
 
-module _ (p : PlainProgram) (whole : IsWholeProgram p) (c : Claims) (is : AreClaims p c)
-    (bounded : (n : ℕ) (f : PlainFunction) → slice_get p.functions n ≡ Some f → (loops_of p c n f).unbounded ≡ [])
-    (short : (n : ℕ) (f : PlainFunction) → slice_get p.functions n ≡ Some f → (k : ℕ) (l : Loop) → slice_get (loops_of p c n f).claims k ≡ Some l → is_ranked l.rank ≡ true → l.turns ≤ MOST_SUM)
+module _ (o : Offers) (are : AreOffers o) (p : PlainProgram) (whole : IsWholeProgram p) (c : Claims) (is : AreClaims o p c)
+    (bounded : (n : ℕ) (f : PlainFunction) → slice_get p.functions n ≡ Some f → (loops_of o p c n f).unbounded ≡ [])
+    (short : (n : ℕ) (f : PlainFunction) → slice_get p.functions n ≡ Some f → (k : ℕ) (l : Loop) → slice_get (loops_of o p c n f).claims k ≡ Some l → is_ranked l.rank ≡ true → l.turns ≤ MOST_SUM)
     (passing : HasPassing (all_sums p c.funcs) → ⊥) where
   within : (n : ℕ) → n < length p.functions → keeps_limit (sum_at p c.funcs n) ≡ true
   within n low = at (keeps_limit (sum_at p c.funcs n)) refl
@@ -174,19 +174,19 @@ module _ (p : PlainProgram) (whole : IsWholeProgram p) (c : Claims) (is : AreCla
         let number : head.number ≡ 0 + k.0 = number_there 0 k.0 (heads_of f.body) head (numbered_from 0 (heads_of f.body) (whole.functions n f there).loops_in_order) k.1 in
         let same : head.number ≡ k.0 = omega (arith, number) in
         let inside : k.0 < length (heads_of f.body) = there_below (heads_of f.body) k.0 head k.1 in
-        let count = loops_count p whole c is bounded short n f there in
-        let sites = sites_count p whole c is bounded short n f there in
-        let l = is_there (loops_of p c n f).claims k.0 (omega (arith, inside, count)) in
+        let count = loops_count o are p whole c is bounded short n f there in
+        let sites = sites_count o are p whole c is bounded short n f there in
+        let l = is_there (loops_of o p c n f).claims k.0 (omega (arith, inside, count)) in
         let site = is_there (loop_sites f) k.0 (omega (arith, inside, count, sites)) in
         let head_is : site.0.head ≡ head = same_Some _ _ (sym (slice_get-map (λ (y : LoopSite). y.head) (loop_sites f) k.0 ∙ ap (option_map (λ (y : LoopSite). y.head)) site.1) ∙ (ap (λ (hs : List LoopHead). slice_get hs k.0) (all_sited 0 _ f.body) ∙ k.1)) in
-        let fits : fits_loop f task site.0 l.0 ≡ true = site_at f task (loops_of p c n f).claims 0 k.0 (loop_sites f) site.0 l.0 (sites_fit p whole c is bounded short n f there) site.1 (subst (λ (i : ℕ). slice_get (loops_of p c n f).claims i ≡ Some l.0) (plain k.0) l.1) in
+        let fits : fits_loop f task site.0 l.0 ≡ true = site_at f task (loops_of o p c n f).claims 0 k.0 (loop_sites f) site.0 l.0 (sites_fit o are p whole c is bounded short n f there) site.1 (subst (λ (i : ℕ). slice_get (loops_of o p c n f).claims i ≡ Some l.0) (plain k.0) l.1) in
         let parts = and_parts (nat_eq l.0.depth site.0.depth) (fits_rank f site.0.scope (is_task task site.0.head.number) l.0.rank && list_all (fits_variable f site.0.scope) l.0.vars) fits in
         let ranked = (and_parts (fits_rank f site.0.scope (is_task task site.0.head.number) l.0.rank) (list_all (fits_variable f site.0.scope) l.0.vars) parts.1).0 in
         let rank : l.0.rank ≡ Task = task_rank f site.0.scope l.0.rank (subst (λ (b : Bool). fits_rank f site.0.scope b l.0.rank ≡ true) (ap (λ (y : LoopHead). is_task task y.number) head_is ∙ k.2) ranked) in
         ap (λ o. turns_claimed (slice_get (loops_claimed o) head.number)) claimed
-        ∙ (ap (λ (ls : List Loop). turns_claimed (slice_get ls head.number)) (loops_are p whole c is bounded short n f there a claimed)
-        ∙ (ap (λ (i : ℕ). turns_claimed (slice_get (map (with_turn_steps (counted sum.turn)) (loops_of p c n f).claims) i)) same
-        ∙ (ap turns_claimed (mapped_at (with_turn_steps (counted sum.turn)) (loops_of p c n f).claims k.0 l.0 l.1) ∙ turn_steps (counted sum.turn) l.0 rank)))
+        ∙ (ap (λ (ls : List Loop). turns_claimed (slice_get ls head.number)) (ap (λ (x : Func). x.loops) (is.each n f a there claimed))
+        ∙ (ap (λ (i : ℕ). turns_claimed (slice_get (map (with_turn_steps (counted sum.turn)) (loops_of o p c n f).claims) i)) same
+        ∙ (ap turns_claimed (mapped_at (with_turn_steps (counted sum.turn)) (loops_of o p c n f).claims k.0 l.0 l.1) ∙ turn_steps (counted sum.turn) l.0 rank)))
       where
         plain : (k : ℕ) → k ≡ 0 + k
         plain k = omega arith
@@ -229,7 +229,7 @@ module _ (p : PlainProgram) (whole : IsWholeProgram p) (c : Claims) (is : AreCla
   pub total_holds : low_total p c ≡ []
   total_holds =
       let main = whole.main in
-      let a = claim_there p whole c is bounded short p.main main.function main.there in
+      let a = claim_there o are p whole c is bounded short p.main main.function main.there in
       let sum : FuncSum = sum_at p c.funcs p.main in
       ap (λ b. place_if (not b) (name_at p p.main))
       (ap (λ t. bounds_main t (slice_get c.funcs p.main) (main_turn p c.funcs (slice_get p.functions p.main))) is.total

@@ -4,14 +4,15 @@ use Rattle.std.specs.Prelude.{slice_get, if◌then◌else◌}
 use Rattle.std.proofs.lemmas.Option.{none-some}
 use Rattle.std.proofs.lemmas.List.{length-append}
 use Rattle.p10_core.specs.declared.statements.LoopHead.{LoopHead}
-use Rattle.p10_core.specs.Typed.{PlainLabels, PlainStatement, statement, PlainStatementForm, block, if_then, if_else, loop, switch, PlainStatements, no_statements, more_statements}
+use Rattle.p10_core.specs.Typed.{PlainLabels, PlainStatement, statement, PlainStatementForm, block, if_then, if_else, loop, switch, PlainStatements, no_statements, more_statements, PlainFunction}
 use Rattle.p10_core.specs.WholePrograms.{loops_in as heads_in, loops_in_form as heads_in_form, loops_of as heads_of}
 use Rattle.p10_cert.specs.Claims.{Loop}
 use Rattle.p10_absx.specs.Environments.{Environment, hull_reached}
 use Rattle.p10_pass.specs.Claiming.{loop_claimed, claim_or_none}
 use Rattle.p10_pass.specs.Passing.{is_labelled}
-use Rattle.p10_finder.specs.Trials.{LoopFound}
-use Rattle.p10_finder.specs.Loops.{Search, LoopsFound, with_loop, known_after_statement, known_where_value, known_after_value, LoopPassed, loop_passed, loops_in, loops_in_form, loops_in_all, loops_in_switch, loops_in_cases, loops_from}
+use Rattle.p10_candidates.specs.Trials.{LoopFound}
+use Rattle.p10_finder.specs.Loops.{Search, LoopsFound, no_loops, with_loop, known_after_statement, known_where_value, known_after_value, LoopPassed, loop_passed, loops_in, loops_in_form, loops_in_all, loops_in_switch, loops_in_cases, loops_from}
+use Rattle.p10_candidates.specs.Approaches.{Approach}
 use Rattle.p10_acceptance.proofs.Ends.{Each}
 
 -- ## How many loops are found
@@ -20,13 +21,21 @@ use Rattle.p10_acceptance.proofs.Ends.{Each}
 pub record Extends (found next : LoopsFound) (n : ℕ) : Type 0 where
   pub count : length next.claims ≡ length found.claims + n
   pub keeps : (j : ℕ) (l : Loop) → slice_get found.claims j ≡ Some l → slice_get next.claims j ≡ Some l
+  pub marked : length next.approaches ≡ length found.approaches + n
+  pub marks : (j : ℕ) (x : Option Approach) → slice_get found.approaches j ≡ Some x → slice_get next.approaches j ≡ Some x
   pub bounded : next.unbounded ≡ [] → found.unbounded ≡ []
 
 extends_itself : (found : LoopsFound) → Extends found found 0
-extends_itself found = record { count = omega arith; keeps = λ j l e. e; bounded = λ e. e }
+extends_itself found = record { count = omega arith; keeps = λ j l e. e; marked = omega arith; marks = λ j x e. e; bounded = λ e. e }
 
 extends_trans : (a b c : LoopsFound) (n k : ℕ) → Extends a b n → Extends b c k → Extends a c (n + k)
-extends_trans a b c n k h g = record { count = let x = h.count in let y = g.count in omega (arith, x, y); keeps = λ j l e. g.keeps j l (h.keeps j l e); bounded = λ e. h.bounded (g.bounded e) }
+extends_trans a b c n k h g = record {
+  count = let x = h.count in let y = g.count in omega (arith, x, y);
+  keeps = λ j l e. g.keeps j l (h.keeps j l e);
+  marked = let x = h.marked in let y = g.marked in omega (arith, x, y);
+  marks = λ j x e. g.marks j x (h.marks j x e);
+  bounded = λ e. h.bounded (g.bounded e);
+}
 
 extends_same : (a b : LoopsFound) (n k : ℕ) → n ≡ k → Extends a b n → Extends a b k
 extends_same a b n k e h = subst (Extends a b) e h
@@ -52,6 +61,8 @@ with_extends : (found : LoopsFound) (l : LoopFound) → Extends found (with_loop
 with_extends found l = record {
   count = length-append found.claims (l.claim ∷ []);
   keeps = λ j x e. kept_left found.claims (l.claim ∷ []) j x e;
+  marked = length-append found.approaches (l.approach ∷ []);
+  marks = λ j x e. kept_left found.approaches (l.approach ∷ []) j x e;
   bounded = λ e. no_left found.unbounded l.unbounded e;
 }
 
@@ -93,6 +104,10 @@ module _ (s : Search) where
         let next : LoopsFound = loops_in s depth x enters found in
         extends_same found _ (length (heads_in x) + length (heads_of rest)) (length (heads_in x ++ heads_of rest)) (sym (length-append (heads_in x) (heads_of rest)))
         (extends_trans found next _ (length (heads_in x)) (length (heads_of rest)) (extends depth x enters found) (from_extends depth labels (suc k) rest env (known_after_statement s next x enters) next))
+
+-- as many approaches are found as claims
+pub loops_even : (s : Search) (f : PlainFunction) (env : Option Environment) → length (loops_in_all s 0 f.body env no_loops).approaches ≡ length (loops_in_all s 0 f.body env no_loops).claims
+loops_even s f env = let all = all_extend s 0 f.body env no_loops in let claims = all.count in let marks = all.marked in omega (arith, claims, marks)
 
 -- ## Numbers
 

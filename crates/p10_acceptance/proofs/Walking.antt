@@ -29,8 +29,8 @@ use Rattle.p10_execution.proofs.PassedScopes.{statement_scoped, statements_scope
 use Rattle.p10_turns.specs.LoopParts.{LoopParts, loops_within, loops_among}
 use Rattle.p10_turns.specs.Ranked.{is_ranked}
 use Rattle.p10_turns.specs.Evidence.{holds_by_ranges}
-use Rattle.p10_finder.specs.Trials.{LoopFound}
-use Rattle.p10_finder.specs.Loops.{Search, LoopsFound, manner_after, known_after_statement, known_after_value, known_at_entry, known_in_body, assigned_in, loop_entry, trial_rounds, entered_found, reached_found, LoopPassed, loop_passed, loops_in, loops_in_all, loops_from}
+use Rattle.p10_candidates.specs.Trials.{LoopFound, trial_rounds}
+use Rattle.p10_finder.specs.Loops.{Search, LoopsFound, manner_after, known_after_statement, known_after_value, known_at_entry, known_in_body, assigned_in, loop_entry, entered_found, reached_found, LoopPassed, loop_passed, loops_in, loops_in_all, loops_from}
 use Rattle.p10_acceptance.proofs.Narrowing.{Fair, MaybeNarrower, narrower_itself, hull_narrower}
 use Rattle.p10_acceptance.proofs.Values.{AreTyped}
 use Rattle.p10_acceptance.proofs.Calling.{MaybeTaken}
@@ -40,7 +40,11 @@ use Rattle.p10_acceptance.proofs.Rounds.{maybe_is, head_fair}
 use Rattle.p10_acceptance.proofs.Statements.{IsIn, in_after, in_after_all, tests, fair_is, if_known, truth_scope, entered_scope, maybe_tests, Fine, statement_fits, statements_fit}
 use Rattle.p10_acceptance.proofs.Alike.{Differs, each_left, each_right, clauses_alike, statement_alike}
 use Rattle.p10_acceptance.proofs.Found.{found_fits}
-use Rattle.p10_acceptance.proofs.Walk.{extends, all_extend, from_extends, last_one, no_right, Numbered, numbered_left, numbered_right, same_claims}
+use Rattle.p10_acceptance.proofs.Walk.{Extends, extends, all_extend, from_extends, last_one, no_right, Numbered, numbered_left, numbered_right, same_claims}
+use Rattle.p10_approach.specs.Approaches.{Approached}
+use Rattle.p10_approach.specs.Offers.{IsOffer}
+use Rattle.p10_candidates.specs.Candidates.{LoopEntry}
+use Rattle.p10_candidates.specs.Approaches.{Approach}
 
 -- no claims differ
 pub no_difference : Differs (λ r. Unit {0}) None None (λ l. l)
@@ -59,30 +63,42 @@ maybe_itself variables None w h = tt
 maybe_itself variables (Some e) None h = absurd h
 maybe_itself variables (Some e) (Some w) h = narrower_itself variables e h.fair
 
-module _ (p : PlainProgram) (f : PlainFunction) (c : Claims) (typed : AreTyped (surroundings_of p) (Some c)) (taken : MaybeTaken (surroundings_of p) (Some c)) (task : Option ℕ) (all : List Loop) (Stands : ℕ → Environment → Type 0)
-    (short : (n : ℕ) (l : Loop) → slice_get all n ≡ Some l → is_ranked l.rank ≡ true → l.turns ≤ MOST_SUM)
-    (stands : (n : ℕ) (parts : LoopParts) (l : Loop) → slice_get (loops_among f.body) n ≡ Some parts → slice_get all n ≡ Some l → (entry : Environment) → is_ranked l.rank ≡ true → holds_by_ranges f.variables parts entry l ≡ true → Stands n entry) where
+module _ (p : PlainProgram) (f : PlainFunction) (c : Claims) (typed : AreTyped (surroundings_of p) (Some c)) (taken : MaybeTaken (surroundings_of p) (Some c)) (task : Option ℕ) (offers : ℕ → ℕ → Option LoopParts → LoopEntry → Option Approached) (all : LoopsFound)
+    (Stands : ℕ → Environment → Type 0) (short : (n : ℕ) (l : Loop) → slice_get all.claims n ≡ Some l → is_ranked l.rank ≡ true → l.turns ≤ MOST_SUM)
+    (stands : (n : ℕ) (parts : LoopParts) (l : Loop) → slice_get (loops_among f.body) n ≡ Some parts → slice_get all.claims n ≡ Some l → (entry : Environment) → is_ranked l.rank ≡ true → holds_by_ranges f.variables parts entry l ≡ true → Stands n entry)
+    (are : (k depth : ℕ) (parts : Option LoopParts) (l : LoopEntry) → IfSome (offers k depth parts l) (IsOffer f l depth))
+    (offered : (k depth : ℕ) (parts : LoopParts) (l : LoopEntry) (a : Approached) → slice_get (loops_among f.body) k ≡ Some parts → slice_get all.claims k ≡ Some a.claim → slice_get all.approaches k ≡ Some (Some a.approach) → offers k depth (Some parts) l ≡ Some a → Stands k l.entry) where
   abbrev variables : List PlainVariable
   variables = f.variables
 
   -- where the loops are looked for
   abbrev pub s : Search
-  s = record { calls = c; variables = f.variables; task = task }
+  s = record { calls = c; variables = f.variables; task = task; offers = offers }
 
   -- the pass under all that are found
   abbrev pub whole : Manner
-  whole = record { calls = Some c; loops = Some all; result = None; variables = f.variables }
+  whole = record { calls = Some c; loops = Some all.claims; result = None; variables = f.variables }
 
   -- the claims fit in a statement, where the pass comes to it
   abbrev pub In : PlainStatement → Environment → Type 0
-  In x e = Fitted f.variables (Some c) (Some all) None Stands x e
+  In x e = Fitted f.variables (Some c) (Some all.claims) None Stands x e
 
   abbrev pub AllIn : PlainStatements → Environment → Type 0
-  AllIn xs e = AllFitted f.variables (Some c) (Some all) None Stands xs e
+  AllIn xs e = AllFitted f.variables (Some c) (Some all.claims) None Stands xs e
 
-  -- the claims that are found are the first of all
-  abbrev pub Prefix : LoopsFound → Type 0
-  Prefix found = (j : ℕ) (l : Loop) → slice_get found.claims j ≡ Some l → slice_get all j ≡ Some l
+  -- the loops that are found are the first of all
+  pub record Prefix (found : LoopsFound) : Type 0 where
+    pub claims : (j : ℕ) (l : Loop) → slice_get found.claims j ≡ Some l → slice_get all.claims j ≡ Some l
+    pub marks : (j : ℕ) (x : Option Approach) → slice_get found.approaches j ≡ Some x → slice_get all.approaches j ≡ Some x
+    pub even : length found.approaches ≡ length found.claims
+
+  -- so are those before them
+  pub earlier : (found next : LoopsFound) (n : ℕ) → Extends found next n → Prefix next → Prefix found
+  earlier found next n more prefix = record {
+    claims = λ j l e. prefix.claims j l (more.keeps j l e);
+    marks = λ j x e. prefix.marks j x (more.marks j x e);
+    even = let x = more.count in let y = more.marked in let z = prefix.even in omega (arith, x, y, z);
+  }
 
   -- a loop stands at the place of its number
   abbrev pub Placed : LoopParts → Type 0
@@ -99,12 +115,12 @@ module _ (p : PlainProgram) (f : PlainFunction) (c : Claims) (typed : AreTyped (
 
   pub same_pass : (r : Region) (x : PlainStatement) → IsWholeStatement r x → (found next : LoopsFound) → length next.claims ≡ length found.claims + length (heads_in x) → Numbered (length found.claims) (heads_in x) → Prefix next → (env : Environment) →
       pass_statement (manner_after s next) x env ≡ pass_statement whole x env
-  same_pass r x i found next count numbered prefix env = statement_alike (Some c) f.variables next.claims all None None (λ r. Unit {0}) (λ l. l) no_difference r x i
-      (same_claims next.claims all prefix (length found.claims) (heads_in x) (omega (arith, count)) numbered) env (any_range (pass_statement (manner_after s next) x env).returned)
+  same_pass r x i found next count numbered prefix env = statement_alike (Some c) f.variables next.claims all.claims None None (λ r. Unit {0}) (λ l. l) no_difference r x i
+      (same_claims next.claims all.claims prefix.claims (length found.claims) (heads_in x) (omega (arith, count)) numbered) env (any_range (pass_statement (manner_after s next) x env).returned)
 
   -- ## A loop
 
-  inside_is : (keyword : LoopKeyword) (tested : Option PlainValue) (head : Environment) → known_in_body s keyword tested head ≡ entered f.variables (Some c) (Some all) None Stands keyword tested head
+  inside_is : (keyword : LoopKeyword) (tested : Option PlainValue) (head : Environment) → known_in_body s keyword tested head ≡ entered f.variables (Some c) (Some all.claims) None Stands keyword tested head
   inside_is Do tested head = refl
   inside_is While None head = refl
   inside_is While (Some v) head = refl
@@ -121,53 +137,81 @@ module _ (p : PlainProgram) (f : PlainFunction) (c : Claims) (typed : AreTyped (
     abbrev inner : Region
     inner = after_all r first
 
+    abbrev parts : LoopParts
+    parts = record { head = head; first = first; tested = tested; third = third; body = body }
+
+    abbrev entered_loop : Environment → LoopEntry
+    entered_loop entry = loop_entry s (assigned_in s (loop head first tested third body)) tested entry
+
     abbrev pub passed : LoopPassed
     passed = loop_passed s depth head first tested third body (Some env) found
 
     abbrev pub lf : LoopFound
-    lf = reached_found (is_task task head.number) head.span (trial_rounds f.variables head.keyword tested third body) (loop_entry s (assigned_in s (loop head first tested third body)) tested) depth (known_at_entry s found first (Some env))
+    lf = reached_found (offers head.number depth (Some parts)) (is_task task head.number) head.span (trial_rounds f.variables head.keyword tested third body) (loop_entry s (assigned_in s (loop head first tested third body)) tested) depth (known_at_entry s found first (Some env))
 
     before_first : IsBefore f.variables (declared_of first) env
     before_first = before_left f.variables (declared_of first) (declared_in body) env comes.before
 
-    pub there : slice_get all head.number ≡ Some lf.claim
+    pub there : slice_get all.claims head.number ≡ Some lf.claim
     there =
         let e = extends s (suc depth) body passed.inside passed.found in
-        comes.prefix head.number lf.claim (e.keeps head.number lf.claim (ap (slice_get (found.claims ++ lf.claim ∷ [])) comes.numbered.0 ∙ last_one found.claims lf.claim))
+        comes.prefix.claims head.number lf.claim (e.keeps head.number lf.claim (ap (slice_get (found.claims ++ lf.claim ∷ [])) comes.numbered.0 ∙ last_one found.claims lf.claim))
 
-    pub claim_is : loop_claimed all head.number ≡ lf.claim
+    -- so are the variables that approach each other, if such bound its turns
+    marked : slice_get all.approaches head.number ≡ Some lf.approach
+    marked =
+        let before : Prefix passed.found = earlier passed.found _ _ (extends s (suc depth) body passed.inside passed.found) comes.prefix in
+        let same : length passed.found.approaches ≡ length passed.found.claims = before.even in
+        let marks : length passed.found.approaches ≡ length found.approaches + 1 = length-append found.approaches (lf.approach ∷ []) in
+        let claims : length passed.found.claims ≡ length found.claims + 1 = length-append found.claims (lf.claim ∷ []) in
+        let number : head.number ≡ length found.claims = comes.numbered.0 in
+        let at : head.number ≡ length found.approaches = omega (arith, same, marks, claims, number) in
+        before.marks head.number lf.approach (ap (slice_get (found.approaches ++ lf.approach ∷ [])) at ∙ last_one found.approaches lf.approach)
+
+    pub claim_is : loop_claimed all.claims head.number ≡ lf.claim
     claim_is = ap claim_or_none there
 
     module _ (entry : Environment) (is : (pass_statements whole first env).normal ≡ Some entry) where
       pub at_entry : known_at_entry s found first (Some env) ≡ Some entry
-      at_entry = ap (λ (a : Left). a.normal) (clauses_alike (Some c) f.variables found.claims all None None (λ r. Unit {0}) (λ l. l) no_difference first (first_plain f.variables (Some c) (Some all) None Stands head.keyword first tested third i.4) env) ∙ is
+      at_entry = ap (λ (a : Left). a.normal) (clauses_alike (Some c) f.variables found.claims all.claims None None (λ r. Unit {0}) (λ l. l) no_difference first (first_plain f.variables (Some c) (Some all.claims) None Stands head.keyword first tested third i.4) env) ∙ is
 
       pub entry_scoped : Scoped f.variables (λ k. declares_at_top k first) env entry
-      entry_scoped = maybe_is f.variables (λ k. declares_at_top k first) env (pass_statements whole first env).normal entry (statements_scoped f.variables (Some c) (Some all) None r first i.0 env before_first).normal is
+      entry_scoped = maybe_is f.variables (λ k. declares_at_top k first) env (pass_statements whole first env).normal entry (statements_scoped f.variables (Some c) (Some all.claims) None r first i.0 env before_first).normal is
 
       pub entry_fair : Fair f.variables entry
-      entry_fair = fair_is p f (Some c) typed taken (Some all) None (λ r. refl) Stands (pass_statements whole first env).normal (pass_statements (trial_manner f.variables) first env).normal entry
-          (statements_fit p f (Some c) typed taken (Some all) None (λ r. refl) Stands r h first i.0 env env before_first (narrower_itself f.variables env comes.fair)
-          (all_fitted f.variables (Some c) (Some all) None Stands first (first_plain f.variables (Some c) (Some all) None Stands head.keyword first tested third i.4) env)).normal is
+      entry_fair = fair_is p f (Some c) typed taken (Some all.claims) None (λ r. refl) Stands (pass_statements whole first env).normal (pass_statements (trial_manner f.variables) first env).normal entry
+          (statements_fit p f (Some c) typed taken (Some all.claims) None (λ r. refl) Stands r h first i.0 env env before_first (narrower_itself f.variables env comes.fair)
+          (all_fitted f.variables (Some c) (Some all.claims) None Stands first (first_plain f.variables (Some c) (Some all.claims) None Stands head.keyword first tested third i.4) env)).normal is
 
       pub before_in : IsBefore f.variables (declared_in body) entry
       before_in = before_body f.variables first (declared_in body) env entry comes.before entry_scoped
 
-      pub lf_is : lf ≡ entered_found (is_task task head.number) head.span (trial_rounds f.variables head.keyword tested third body) (loop_entry s (assigned_in s (loop head first tested third body)) tested entry) depth
-      lf_is = ap (λ o. reached_found (is_task task head.number) head.span (trial_rounds f.variables head.keyword tested third body) (loop_entry s (assigned_in s (loop head first tested third body)) tested) depth o) at_entry
+      pub lf_is : lf ≡ entered_found (offers head.number depth (Some parts) (entered_loop entry)) (is_task task head.number) head.span (trial_rounds f.variables head.keyword tested third body) (entered_loop entry) depth
+      lf_is = ap (λ o. reached_found (offers head.number depth (Some parts)) (is_task task head.number) head.span (trial_rounds f.variables head.keyword tested third body) (loop_entry s (assigned_in s (loop head first tested third body)) tested) depth o) at_entry
 
       pub bounded : lf.unbounded ≡ []
       bounded = no_right found.unbounded lf.unbounded ((extends s (suc depth) body passed.inside passed.found).bounded comes.bounded)
 
-      pub fits : ClaimFits f.variables Stands lf.claim head.number assigned (trial_round f.variables (Some c) (Some all) None Stands head.keyword tested third body) entry
-      fits = found_fits p f Stands r h at head first tested third body i depth entry entry_fair before_in (is_task task head.number) lf lf_is bounded (λ e. short head.number lf.claim there e)
+      -- what is offered is claimed, and stands
+      pub is_offer : IfSome (offers head.number depth (Some parts) (entered_loop entry)) (IsOffer f (entered_loop entry) depth)
+      is_offer = are head.number depth (Some parts) (entered_loop entry)
+
+      held : (a : Approached) → offers head.number depth (Some parts) (entered_loop entry) ≡ Some a → is_task task head.number ≡ false → IsOffer f (entered_loop entry) depth a × Stands head.number entry
+      held a e q =
+          let taken_as = lf_is ∙ (λ i. entered_found (e i) (q i) head.span (trial_rounds f.variables head.keyword tested third body) (entered_loop entry) depth) in (
+            subst (λ (o : Option Approached). IfSome o (IsOffer f (entered_loop entry) depth)) e is_offer,
+            offered head.number depth parts (entered_loop entry) a comes.placed.0 (there ∙ ap (λ (x : LoopFound). Some x.claim) taken_as) (marked ∙ ap (λ (x : LoopFound). Some x.approach) taken_as) e,
+          )
+
+      pub fits : ClaimFits f.variables Stands lf.claim head.number assigned (trial_round f.variables (Some c) (Some all.claims) None Stands head.keyword tested third body) entry
+      fits = found_fits p f Stands r h at head first tested third body i depth entry entry_fair before_in (offers head.number depth (Some parts) (entered_loop entry)) (is_task task head.number) held lf lf_is bounded (λ e. short head.number lf.claim there e)
           (λ e k. stands head.number (record { head = head; first = first; tested = tested; third = third; body = body }) lf.claim comes.placed.0 there entry e k)
 
       abbrev pub at_head : Environment
       at_head = head_of lf.claim f.variables entry
 
       pub fair_head : Fair f.variables at_head
-      fair_head = head_fair f.variables (Some c) (Some all) None (integer_of f.result) Stands lf.claim head.number assigned (trial_round f.variables (Some c) (Some all) None Stands head.keyword tested third body) entry entry_fair fits
+      fair_head = head_fair f.variables (Some c) (Some all.claims) None (integer_of f.result) Stands lf.claim head.number assigned (trial_round f.variables (Some c) (Some all.claims) None Stands head.keyword tested third body) entry entry_fair fits
 
       pub head_knows : KnowsNumbers f.variables at_head
       head_knows = (scoped_same f.variables nothing entry at_head before_in.knows (changed_scope f.variables _ entry)).knows
@@ -175,24 +219,24 @@ module _ (p : PlainProgram) (f : PlainFunction) (c : Claims) (typed : AreTyped (
       pub of_body : IsBefore f.variables (declared_in body) at_head
       of_body = before_same f.variables (declared_in body) entry at_head before_in (changed_scope f.variables _ entry)
 
-      pub entered_fair : (keyword : LoopKeyword) (e : Environment) → entered f.variables (Some c) (Some all) None Stands keyword tested at_head ≡ Some e → Fair f.variables e
+      pub entered_fair : (keyword : LoopKeyword) (e : Environment) → entered f.variables (Some c) (Some all.claims) None Stands keyword tested at_head ≡ Some e → Fair f.variables e
       entered_fair Do e q = subst (λ (x : Environment). Fair f.variables x) (same_Some _ _ q) fair_head
-      entered_fair While e q = fair_is p f (Some c) typed taken (Some all) None (λ r. refl) Stands _ _ e (maybe_tests p f (Some c) typed taken (Some all) None (λ r. refl) Stands inner (in_after_all p f r first h) tested i.1 at_head at_head (narrower_itself f.variables at_head fair_head)).truth q
-      entered_fair For e q = fair_is p f (Some c) typed taken (Some all) None (λ r. refl) Stands _ _ e (maybe_tests p f (Some c) typed taken (Some all) None (λ r. refl) Stands inner (in_after_all p f r first h) tested i.1 at_head at_head (narrower_itself f.variables at_head fair_head)).truth q
+      entered_fair While e q = fair_is p f (Some c) typed taken (Some all.claims) None (λ r. refl) Stands _ _ e (maybe_tests p f (Some c) typed taken (Some all.claims) None (λ r. refl) Stands inner (in_after_all p f r first h) tested i.1 at_head at_head (narrower_itself f.variables at_head fair_head)).truth q
+      entered_fair For e q = fair_is p f (Some c) typed taken (Some all.claims) None (λ r. refl) Stands _ _ e (maybe_tests p f (Some c) typed taken (Some all.claims) None (λ r. refl) Stands inner (in_after_all p f r first h) tested i.1 at_head at_head (narrower_itself f.variables at_head fair_head)).truth q
 
-      pub inside_same : passed.inside ≡ entered f.variables (Some c) (Some all) None Stands head.keyword tested at_head
+      pub inside_same : passed.inside ≡ entered f.variables (Some c) (Some all.claims) None Stands head.keyword tested at_head
       inside_same = ap (λ o. option_and_then (λ entry. known_in_body s head.keyword tested (head_of lf.claim f.variables entry)) o) at_entry ∙ inside_is head.keyword tested at_head
 
-      inside : (e : Environment) → entered f.variables (Some c) (Some all) None Stands head.keyword tested at_head ≡ Some e → passed.inside ≡ Some e
+      inside : (e : Environment) → entered f.variables (Some c) (Some all.claims) None Stands head.keyword tested at_head ≡ Some e → passed.inside ≡ Some e
       inside e q = inside_same ∙ q
 
-      in_body : (e : Environment) → entered f.variables (Some c) (Some all) None Stands head.keyword tested at_head ≡ Some e → In body e
+      in_body : (e : Environment) → entered f.variables (Some c) (Some all.claims) None Stands head.keyword tested at_head ≡ Some e → In body e
       in_body e q =
           let same : loops_in s (suc depth) body passed.inside passed.found ≡ loops_in s (suc depth) body (Some e) passed.found = ap (λ o. loops_in s (suc depth) body o passed.found) (inside e q) in
           let count : length passed.found.claims ≡ length found.claims + 1 = length-append found.claims (lf.claim ∷ []) in
           let next : suc (length found.claims) ≡ length passed.found.claims = omega (arith, count) in
           body_walk e passed.found (record {
-            before = before_scoped f.variables nothing (declared_in body) at_head e of_body (maybe_is f.variables nothing at_head (entered f.variables (Some c) (Some all) None Stands head.keyword tested at_head) e (entered_scope p f (Some c) typed taken (Some all) None (λ r. refl) Stands head.keyword tested at_head head_knows) q) (λ k o. refl);
+            before = before_scoped f.variables nothing (declared_in body) at_head e of_body (maybe_is f.variables nothing at_head (entered f.variables (Some c) (Some all.claims) None Stands head.keyword tested at_head) e (entered_scope p f (Some c) typed taken (Some all.claims) None (λ r. refl) Stands head.keyword tested at_head head_knows) q) (λ k o. refl);
             fair = entered_fair head.keyword e q;
             numbered = subst (λ (n : ℕ). Numbered n (heads_in body)) next comes.numbered.1;
             placed = comes.placed.1;
@@ -200,11 +244,11 @@ module _ (p : PlainProgram) (f : PlainFunction) (c : Claims) (typed : AreTyped (
             bounded = subst (λ (z : LoopsFound). z.unbounded ≡ []) same comes.bounded;
           })
 
-      both : ClaimFits f.variables Stands (loop_claimed all head.number) head.number assigned (trial_round f.variables (Some c) (Some all) None Stands head.keyword tested third body) entry
-          × IfSome (entered f.variables (Some c) (Some all) None Stands head.keyword tested (head_of (loop_claimed all head.number) f.variables entry)) (λ e. In body e)
-      both = subst (λ (l : Loop). ClaimFits f.variables Stands l head.number assigned (trial_round f.variables (Some c) (Some all) None Stands head.keyword tested third body) entry
-          × IfSome (entered f.variables (Some c) (Some all) None Stands head.keyword tested (head_of l f.variables entry)) (λ e. In body e)) (sym claim_is)
-          (fits, if_there (entered f.variables (Some c) (Some all) None Stands head.keyword tested at_head) (λ e. In body e) in_body)
+      both : ClaimFits f.variables Stands (loop_claimed all.claims head.number) head.number assigned (trial_round f.variables (Some c) (Some all.claims) None Stands head.keyword tested third body) entry
+          × IfSome (entered f.variables (Some c) (Some all.claims) None Stands head.keyword tested (head_of (loop_claimed all.claims head.number) f.variables entry)) (λ e. In body e)
+      both = subst (λ (l : Loop). ClaimFits f.variables Stands l head.number assigned (trial_round f.variables (Some c) (Some all.claims) None Stands head.keyword tested third body) entry
+          × IfSome (entered f.variables (Some c) (Some all.claims) None Stands head.keyword tested (head_of l f.variables entry)) (λ e. In body e)) (sym claim_is)
+          (fits, if_there (entered f.variables (Some c) (Some all.claims) None Stands head.keyword tested at_head) (λ e. In body e) in_body)
 
     loop_walk : In (statement at (loop head first tested third body)) env
     loop_walk = if_there (pass_statements whole first env).normal _ (λ entry is. both entry is)
@@ -223,9 +267,9 @@ module _ (p : PlainProgram) (f : PlainFunction) (c : Claims) (typed : AreTyped (
       Comes (declared_in x) (heads_in x) (loops_within x) e found (loops_in s depth x (Some e) found)
   branch r h x truth v i depth env e found next before fair numbered placed prefix bounded is q =
       let same : next ≡ loops_in s depth x (Some e) found = is ∙ ap (λ o. loops_in s depth x o found) q in record {
-        before = before_scoped f.variables nothing (declared_in x) env e before (maybe_is f.variables nothing env (known_where truth env (assess (Some c) v env)) e (truth_scope p f (Some c) typed taken (Some all) None (λ r. refl) Stands truth v env before.knows) q) (λ n o. refl);
-        fair = fair_is p f (Some c) typed taken (Some all) None (λ r. refl) Stands (known_where truth env (assess (Some c) v env)) (known_where truth env (assess None v env)) e
-            (tests p f (Some c) typed taken (Some all) None (λ r. refl) Stands r h truth v i env env (narrower_itself f.variables env fair)) q;
+        before = before_scoped f.variables nothing (declared_in x) env e before (maybe_is f.variables nothing env (known_where truth env (assess (Some c) v env)) e (truth_scope p f (Some c) typed taken (Some all.claims) None (λ r. refl) Stands truth v env before.knows) q) (λ n o. refl);
+        fair = fair_is p f (Some c) typed taken (Some all.claims) None (λ r. refl) Stands (known_where truth env (assess (Some c) v env)) (known_where truth env (assess None v env)) e
+            (tests p f (Some c) typed taken (Some all.claims) None (λ r. refl) Stands r h truth v i env env (narrower_itself f.variables env fair)) q;
         numbered = numbered;
         placed = placed;
         prefix = subst Prefix same prefix;
@@ -246,7 +290,7 @@ module _ (p : PlainProgram) (f : PlainFunction) (c : Claims) (typed : AreTyped (
         let more = extends s depth y other next in (
           if_there first (λ e. In x e) (λ e q. walk r h x i.1 depth e found
               (branch r h x true v i.0.whole depth env e found next (before_left f.variables (declared_in x) (declared_in y) env k.before) k.fair (numbered_left (length found.claims) (heads_in x) (heads_in y) k.numbered) (each_left Placed (loops_within x) (loops_within y) k.placed)
-              (λ j l z. k.prefix j l (more.keeps j l z)) (more.bounded k.bounded) refl q)),
+              (earlier _ _ _ more k.prefix) (more.bounded k.bounded) refl q)),
           if_there other (λ e. In y e) (λ e q. walk r h y i.2 depth e next
               (branch r h y false v i.0.whole depth env e next (loops_in s depth y other next) (before_right f.variables (declared_in x) (declared_in y) env k.before) k.fair
               (numbered_right (length found.claims) (length next.claims) (heads_in x) (heads_in y) (extends s depth x first found).count k.numbered) (each_right Placed (loops_within x) (loops_within y) k.placed) k.prefix k.bounded refl q)),
@@ -269,16 +313,16 @@ module _ (p : PlainProgram) (f : PlainFunction) (c : Claims) (typed : AreTyped (
         let here = extends s depth x (Some env) found in
         let early : IsBefore f.variables (declared_in x) env = before_left f.variables (declared_in x) (declared_of rest) env k.before in
         let numbers = numbered_left (length found.claims) (heads_in x) (heads_of rest) k.numbered in
-        let prefix : Prefix next = λ j l z. k.prefix j l (more.keeps j l z) in
+        let prefix : Prefix next = earlier _ _ _ more k.prefix in
         let one : In x env = walk r h x i.0 depth env found (record { before = early; fair = k.fair; numbered = numbers; placed = each_left Placed (loops_within x) (loops_among rest) k.placed; prefix = prefix; bounded = more.bounded k.bounded }) in (
           one,
           if_there (pass_statement whole x env).normal (λ e. AllIn rest e) (λ e q.
               let same : loops_in_all s depth rest (known_after_statement s next x (Some env)) next ≡ loops_in_all s depth rest (Some e) next =
               ap (λ o. loops_in_all s depth rest o next) (ap (λ (a : Left). a.normal) (same_pass r x i.0 found next here.count numbers prefix env) ∙ q) in
               walk_all (after r x) (in_after p f r x h) rest i.1 depth e next (record {
-                before = before_rest f.variables x rest env e k.before (maybe_is f.variables (λ j. declares_here j x) env (pass_statement whole x env).normal e (statement_scoped f.variables (Some c) (Some all) None r x i.0 env early).normal q);
-                fair = fair_is p f (Some c) typed taken (Some all) None (λ r. refl) Stands (pass_statement whole x env).normal (pass_statement (trial_manner f.variables) x env).normal e
-                    (statement_fits p f (Some c) typed taken (Some all) None (λ r. refl) Stands r h x i.0 env env early (narrower_itself f.variables env k.fair) one).normal q;
+                before = before_rest f.variables x rest env e k.before (maybe_is f.variables (λ j. declares_here j x) env (pass_statement whole x env).normal e (statement_scoped f.variables (Some c) (Some all.claims) None r x i.0 env early).normal q);
+                fair = fair_is p f (Some c) typed taken (Some all.claims) None (λ r. refl) Stands (pass_statement whole x env).normal (pass_statement (trial_manner f.variables) x env).normal e
+                    (statement_fits p f (Some c) typed taken (Some all.claims) None (λ r. refl) Stands r h x i.0 env env early (narrower_itself f.variables env k.fair) one).normal q;
                 numbered = numbered_right (length found.claims) (length next.claims) (heads_in x) (heads_of rest) here.count k.numbered;
                 placed = each_right Placed (loops_within x) (loops_among rest) k.placed;
                 prefix = subst Prefix same k.prefix;
@@ -287,7 +331,7 @@ module _ (p : PlainProgram) (f : PlainFunction) (c : Claims) (typed : AreTyped (
         )
 
     walk_from : (labels : PlainLabels) (r : Region) → IsIn p f r → (n : ℕ) (xs : PlainStatements) → AreWholeStatements r xs → All (λ s. is_declaration s ≡ false) (statements_list xs) → (depth : ℕ) (env : Environment) (before : Option Environment) (found : LoopsFound) →
-        MaybeScoped f.variables nothing env before → MaybeNarrower f.variables before before → Comes (declared_of xs) (heads_of xs) (loops_among xs) env found (loops_from s depth labels n xs (Some env) before found) → FromFitted f.variables (Some c) (Some all) None Stands labels n xs env before
+        MaybeScoped f.variables nothing env before → MaybeNarrower f.variables before before → Comes (declared_of xs) (heads_of xs) (loops_among xs) env found (loops_from s depth labels n xs (Some env) before found) → FromFitted f.variables (Some c) (Some all.claims) None Stands labels n xs env before
     walk_from labels r h n no_statements i d depth env before found scoped narrow k = tt
     walk_from labels r h n (more_statements x rest) i d depth env before found scoped narrow k =
         let plain : is_declaration x ≡ false = All-head (λ s. is_declaration s ≡ false) x (statements_list rest) d in
@@ -298,7 +342,7 @@ module _ (p : PlainProgram) (f : PlainFunction) (c : Claims) (typed : AreTyped (
         let here = extends s depth x enters found in
         let early : IsBefore f.variables (declared_in x) env = before_left f.variables (declared_in x) (declared_of rest) env k.before in
         let numbers = numbered_left (length found.claims) (heads_in x) (heads_of rest) k.numbered in
-        let prefix : Prefix next = λ j l z. k.prefix j l (more.keeps j l z) in
+        let prefix : Prefix next = earlier _ _ _ more k.prefix in
         let fit : MaybeNarrower f.variables enters enters = if_narrower f.variables (integer_of f.result) (λ w. Stands w.at w.entry) (is_labelled n labels) (hull_reached before (Some env)) before (hull_reached before (Some env)) before
         (hull_narrower f.variables before (Some env) before (Some env) narrow (narrower_itself f.variables env k.fair)) narrow in
         let scope : MaybeScoped f.variables nothing env enters = if_scoped f.variables nothing env (is_labelled n labels) (hull_reached before (Some env)) before (reached_scoped f.variables nothing env before (Some env) scoped (scoped_here f.variables nothing env k.before.knows)) scoped in
@@ -307,20 +351,20 @@ module _ (p : PlainProgram) (f : PlainFunction) (c : Claims) (typed : AreTyped (
         let same : next ≡ loops_in s depth x (Some e) found = ap (λ o. loops_in s depth x o found) q in
         walk r h x i.0 depth e found (record {
           before = before_at e q;
-          fair = fair_is p f (Some c) typed taken (Some all) None (λ r. refl) Stands enters enters e fit q;
+          fair = fair_is p f (Some c) typed taken (Some all.claims) None (λ r. refl) Stands enters enters e fit q;
           numbered = numbers;
           placed = each_left Placed (loops_within x) (loops_among rest) k.placed;
           prefix = subst Prefix same prefix;
           bounded = subst (λ (z : LoopsFound). z.unbounded ≡ []) same (more.bounded k.bounded);
         })) in
-        let passed : Fine p f (Some c) typed taken (Some all) None (λ r. refl) Stands (where_going enters (λ env. pass_statement whole x env)) (where_going enters (λ env. pass_statement (trial_manner f.variables) x env)) =
+        let passed : Fine p f (Some c) typed taken (Some all.claims) None (λ r. refl) Stands (where_going enters (λ env. pass_statement whole x env)) (where_going enters (λ env. pass_statement (trial_manner f.variables) x env)) =
         going_fit f.variables (integer_of f.result) (λ w. Stands w.at w.entry) enters enters (λ env. pass_statement whole x env) (λ env. pass_statement (trial_manner f.variables) x env) fit
-        (λ e w q l. statement_fits p f (Some c) typed taken (Some all) None (λ r. refl) Stands r h x i.0 e w (before_at e q) l (if_known p f (Some c) typed taken (Some all) None (λ r. refl) Stands enters (λ e. In x e) e one q)) in
+        (λ e w q l. statement_fits p f (Some c) typed taken (Some all.claims) None (λ r. refl) Stands r h x i.0 e w (before_at e q) l (if_known p f (Some c) typed taken (Some all.claims) None (λ r. refl) Stands enters (λ e. In x e) e one q)) in
         let same : loops_from s depth labels (suc n) rest (Some env) (known_after_statement s next x enters) next ≡ loops_from s depth labels (suc n) rest (Some env) later next =
         ap (λ o. loops_from s depth labels (suc n) rest (Some env) o next) (after_same r x i.0 found next here.count numbers prefix enters) in (
           one,
           walk_from labels (after r x) (in_after p f r x h) (suc n) rest i.1 (All-tail (λ s. is_declaration s ≡ false) x (statements_list rest) d) depth env later next
-              (item_scoped f.variables (Some c) (Some all) None r x i.0 plain env early enters scope).normal (maybe_itself f.variables later _ passed.normal) (record {
+              (item_scoped f.variables (Some c) (Some all.claims) None r x i.0 plain env early enters scope).normal (maybe_itself f.variables later _ passed.normal) (record {
                 before = before_right f.variables (declared_in x) (declared_of rest) env k.before;
                 fair = k.fair;
                 numbered = numbered_right (length found.claims) (length next.claims) (heads_in x) (heads_of rest) here.count k.numbered;

@@ -32,12 +32,15 @@ use Rattle.p10_known.specs.Typing.{AreOfTypes, MaybeOfTypes, ResultsOfTypes}
 use Rattle.p10_known.proofs.Ranges.{all_of_type, number_of_type, hull_of_type, Has, MaybeHas}
 use Rattle.p10_known.proofs.Environments.{learned_types, changed_types, forgotten_types}
 use Rattle.p10_known.proofs.Values.{IsSeen, Sees, value_has, found_of_type}
-use Rattle.p10_finder.specs.declared.course.Course.{Course}
-use Rattle.p10_finder.specs.declared.course.Course.TheVariants.{Below, AtMost, Above, AtLeast}
-use Rattle.p10_finder.specs.Candidates.{LoopEntry, conjuncts, conjuncts_of_form, guard_conjuncts, variable_named, variable_under, variable_under_form, courses_of, rank_along, range_along, Candidate, any_trial, moved_along, trial_along, is_variable_in, candidate_along, course_candidates, side_candidates, zero_for, conjunct_candidates, one_candidate, candidates}
-use Rattle.p10_finder.specs.Trials.{Rounds, with_known, with_back, head_after, tried_head, turns_from, claim_of, stands_alone, first_standing, found_by, unreached_found}
+use Rattle.p10_candidates.specs.declared.course.Course.{Course}
+use Rattle.p10_candidates.specs.declared.course.Course.TheVariants.{Below, AtMost, Above, AtLeast}
+use Rattle.p10_candidates.specs.Candidates.{LoopEntry, conjuncts, conjuncts_of_form, guard_conjuncts, variable_named, variable_under, variable_under_form, courses_of, rank_along, range_along, Candidate, any_trial, moved_along, trial_along, is_variable_in, candidate_along, course_candidates, side_candidates, zero_for, conjunct_candidates, one_candidate, candidates}
+use Rattle.p10_candidates.specs.Trials.{Rounds, with_known, with_back, head_after, tried_head, turns_from, claim_of, stands_alone, first_standing, found_by, unreached_found}
 use Rattle.p10_finder.specs.Loops.{entered_found}
+use Rattle.p10_derived_texts.specs.Approaching.{AreNear}
 use Rattle.p10_derived_texts.proofs.Claims.{all_append, all_take, all_flat, rank_fits, rank_plain, RankFits, LoopFits, claim_fits}
+use Rattle.p10_approach.specs.Approaches.{Approached}
+use Rattle.p10_approach.specs.Offers.{IsOffer}
 
 -- without claims each result is of its type
 pub no_results : (p : PlainProgram) → ResultsOfTypes p None
@@ -202,13 +205,25 @@ module _ (p : PlainProgram) (f : PlainFunction) (c : Surroundings) (sees : Sees 
       found_good keyword None h = record { fits = claim_fits f.variables (any_trial l) any_typed assigned guard entry depth One 0 tt; depth_is = refl; tasks_are = refl }
       found_good keyword (Some x) h = h
 
-      pub entered_good : (task : Bool) (keyword : Span) → IsMaybeTest c guard → Good f.variables depth (if task then 1 else 0) (entered_found task keyword round l depth).claim
-      entered_good true keyword i = record {
+      pub entered_good : (offered : Option Approached) → IfSome offered (IsOffer f l depth) → (task : Bool) (keyword : Span) → IsMaybeTest c guard → Good f.variables depth (if task then 1 else 0) (entered_found offered task keyword round l depth).claim
+      entered_good offered offer true keyword i = record {
         fits = claim_fits f.variables (tried_head round l (any_trial l)) (head_typed (round (any_trial l)).back (goes (any_trial l) any_typed)) assigned guard entry depth Task 0 tt;
         depth_is = refl;
         tasks_are = refl;
       }
-      entered_good false keyword i = found_good keyword (first_standing round l depth (candidates l)) (standing_good (candidates l) (candidates_fit i))
+      entered_good (Some a) offer false keyword i =
+          subst (Good f.variables depth 0) (sym offer.claim) (record { fits = claim_fits f.variables (any_trial l) any_typed assigned guard entry depth One a.claim.turns tt; depth_is = refl; tasks_are = refl })
+      entered_good None offer false keyword i = found_good keyword (first_standing round l depth (candidates l)) (standing_good (candidates l) (candidates_fit i))
+
+      -- two variables that approach each other are the function's
+      by_claim : (keyword : Span) (o : Option Loop) → AreNear f.variables (found_by keyword l depth o).approach
+      by_claim keyword None = tt
+      by_claim keyword (Some x) = tt
+
+      pub entered_near : (offered : Option Approached) → IfSome offered (IsOffer f l depth) → (task : Bool) (keyword : Span) → AreNear f.variables (entered_found offered task keyword round l depth).approach
+      entered_near offered offer true keyword = tt
+      entered_near (Some a) offer false keyword = (offer.below, offer.above)
+      entered_near None offer false keyword = by_claim keyword (first_standing round l depth (candidates l))
 
   pub unreached_fits : (depth : ℕ) (rank : Rank) → RankFits (length f.variables) rank → LoopFits f.variables (unreached_found depth rank).claim
   unreached_fits depth rank r = record { lines = tt; small = tt; rise = tt; rank = r }

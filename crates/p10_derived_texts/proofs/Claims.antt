@@ -17,10 +17,10 @@ use Rattle.p10_cert.specs.Lines.{IsEnd, AreEnds}
 use Rattle.p10_absx.specs.Abstract.{Abstract}
 use Rattle.p10_absx.specs.Environments.{Environment, known}
 use Rattle.p10_known.specs.Typing.{AreOfTypes, LineOfType, LinesOfTypes}
-use Rattle.p10_finder.specs.declared.course.Course.{Course}
-use Rattle.p10_finder.specs.declared.course.Course.TheVariants.{Below, AtMost, Above, AtLeast}
-use Rattle.p10_finder.specs.Candidates.{rank_along}
-use Rattle.p10_finder.specs.Trials.{is_whole_range, line_for, lines_from, claim_by}
+use Rattle.p10_candidates.specs.declared.course.Course.{Course}
+use Rattle.p10_candidates.specs.declared.course.Course.TheVariants.{Below, AtMost, Above, AtLeast}
+use Rattle.p10_candidates.specs.Candidates.{rank_along}
+use Rattle.p10_candidates.specs.Trials.{is_whole_range, line_for, lines_from, claim_by}
 
 -- ## Lists
 

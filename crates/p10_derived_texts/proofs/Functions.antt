@@ -30,16 +30,18 @@ use Rattle.p10_sums.specs.declared.sum.FuncSum.{FuncSum}
 use Rattle.p10_sums.specs.Sums.{keeps_limit, sum_at, sums_from, all_sums}
 use Rattle.p10_known.specs.Typing.{LineOfType}
 use Rattle.p10_known.proofs.Ranges.{all_of_type}
-use Rattle.p10_finder.specs.Trials.{counted}
-use Rattle.p10_finder.specs.Functions.{any_value, loops_of, result_of, func_found}
+use Rattle.p10_candidates.specs.Trials.{counted}
+use Rattle.p10_finder.specs.Functions.{any_value, loops_of, result_of, with_turn_steps, counted_sum, func_found}
 use Rattle.p10_finder.specs.Answers.{AreClaims, PassesSum, PassesText}
 use Rattle.p10_derived_texts.specs.Naming.{AreNamed}
 use Rattle.p10_derived_texts.proofs.Lengths.{functions_in_text, loops_in_text, depths_nest}
 use Rattle.p10_derived_texts.proofs.Ranks.{rank_small, edge_held}
 use Rattle.p10_derived_texts.proofs.Claims.{all_more, ends_of_type, RankFits, LoopFits}
 use Rattle.p10_derived_texts.proofs.Walking.{Right, Shallow, task_count, no_task_among, numbers_in}
+use Rattle.p10_derived_texts.specs.Approaching.{AreFew}
 use Rattle.p10_derived_texts.proofs.Results.{value_claimed, loops_right, few_tasks, result_has, each_claim, rank_is, claims_results}
 use Rattle.p10_derived_texts.proofs.Turning.{turned_fit, turned_shallow, turned_nest, turned_tasks}
+use Rattle.p10_approach.specs.Offers.{Offers, AreOffers}
 
 -- ## Lists
 
@@ -59,7 +61,7 @@ all_contained P (x ∷ xs) h = (h x (here x xs), all_contained P xs (λ y k. h y
 
 -- ## Limits
 
-small_bytes : (n : ℕ) → n ≤ MOST_CERTIFICATE_BYTES → n < 2 ^ 32
+pub small_bytes : (n : ℕ) → n ≤ MOST_CERTIFICATE_BYTES → n < 2 ^ 32
 small_bytes n h = omega (arith, h)
 
 small_frame : (n : ℕ) → n ≤ MOST_OBJECT_BYTES → n < 2 ^ 32
@@ -135,7 +137,7 @@ module _ (variables : List PlainVariable) (few : length variables < 2 ^ 32) wher
 
 -- ## Functions
 
-module _ (p : PlainProgram) (whole : IsWholeProgram p) (named : AreNamed p) (c : Claims) (is : AreClaims p c) (sums : PassesSum p c → ⊥) (text : PassesText c → ⊥) where
+module _ (o : Offers) (are : AreOffers o) (p : PlainProgram) (whole : IsWholeProgram p) (named : AreNamed p) (c : Claims) (is : AreClaims o p c) (sums : PassesSum p c → ⊥) (text : PassesText c → ⊥) where
   -- the text isn't too long
   text_short : length (certificate_text c) ≤ MOST_CERTIFICATE_BYTES
   text_short = elim (cases_lt MOST_CERTIFICATE_BYTES (length (certificate_text c))) [ inl over ↦ absurd (text over) | inr short ↦ short ]
@@ -178,7 +180,7 @@ module _ (p : PlainProgram) (whole : IsWholeProgram p) (named : AreNamed p) (c :
 
   module _ (n : ℕ) (f : PlainFunction) (claim : Func) (there_f : slice_get p.functions n ≡ Some f) (claimed : slice_get c.funcs n ≡ Some claim) where
     abbrev g : Func
-    g = func_found p c n claim.rank f
+    g = func_found o p c n claim.rank f
 
     claim_is : claim ≡ g
     claim_is = is.each n f claim there_f claimed
@@ -189,20 +191,20 @@ module _ (p : PlainProgram) (whole : IsWholeProgram p) (named : AreNamed p) (c :
     abbrev w : IsWholeFunction p n f
     w = whole.functions n f there_f
 
-    abbrev right : Right p f c (claims_results p whole c is) (task_loop_number p n f) 0 (task_count (task_loop_number p n f) (heads_of f.body)) (loops_of p c n f)
-    right = loops_right p whole c (claims_results p whole c is) n f there_f
+    abbrev right : Right p f c (claims_results o are p whole c is) (task_loop_number p n f) (o n f) (are n f) 0 (task_count (task_loop_number p n f) (heads_of f.body)) (loops_of o p c n f)
+    right = loops_right o are p whole c (claims_results o are p whole c is) n f there_f
 
-    few_variables : length f.variables < 2 ^ 32
+    pub few_variables : length f.variables < 2 ^ 32
     few_variables =
         let bytes : length f.variables ≤ frame_bytes f = variables_in_frame p.structures whole.structures f.variables w.variables in
         let small : frame_bytes f ≤ MOST_OBJECT_BYTES = w.small in
         small_frame (length f.variables) (omega (arith, bytes, small))
 
-    few_functions : length p.functions < 2 ^ 32
+    pub few_functions : length p.functions < 2 ^ 32
     few_functions =
         let in_text : length c.funcs ≤ length (certificate_text c) = functions_in_text c in
         let short : length (certificate_text c) ≤ MOST_CERTIFICATE_BYTES = text_short in
-        let each : length c.funcs ≡ length p.functions = each_claim p whole c is in
+        let each : length c.funcs ≡ length p.functions = each_claim o are p whole c is in
         small_bytes (length p.functions) (omega (arith, in_text, short, each))
 
     rank_index : IsIndex claim.rank
@@ -210,11 +212,11 @@ module _ (p : PlainProgram) (whole : IsWholeProgram p) (named : AreNamed p) (c :
         let nodes : length (call_graph p) ≡ length p.functions = length-map p.functions (callees_of (length p.functions)) in
         let low : n < length p.functions = slice_get_within p.functions n f there_f in
         let small : slice_index (map (λ (f : Func). f.rank) c.funcs) n < length (call_graph p) = rank_small (call_graph p) (map (λ (f : Func). f.rank) c.funcs) is.ranks (edge_held p) n (omega (arith, low, nodes)) in
-        let rank : slice_index (map (λ (f : Func). f.rank) c.funcs) n ≡ claim.rank = rank_is p whole c is n claim claimed in
+        let rank : slice_index (map (λ (f : Func). f.rank) c.funcs) n ≡ claim.rank = rank_is o are p whole c is n claim claimed in
         record { small = omega (arith, small, rank, nodes, few_functions) }
 
     nest : NestFrom 0 g.loops
-    nest = turned_nest _ 0 (loops_of p c n f).claims (subst (NestFrom 0) (append_none (loops_of p c n f).claims) (right.nesting [] (λ m i. tt)))
+    nest = turned_nest _ 0 (loops_of o p c n f).claims (subst (NestFrom 0) (append_none (loops_of o p c n f).claims) (right.nesting [] (λ m i. tt)))
       where
         append_none : (xs : List Loop) → xs ++ [] ≡ xs
         append_none [] = refl
@@ -226,12 +228,28 @@ module _ (p : PlainProgram) (whole : IsWholeProgram p) (named : AreNamed p) (c :
         let few : length g.loops < 2 ^ 32 = small_bytes (length g.loops) (omega (arith, in_text, text_short)) in
         all_more (λ (l : Loop). l.depth < 0 + length g.loops) (λ (l : Loop). l.depth < 2 ^ 32) g.loops (λ l h. omega (arith, h, few)) (depths_nest 0 g.loops nest)
 
+    -- its numbers
+    pub function_few : AreFew o p c n f
+    function_few =
+        let low : n < length p.functions = slice_get_within p.functions n f there_f in
+        record {
+          function = omega (arith, low, few_functions);
+          variables = few_variables;
+          near = right.near;
+          each = λ other there.
+              let same : g ≡ other = same_claim g other (sym g_there ∙ there) in
+              right.marked ∙ (sym (length-map (loops_of o p c n f).claims (with_turn_steps (counted_sum (sum_at p c.funcs n)).turn)) ∙ ap (λ (x : Func). length x.loops) same);
+        }
+      where
+        same_claim : (x y : Func) → Some x ≡ Some y → x ≡ y
+        same_claim x y e = cc
+
     -- how many tasks are claimed
     pub tasks_are : loop_tasks claim.loops ≡ task_count (task_loop_number p n f) (heads_of f.body)
-    tasks_are = ap (λ (x : Func). loop_tasks x.loops) claim_is ∙ (turned_tasks _ (loops_of p c n f).claims ∙ right.tasks_are)
+    tasks_are = ap (λ (x : Func). loop_tasks x.loops) claim_is ∙ (turned_tasks _ (loops_of o p c n f).claims ∙ right.tasks_are)
 
     pub few_are : loop_tasks claim.loops ≤ 1
-    few_are = let few = few_tasks p whole c (claims_results p whole c is) n f there_f in let same = tasks_are in omega (arith, few, same)
+    few_are = let few = few_tasks o are p whole c (claims_results o are p whole c is) n f there_f in let same = tasks_are in omega (arith, few, same)
 
     pub none_elsewhere : nat_eq n p.main ≡ false → loop_tasks claim.loops ≡ 0
     none_elsewhere e =
@@ -251,8 +269,8 @@ module _ (p : PlainProgram) (whole : IsWholeProgram p) (named : AreNamed p) (c :
         record {
           head = record { name = named.names n f there_f; rank = rank_index; steps = s.steps; calls = s.calls; bytes = s.bytes };
           params = params_are (parameter_types f) w.parameters_scalar;
-          result = result_is (integer_of f.result) (result_of p c n f) (result_has p whole c (claims_results p whole c is) n f there_f);
-          loops = loops_are f.variables few_variables g.loops (turned_fit _ f.variables (loops_of p c n f).claims right.fits) (turned_shallow _ (loops_of p c n f).claims right.shallow) (turns_small g (contains_at c.funcs n g g_there)) depths_small;
+          result = result_is (integer_of f.result) (result_of o p c n f) (result_has o are p whole c (claims_results o are p whole c is) n f there_f);
+          loops = loops_are f.variables few_variables g.loops (turned_fit _ f.variables (loops_of o p c n f).claims right.fits) (turned_shallow _ (loops_of o p c n f).claims right.shallow) (turns_small g (contains_at c.funcs n g g_there)) depths_small;
           nest = nest;
           task = λ some. task_name (subst (λ (x : Func). 0 < loop_tasks x.loops) (sym claim_is) some);
         }

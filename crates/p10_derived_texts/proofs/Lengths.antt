@@ -79,6 +79,14 @@ one_among (g ∷ funcs) (suc n) f e = omega (arith, one_among funcs n f e, lengt
 pub loops_in_text : (c : Claims) (n : ℕ) (f : Func) → slice_get c.funcs n ≡ Some f → length f.loops ≤ length (certificate_text c)
 loops_in_text c n f e = omega (arith, loops_in_lines f, one_among c.funcs n f e, lines_of_functions c)
 
+-- nor in all functions
+all_in_lines : (funcs : List Func) → length (flat_map (λ (g : Func). g.loops) funcs) ≤ length (flat_map func_lines funcs)
+all_in_lines [] = omega arith
+all_in_lines (g ∷ funcs) = omega (arith, loops_in_lines g, all_in_lines funcs, length-append g.loops (flat_map (λ (g : Func). g.loops) funcs), length-append (func_lines g) (flat_map func_lines funcs))
+
+pub all_loops_in_text : (c : Claims) → length (flat_map (λ (g : Func). g.loops) c.funcs) ≤ length (certificate_text c)
+all_loops_in_text c = omega (arith, all_in_lines c.funcs, lines_of_functions c)
+
 -- loops that nest are no deeper than there are loops
 pub depths_nest : (most : ℕ) (loops : List Loop) → NestFrom most loops → AllByRecursion (λ (l : Loop). l.depth < most + length loops) loops
 depths_nest most [] h = tt

@@ -36,6 +36,7 @@ use Rattle.p10_finder.proofs.SameValues.{SayTheSame, Same}
 use Rattle.p10_finder.proofs.SameLoops.{result_same}
 use Rattle.p10_finder.proofs.OneResult.{edges_each}
 use Rattle.p10_derived_texts.proofs.Walking.{Right, right_so, lines_of, task_count, tasks_among, one_task_among, function_free, statements_right}
+use Rattle.p10_approach.specs.Offers.{Offers, AreOffers}
 
 -- ## Where a function begins
 
@@ -83,7 +84,7 @@ by_has (structure c n) o h = all_of_type (integer_of (structure c n))
 
 -- ## Functions, where results of callees are of their types
 
-module _ (p : PlainProgram) (whole : IsWholeProgram p) (d : Claims) (results : ResultsOfTypes p (Some d)) (n : ℕ) (f : PlainFunction) (there : slice_get p.functions n ≡ Some f) where
+module _ (o : Offers) (are : AreOffers o) (p : PlainProgram) (whole : IsWholeProgram p) (d : Claims) (results : ResultsOfTypes p (Some d)) (n : ℕ) (f : PlainFunction) (there : slice_get p.functions n ≡ Some f) where
   abbrev is_whole : IsWholeFunction p n f
   is_whole = whole.functions n f there
 
@@ -94,18 +95,18 @@ module _ (p : PlainProgram) (whole : IsWholeProgram p) (d : Claims) (results : R
   pub few_tasks : task_count (task_loop_number p n f) (heads_of f.body) ≤ 1
   few_tasks = subst (λ ns. tasks_among (task_loop_number p n f) ns ≤ 1) (sym is_whole.loops_in_order) (one_task_among (task_loop_number p n f) 0 (length (heads_of f.body)))
 
-  pub loops_right : Right p f d results (task_loop_number p n f) 0 (task_count (task_loop_number p n f) (heads_of f.body)) (loops_of p d n f)
-  loops_right = right_so p f d results (task_loop_number p n f) 0 _ _ _ (omega arith)
-      (statements_right p f d results (task_loop_number p n f) (region_of p n f) lies 0 0 f.body is_whole.body (function_free p n f few_tasks) (Some (known_at_start f)) (start_typed f) no_loops
-      (record { fits = tt; nesting = λ rest h. h 0 (omega arith); tasks_are = refl; shallow = tt }))
+  pub loops_right : Right p f d results (task_loop_number p n f) (o n f) (are n f) 0 (task_count (task_loop_number p n f) (heads_of f.body)) (loops_of o p d n f)
+  loops_right = right_so p f d results (task_loop_number p n f) (o n f) (are n f) 0 _ _ _ (omega arith)
+      (statements_right p f d results (task_loop_number p n f) (o n f) (are n f) (region_of p n f) lies 0 0 f.body is_whole.body (function_free p n f few_tasks) (Some (known_at_start f)) (start_typed f) no_loops
+      (record { fits = tt; nesting = λ rest h. h 0 (omega arith); tasks_are = refl; shallow = tt; marked = refl; near = tt }))
 
-  pub result_has : IsOfType (integer_of f.result) (value_claimed (integer_of f.result) (result_of p d n f))
-  result_has = by_has f.result _ (statements_types p f (Some d) results (Some (loops_of p d n f).claims) (lines_of p f d results (task_loop_number p n f) (loops_of p d n f).claims loops_right.fits) None
+  pub result_has : IsOfType (integer_of f.result) (value_claimed (integer_of f.result) (result_of o p d n f))
+  result_has = by_has f.result _ (statements_types p f (Some d) results (Some (loops_of o p d n f).claims) (lines_of p f d results (task_loop_number p n f) (o n f) (are n f) (loops_of o p d n f).claims loops_right.fits) None
       (region_of p n f) lies f.body is_whole.body (known_at_start f) (start_typed f)).returned
 
 -- ## By ranks
 
-module _ (p : PlainProgram) (whole : IsWholeProgram p) (c : Claims) (is : AreClaims p c) where
+module _ (o : Offers) (are : AreOffers o) (p : PlainProgram) (whole : IsWholeProgram p) (c : Claims) (is : AreClaims o p c) where
   abbrev cut_func : ℕ → Func → Func
   cut_func k g = if nat_lt g.rank k then g else record g { result = Nothing }
 
@@ -158,10 +159,10 @@ module _ (p : PlainProgram) (whole : IsWholeProgram p) (c : Claims) (is : AreCla
       let called : EachCalled (Same c (cut k)) (nodes_of_statements f.body) = edges_each p (Same c (cut k)) n f there
       (λ m edge. cut_same k m (λ h e. smaller m h e (above m edge)))
       (λ m past. cut_same k m (λ h e. absurd (none_there m h past e))) in
-      let same : result_of p c n f ≡ result_of p (cut k) n f = result_same p c (cut k) n f called in
-      let found : g.result ≡ result_of p c n f = ap (λ (q : Func). q.result) (is.each n f g there claimed) in
+      let same : result_of o p c n f ≡ result_of o p (cut k) n f = result_same o p c (cut k) n f called in
+      let found : g.result ≡ result_of o p c n f = ap (λ (q : Func). q.result) (is.each n f g there claimed) in
       subst (IsOfType (integer_of f.result)) (sym (claimed_is (integer_of f.result) g ∙ ap (value_claimed (integer_of f.result)) (found ∙ same)))
-      (result_has p whole (cut k) (cut_results k (results_below k)) n f there)
+      (result_has o are p whole (cut k) (cut_results k (results_below k)) n f there)
     where
       inside : n < length (call_graph p)
       inside = let nodes : length (call_graph p) ≡ length p.functions = length-map p.functions (callees_of (length p.functions)) in omega (arith, nodes, get_below p.functions n f there)

@@ -1,6 +1,6 @@
 -- All loops that are found in statements: their claims fit, their depths nest, and as many are tasks as have the task's number.
-use Rattle.std.proofs.Common.{◌≡◌, ℕ, zero, suc, ◌+◌, ◌≤◌, Bool, true, false, List, [], ◌∷◌, ◌++◌, map, Option, Some, None, refl, sym, ap, ◌∙◌, subst, arith, nat_eq, ◌⊎◌, inl, inr}
-use Rattle.std.specs.Prelude.{slice_get, if◌then◌else◌}
+use Rattle.std.proofs.Common.{◌≡◌, ℕ, zero, suc, ◌+◌, ◌≤◌, Bool, true, false, List, [], ◌∷◌, ◌++◌, length, length-append, map, Option, Some, None, refl, sym, ap, ◌∙◌, subst, arith, nat_eq, ◌⊎◌, inl, inr}
+use Rattle.std.specs.Prelude.{slice_get, if◌then◌else◌, IfSome}
 use Rattle.std.specs.List.{AllByRecursion}
 use Rattle.std.proofs.lemmas.Bool.{eqb-true, eqb-false}
 use Rattle.std.proofs.lemmas.Option.{same_Some, none-some}
@@ -25,10 +25,16 @@ use Rattle.p10_known.proofs.Values.{maybe_then}
 use Rattle.p10_known.proofs.Ends.{if_types}
 use Rattle.p10_known.proofs.Parts.{head_types, known_types, round_types}
 use Rattle.p10_known.proofs.Statements.{Lies, sees, after_lies, all_lies, statement_types, statements_types}
-use Rattle.p10_finder.specs.Trials.{Rounds, LoopFound}
-use Rattle.p10_finder.specs.Loops.{Search, LoopsFound, with_loop, known_after_statement, known_where_value, known_after_value, known_at_entry, known_in_body, known_under, assigned_in, loop_entry, trial_rounds, reached_found, LoopPassed, loop_passed, loops_in, loops_in_form, loops_in_all, loops_in_switch, loops_in_cases, loops_from}
+use Rattle.p10_candidates.specs.Trials.{Rounds, LoopFound}
+use Rattle.p10_finder.specs.Loops.{Search, LoopsFound, with_loop, known_after_statement, known_where_value, known_after_value, known_at_entry, known_in_body, known_under, assigned_in, loop_entry, reached_found, LoopPassed, loop_passed, loops_in, loops_in_form, loops_in_all, loops_in_switch, loops_in_cases, loops_from}
+use Rattle.p10_candidates.specs.Trials.{trial_rounds}
 use Rattle.p10_derived_texts.proofs.Claims.{all_append, all_more, LoopFits}
-use Rattle.p10_derived_texts.proofs.Candidates.{no_results, Good, entered_good, unreached_fits}
+use Rattle.p10_derived_texts.specs.Approaching.{AreNear}
+use Rattle.p10_derived_texts.proofs.Candidates.{no_results, Good, entered_good, entered_near, unreached_fits}
+use Rattle.p10_turns.specs.LoopParts.{LoopParts}
+use Rattle.p10_candidates.specs.Candidates.{LoopEntry}
+use Rattle.p10_approach.specs.Approaches.{Approached}
+use Rattle.p10_approach.specs.Offers.{IsOffer}
 
 -- ## Lists of claims
 
@@ -196,9 +202,10 @@ function_free p n f few = at (nat_eq n p.main) few
 
 -- ## Loops that are found
 
-module _ (p : PlainProgram) (f : PlainFunction) (calls : Claims) (results : ResultsOfTypes p (Some calls)) (task : Option ℕ) where
+module _ (p : PlainProgram) (f : PlainFunction) (calls : Claims) (results : ResultsOfTypes p (Some calls)) (task : Option ℕ)
+    (offers : ℕ → ℕ → Option LoopParts → LoopEntry → Option Approached) (are : (k depth : ℕ) (parts : Option LoopParts) (l : LoopEntry) → IfSome (offers k depth parts l) (IsOffer f l depth)) where
   abbrev s : Search
-  s = record { calls = calls; variables = f.variables; task = task }
+  s = record { calls = calls; variables = f.variables; task = task; offers = offers }
 
   abbrev Typed : Option Environment → Type 0
   Typed o = MaybeOfTypes f.variables o
@@ -209,9 +216,11 @@ module _ (p : PlainProgram) (f : PlainFunction) (calls : Claims) (results : Resu
     pub nesting : OpenFrom depth found.claims
     pub tasks_are : loop_tasks found.claims ≡ tasks
     pub shallow : AllByRecursion Shallow found.claims
+    pub marked : length found.approaches ≡ length found.claims
+    pub near : AllByRecursion (AreNear f.variables) found.approaches
 
   pub right_so : (depth t u : ℕ) (found : LoopsFound) → t ≡ u → Right depth t found → Right depth u found
-  right_so depth t u found e h = record { fits = h.fits; nesting = h.nesting; tasks_are = h.tasks_are ∙ e; shallow = h.shallow }
+  right_so depth t u found e h = record { fits = h.fits; nesting = h.nesting; tasks_are = h.tasks_are ∙ e; shallow = h.shallow; marked = h.marked; near = h.near }
 
   pub lines_of : (loops : List Loop) → AllByRecursion (LoopFits f.variables) loops → AllByRecursion (LinesOfTypes f.variables) loops
   lines_of loops h = all_more (LoopFits f.variables) (LinesOfTypes f.variables) loops (λ l k. k.lines) h
@@ -249,6 +258,9 @@ module _ (p : PlainProgram) (f : PlainFunction) (calls : Claims) (results : Resu
     body_lies : Lies p f (record inner { in_loop = true })
     body_lies = record { program_is = lies.program_is; function_is = lies.function_is }
 
+    abbrev parts : Option LoopParts
+    parts = Some (record { head = head; first = first; tested = tested; third = third; body = body })
+
     abbrev rounds : Rounds
     rounds = trial_rounds f.variables head.keyword tested third body
 
@@ -256,10 +268,16 @@ module _ (p : PlainProgram) (f : PlainFunction) (calls : Claims) (results : Resu
     rounds_go env h = (round_types p f None (no_results p) None None (around inner) (sees p f inner lies) head.keyword tested whole.1 (λ env. pass_statements (trial_manner f.variables) third env) (λ env. pass_statement (trial_manner f.variables) body env)
         (λ e k. statements_types p f None (no_results p) None tt None inner lies third whole.2 e k) (λ e k. statement_types p f None (no_results p) None tt None (record inner { in_loop = true }) body_lies body whole.3 e k) env h).back
 
-    reached_good : (b : Bool) (assigned : ℕ → Bool) (o : Option Environment) → Typed o → Good f.variables depth (if b then 1 else 0) (reached_found b head.span rounds (loop_entry s assigned tested) depth o).claim
+    reached_good : (b : Bool) (assigned : ℕ → Bool) (o : Option Environment) → Typed o → Good f.variables depth (if b then 1 else 0) (reached_found (offers head.number depth parts) b head.span rounds (loop_entry s assigned tested) depth o).claim
     reached_good true assigned None h = record { fits = unreached_fits p f (around inner) (sees p f inner lies) depth Task tt; depth_is = refl; tasks_are = refl }
     reached_good false assigned None h = record { fits = unreached_fits p f (around inner) (sees p f inner lies) depth One tt; depth_is = refl; tasks_are = refl }
-    reached_good b assigned (Some entry) h = entered_good p f (around inner) (sees p f inner lies) assigned tested entry h rounds rounds_go depth b head.span whole.1
+    reached_good b assigned (Some entry) h =
+        entered_good p f (around inner) (sees p f inner lies) assigned tested entry h rounds rounds_go depth (offers head.number depth parts (loop_entry s assigned tested entry)) (are head.number depth parts (loop_entry s assigned tested entry)) b head.span whole.1
+
+    reached_near : (b : Bool) (assigned : ℕ → Bool) (o : Option Environment) → Typed o → AreNear f.variables (reached_found (offers head.number depth parts) b head.span rounds (loop_entry s assigned tested) depth o).approach
+    reached_near b assigned None h = tt
+    reached_near b assigned (Some entry) h =
+        entered_near p f (around inner) (sees p f inner lies) assigned tested entry h rounds rounds_go depth (offers head.number depth parts (loop_entry s assigned tested entry)) (are head.number depth parts (loop_entry s assigned tested entry)) b head.span
 
     -- what is known in its body under its claim
     under_typed : (x : Loop) → LoopFits f.variables x → (o : Option Environment) → Typed o → Typed (known_under s head.keyword tested x o)
@@ -270,12 +288,14 @@ module _ (p : PlainProgram) (f : PlainFunction) (calls : Claims) (results : Resu
     where_shallow false x (inl e) g = inl g.tasks_are
     where_shallow b x (inr e) g = inr (g.depth_is ∙ e)
 
-    with_right : (found : LoopsFound) (x : LoopFound) (t u : ℕ) → Right depth t found → Good f.variables depth u x.claim → Shallow x.claim → Right (suc depth) (t + u) (with_loop found x)
-    with_right found x t u h g shallow = record {
+    with_right : (found : LoopsFound) (x : LoopFound) (t u : ℕ) → Right depth t found → Good f.variables depth u x.claim → Shallow x.claim → AreNear f.variables x.approach → Right (suc depth) (t + u) (with_loop found x)
+    with_right found x t u h g shallow near = record {
       fits = all_append (LoopFits f.variables) found.claims (x.claim ∷ []) h.fits (g.fits, tt);
       nesting = open_more depth found.claims x.claim g.depth_is h.nesting;
       tasks_are = tasks_append found.claims x.claim ∙ (let a = h.tasks_are in let b = g.tasks_are in omega (arith, a, b));
       shallow = all_append Shallow found.claims (x.claim ∷ []) h.shallow (shallow, tt);
+      marked = length-append found.approaches (x.approach ∷ []) ∙ (ap (λ n. n + 1) h.marked ∙ sym (length-append found.claims (x.claim ∷ [])));
+      near = all_append (AreNear f.variables) found.approaches (x.approach ∷ []) h.near (near, tt);
     }
 
     -- what is there before the loops in its body
@@ -287,7 +307,7 @@ module _ (p : PlainProgram) (f : PlainFunction) (calls : Claims) (results : Resu
     passed t env found h k top =
         let entry : Typed (known_at_entry s found first env) = entry_typed r l first whole.0 found k.fits env h in
         let good : Good f.variables depth (if is_task task head.number then 1 else 0) _ = reached_good (is_task task head.number) (assigned_in s (loop head first tested third body)) (known_at_entry s found first env) entry in
-        record { found = with_right found _ t (if is_task task head.number then 1 else 0) k good (where_shallow (is_task task head.number) _ top good); inside = under_typed _ good.fits (known_at_entry s found first env) entry }
+        record { found = with_right found _ t (if is_task task head.number then 1 else 0) k good (where_shallow (is_task task head.number) _ top good) (reached_near (is_task task head.number) (assigned_in s (loop head first tested third body)) (known_at_entry s found first env) entry); inside = under_typed _ good.fits (known_at_entry s found first env) entry }
 
   -- ## All loops
 
@@ -310,7 +330,7 @@ module _ (p : PlainProgram) (f : PlainFunction) (calls : Claims) (results : Resu
     form_right r l depth t (loop head first tested third body) i w env h found k =
         let one : Passed r l depth head first tested third body i t (loop_passed s depth head first tested third body env found) = passed r l depth head first tested third body i t env found h k w.0 in
         let inside = statement_right (record (after_all r first) { in_loop = true }) (body_lies r l depth head first tested third body i) (suc depth) (t + (if is_task task head.number then 1 else 0)) body i.3 w.1 _ one.inside _ one.found in
-        record { fits = inside.fits; nesting = open_less depth (suc depth) _ (omega arith) inside.nesting; tasks_are = inside.tasks_are ∙ omega arith; shallow = inside.shallow }
+        record { fits = inside.fits; nesting = open_less depth (suc depth) _ (omega arith) inside.nesting; tasks_are = inside.tasks_are ∙ omega arith; shallow = inside.shallow; marked = inside.marked; near = inside.near }
     form_right r l depth t (switch keyword v labels body) i w env h found k = switch_right (record r { in_switch = true }) (record { program_is = l.program_is; function_is = l.function_is }) depth t labels body i.1 w _ (chosen_typed v env h) found k
     form_right r l depth t form i w env h found k = right_so depth _ _ found (omega arith) k
 

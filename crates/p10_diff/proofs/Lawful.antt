@@ -1,10 +1,10 @@
 -- The evidence of differences is lawful.
-use Rattle.std.proofs.Common.{◌≡◌, ℕ, zero, suc, Bool, true, false, List, [], ◌∷◌, refl, ◌∙◌, ap, sym, subst, Option, Some, None, slice_get, ℤ, pos, neg_ℤ, ◌+ℤ◌, ◌-ℤ◌, ◌≤ℤ◌, arith}
+use Rattle.std.proofs.Common.{◌≡◌, ℕ, zero, suc, ◌+◌, ◌<◌, zero-add, Bool, true, false, List, [], ◌∷◌, length, refl, ◌∙◌, ap, sym, subst, Option, Some, None, slice_get, ℤ, pos, neg_ℤ, ◌+ℤ◌, ◌-ℤ◌, ◌≤ℤ◌, arith}
 use Rattle.std.specs.Prelude.{IfSome, is_some, ◌&&◌, ◌||◌, if◌then◌else◌}
 use Rattle.std.proofs.lemmas.Int.{ints}
 use Rattle.p10_range.specs.Ranges.{Interval, IsMember}
 use Rattle.p10_core.specs.Constants.{integer_of}
-use Rattle.p10_core.specs.Typed.{PlainFunction, PlainProgram}
+use Rattle.p10_core.specs.Typed.{PlainVariable, PlainFunction, PlainProgram}
 use Rattle.p10_core.specs.WholePrograms.{declared_in, IsWholeProgram}
 use Rattle.p10_cert.specs.Claims.{Loop}
 use Rattle.p10_meaning.specs.States.{State}
@@ -14,8 +14,9 @@ use Rattle.p10_meaning.specs.Calling.{Depth}
 use Rattle.p10_absx.specs.Abstract.{Abstract, only_range}
 use Rattle.p10_absx.specs.Environments.{Environment, known}
 use Rattle.p10_absx.specs.Describing.{set_to, DescribesVariable, Describes}
+use Rattle.p10_absx.proofs.Entries.{get_below}
 use Rattle.p10_pass.specs.Claiming.{head_of, ranges_hold}
-use Rattle.p10_execution.specs.Scoping.{KnowsNumbers, IsBefore}
+use Rattle.p10_execution.specs.Scoping.{IsNumber, KnowsNumbers, IsBefore}
 use Rattle.p10_execution.specs.Standing.{StandsSoundly}
 use Rattle.p10_execution.proofs.Entries.{changed_knows}
 use Rattle.p10_execution.proofs.Heads.{head_describes}
@@ -34,7 +35,7 @@ use Rattle.p10_walk.proofs.Turning.{ranks_bound_turns}
 use Rattle.p10_diff.specs.Bounds.{plus, kept, is_at_most, AtMost}
 use Rattle.p10_diff.specs.Differences.{Name, now, was, worth, Pair, has_name, Differences, unbounded, range_named, top, bottom, bound, fallen, same_name}
 use Rattle.p10_diff.specs.Domain.{differences, distance_in, DescribesDifferences}
-use Rattle.p10_diff.specs.Evidence.{Fact, Rank, rank_for, may_be_named, facts_may_be, pair_of, facts_learned, still, at_head, facts_hold, only_ranges, stays_in_scope, where_coming, comes_back, is_positive, is_enough, enters_so, turns_so, rank_stands, loop_stands, stands_in, stands_by_differences}
+use Rattle.p10_diff.specs.Evidence.{Fact, Rank, rank_for, may_be_named, facts_may_be, pair_of, facts_learned, still, at_head, facts_hold, only_ranges, stays, stay_in_scope, where_coming, comes_back, is_positive, is_enough, enters_so, turns_so, rank_stands, loop_stands, stands_in, stands_by_differences}
 use Rattle.p10_diff.specs.Laws.{DifferencesAreLawful}
 use Rattle.p10_diff.proofs.Bounds.{at_most_is, plus_most, kept_most, top_most, bottom_most, most_of}
 use Rattle.p10_diff.proofs.Named.{one_lies, variable_lies, if_lies, if_most, range_most, same_apart, bounded, falls_most, both_true, apart}
@@ -43,16 +44,24 @@ use Rattle.p10_diff.proofs.Executed.{differences_sound}
 
 -- ## Scopes
 
-in_scope : (head env : Environment) (n : ℕ) → stays_in_scope head env ≡ true → is_some (known head n) ≡ true → is_some (known env n) ≡ true
-in_scope [] env n s e = absurd cc
-in_scope (None ∷ head) [] zero s e = absurd cc
-in_scope (None ∷ head) [] (suc n) s e = in_scope head [] n s e
-in_scope (None ∷ head) (b ∷ env) zero s e = absurd cc
-in_scope (None ∷ head) (b ∷ env) (suc n) s e = in_scope head env n s e
-in_scope (Some a ∷ head) [] n s e = absurd cc
-in_scope (Some a ∷ head) (None ∷ env) n s e = absurd cc
-in_scope (Some a ∷ head) (Some b ∷ env) zero s e = refl
-in_scope (Some a ∷ head) (Some b ∷ env) (suc n) s e = in_scope head env n s e
+one_stays : (o e : Option Abstract) → stays o e ≡ true → is_some o ≡ true → is_some e ≡ true
+one_stays None e s h = absurd cc
+one_stays (Some a) None s h = absurd cc
+one_stays (Some a) (Some b) s h = refl
+
+in_scope_from : (k : ℕ) (vs : List PlainVariable) (head env : Environment) (n : ℕ) → stay_in_scope k vs head env ≡ true → n < length vs → is_some (known head (k + n)) ≡ true → is_some (known env (k + n)) ≡ true
+in_scope_from k [] head env n s l e = absurd (omega (arith, l))
+in_scope_from k (v ∷ vs) head env zero s l e =
+    let q : k + zero ≡ k = omega arith in
+    ap (λ m. is_some (known env m)) q ∙ one_stays (known head k) (known env k) (both_true (stays (known head k) (known env k)) (stay_in_scope (suc k) vs head env) s).0 (ap (λ m. is_some (known head m)) (sym q) ∙ e)
+in_scope_from k (v ∷ vs) head env (suc n) s l e =
+    let q : k + suc n ≡ suc k + n = omega arith in
+    ap (λ m. is_some (known env m)) q ∙
+    in_scope_from (suc k) vs head env n (both_true (stays (known head k) (known env k)) (stay_in_scope (suc k) vs head env) s).1 (omega (arith, l)) (ap (λ m. is_some (known head m)) (sym q) ∙ e)
+
+in_scope : (vs : List PlainVariable) (head env : Environment) (n : ℕ) → stay_in_scope 0 vs head env ≡ true → IsNumber vs n → is_some (known head n) ≡ true → is_some (known env n) ≡ true
+in_scope vs head env n s number e =
+    ap (λ m. is_some (known env m)) (sym (zero-add n)) ∙ in_scope_from 0 vs head env n s (get_below vs n number.variable number.there) (ap (λ m. is_some (known head m)) (zero-add n) ∙ e)
 
 -- ## Facts
 
@@ -149,15 +158,15 @@ module _ (p : PlainProgram) (whole : IsWholeProgram p) (number : ℕ) (f : Plain
 
   again : (e : Differences) (head held : List Held) → comes_back pair claim r.facts e ≡ true → D e head held → D h held held
   again e head held s d =
-      let parts = both_true (ranges_hold claim 0 f.variables e.ranges && stays_in_scope pair.head e.ranges) (facts_hold pair r.facts e && is_at_most (fallen pair e) (neg_ℤ (pos 1))) s in
-      let scope = both_true (ranges_hold claim 0 f.variables e.ranges) (stays_in_scope pair.head e.ranges) parts.0 in
+      let parts = both_true (ranges_hold claim 0 f.variables e.ranges && stay_in_scope 0 f.variables pair.head e.ranges) (facts_hold pair r.facts e && is_at_most (fallen pair e) (neg_ℤ (pos 1))) s in
+      let scope = both_true (ranges_hold claim 0 f.variables e.ranges) (stay_in_scope 0 f.variables pair.head e.ranges) parts.0 in
       let rest = both_true (facts_hold pair r.facts e) (is_at_most (fallen pair e) (neg_ℤ (pos 1))) parts.1 in
-      head_so held (head_describes claim f.variables entry e.ranges head held (λ n q. in_scope pair.head e.ranges n scope.1 (changed_knows _ 0 f.variables entry n ∙ q)) scope.0 d.ranges.describes)
+      head_so held (head_describes claim f.variables entry e.ranges head held (λ n q. in_scope f.variables pair.head e.ranges n scope.1 (before.knows.each n q) (changed_knows _ 0 f.variables entry n ∙ q)) scope.0 d.ranges.describes)
       (facts_so pair e held r.facts (λ n m. bounded pair e head held d (now n) (now m)) rest.0)
 
   falls : (e : Differences) (head held : List Held) → comes_back pair claim r.facts e ≡ true → D e head held → rank held ≤ℤ (rank head -ℤ pos 1)
   falls e head held s d =
-      let parts = both_true (ranges_hold claim 0 f.variables e.ranges && stays_in_scope pair.head e.ranges) (facts_hold pair r.facts e && is_at_most (fallen pair e) (neg_ℤ (pos 1))) s in
+      let parts = both_true (ranges_hold claim 0 f.variables e.ranges && stay_in_scope 0 f.variables pair.head e.ranges) (facts_hold pair r.facts e && is_at_most (fallen pair e) (neg_ℤ (pos 1))) s in
       let rest = both_true (facts_hold pair r.facts e) (is_at_most (fallen pair e) (neg_ℤ (pos 1))) parts.1 in
       lower (distance_in pair held held) (distance_in pair head head) r.more (at_most_is (distance_in pair head held -ℤ distance_in pair head head) (neg_ℤ (pos 1)) (fallen pair e) rest.1 (falls_most pair e head held d))
 

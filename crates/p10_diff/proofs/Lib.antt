@@ -9,3 +9,16 @@ pub mod Declared
 pub mod Assumed
 pub mod Executed
 pub mod Lawful
+pub mod Lists
+pub mod Tabled
+pub mod Holding
+pub mod HulledBounds
+pub mod Puts
+pub mod Updates
+pub mod Statements
+pub mod Outcomes
+pub mod Operators
+pub mod Numbers
+pub mod Midpoints
+pub mod Shown
+pub mod Standing

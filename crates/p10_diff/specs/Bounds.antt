@@ -2,6 +2,11 @@
 use Rattle.std.specs.Prelude.{◌^◌, Bool, true, false, ℤ, pos, neg_ℤ, ◌+ℤ◌, ◌≤ℤ◌, int_le, if◌then◌else◌, Option, Some, None}
 use Rattle.std.specs.Int.{int_min, int_max}
 
+-- a bound, or else another one
+abbrev pub or_else : Option ℤ → Option ℤ → Option ℤ
+or_else None b = b
+or_else (Some a) b = Some a
+
 -- the lesser of two bounds
 abbrev pub least : Option ℤ → Option ℤ → Option ℤ
 least None b = b

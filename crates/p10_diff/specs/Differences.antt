@@ -68,9 +68,14 @@ has_name_in (Some v) = v.frame && (is_integer v.type && is_wide (integer_of v.ty
 abbrev pub has_name : Pair → ℕ → Bool
 has_name p n = has_name_in (slice_get p.variables n)
 
+-- whether it is one of the two variables
+abbrev pub is_either : Pair → ℕ → Bool
+is_either p n = nat_eq p.below n || nat_eq p.above n
+
+-- whether a number has a name here: what each such variable holds now, and what the two held at the head
 abbrev pub is_name : Pair → Name → Bool
 is_name p (now n) = has_name p n
-is_name p (was n) = has_name p n
+is_name p (was n) = has_name p n && is_either p n
 
 -- a bound where another name is one
 abbrev pub of_name : Pair → Name → Option ℤ → Option ℤ

@@ -1,7 +1,8 @@
 -- The evidence of differences: when a line of a certificate bounds a loop's turns by the distance of two variables.
-use Rattle.std.specs.Prelude.{ℕ, nat_eq, nat_lt, ◌&&◌, ◌||◌, if◌then◌else◌, Bool, true, false, is_some, List, [], ◌∷◌, slice_get, ℤ, pos, neg_ℤ, ◌-ℤ◌, Option, Some, None}
-use Rattle.p10_core.specs.Typed.{PlainInitializer, not_initialized, PlainStatement, statement, PlainStatementForm, declare, block, if_then, if_else, loop, switch, PlainStatements, no_statements, more_statements, PlainFunction, PlainProgram}
+use Rattle.std.specs.Prelude.{ℕ, suc, nat_eq, nat_lt, ◌&&◌, ◌||◌, if◌then◌else◌, Bool, true, false, is_none, is_some, List, [], ◌∷◌, slice_get, ℤ, pos, neg_ℤ, ◌-ℤ◌, Option, Some, None}
+use Rattle.p10_core.specs.Typed.{PlainInitializer, not_initialized, PlainStatement, statement, PlainStatementForm, declare, block, if_then, if_else, loop, switch, PlainStatements, no_statements, more_statements, PlainVariable, PlainFunction, PlainProgram}
 use Rattle.p10_cert.specs.Claims.{Loop}
+use Rattle.p10_absx.specs.Abstract.{Abstract}
 use Rattle.p10_absx.specs.Environments.{Environment, known}
 use Rattle.p10_pass.specs.Claiming.{head_of, ranges_hold}
 use Rattle.p10_turns.specs.LoopParts.{LoopParts, loops_among}
@@ -97,14 +98,14 @@ facts_hold p (x ∷ facts) e = is_at_most (bound p e (now x.greater) (now x.less
 abbrev pub only_ranges : Environment → Differences
 only_ranges ranges = record { ranges = ranges; bounds = unbounded; fall = None }
 
--- whether each variable that is in scope in an environment is so in another one
-abbrev pub stays_in_scope : Environment → Environment → Bool
-stays_in_scope [] env = true
-stays_in_scope (None ∷ head) [] = stays_in_scope head []
-stays_in_scope (None ∷ head) (b ∷ env) = stays_in_scope head env
-stays_in_scope (Some a ∷ head) [] = false
-stays_in_scope (Some a ∷ head) (None ∷ env) = false
-stays_in_scope (Some a ∷ head) (Some b ∷ env) = stays_in_scope head env
+-- whether a variable that is in scope in one environment is so in another one
+abbrev pub stays : Option Abstract → Option Abstract → Bool
+stays known_before known_after = is_none known_before || is_some known_after
+
+-- the same of each variable, from a number on
+abbrev pub stay_in_scope : ℕ → List PlainVariable → Environment → Environment → Bool
+stay_in_scope n [] head env = true
+stay_in_scope n (v ∷ variables) head env = stays (known head n) (known env n) && stay_in_scope (suc n) variables head env
 
 -- ## The evidence
 
@@ -116,7 +117,7 @@ where_coming (Some e) test = test e
 -- on a way back the claimed ranges hold again of all variables in scope (K7), the facts do, and the distance has fallen (K9)
 abbrev pub comes_back : Pair → Loop → List Fact → Differences → Bool
 comes_back p claim facts e =
-    (ranges_hold claim 0 p.variables e.ranges && stays_in_scope p.head e.ranges) && (facts_hold p facts e && is_at_most (fallen p e) (neg_ℤ (pos 1)))
+    (ranges_hold claim 0 p.variables e.ranges && stay_in_scope 0 p.variables p.head e.ranges) && (facts_hold p facts e && is_at_most (fallen p e) (neg_ℤ (pos 1)))
 
 -- where the body is entered the rank is at least 1 (K8)
 abbrev pub is_positive : Pair → ℤ → Differences → Bool

@@ -1,6 +1,7 @@
 //! Evidence for loops that end because two variables approach each other.
 //!
-//! Nothing runs here yet. The domain keeps ranges and, for ordered pairs of names, an upper bound of their difference
+//! Entry point: [`rank_stands`], whether a rank of a certificate stands for a loop. It goes once round the loop with `p10_walk`'s walk over a
+//! domain ([`Differing`]). The domain keeps ranges and, for ordered pairs of names, an upper bound of their difference
 //! (`specs/Differences.antt`); names are what variables hold now, and what they held at the loop's head. `specs/Expressions.antt` says by
 //! how much a value differs from a name at most, halves of distances included, `specs/Domain.antt` what statements and conditions do to
 //! it, and `specs/Evidence.antt` when a rank of a certificate stands for a loop; the functions of [`laws`] stand for what that is worth. So in
@@ -15,4 +16,29 @@
 //! That callees keep their claims, and which certificates hold such ranks, is left to the crates above.
 #![tactic(auto)]
 
+mod assigning;
+mod changes;
+mod comparing;
+mod conditions;
+mod executing;
+mod halving;
+mod hulls;
+mod kinds;
+mod known;
 pub mod laws;
+mod limits;
+mod listed;
+mod lower;
+mod naming;
+mod operands;
+mod ranks;
+mod rules;
+mod scopes;
+mod sources;
+mod tables;
+mod updating;
+mod upper;
+
+pub use known::{Diff, Pair};
+pub use ranks::{Fact, Rank, rank_stands};
+pub use rules::Differing;

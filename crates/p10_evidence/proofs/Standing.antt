@@ -10,7 +10,7 @@ use Rattle.p10_pass.specs.Claiming.{head_of}
 use Rattle.p10_pass.specs.Passing.{Round, trial_manner}
 use Rattle.p10_pass.specs.Rounds.{round_at, round_by}
 use Rattle.p10_turns.specs.Evidence.{loop_stands}
-use Rattle.p10_evidence.specs.private.Seeking.{parts_of}
+use Rattle.p10_turns.specs.LoopParts.{parts_of}
 use Rattle.p10_evidence.specs.private.Trials.{round_stands, stands_with}
 use Rattle.p10_evidence.proofs.Trials.{trial_told}
 

@@ -9,10 +9,9 @@ use Rattle.p10_absx.specs.Environments.{Environment}
 use Rattle.p10_pass.specs.Claiming.{head_of, ranges_hold, ranges_hold_reached, rank_in, enters_ranked, goes_back_ranked, is_enough}
 use Rattle.p10_pass.specs.Passing.{Round, failing_if, rank_fails, trial_manner}
 use Rattle.p10_pass.specs.Rounds.{round_at}
-use Rattle.p10_turns.specs.LoopParts.{LoopParts, round_under}
+use Rattle.p10_turns.specs.LoopParts.{LoopParts, parts_of, round_under}
 use Rattle.p10_turns.specs.Ranked.{is_ranked}
 use Rattle.p10_turns.specs.Evidence.{has_none, loop_stands}
-use Rattle.p10_evidence.specs.private.Seeking.{parts_of}
 use Rattle.p10_evidence.specs.private.Trials.{rank_holds, stands_with}
 
 none_of_three : (a b c : Bool) (at : Span) → (a && (b && c)) ≡ has_none (failing_if (not a) 8 at ++ (failing_if (not b) 9 at ++ failing_if (not c) 10 at))

@@ -19,3 +19,4 @@ mod rounds;
 mod seeking;
 
 pub use ranges::RangeEvidence;
+pub use seeking::loop_among;

@@ -7,7 +7,7 @@ ghost use Rattle.p10_pass.specs.Claiming.{ranges_hold};
 ghost use Rattle.p10_pass.specs.Rounds.{round_by};
 ghost use Rattle.p10_turns.specs.Evidence.{loop_stands};
 ghost use Rattle.p10_turns.specs.Ranked.{is_ranked};
-ghost use Rattle.p10_evidence.specs.private.Seeking.{parts_of};
+ghost use Rattle.p10_turns.specs.LoopParts.{parts_of};
 ghost use Rattle.p10_evidence.specs.private.Trials.{rank_holds, round_stands};
 
 use p10_absx::Env;

@@ -9,7 +9,7 @@ ghost use Rattle.p10_evidence.specs.private.Seeking.{parts_found, sought, sought
 use p10_core::{Stmt, StmtForm};
 
 /// The loop with a number among those in statements, which are counted from 0 in text order.
-pub(crate) fn loop_among<'a>(all: &'a [Stmt], number: u32) -> Option<&'a Stmt>
+pub fn loop_among<'a>(all: &'a [Stmt], number: u32) -> Option<&'a Stmt>
     ensures { parts_found (option_map plain_statement (option_copied result)) ≡ slice_get (loops_among (plain_statements all.now)) number }
 {
     match seek_among(all, number) {

@@ -16,6 +16,7 @@ use Rattle.p10_flowrules.specs.Allocating.{late_calls}
 use Rattle.p10_flowrules.specs.FlowRows.{ViolatesFlow, recursion, task_end, late_allocation}
 use Rattle.p10_finder.specs.Functions.{any_value, loops_of, result_of, func_found}
 use Rattle.p10_finder.specs.Answers.{HaveResults, LacksBoundAt, bound_row, ViolatesBounds, no_bound, flow}
+use Rattle.p10_approach.specs.Offers.{Offers}
 
 -- ## Lists
 
@@ -39,18 +40,18 @@ no_flow p sites exits late _ _ (task_end span r) = none_there r.at (subst (λ xs
 no_flow p sites exits late _ _ (late_allocation span r) = none_there r.call (subst (λ xs. Contains xs r.call) late r.late)
 
 -- what row 2.1 says of the one function
-pub lacks_alone : (p : PlainProgram) (c : Claims) (f : PlainFunction) (spans : List Span) → p.functions ≡ f ∷ [] → (loops_of p c 0 f).unbounded ≡ spans → (span : Span) → LacksBoundAt p c span → Contains spans span
-lacks_alone p c f spans one found span l =
+pub lacks_alone : (o : Offers) (p : PlainProgram) (c : Claims) (f : PlainFunction) (spans : List Span) → p.functions ≡ f ∷ [] → (loops_of o p c 0 f).unbounded ≡ spans → (span : Span) → LacksBoundAt o p c span → Contains spans span
+lacks_alone o p c f spans one found span l =
     let (zero_is, f_is) = only_there f l.function l.number (subst (λ xs. slice_get xs l.number ≡ Some l.function) one l.there) in
     subst (λ xs. Contains xs span) found
-    (subst (λ (g : PlainFunction). Contains (loops_of p c 0 g).unbounded span) (sym f_is)
-    (subst (λ n. Contains (loops_of p c n l.function).unbounded span) zero_is l.lacks))
+    (subst (λ (g : PlainFunction). Contains (loops_of o p c 0 g).unbounded span) (sym f_is)
+    (subst (λ n. Contains (loops_of o p c n l.function).unbounded span) zero_is l.lacks))
 
 -- what all rows say
-pub violates_alone : (p : PlainProgram) (c : Claims) (spans : List Span) → ((sub : Sub) (span : Span) → ViolatesFlow p sub span → ⊥) → ((span : Span) → LacksBoundAt p c span → Contains spans span) →
-    (sub : Sub) (span : Span) → ViolatesBounds p c sub span → (bound_row ≡ sub) × Contains spans span
-violates_alone p c spans none lacks _ _ (no_bound span l) = (refl, lacks span l)
-violates_alone p c spans none lacks _ _ (flow sub span v) = absurd (none sub span v)
+pub violates_alone : (o : Offers) (p : PlainProgram) (c : Claims) (spans : List Span) → ((sub : Sub) (span : Span) → ViolatesFlow p sub span → ⊥) → ((span : Span) → LacksBoundAt o p c span → Contains spans span) →
+    (sub : Sub) (span : Span) → ViolatesBounds o p c sub span → (bound_row ≡ sub) × Contains spans span
+violates_alone o p c spans none lacks _ _ (no_bound span l) = (refl, lacks span l)
+violates_alone o p c spans none lacks _ _ (flow sub span v) = absurd (none sub span v)
 
 -- ## Ranks and cycles
 
@@ -68,8 +69,8 @@ ranks_alone = record { each = refl; exact = at }
 -- ## Claims
 
 -- claims with the result of the one function
-pub results_alone : (p : PlainProgram) (f : PlainFunction) (c : Claims) (claim : Func) → p.functions ≡ f ∷ [] → c.funcs ≡ claim ∷ [] → call_graph p ≡ [] ∷ [] → claim.params ≡ map any_value (parameter_types f) → claim.result ≡ result_of p c 0 f → HaveResults p c
-results_alone p f c claim one claims graph params is = record {
+pub results_alone : (o : Offers) (p : PlainProgram) (f : PlainFunction) (c : Claims) (claim : Func) → p.functions ≡ f ∷ [] → c.funcs ≡ claim ∷ [] → call_graph p ≡ [] ∷ [] → claim.params ≡ map any_value (parameter_types f) → claim.result ≡ result_of o p c 0 f → HaveResults o p c
+results_alone o p f c claim one claims graph params is = record {
   each = ap length claims ∙ sym (ap length one);
   results = λ n g other there claimed.
       let (zero_is, f_is) = only_there f g n (subst (λ xs. slice_get xs n ≡ Some g) one there) in
@@ -77,14 +78,14 @@ results_alone p f c claim one claims graph params is = record {
       record {
         params = sym (ap (λ (q : Func). q.params) claim_is) ∙ (params ∙ ap (λ (h : PlainFunction). map any_value (parameter_types h)) f_is);
         recursive = λ cycle. absurd (no_cycle n (subst (λ h. IsOnCycle h n) graph cycle));
-        other = λ none. sym (ap (λ (q : Func). q.result) claim_is) ∙ (is ∙ (ap (result_of p c 0) f_is ∙ ap (λ m. result_of p c m g) (sym zero_is)));
+        other = λ none. sym (ap (λ (q : Func). q.result) claim_is) ∙ (is ∙ (ap (result_of o p c 0) f_is ∙ ap (λ m. result_of o p c m g) (sym zero_is)));
       };
 }
 
 -- the claim of the one function
-pub found_alone : (p : PlainProgram) (f : PlainFunction) (c : Claims) (claim : Func) → p.functions ≡ f ∷ [] → c.funcs ≡ claim ∷ [] → claim ≡ func_found p c 0 claim.rank f →
-    (n : ℕ) (g : PlainFunction) (other : Func) → slice_get p.functions n ≡ Some g → slice_get c.funcs n ≡ Some other → other ≡ func_found p c n other.rank g
-found_alone p f c claim one claims is n g other there claimed =
+pub found_alone : (o : Offers) (p : PlainProgram) (f : PlainFunction) (c : Claims) (claim : Func) → p.functions ≡ f ∷ [] → c.funcs ≡ claim ∷ [] → claim ≡ func_found o p c 0 claim.rank f →
+    (n : ℕ) (g : PlainFunction) (other : Func) → slice_get p.functions n ≡ Some g → slice_get c.funcs n ≡ Some other → other ≡ func_found o p c n other.rank g
+found_alone o p f c claim one claims is n g other there claimed =
     let (zero_is, f_is) = only_there f g n (subst (λ xs. slice_get xs n ≡ Some g) one there) in
     let (zero_too, claim_is) = only_there claim other n (subst (λ xs. slice_get xs n ≡ Some other) claims claimed) in
-    sym claim_is ∙ (is ∙ (ap (λ (q : Func). func_found p c 0 q.rank f) claim_is ∙ (ap (func_found p c 0 other.rank) f_is ∙ ap (λ m. func_found p c m other.rank g) (sym zero_is))))
+    sym claim_is ∙ (is ∙ (ap (λ (q : Func). func_found o p c 0 q.rank f) claim_is ∙ (ap (func_found o p c 0 other.rank) f_is ∙ ap (λ m. func_found o p c m other.rank g) (sym zero_is))))

@@ -18,6 +18,7 @@ use Rattle.p10_cert.specs.Claims.{value_of, Claims}
 use Rattle.p10_absx.proofs.Entries.{get_map}
 use Rattle.p10_finder.specs.Functions.{any_value, loops_of}
 use Rattle.p10_finder.specs.private.Judging.{lacking_from}
+use Rattle.p10_approach.specs.Offers.{Offers}
 
 -- ## Parameters
 
@@ -73,10 +74,10 @@ on_cycle_too g h n edges c = record { next = c.next; edge = edges n c.next c.edg
 -- ## Functions, one after the other
 
 -- the loops so far, and those of the next one
-pub lacking_more : (p : PlainProgram) (c : Claims) (fs : List CodeFunc) (n : ℕ) (f : CodeFunc) (old new : List Span) (all : List Span) → n < length fs → f ≡ get_or fs n f → new ≡ old ++ (loops_of p c n (plain_function f)).unbounded →
-    old ++ lacking_from p c n (map plain_function (drop n fs)) ≡ all → new ++ lacking_from p c (n + 1) (map plain_function (drop (n + 1) fs)) ≡ all
-lacking_more p c fs n f old new all inside is put so-far =
+pub lacking_more : (o : Offers) (p : PlainProgram) (c : Claims) (fs : List CodeFunc) (n : ℕ) (f : CodeFunc) (old new : List Span) (all : List Span) → n < length fs → f ≡ get_or fs n f → new ≡ old ++ (loops_of o p c n (plain_function f)).unbounded →
+    old ++ lacking_from o p c n (map plain_function (drop n fs)) ≡ all → new ++ lacking_from o p c (n + 1) (map plain_function (drop (n + 1) fs)) ≡ all
+lacking_more o p c fs n f old new all inside is put so-far =
     let next : map plain_function (drop n fs) ≡ plain_function f ∷ map plain_function (drop (n + 1) fs) = ap (map plain_function) (drop_more fs n f inside ∙ ap (λ (g : CodeFunc). g ∷ drop (n + 1) fs) (sym is)) in
-    ap (λ l. l ++ lacking_from p c (n + 1) (map plain_function (drop (n + 1) fs))) put ∙
-    (append_assoc old (loops_of p c n (plain_function f)).unbounded (lacking_from p c (n + 1) (map plain_function (drop (n + 1) fs))) ∙
-    (ap (λ m. old ++ ((loops_of p c n (plain_function f)).unbounded ++ lacking_from p c m (map plain_function (drop (n + 1) fs)))) (add-one n) ∙ (ap (λ l. old ++ lacking_from p c n l) (sym next) ∙ so-far)))
+    ap (λ l. l ++ lacking_from o p c (n + 1) (map plain_function (drop (n + 1) fs))) put ∙
+    (append_assoc old (loops_of o p c n (plain_function f)).unbounded (lacking_from o p c (n + 1) (map plain_function (drop (n + 1) fs))) ∙
+    (ap (λ m. old ++ ((loops_of o p c n (plain_function f)).unbounded ++ lacking_from o p c m (map plain_function (drop (n + 1) fs)))) (add-one n) ∙ (ap (λ l. old ++ lacking_from o p c n l) (sym next) ∙ so-far)))

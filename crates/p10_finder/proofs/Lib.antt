@@ -2,9 +2,6 @@
 pub mod Computed
 pub mod Alone
 pub mod SmallAnswers
-pub mod Filling
-pub mod Trying
-pub mod Turning
 pub mod LoopForms
 pub mod BlockForms
 pub mod Judging
@@ -20,10 +17,12 @@ pub mod ViolationOrder
 pub mod OneClaims
 pub mod OneAnswer
 pub mod SameBounds
-pub mod LevelOrder
+pub mod VisitOrder
 pub mod Settled
 pub mod Listing
 pub mod UnsummedClaims
+pub mod RanksFound
 pub mod Counted
+pub mod Recounted
 pub mod Derived
 pub mod Long

@@ -17,12 +17,13 @@ use Rattle.p10_absx.specs.Trails.{Branching}
 use Rattle.p10_fit.specs.Fits.{is_task}
 use Rattle.p10_pass.specs.Leaving.{values_in}
 use Rattle.p10_pass.specs.Marks.{is_marked}
-use Rattle.p10_finder.specs.Candidates.{LoopEntry}
-use Rattle.p10_finder.specs.declared.standing.LoopFound.{LoopFound as CodeFound}
-use Rattle.p10_finder.specs.Trials.{Rounds, loop_found, task_found}
-use Rattle.p10_finder.specs.Loops.{Search, LoopsFound, known_at_entry, loop_entry, rounds_in, entered_found, reached_found, LoopPassed, passed_by}
-use Rattle.p10_finder.specs.private.Trying.{loop_found_by}
-use Rattle.p10_finder.specs.private.Looking.{assigned_below, entered_in_parts, passed_parts, passed_statement}
+use Rattle.p10_candidates.specs.Candidates.{LoopEntry}
+use Rattle.p10_candidates.specs.declared.standing.LoopFound.{LoopFound as CodeFound}
+use Rattle.p10_candidates.specs.Trials.{Rounds, loop_found, task_found, LoopFound, rounds_in}
+use Rattle.p10_finder.specs.Loops.{Search, LoopsFound, known_at_entry, loop_entry, found_with, entered_found, reached_found, LoopPassed, passed_by}
+use Rattle.p10_candidates.specs.Offering.{loop_found_by}
+use Rattle.p10_finder.specs.private.Looking.{assigned_below, offered_in, entered_in_parts, passed_parts, passed_statement}
+use Rattle.p10_approach.specs.Approaches.{Approached}
 
 plain_loop : (head : _) (first : _) (tested : Option Value) (third : _) (body : _) → plain_statement_form (LoopForm head first tested third body) ≡ loop head (plain_statements first) (option_map plain_value tested) (plain_statements third) (plain_statement body.value)
 plain_loop head first tested third body = search (rules, the_lemmas, statements_row-items)
@@ -36,14 +37,14 @@ loop_is form head first tested third body firsts is same =
 -- a loop by its parts is that of the whole statement
 pub by_parts : (s : Search) (depth : ℕ) (at : At) (form : PlainStatementForm) (head : LoopHead) (first : PlainStatements) (tested : Option PlainValue) (third : PlainStatements) (body : PlainStatement) (env entry : Option Environment) (found : LoopsFound) →
     form ≡ loop head first tested third body → entry ≡ known_at_entry s found first env →
-    passed_by s head.keyword tested entry found (reached_found (is_task s.task head.number) head.span (rounds_in s.variables (statement at form)) (loop_entry s (assigned_below (length s.variables) (statement at form)) tested) depth entry)
+    passed_by s head.keyword tested entry found (reached_found (offered_in s depth head (statement at form)) (is_task s.task head.number) head.span (rounds_in s.variables (statement at form)) (loop_entry s (assigned_below (length s.variables) (statement at form)) tested) depth entry)
     ≡ passed_statement s depth (statement at form) env found
 by_parts s depth at form head first tested third body env entry found is entered =
     let Same : PlainStatementForm → Type 0 = λ f.
-    passed_by s head.keyword tested entry found (reached_found (is_task s.task head.number) head.span (rounds_in s.variables (statement at f)) (loop_entry s (assigned_below (length s.variables) (statement at f)) tested) depth entry)
+    passed_by s head.keyword tested entry found (reached_found (offered_in s depth head (statement at f)) (is_task s.task head.number) head.span (rounds_in s.variables (statement at f)) (loop_entry s (assigned_below (length s.variables) (statement at f)) tested) depth entry)
     ≡ passed_statement s depth (statement at f) env found in
     subst Same (sym is)
-    (ap (λ e. passed_by s head.keyword tested e found (reached_found (is_task s.task head.number) head.span (rounds_in s.variables (statement at (loop head first tested third body)))
+    (ap (λ e. passed_by s head.keyword tested e found (reached_found (offered_in s depth head (statement at (loop head first tested third body))) (is_task s.task head.number) head.span (rounds_in s.variables (statement at (loop head first tested third body)))
     (loop_entry s (assigned_below (length s.variables) (statement at (loop head first tested third body))) tested) depth e)) entered)
 
 -- what the code makes of a loop's entry
@@ -64,19 +65,22 @@ task_entered r s depth head tested x task env rounds entry a b t h =
     let there : LoopEntry = loop_entry s (assigned_below (length s.variables) x) tested env in
     let turns : Rounds = rounds_in s.variables x in
     let made : task_found rounds entry depth ≡ task_found turns there depth = λ i. task_found (a i) (b i) depth in
-    let chosen : task_found turns there depth ≡ entered_found task head.span turns there depth = ap (λ k. entered_found k head.span turns there depth) (sym t) in
+    let offered : Option Approached = offered_in s depth head x there in
+    let chosen : task_found turns there depth ≡ entered_found offered task head.span turns there depth = ap (λ k. entered_found offered k head.span turns there depth) (sym t) in
     IfOk-weaker r (λ l. loop_found_by l ≡ task_found rounds entry depth) (λ l. loop_found_by l ≡ entered_in_parts s depth head tested x task env) (λ l is. is ∙ (made ∙ chosen)) h
 
 -- another loop
 pub other_entered : {E : Type 0} (r : Result CodeFound E) (s : Search) (depth : ℕ) (head : LoopHead) (tested : Option PlainValue) (x : PlainStatement) (task : Bool) (env : Environment) (rounds : Rounds) (entry : LoopEntry) →
     rounds ≡ rounds_in s.variables x → entry ≡ loop_entry s (assigned_below (length s.variables) x) tested env → task ≡ false →
-    IfOk r (λ l. loop_found_by l ≡ loop_found head.span rounds entry depth) → IfOk r (λ l. loop_found_by l ≡ entered_in_parts s depth head tested x task env)
+    IfOk r (λ l. loop_found_by l ≡ found_with (offered_in s depth head x entry) (loop_found head.span rounds entry depth)) → IfOk r (λ l. loop_found_by l ≡ entered_in_parts s depth head tested x task env)
 other_entered r s depth head tested x task env rounds entry a b t h =
     let there : LoopEntry = loop_entry s (assigned_below (length s.variables) x) tested env in
     let turns : Rounds = rounds_in s.variables x in
-    let made : loop_found head.span rounds entry depth ≡ loop_found head.span turns there depth = λ i. loop_found head.span (a i) (b i) depth in
-    let chosen : loop_found head.span turns there depth ≡ entered_found task head.span turns there depth = ap (λ k. entered_found k head.span turns there depth) (sym t) in
-    IfOk-weaker r (λ l. loop_found_by l ≡ loop_found head.span rounds entry depth) (λ l. loop_found_by l ≡ entered_in_parts s depth head tested x task env) (λ l is. is ∙ (made ∙ chosen)) h
+    let offered : Option Approached = offered_in s depth head x there in
+    let before : LoopFound = found_with (offered_in s depth head x entry) (loop_found head.span rounds entry depth) in
+    let made : before ≡ found_with offered (loop_found head.span turns there depth) = λ i. found_with (offered_in s depth head x (b i)) (loop_found head.span (a i) (b i) depth) in
+    let chosen : found_with offered (loop_found head.span turns there depth) ≡ entered_found offered task head.span turns there depth = ap (λ k. entered_found offered k head.span turns there depth) (sym t) in
+    IfOk-weaker r (λ l. loop_found_by l ≡ before) (λ l. loop_found_by l ≡ entered_in_parts s depth head tested x task env) (λ l is. is ∙ (made ∙ chosen)) h
 
 -- ## What comes of a loop
 

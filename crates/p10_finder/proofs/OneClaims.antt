@@ -17,7 +17,7 @@ use Rattle.p10_sums.specs.declared.sum.FuncSum.{FuncSum}
 use Rattle.p10_sums.specs.Counting.{calls_claimed, bytes_claimed, alloc_claimed, loops_claimed, task_of}
 use Rattle.p10_sums.specs.Depths.{with_callee, callees, greatest_number, depth_of, node_manages_memory, callee_manages_memory, have_effect}
 use Rattle.p10_sums.specs.Sums.{sum_under, function_sum, sum_at}
-use Rattle.p10_finder.specs.Trials.{counted}
+use Rattle.p10_candidates.specs.Trials.{counted}
 use Rattle.p10_finder.specs.Functions.{any_value, loops_of, with_turn_steps, counted_sum, func_found, total_of}
 use Rattle.p10_finder.specs.Answers.{HaveResults, AreClaims}
 use Rattle.p10_finder.proofs.Called.{OfUse, EachCalled, all_called}
@@ -26,6 +26,7 @@ use Rattle.p10_finder.proofs.SameLoops.{loops_of_same, result_same}
 use Rattle.p10_finder.proofs.OneResult.{edges_each, results_same}
 use Rattle.p10_finder.proofs.SameCosts.{OneClaim, counting_under}
 use Rattle.p10_finder.proofs.SteadyCosts.{steps_steady, turns_steady, one_number}
+use Rattle.p10_approach.specs.Offers.{Offers}
 
 -- ## Lists
 
@@ -96,10 +97,10 @@ module _ (fs gs : List Func) where
 -- ## Claims
 
 -- claims of a program have its results
-pub claims_have_results : (p : PlainProgram) (c : Claims) → AreClaims p c → HaveResults p c
-claims_have_results p c is = record {
+pub claims_have_results : (o : Offers) (p : PlainProgram) (c : Claims) → AreClaims o p c → HaveResults o p c
+claims_have_results o p c is = record {
   each = sym (length-map c.funcs (λ f. f.rank)) ∙ (is.ranks.each ∙ length-map p.functions (callees_of (length p.functions)));
-  results = λ n f claim there claimed. let e : claim ≡ func_found p c n claim.rank f = is.each n f claim there claimed in record {
+  results = λ n f claim there claimed. let e : claim ≡ func_found o p c n claim.rank f = is.each n f claim there claimed in record {
     params = ap (λ (q : Func). q.params) e;
     recursive = λ on. absurd (no_ranks_on_cycles (call_graph p) (map (λ f. f.rank) c.funcs) is.ranks n on);
     other = λ none. ap (λ (q : Func). q.result) e;
@@ -107,31 +108,31 @@ claims_have_results p c is = record {
 }
 
 -- the sums of a function, by the loops that are found
-sum_by : (p : PlainProgram) (c : Claims) (n : ℕ) (f : PlainFunction) (a : Func) → slice_get p.functions n ≡ Some f → slice_get c.funcs n ≡ Some a → a ≡ func_found p c n a.rank f
-    → sum_at p c.funcs n ≡ sum_under (counting_under p f.variables c.funcs (map (with_turn_steps (counted (sum_at p c.funcs n).turn)) (loops_of p c n f).claims)) (task_of p n) f
-sum_by p c n f a is claimed e =
+sum_by : (o : Offers) (p : PlainProgram) (c : Claims) (n : ℕ) (f : PlainFunction) (a : Func) → slice_get p.functions n ≡ Some f → slice_get c.funcs n ≡ Some a → a ≡ func_found o p c n a.rank f
+    → sum_at p c.funcs n ≡ sum_under (counting_under p f.variables c.funcs (map (with_turn_steps (counted (sum_at p c.funcs n).turn)) (loops_of o p c n f).claims)) (task_of p n) f
+sum_by o p c n f a is claimed e =
     ap (function_sum p c.funcs n) is
     ∙ ((λ i. sum_under (counting_under p f.variables c.funcs (loops_claimed (claimed i))) (task_of p n) f)
     ∙ ap (λ (q : Func). sum_under (counting_under p f.variables c.funcs q.loops) (task_of p n) f) e)
 
-module _ (p : PlainProgram) (c d : Claims) (first : AreClaims p c) (second : AreClaims p d) where
+module _ (o : Offers) (p : PlainProgram) (c d : Claims) (first : AreClaims o p c) (second : AreClaims o p d) where
   results : (n : ℕ) → Same c d n
-  results n = results_same p c d (claims_have_results p c first) (claims_have_results p d second) n
+  results n = results_same o p c d (claims_have_results o p c first) (claims_have_results o p d second) n
 
   -- one function, whose callees have one claim
   one_func : (n : ℕ) (f : PlainFunction) (a b : Func) → slice_get p.functions n ≡ Some f → slice_get c.funcs n ≡ Some a → slice_get d.funcs n ≡ Some b → EachCalled (OneClaim c.funcs d.funcs) (nodes_of_statements f.body) → a ≡ b
   one_func n f a b is claimed claimed2 h =
-      let e : a ≡ func_found p c n a.rank f = first.each n f a is claimed in
-      let e2 : b ≡ func_found p d n b.rank f = second.each n f b is claimed2 in
+      let e : a ≡ func_found o p c n a.rank f = first.each n f a is claimed in
+      let e2 : b ≡ func_found o p d n b.rank f = second.each n f b is claimed2 in
       let called = all_called (Same c d) results (nodes_of_statements f.body) in
-      let loops = loops_of_same p c d n f called in
-      let result = result_same p c d n f called in
+      let loops = loops_of_same o p c d n f called in
+      let result = result_same o p c d n f called in
       let ranks = ranks_are_unique (call_graph p) (map (λ f. f.rank) c.funcs) (map (λ f. f.rank) d.funcs) first.ranks second.ranks in
       let rank : a.rank ≡ b.rank = some_one a.rank b.rank
       (sym (mapped_at (λ (f : Func). f.rank) c.funcs n a claimed) ∙ (ap (λ (l : List ℕ). slice_get l n) ranks ∙ mapped_at (λ (f : Func). f.rank) d.funcs n b claimed2)) in
-      let sum = sums_same c.funcs d.funcs p (task_of p n) f (loops_of p c n f).claims (sum_at p c.funcs n) (sum_at p d.funcs n) h (sum_by p c n f a is claimed e)
-      (sum_by p d n f b is claimed2 e2 ∙ (λ i. sum_under (counting_under p f.variables d.funcs (map (with_turn_steps (counted (sum_at p d.funcs n).turn)) (sym loops i).claims)) (task_of p n) f)) in
-      let middle : func_found p c n a.rank f ≡ func_found p d n b.rank f = λ i. record {
+      let sum = sums_same c.funcs d.funcs p (task_of p n) f (loops_of o p c n f).claims (sum_at p c.funcs n) (sum_at p d.funcs n) h (sum_by o p c n f a is claimed e)
+      (sum_by o p d n f b is claimed2 e2 ∙ (λ i. sum_under (counting_under p f.variables d.funcs (map (with_turn_steps (counted (sum_at p d.funcs n).turn)) (sym loops i).claims)) (task_of p n) f)) in
+      let middle : func_found o p c n a.rank f ≡ func_found o p d n b.rank f = λ i. record {
         name = f.name;
         rank = rank i;
         steps = counted (sum i).steps;
@@ -146,8 +147,8 @@ module _ (p : PlainProgram) (c d : Claims) (first : AreClaims p c) (second : Are
 
   past_one : (m : ℕ) → length p.functions ≤ m → OneClaim c.funcs d.funcs m
   past_one m past =
-      let each : length c.funcs ≡ length p.functions = (claims_have_results p c first).each in
-      let each2 : length d.funcs ≡ length p.functions = (claims_have_results p d second).each in
+      let each : length c.funcs ≡ length p.functions = (claims_have_results o p c first).each in
+      let each2 : length d.funcs ≡ length p.functions = (claims_have_results o p d second).each in
       slice_get_past c.funcs m (omega (arith, past, each)) ∙ sym (slice_get_past d.funcs m (omega (arith, past, each2)))
 
   -- by ranks: a function calls functions of smaller rank alone
@@ -156,8 +157,8 @@ module _ (p : PlainProgram) (c d : Claims) (first : AreClaims p c) (second : Are
   func_below (suc k) n low = elim (cases_lt n (length p.functions)) [
     | inr past ↦ past_one n past
     | inl inside ↦
-        let each : length c.funcs ≡ length p.functions = (claims_have_results p c first).each in
-        let each2 : length d.funcs ≡ length p.functions = (claims_have_results p d second).each in
+        let each : length c.funcs ≡ length p.functions = (claims_have_results o p c first).each in
+        let each2 : length d.funcs ≡ length p.functions = (claims_have_results o p d second).each in
         let nodes : length (call_graph p) ≡ length p.functions = length-map p.functions (callees_of (length p.functions)) in
         let rank = first.ranks.exact n (omega (arith, inside, nodes)) in
         elim (slice_get_cases p.functions n).1 [

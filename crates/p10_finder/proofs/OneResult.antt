@@ -22,6 +22,7 @@ use Rattle.p10_finder.specs.Answers.{HaveResults}
 use Rattle.p10_finder.proofs.Called.{OfUse, EachCalled}
 use Rattle.p10_finder.proofs.SameValues.{SayTheSame, Same}
 use Rattle.p10_finder.proofs.SameLoops.{result_same}
+use Rattle.p10_approach.specs.Offers.{Offers}
 
 -- ## Equality of values
 
@@ -152,7 +153,7 @@ some_same x y a b first second params result = record {
   result = λ kind. ap (result_claimed kind) first ∙ ((λ i. result_claimed kind (Some (record a { result = result i }))) ∙ ((λ i. result_claimed kind (Some (record a { result = b.result }))) ∙ sym (ap (result_claimed kind) second)));
 }
 
-module _ (p : PlainProgram) (c d : Claims) (first : HaveResults p c) (second : HaveResults p d) where
+module _ (o : Offers) (p : PlainProgram) (c d : Claims) (first : HaveResults o p c) (second : HaveResults o p d) where
   -- a way of one call or more
   record Leads (u v : ℕ) : Type 0 where
     next : ℕ
@@ -176,7 +177,7 @@ module _ (p : PlainProgram) (c d : Claims) (first : HaveResults p c) (second : H
         | inl same ↦ same
         | inr apart ↦
             let off : IsOnCycle (call_graph p) n → ⊥ = λ on. apart (x.recursive on ∙ sym (y.recursive on)) in
-            absurd (apart (x.other off ∙ (result_same p c d n f (edges_each p (Same c d) n f is (callees off) past_same) ∙ sym (y.other off))))
+            absurd (apart (x.other off ∙ (result_same o p c d n f (edges_each p (Same c d) n f is (callees off) past_same) ∙ sym (y.other off))))
       ])
 
   same_below : (k : ℕ) (marked : ℕ → Bool) (n : ℕ) → left_below marked (length p.functions) < k → ((v : ℕ) → marked v ≡ true → Leads v n) → Same c d n

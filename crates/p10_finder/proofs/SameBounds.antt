@@ -10,9 +10,9 @@ use Rattle.p10_finder.proofs.SameLoops.{loops_of_same}
 use Rattle.p10_finder.proofs.OneResult.{results_same}
 
 pub lacks_same : SameLoopsLackBounds
-lacks_same p c d span first second l = record {
+lacks_same o p c d span first second l = record {
   number = l.number;
   function = l.function;
   there = l.there;
-  lacks = subst (λ (found : LoopsFound). Contains found.unbounded span) (loops_of_same p c d l.number l.function (all_called (Same c d) (results_same p c d first second) (nodes_of_statements l.function.body))) l.lacks;
+  lacks = subst (λ (found : LoopsFound). Contains found.unbounded span) (loops_of_same o p c d l.number l.function (all_called (Same c d) (results_same o p c d first second) (nodes_of_statements l.function.body))) l.lacks;
 }

@@ -14,17 +14,21 @@ use Rattle.p10_fit.specs.Fits.{is_task}
 use Rattle.p10_fit.specs.Sites.{task_loop_number}
 use Rattle.p10_pass.specs.Claiming.{head_of}
 use Rattle.p10_pass.specs.Passing.{is_labelled}
-use Rattle.p10_finder.specs.Trials.{LoopFound}
-use Rattle.p10_finder.specs.Loops.{Search, LoopsFound, no_loops, with_loop, known_after_statement, known_where_value, known_after_value, known_at_entry, known_in_body, assigned_in, loop_entry, trial_rounds, reached_found, loop_passed, loops_in, loops_in_form, loops_in_all, loops_in_switch, loops_in_cases, loops_from}
+use Rattle.p10_candidates.specs.Trials.{LoopFound, trial_rounds}
+use Rattle.p10_finder.specs.Loops.{Search, LoopsFound, no_loops, with_loop, known_after_statement, known_where_value, known_after_value, known_at_entry, known_in_body, assigned_in, loop_entry, reached_found, loop_passed, loops_in, loops_in_form, loops_in_all, loops_in_switch, loops_in_cases, loops_from}
 use Rattle.p10_finder.specs.Functions.{known_at_start, loops_of, result_by, result_of}
 use Rattle.p10_finder.proofs.Called.{EachCalled, first_called, last_called, loop_called}
 use Rattle.p10_finder.proofs.SameValues.{Same, value_same, has_same}
 use Rattle.p10_finder.proofs.SamePasses.{pass_same, all_pass}
+use Rattle.p10_approach.specs.Offers.{Offers}
+use Rattle.p10_candidates.specs.Candidates.{LoopEntry}
+use Rattle.p10_approach.specs.Approaches.{Approached}
+use Rattle.p10_turns.specs.LoopParts.{LoopParts}
 
-module _ (c d : Claims) (variables : List PlainVariable) (task : Option ℕ) where
+module _ (c d : Claims) (variables : List PlainVariable) (task : Option ℕ) (offers : ℕ → ℕ → Option LoopParts → LoopEntry → Option Approached) where
   -- where loops are looked for, where these are the claims
   abbrev looking : Claims → Search
-  looking x = record { calls = x; variables = variables; task = task }
+  looking x = record { calls = x; variables = variables; task = task; offers = offers }
 
   -- ## Environments on the way
 
@@ -54,7 +58,7 @@ module _ (c d : Claims) (variables : List PlainVariable) (task : Option ℕ) whe
   loop_same depth head first tested third body h k env found =
       let entry = entry_same found first h env in
       let inside = inside_same head.keyword tested k in
-      λ i. let l : LoopFound = reached_found (is_task task head.number) head.span (trial_rounds variables head.keyword tested third body) (loop_entry (looking c) (assigned_in (looking c) (loop head first tested third body)) tested) depth (entry i) in
+      λ i. let l : LoopFound = reached_found (offers head.number depth (Some (record { head = head; first = first; tested = tested; third = third; body = body }))) (is_task task head.number) head.span (trial_rounds variables head.keyword tested third body) (loop_entry (looking c) (assigned_in (looking c) (loop head first tested third body)) tested) depth (entry i) in
       record { found = with_loop found l; inside = option_and_then (λ e. inside (head_of l.claim variables e) i) (entry i) }
 
   -- ## All loops
@@ -111,9 +115,9 @@ module _ (c d : Claims) (variables : List PlainVariable) (task : Option ℕ) whe
 
 -- ## Functions
 
-module _ (p : PlainProgram) (c d : Claims) (n : ℕ) (f : PlainFunction) (h : EachCalled (Same c d) (nodes_of_statements f.body)) where
-  pub loops_of_same : loops_of p c n f ≡ loops_of p d n f
-  loops_of_same = all_loops c d f.variables (task_loop_number p n f) 0 f.body h _ _ refl no_loops no_loops refl
+module _ (o : Offers) (p : PlainProgram) (c d : Claims) (n : ℕ) (f : PlainFunction) (h : EachCalled (Same c d) (nodes_of_statements f.body)) where
+  pub loops_of_same : loops_of o p c n f ≡ loops_of o p d n f
+  loops_of_same = all_loops c d f.variables (task_loop_number p n f) (o n f) 0 f.body h _ _ refl no_loops no_loops refl
 
-  pub result_same : result_of p c n f ≡ result_of p d n f
+  pub result_same : result_of o p c n f ≡ result_of o p d n f
   result_same = λ i. result_by f.result (all_pass c d (Some (loops_of_same i).claims) None f.variables f.body h (known_at_start f) i).returned

@@ -1,31 +1,35 @@
--- Results that are found, the functions of one level after the other, are those of the program.
+-- Results that are found, each after those of the functions that are called, are those of the program.
 use Rattle.std.proofs.Common.{◌≡◌, ℕ, zero, suc, ◌+◌, ◌<◌, ◌≤◌, List, [], ◌∷◌, length, Some, None, refl, sym, ap, ◌∙◌, subst, arith, inl, inr}
-use Rattle.std.specs.Prelude.{slice_get, Result, Ok, Err, IfOk}
+use Rattle.std.specs.Prelude.{◌↔◌, slice_get}
 use Rattle.std.specs.List.{slice_index}
 use Rattle.std.proofs.Math.ListN.{set, length-set}
-use Rattle.std.proofs.lemmas.Bool.{cases_lt, cases_eq}
+use Rattle.std.proofs.lemmas.Bool.{cases_eq}
 use Rattle.std.proofs.lemmas.List.{length-map}
-use Rattle.std.proofs.lemmas.Option.{slice_get_past, slice_get_cases}
+use Rattle.std.proofs.lemmas.Option.{slice_get_cases}
 use Rattle.p10_core.specs.Typed.{PlainFunction, PlainProgram}
-use Rattle.p10_core.specs.Nodes.{nodes_of_statements}
-use Rattle.p10_graph.specs.Graphs.{Edge, IsOnCycle}
-use Rattle.p10_calls.specs.CallGraphs.{callees_of, call_graph}
-use Rattle.p10_cert.specs.declared.claims.Cert.{Cert}
-use Rattle.p10_cert.specs.Claims.{Value, Func, Claims, claims_of}
+use Rattle.p10_graph.specs.Graphs.{Edge, IsGraph, IsOnCycle}
+use Rattle.p10_graph.specs.Components.{AreComponents}
+use Rattle.p10_calls.specs.CallGraphs.{call_graph}
+use Rattle.p10_cert.specs.Claims.{Value, Func, Claims}
 use Rattle.p10_absx.specs.Assessing.{result_claimed}
 use Rattle.p10_absx.specs.Entering.{claims_on}
 use Rattle.p10_absx.proofs.Entries.{get_map, get_below, get_set, get_other}
 use Rattle.p10_finder.specs.Functions.{any_value, result_of}
 use Rattle.p10_finder.specs.Answers.{HasResult, HaveResults}
-use Rattle.p10_finder.specs.private.Levels.{AreLevels, IsAbove}
-use Rattle.p10_finder.specs.private.Settling.{bare_claim, with_results, any_results, claims_by, AreSettledAt, AreResultsBelow}
-use Rattle.p10_finder.proofs.Called.{EachCalled}
+use Rattle.p10_finder.specs.private.Visiting.{IsLoneAt}
+use Rattle.p10_finder.specs.private.Settling.{bare_claim, with_results, any_results, claims_by, with_claim, AreResultsBelow, AreSettled}
+use Rattle.p10_finder.proofs.Judging.{on_cycle_too}
 use Rattle.p10_finder.proofs.SameValues.{Same}
 use Rattle.p10_finder.proofs.SameLoops.{result_same}
 use Rattle.p10_finder.proofs.OneResult.{edges_each}
+use Rattle.p10_finder.proofs.VisitOrder.{alone, falls}
+use Rattle.p10_approach.specs.Offers.{Offers}
 
 one_claim : (x y : Func) → Some x ≡ Some y → x ≡ y
 one_claim x y e = cc
+
+pub one_function : (x y : PlainFunction) → Some x ≡ Some y → x ≡ y
+one_function x y e = cc
 
 one_value : (x y : Value) → Some x ≡ Some y → x ≡ y
 one_value x y e = cc
@@ -65,115 +69,124 @@ claims_same (x ∷ fs) (v ∷ vs) (w ∷ ws) (suc n) e = claims_same fs vs ws n 
 one_says : (c d : Claims) (n : ℕ) → slice_get c.funcs n ≡ slice_get d.funcs n → Same c d n
 one_says c d n e = record { params = ap claims_on e; result = λ kind. ap (result_claimed kind) e }
 
--- ## One function
+-- a result is put among others
+pub with_results_set : (fs : List PlainFunction) (vs : List Value) (n : ℕ) (f : PlainFunction) (v : Value) → slice_get fs n ≡ Some f → set (with_results fs vs) n (bare_claim f v) ≡ with_results fs (set vs n v)
+with_results_set [] vs n f v e = absurd cc
+with_results_set (x ∷ fs) [] n f v e = refl
+with_results_set (x ∷ fs) (w ∷ vs) zero f v e = let same : x ≡ f = cc in ap (λ (g : PlainFunction). bare_claim g v ∷ with_results fs vs) (sym same)
+with_results_set (x ∷ fs) (w ∷ vs) (suc n) f v e = ap (λ (cs : List Func). bare_claim x w ∷ cs) (with_results_set fs vs n f v e)
 
-pub settled_none : (p : PlainProgram) (c : Claims) (levels : List ℕ) (level : ℕ) (vs : List Value) → AreSettledAt p c levels level 0 vs vs
-settled_none p c levels level vs = record { each = refl; settled = λ n f low at is. absurd (omega (arith, low)); others = λ n apart. refl }
-
--- a function of the level
-pub settled_here : (p : PlainProgram) (c : Claims) (levels : List ℕ) (level k : ℕ) (old vs : List Value) (g : PlainFunction) (v : Value) → k < length vs → slice_index levels k ≡ level → slice_get p.functions k ≡ Some g → v ≡ result_of p c k g
-    → AreSettledAt p c levels level k old vs → AreSettledAt p c levels level (k + 1) old (set vs k v)
-settled_here p c levels level k old vs g v inside same there is before = record {
-  each = length-set vs k v ∙ before.each;
-  settled = λ n f low at got. elim (cases_eq n k) [
-    | inl here ↦
-        let one : g ≡ f = let mine : slice_get p.functions k ≡ Some f = subst (λ (m : ℕ). slice_get p.functions m ≡ Some f) here got in cc in
-        ap (slice_get (set vs k v)) here ∙ (get_set vs k v inside ∙ ap Some (is ∙ (ap (result_of p c k) one ∙ ap (λ m. result_of p c m f) (sym here))))
-    | inr apart ↦ get_other vs k n v apart ∙ before.settled n f (omega (arith, low, apart)) at got
-  ];
-  others = λ n apart. get_other vs k n v (λ here. apart (ap (slice_index levels) here ∙ same)) ∙ before.others n apart;
+-- no results yet
+pub first_results : (o : Offers) (p : PlainProgram) (g : List (List ℕ)) (numbers : List ℕ) → AreResultsBelow o p g numbers 0 (any_results p.functions)
+first_results o p g numbers = record {
+  each = length-map p.functions (λ (f : PlainFunction). any_value f.result);
+  any = λ n f is on. get_map (λ (f : PlainFunction). any_value f.result) p.functions n f is;
+  found = λ n f is off under. absurd (omega (arith, under));
 }
 
--- a function of another level
-pub settled_past : (p : PlainProgram) (c : Claims) (levels : List ℕ) (level k : ℕ) (old vs : List Value) → (slice_index levels k ≡ level → ⊥) → AreSettledAt p c levels level k old vs → AreSettledAt p c levels level (k + 1) old vs
-settled_past p c levels level k old vs other before = record {
-  each = before.each;
-  settled = λ n f low at got. before.settled n f (let apart : n ≡ k → ⊥ = λ here. other (ap (slice_index levels) (sym here) ∙ at) in omega (arith, low, apart)) at got;
-  others = before.others;
-}
+module _ (o : Offers) (p : PlainProgram) (g : List (List ℕ)) (numbers : List ℕ) (nodes : length g ≡ length p.functions) (edges : (u v : ℕ) → Edge g u v ↔ Edge (call_graph p) u v) (whole : IsGraph g) (are : AreComponents g numbers) where
+  inside : (n : ℕ) (f : PlainFunction) → slice_get p.functions n ≡ Some f → n < length g
+  inside n f is = let low : n < length p.functions = get_below p.functions n f is in omega (arith, low, nodes)
 
--- all functions
-pub settled_all : (p : PlainProgram) (c : Claims) (levels : List ℕ) (level k : ℕ) (old new : List Value) → length p.functions ≤ k → AreSettledAt p c levels level k old new → AreSettledAt p c levels level (length p.functions) old new
-settled_all p c levels level k old new past are = record { each = are.each; settled = λ n f low at got. are.settled n f (omega (arith, low, past)) at got; others = are.others }
+  -- ## One function
 
--- ## One level
-
-module _ (p : PlainProgram) (levels : List ℕ) (are : AreLevels (call_graph p) levels) where
-  nodes : length (call_graph p) ≡ length p.functions
-  nodes = length-map p.functions (callees_of (length p.functions))
-
-  -- a function with a level above 0 lies on no cycle
-  off_cycle : (n : ℕ) → 1 ≤ slice_index levels n → IsOnCycle (call_graph p) n → ⊥
-  off_cycle n some on = let none : slice_index levels n ≡ 0 = are.cyclic n on in omega (arith, some, none)
-
-  module _ (level : ℕ) (old new : List Value) (some : 1 ≤ level) (below : AreResultsBelow p levels level old) (settled : AreSettledAt p (claims_by p.functions old) levels level (length p.functions) old new) where
-    size : length new ≡ length p.functions
-    size = settled.each ∙ below.each
-
-    -- what is claimed of callees is as before
-    called : (n : ℕ) (f : PlainFunction) → slice_get p.functions n ≡ Some f → 1 ≤ slice_index levels n → slice_index levels n ≤ level → EachCalled (Same (claims_by p.functions old) (claims_by p.functions new)) (nodes_of_statements f.body)
-    called n f is least most = edges_each p (Same (claims_by p.functions old) (claims_by p.functions new)) n f is
-        (λ m edge. one_says (claims_by p.functions old) (claims_by p.functions new) m (claims_same p.functions old new m (sym (settled.others m (apart m edge)))))
-        (λ m past. one_says (claims_by p.functions old) (claims_by p.functions new) m (claims_same p.functions old new m (gone old below.each m past ∙ sym (gone new size m past))))
-      where
-        apart : (m : ℕ) → Edge (call_graph p) n m → slice_index levels m ≡ level → ⊥
-        apart m edge same =
-            let low : n < length p.functions = get_below p.functions n f is in
-            let each : length (call_graph p) ≡ length p.functions = nodes in
-            let less : slice_index levels m < slice_index levels n = (are.other n (omega (arith, low, each)) (off_cycle n least)).above m edge in
-            omega (arith, less, most, same)
-
-        gone : (vs : List Value) → length vs ≡ length p.functions → (m : ℕ) → length p.functions ≤ m → slice_get vs m ≡ None
-        gone vs each m past = slice_get_past vs m (omega (arith, each, past))
-
-    result_stays : (n : ℕ) (f : PlainFunction) → slice_get p.functions n ≡ Some f → 1 ≤ slice_index levels n → slice_index levels n ≤ level → result_of p (claims_by p.functions old) n f ≡ result_of p (claims_by p.functions new) n f
-    result_stays n f is least most = result_same p (claims_by p.functions old) (claims_by p.functions new) n f (called n f is least most)
-
-    pub one_level_more : AreResultsBelow p levels (level + 1) new
-    one_level_more = record {
-      each = size;
-      any = λ n f is zero_is. settled.others n (λ same. let l : 1 ≤ level = some in omega (arith, l, zero_is, same)) ∙ below.any n f is zero_is;
-      found = λ n f is least under. elim (cases_lt (slice_index levels n) level) [
-        | inl less ↦
-            settled.others n (λ same. let l : slice_index levels n < level = less in omega (arith, l, same)) ∙ (below.found n f is least less ∙ ap Some (result_stays n f is least (omega (arith, less))))
-        | inr over ↦
-            let same : slice_index levels n ≡ level = omega (arith, under, over) in
-            settled.settled n f (get_below p.functions n f is) same is ∙ ap Some (result_stays n f is least (omega (arith, same)))
-      ];
-    }
-
-  -- ## All levels
-
-  pub first_results : AreResultsBelow p levels 1 (any_results p.functions)
-  first_results = record {
-    each = length-map p.functions (λ (f : PlainFunction). any_value f.result);
-    any = λ n f is zero_is. get_map (λ (f : PlainFunction). any_value f.result) p.functions n f is;
-    found = λ n f is least under. absurd (omega (arith, least, under));
+  -- no function on no cycle has the number
+  passed : (results : List Value) (k : ℕ) → ((u : ℕ) → u < length g → (IsOnCycle g u → ⊥) → slice_index numbers u ≡ k → ⊥) → AreResultsBelow o p g numbers k results → AreResultsBelow o p g numbers (k + 1) results
+  passed results k none before = record {
+    each = before.each;
+    any = before.any;
+    found = λ n f is off under. let apart : slice_index numbers n ≡ k → ⊥ = none n (inside n f is) off in before.found n f is off (omega (arith, under, apart));
   }
 
-  pub all_results : (results : List Value) (end : ℕ) → ((n : ℕ) → n < length levels → slice_index levels n < end) → AreResultsBelow p levels end results → HaveResults p (claims_by p.functions results)
-  all_results results end few below = record {
+  module _ (node k : ℕ) (only : IsLoneAt g numbers k node) where
+    -- the function at the number has another one
+    pub settled_apart : (results : List Value) → (slice_index numbers node ≡ k → ⊥) → AreResultsBelow o p g numbers k results → AreResultsBelow o p g numbers (k + 1) results
+    settled_apart results apart before = passed results k (λ u low off is. apart (ap (slice_index numbers) (sym (only u low (alone g numbers whole are u low off) is)) ∙ is)) before
+
+    -- it lies on a cycle
+    pub settled_cyclic : (results : List Value) → IsOnCycle g node → AreResultsBelow o p g numbers k results → AreResultsBelow o p g numbers (k + 1) results
+    settled_cyclic results on before = passed results k (λ u low off is. off (subst (IsOnCycle g) (sym (only u low (alone g numbers whole are u low off) is)) on)) before
+
+    -- it has its result
+    module _ (results : List Value) (v : Value) (there : node < length g) (off : IsOnCycle g node → ⊥) (number : slice_index numbers node ≡ k) (before : AreResultsBelow o p g numbers k results) where
+      abbrev after : List Value
+      after = set results node v
+
+      -- what doesn't call it gives the same
+      stays : (n : ℕ) (f : PlainFunction) → slice_get p.functions n ≡ Some f → (IsOnCycle g n → ⊥) → slice_index numbers n ≤ k → result_of o p (claims_by p.functions results) n f ≡ result_of o p (claims_by p.functions after) n f
+      stays n f is free most = result_same o p (claims_by p.functions results) (claims_by p.functions after) n f (edges_each p (Same (claims_by p.functions results) (claims_by p.functions after)) n f is
+          (λ m edge. same_but m (λ same.
+          let less : slice_index numbers m < slice_index numbers n = falls g numbers whole are n m (inside n f is) free ((edges n m).1 edge) in
+          let e : slice_index numbers m ≡ slice_index numbers node = ap (slice_index numbers) same in
+          omega (arith, less, most, e, number)))
+          (λ m past. same_but m (λ same. omega (arith, past, same, there, nodes))))
+        where
+          same_but : (m : ℕ) → (m ≡ node → ⊥) → Same (claims_by p.functions results) (claims_by p.functions after) m
+          same_but m apart = one_says (claims_by p.functions results) (claims_by p.functions after) m (claims_same p.functions results after m (sym (get_other results node m v apart)))
+
+      pub settled_more : ((f : PlainFunction) → slice_get p.functions node ≡ Some f → v ≡ result_of o p (claims_by p.functions results) node f) → AreResultsBelow o p g numbers (k + 1) after
+      settled_more is_found = record {
+        each = length-set results node v ∙ before.each;
+        any = λ n f is on. get_other results node n v (λ same. off (subst (IsOnCycle g) same on)) ∙ before.any n f is on;
+        found = λ n f is free under. elim (cases_eq n node) [
+          | inl here ↦
+              let size : length results ≡ length p.functions = before.each in
+              let own : slice_get after n ≡ Some v = ap (slice_get after) here ∙ get_set results node v (omega (arith, size, there, nodes)) in
+              let found : v ≡ result_of o p (claims_by p.functions results) n f =
+              is_found f (subst (λ m. slice_get p.functions m ≡ Some f) here is) ∙ ap (λ m. result_of o p (claims_by p.functions results) m f) (sym here) in
+              own ∙ ap Some (found ∙ stays n f is free (omega (arith, under)))
+          | inr apart ↦
+              let other : slice_index numbers n ≡ k → ⊥ = λ e. apart (only n (inside n f is) (alone g numbers whole are n (inside n f is) free) e) in
+              let low : slice_index numbers n < k = omega (arith, under, other) in
+              get_other results node n v apart ∙ (before.found n f is free low ∙ ap Some (stays n f is free (omega (arith, low))))
+        ];
+      }
+
+  -- ## All functions
+
+  pub all_results : (results : List Value) (end : ℕ) → length g ≤ end → AreResultsBelow o p g numbers end results → HaveResults o p (claims_by p.functions results)
+  all_results results end past below = record {
     each = with_results_length p.functions results below.each;
     results = λ n f claim is claimed.
         let low : n < length p.functions = get_below p.functions n f is in
         let count : length results ≡ length p.functions = below.each in
         elim (slice_get_cases results n).1 [
-          | inr (past, none) ↦ absurd (omega (arith, past, low, count))
-          | inl (v, inside, at, got) ↦
+          | inr (over, none) ↦ absurd (omega (arith, over, low, count))
+          | inl (v, within, at, got) ↦
               let same : bare_claim f v ≡ claim = one_claim (bare_claim f v) claim (sym (with_results_at p.functions results n f v is at) ∙ claimed) in
-              subst (HasResult p (claims_by p.functions results) n f) same (record {
+              subst (HasResult o p (claims_by p.functions results) n f) same (record {
                 params = refl;
-                recursive = λ on. one_value v (any_value f.result) (sym at ∙ below.any n f is (are.cyclic n on));
+                recursive = λ on. one_value v (any_value f.result) (sym at ∙ below.any n f is (on_cycle_too (call_graph p) g n (λ x y. (edges x y).1) on));
                 other = λ off.
-                    let each : length (call_graph p) ≡ length p.functions = nodes in
-                    let sized : length levels ≡ length (call_graph p) = are.each in
-                    let above : IsAbove (call_graph p) levels n = are.other n (omega (arith, low, each)) off in
-                    one_value v (result_of p (claims_by p.functions results) n f) (sym at ∙ below.found n f is above.some (few n (omega (arith, low, each, sized))));
+                    let most : slice_index numbers n < length g = are.below n (inside n f is) in
+                    one_value v (result_of o p (claims_by p.functions results) n f)
+                    (sym at ∙ below.found n f is (λ on. off (on_cycle_too g (call_graph p) n (λ x y. (edges x y).0) on)) (omega (arith, most, past)));
               })
         ];
   }
 
--- the claims of the code
-pub results_ok : {E : Type 0} (p : PlainProgram) (c : Claims) (r : Result Cert E) → IfOk r (λ claims. claims_of claims ≡ c) → HaveResults p c → IfOk r (λ claims. HaveResults p (claims_of claims))
-results_ok p c (Ok claims) is have = subst (HaveResults p) (sym is) have
-results_ok p c (Err e) is have = tt
+-- ## Claims
+
+module _ (o : Offers) (p : PlainProgram) (g : List (List ℕ)) (numbers : List ℕ) (nodes : length g ≡ length p.functions) (edges : (u v : ℕ) → Edge g u v ↔ Edge (call_graph p) u v) (whole : IsGraph g) (are : AreComponents g numbers) (node k : ℕ)
+    (only : IsLoneAt g numbers k node) (c : Claims) (before : AreSettled o p g numbers k c) where
+  pub claims_apart : (slice_index numbers node ≡ k → ⊥) → AreSettled o p g numbers (k + 1) c
+  claims_apart apart = record { results = before.results; claims = before.claims; below = settled_apart o p g numbers nodes edges whole are node k only before.results apart before.below }
+
+  pub claims_cyclic : IsOnCycle g node → AreSettled o p g numbers (k + 1) c
+  claims_cyclic on = record { results = before.results; claims = before.claims; below = settled_cyclic o p g numbers nodes edges whole are node k only before.results on before.below }
+
+  pub claims_more : (d : Claims) → node < length g → (IsOnCycle g node → ⊥) → slice_index numbers node ≡ k → ((f : PlainFunction) → slice_get p.functions node ≡ Some f → d ≡ with_claim c node (bare_claim f (result_of o p c node f)))
+      → AreSettled o p g numbers (k + 1) d
+  claims_more d there off number now = elim (slice_get_cases p.functions node).1 [
+    | inr (past, none) ↦ absurd (omega (arith, past, there, nodes))
+    | inl (f, within, is, got) ↦
+        let v : Value = result_of o p (claims_by p.functions before.results) node f in
+        let put : with_claim (claims_by p.functions before.results) node (bare_claim f v) ≡ claims_by p.functions (set before.results node v) =
+        λ i. record { funcs = with_results_set p.functions before.results node f v is i; total = record { prefix = 0; turn = 0; calls = 0; bytes = 0 } } in
+        record {
+          results = set before.results node v;
+          claims = now f is ∙ (ap (λ (e : Claims). with_claim e node (bare_claim f (result_of o p e node f))) before.claims ∙ put);
+          below = settled_more o p g numbers nodes edges whole are node k only before.results v there off number before.below
+              (λ h have. ap (result_of o p (claims_by p.functions before.results) node) (one_function f h (sym is ∙ have)));
+        }
+  ]

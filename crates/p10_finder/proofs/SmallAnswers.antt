@@ -22,24 +22,25 @@ use Rattle.p10_finder.specs.Answers.{bound_row, HaveResults, LacksBoundAt, Viola
 use Rattle.p10_finder.specs.Worked.{claiming}
 use Rattle.p10_finder.specs.Whole.{certificate_with, summing_claim, unbounded_at, long_running, long_claim, AnswersOfEachKind}
 use Rattle.p10_finder.proofs.Alone.{none_there, only_one, no_flow, lacks_alone, violates_alone, ranks_alone, results_alone, found_alone}
+use Rattle.p10_approach.specs.Offers.{Offers, no_offers}
 
 -- ## Violations
 
-none_violated : (p : PlainProgram) (c : Claims) → ((sub : Sub) (span : Span) → ViolatesBounds p c sub span → (bound_row ≡ sub) × Contains [] span) → AreViolations p c []
+none_violated : (o : Offers) (p : PlainProgram) (c : Claims) → ((sub : Sub) (span : Span) → ViolatesBounds o p c sub span → (bound_row ≡ sub) × Contains [] span) → AreViolations o p c []
 unfolding IsStrictlySortedBy
-none_violated p c all = record { sorted = tt; exact = λ v. (λ c. absurd (none_there v c), λ w. absurd (none_there v.span (all v.sub v.span w).1)) }
+none_violated o p c all = record { sorted = tt; exact = λ v. (λ c. absurd (none_there v c), λ w. absurd (none_there v.span (all v.sub v.span w).1)) }
 
-violates_at : (p : PlainProgram) (c : Claims) (n : ℕ) → LacksBoundAt p c (span n) → ((sub : Sub) (at : Span) → ViolatesBounds p c sub at → (bound_row ≡ sub) × Contains (span n ∷ []) at) → AreViolations p c (unbounded_at n ∷ [])
+violates_at : (o : Offers) (p : PlainProgram) (c : Claims) (n : ℕ) → LacksBoundAt o p c (span n) → ((sub : Sub) (at : Span) → ViolatesBounds o p c sub at → (bound_row ≡ sub) × Contains (span n ∷ []) at) → AreViolations o p c (unbounded_at n ∷ [])
 unfolding IsStrictlySortedBy
-violates_at p c n lacks all = record { sorted = (tt, tt); exact = λ v. (there v, back v) }
+violates_at o p c n lacks all = record { sorted = (tt, tt); exact = λ v. (there v, back v) }
   where
-    there : (v : Violation) → Contains (unbounded_at n ∷ []) v → ViolatesBounds p c v.sub v.span
-    there v h = subst (λ (w : Violation). ViolatesBounds p c w.sub w.span) (only_one (unbounded_at n) v h) (no_bound (span n) lacks)
+    there : (v : Violation) → Contains (unbounded_at n ∷ []) v → ViolatesBounds o p c v.sub v.span
+    there v h = subst (λ (w : Violation). ViolatesBounds o p c w.sub w.span) (only_one (unbounded_at n) v h) (no_bound (span n) lacks)
 
     same : (v : Violation) → bound_row ≡ v.sub → span n ≡ v.span → unbounded_at n ≡ v
     same v a b = λ i. record { sub = a i; span = b i }
 
-    back : (v : Violation) → ViolatesBounds p c v.sub v.span → Contains (unbounded_at n ∷ []) v
+    back : (v : Violation) → ViolatesBounds o p c v.sub v.span → Contains (unbounded_at n ∷ []) v
     back v w =
         let (sub_is, among) = all v.sub v.span w in
         subst (λ x. Contains (unbounded_at n ∷ []) x) (same v sub_is (only_one (span n) v.span among)) (0, omega arith, refl)
@@ -63,13 +64,13 @@ within_sums p funcs s claim one keeps claims short passing = elim passing as (λ
 summing_certificate : Claims
 summing_certificate = certificate_with summing (summing_claim ∷ [])
 
-summing_lacks : (at : Span) → LacksBoundAt summing summing_certificate at → Contains [] at
+summing_lacks : (at : Span) → LacksBoundAt no_offers summing summing_certificate at → Contains [] at
 unfolding summing_certificate fitted_interval
-summing_lacks at l = lacks_alone summing _ _ [] refl refl at l
+summing_lacks at l = lacks_alone no_offers summing _ _ [] refl refl at l
 
-summing_claims : AreClaims summing (certificate_with summing (summing_claim ∷ []))
+summing_claims : AreClaims no_offers summing (certificate_with summing (summing_claim ∷ []))
 unfolding fitted_interval
-summing_claims = record { ranks = ranks_alone; each = found_alone summing _ _ summing_claim refl refl refl; total = refl }
+summing_claims = record { ranks = ranks_alone; each = found_alone no_offers summing _ _ summing_claim refl refl refl; total = refl }
 
 summing_text : length (certificate_text (certificate_with summing (summing_claim ∷ []))) ≤ MOST_CERTIFICATE_BYTES
 unfolding certificate_text text_of line_then digits
@@ -84,15 +85,15 @@ summing_within = within_sums summing _ _ summing_claim refl refl refl (λ l c. s
 wrapping_claims : Claims
 wrapping_claims = certificate_with wrapping (claiming 0 0 0 0 [] all_ints [] ∷ [])
 
-wrapping_right : HaveResults wrapping wrapping_claims
+wrapping_right : HaveResults no_offers wrapping wrapping_claims
 unfolding wrapping_claims fitted_interval
-wrapping_right = results_alone wrapping _ wrapping_claims _ refl refl refl refl refl
+wrapping_right = results_alone no_offers wrapping _ wrapping_claims _ refl refl refl refl refl
 
-wrapping_lacks : (at : Span) → LacksBoundAt wrapping wrapping_claims at → Contains (span 4 ∷ []) at
+wrapping_lacks : (at : Span) → LacksBoundAt no_offers wrapping wrapping_claims at → Contains (span 4 ∷ []) at
 unfolding wrapping_claims fitted_interval
-wrapping_lacks at l = lacks_alone wrapping _ _ (span 4 ∷ []) refl refl at l
+wrapping_lacks at l = lacks_alone no_offers wrapping _ _ (span 4 ∷ []) refl refl at l
 
-wrapping_at : LacksBoundAt wrapping wrapping_claims (span 4)
+wrapping_at : LacksBoundAt no_offers wrapping wrapping_claims (span 4)
 unfolding wrapping_claims fitted_interval
 wrapping_at = record {
   number = 0;
@@ -107,13 +108,13 @@ wrapping_at = record {
 long_certificate : Claims
 long_certificate = certificate_with long_running (long_claim ∷ [])
 
-long_lacks : (at : Span) → LacksBoundAt long_running long_certificate at → Contains [] at
+long_lacks : (at : Span) → LacksBoundAt no_offers long_running long_certificate at → Contains [] at
 unfolding long_certificate fitted_interval
-long_lacks at l = lacks_alone long_running _ _ [] refl refl at l
+long_lacks at l = lacks_alone no_offers long_running _ _ [] refl refl at l
 
-long_claims : AreClaims long_running (certificate_with long_running (long_claim ∷ []))
+long_claims : AreClaims no_offers long_running (certificate_with long_running (long_claim ∷ []))
 unfolding fitted_interval
-long_claims = record { ranks = ranks_alone; each = found_alone long_running _ _ long_claim refl refl refl; total = refl }
+long_claims = record { ranks = ranks_alone; each = found_alone no_offers long_running _ _ long_claim refl refl refl; total = refl }
 
 long_passes : PassesSum long_running (certificate_with long_running (long_claim ∷ []))
 long_passes = inl (record { sum = _; among = (0, omega arith, refl); passes = refl })
@@ -124,7 +125,7 @@ pub answers_of_each_kind : AnswersOfEachKind
 unfolding summing_certificate long_certificate
 answers_of_each_kind = record {
   certified = record {
-    claims = record { claims = summing_claims; lawful = none_violated summing summing_certificate (violates_alone summing summing_certificate [] (no_flow summing refl refl refl) summing_lacks) };
+    claims = record { claims = summing_claims; lawful = none_violated no_offers summing summing_certificate (violates_alone no_offers summing summing_certificate [] (no_flow summing refl refl refl) summing_lacks) };
     sums = summing_within;
     text = λ more. let most : length (certificate_text (certificate_with summing (summing_claim ∷ []))) ≤ MOST_CERTIFICATE_BYTES = summing_text in omega arith;
   };
@@ -132,13 +133,13 @@ answers_of_each_kind = record {
     all = record {
       claims = wrapping_claims;
       right = wrapping_right;
-      all = violates_at wrapping wrapping_claims 4 wrapping_at (violates_alone wrapping wrapping_claims (span 4 ∷ []) (no_flow wrapping refl refl refl) wrapping_lacks);
+      all = violates_at no_offers wrapping wrapping_claims 4 wrapping_at (violates_alone no_offers wrapping wrapping_claims (span 4 ∷ []) (no_flow wrapping refl refl refl) wrapping_lacks);
     };
     some = λ e. absurd cc;
   };
   over = record {
     certificate = long_certificate;
-    claims = record { claims = long_claims; lawful = none_violated long_running long_certificate (violates_alone long_running long_certificate [] (no_flow long_running refl refl refl) long_lacks) };
+    claims = record { claims = long_claims; lawful = none_violated no_offers long_running long_certificate (violates_alone no_offers long_running long_certificate [] (no_flow long_running refl refl refl) long_lacks) };
     passes = inl (refl, long_passes);
   };
 }

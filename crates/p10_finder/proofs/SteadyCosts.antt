@@ -14,7 +14,7 @@ use Rattle.p10_meaning.specs.Values.{width}
 use Rattle.p10_meaning.specs.Runs.{task_in}
 use Rattle.p10_sums.specs.Counting.{Counting, turns_claimed}
 use Rattle.p10_sums.specs.Costs.{value_cost, place_cost, written_cost, items_cost, variable_width, initializer_cost, test_cost, loop_cost, statement_cost, statement_form_cost, statements_cost, cost_of, task_test_cost, task_cost, turn_cost}
-use Rattle.p10_finder.specs.Trials.{counted}
+use Rattle.p10_candidates.specs.Trials.{counted}
 use Rattle.p10_finder.specs.Functions.{with_turn_steps}
 use Rattle.p10_finder.proofs.Called.{EachCalled, first_called, last_called, both_called, all_called, loop_called}
 use Rattle.p10_finder.proofs.SameCosts.{OneClaim, counting_under, value_costs, place_costs, value_positive}

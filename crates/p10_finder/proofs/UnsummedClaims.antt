@@ -23,6 +23,7 @@ use Rattle.p10_finder.proofs.Called.{all_called}
 use Rattle.p10_finder.proofs.SameValues.{Same}
 use Rattle.p10_finder.proofs.SameLoops.{loops_of_same, result_same}
 use Rattle.p10_finder.proofs.OneResult.{none_same, some_same}
+use Rattle.p10_approach.specs.Offers.{Offers}
 
 -- ## One after the other
 
@@ -38,25 +39,25 @@ got_last (z ∷ xs) x zero e = absurd (omega (arith, e))
 got_last (z ∷ xs) x (suc k) e = got_last xs x k (omega (arith, e))
 
 -- the claims so far, and the next one
-pub unsummed_more : (p : PlainProgram) (r : Claims) (ranks : List ℕ) (fs : List CodeFunc) (n : ℕ) (f : CodeFunc) (old new : List FuncClaim) (put : FuncClaim) → n < length fs → f ≡ get_or fs n f
-    → func_of put ≡ unsummed p r n (slice_index ranks n) (plain_function f) → new ≡ old ++ put ∷ [] → length old ≡ n
-    → ((k : ℕ) (g : PlainFunction) → k < n → slice_get (map plain_function fs) k ≡ Some g → slice_get (map func_of old) k ≡ Some (unsummed p r k (slice_index ranks k) g))
-    → (k : ℕ) (g : PlainFunction) → k < n + 1 → slice_get (map plain_function fs) k ≡ Some g → slice_get (map func_of new) k ≡ Some (unsummed p r k (slice_index ranks k) g)
-unsummed_more p r ranks fs n f old new put inside is made pushed size so-far k g low got =
+pub unsummed_more : (o : Offers) (p : PlainProgram) (r : Claims) (ranks : List ℕ) (fs : List CodeFunc) (n : ℕ) (f : CodeFunc) (old new : List FuncClaim) (put : FuncClaim) → n < length fs → f ≡ get_or fs n f
+    → func_of put ≡ unsummed o p r n (slice_index ranks n) (plain_function f) → new ≡ old ++ put ∷ [] → length old ≡ n
+    → ((k : ℕ) (g : PlainFunction) → k < n → slice_get (map plain_function fs) k ≡ Some g → slice_get (map func_of old) k ≡ Some (unsummed o p r k (slice_index ranks k) g))
+    → (k : ℕ) (g : PlainFunction) → k < n + 1 → slice_get (map plain_function fs) k ≡ Some g → slice_get (map func_of new) k ≡ Some (unsummed o p r k (slice_index ranks k) g)
+unsummed_more o p r ranks fs n f old new put inside is made pushed size so-far k g low got =
     let all : map func_of new ≡ map func_of old ++ func_of put ∷ [] = ap (map func_of) pushed ∙ map-append func_of old (put ∷ []) in
     ap (λ (l : List Func). slice_get l k) all ∙ elim (cases_lt k n) [
-      | inl earlier ↦ got_before (map func_of old) (func_of put ∷ []) k (unsummed p r k (slice_index ranks k) g) (so-far k g earlier got)
+      | inl earlier ↦ got_before (map func_of old) (func_of put ∷ []) k (unsummed o p r k (slice_index ranks k) g) (so-far k g earlier got)
       | inr over ↦
           let here : k ≡ n = omega (arith, low, over) in
           let mine : slice_get (map plain_function fs) n ≡ Some (plain_function f) = get_map plain_function fs n f (slice_get-get_or fs n f inside ∙ ap Some (sym is)) in
           let same : plain_function f ≡ g = let theirs : slice_get (map plain_function fs) n ≡ Some g = subst (λ m. slice_get (map plain_function fs) m ≡ Some g) here got in cc in
           let last : slice_get (map func_of old ++ func_of put ∷ []) k ≡ Some (func_of put) = got_last (map func_of old) (func_of put) k (length-map old func_of ∙ (size ∙ sym here)) in
-          last ∙ ap Some (made ∙ (ap (unsummed p r n (slice_index ranks n)) same ∙ ap (λ m. unsummed p r m (slice_index ranks m) g) (sym here)))
+          last ∙ ap Some (made ∙ (ap (unsummed o p r n (slice_index ranks n)) same ∙ ap (λ m. unsummed o p r m (slice_index ranks m) g) (sym here)))
     ]
 
 -- ## The claims themselves
 
-module _ (p : PlainProgram) (results claims : Claims) (ranks : List ℕ) (are : AreRanks (call_graph p) ranks) (have : HaveResults p results) (unsummed_are : AreUnsummed p results ranks claims.funcs) where
+module _ (o : Offers) (p : PlainProgram) (results claims : Claims) (ranks : List ℕ) (are : AreRanks (call_graph p) ranks) (have : HaveResults o p results) (unsummed_are : AreUnsummed o p results ranks claims.funcs) where
   -- the claims have the results
   say_the_same : (n : ℕ) → Same results claims n
   say_the_same n =
@@ -70,19 +71,19 @@ module _ (p : PlainProgram) (results claims : Claims) (ranks : List ℕ) (are : 
             | inr (past, none) ↦ absurd (omega (arith, past, low, each))
             | inl (a, inside2, is2, got2) ↦
                 let r = have.results n f a is is2 in
-                some_same (slice_get results.funcs n) (slice_get claims.funcs n) a (unsummed p results n (slice_index ranks n) f) is2 (unsummed_are.claims n f is) r.params (r.other (λ on. no_ranks_on_cycles (call_graph p) ranks are n on))
+                some_same (slice_get results.funcs n) (slice_get claims.funcs n) a (unsummed o p results n (slice_index ranks n) f) is2 (unsummed_are.claims n f is) r.params (r.other (λ on. no_ranks_on_cycles (call_graph p) ranks are n on))
           ]
         ]
       ]
 
   -- so they are those that are found where they themselves stand
-  pub own_unsummed : AreUnsummed p claims ranks claims.funcs
+  pub own_unsummed : AreUnsummed o p claims ranks claims.funcs
   own_unsummed = record {
     each = unsummed_are.each;
     claims = λ n f there.
         let called = all_called (Same results claims) say_the_same (nodes_of_statements f.body) in
-        let loops = loops_of_same p results claims n f called in
-        let result = result_same p results claims n f called in
+        let loops = loops_of_same o p results claims n f called in
+        let result = result_same o p results claims n f called in
         unsummed_are.claims n f there ∙ (λ i. Some (record {
           name = f.name;
           rank = slice_index ranks n;

@@ -16,12 +16,13 @@ use Rattle.p10_pass.specs.SmallPasses.{upto, claims_for, line, wrapping}
 use Rattle.p10_finder.specs.Loops.{LoopsFound, no_loops}
 use Rattle.p10_finder.specs.Functions.{loops_of}
 use Rattle.p10_finder.specs.Worked.{outer_loop, stepped_on, for_loop}
+use Rattle.p10_approach.specs.Offers.{no_offers}
 
 -- ## Builders
 
 -- the loops of a function that is alone
 abbrev pub loops_alone : PlainFunction → LoopsFound
-loops_alone f = loops_of (main_of [] []) (claims_for []) 0 f
+loops_alone f = loops_of no_offers (main_of [] []) (claims_for []) 0 f
 
 -- the same for function 0 of `main` alone
 abbrev pub loops_of_main : Option PlainFunction → LoopsFound
@@ -62,11 +63,11 @@ stepped_back t v = does (update Step Sub int (name 0 t v) (n 1))
 
 -- a loop with one claim, and one without a bound
 abbrev pub bounded : Rank → ℕ → List Var → LoopsFound
-bounded rank turns vars = record { claims = outer_loop rank turns vars ∷ []; unbounded = [] }
+bounded rank turns vars = record { claims = outer_loop rank turns vars ∷ []; unbounded = []; approaches = None ∷ [] }
 
 -- the second
 abbrev pub unbounded : List Var → LoopsFound
-unbounded vars = record { claims = outer_loop One 0 vars ∷ []; unbounded = span 4 ∷ [] }
+unbounded vars = record { claims = outer_loop One 0 vars ∷ []; unbounded = span 4 ∷ []; approaches = None ∷ [] }
 
 -- ## Functions
 
@@ -142,12 +143,13 @@ pub record BoundsAtEdges : Type 0 where
   -- `return 0; for (int i = 0; i < 10; i++) { for (..) { ; } }`: no state comes to these
   pub unreached : over 0 (int_variable ∷ int_variable ∷ [])
       (returns (n 0) ∷ for_loop 0 (begin 0 (n 0)) (less (x 0) (n 10)) (stepped_on int 0) (for_loop 1 (begin 1 (n 0)) (less (x 1) (x 0)) (stepped_on int 1) (does empty)) ∷ [])
-      ≡ record { claims = outer_loop One 0 [] ∷ record (outer_loop One 0 []) { depth = 1 } ∷ []; unbounded = [] }
+      ≡ record { claims = outer_loop One 0 [] ∷ record (outer_loop One 0 []) { depth = 1 } ∷ []; unbounded = []; approaches = None ∷ None ∷ [] }
   -- a loop in a loop has its bound by the claim on the outer one
   pub inner : triangle ≡ record {
     claims = outer_loop (Up 0 (pos 10)) 10 (line 0 (upto 0 10) ∷ []) ∷
         record { depth = 1; rank = Up 1 (pos 9); turns = 9; vars = line 0 (upto 0 9) ∷ line 1 (upto 0 9) ∷ [] } ∷ [];
     unbounded = [];
+    approaches = None ∷ None ∷ [];
   }
   -- `while (i < 10) { i = 0; } for (int j = 0; j < i; j++) { ; }` from `int i = 0`: after a loop without a bound, what it assigns may
   -- be anything that ends it
@@ -156,6 +158,7 @@ pub record BoundsAtEdges : Type 0 where
       ≡ record {
         claims = outer_loop One 0 [] ∷ outer_loop (Up 1 (pos (2 ^ 31 - 1))) (2 ^ 31 - 1) (line 0 (upto 10 (2 ^ 31 - 1)) ∷ line 1 (upto 0 (2 ^ 31 - 1)) ∷ []) ∷ [];
         unbounded = span 4 ∷ [];
+        approaches = None ∷ None ∷ [];
       }
   -- `switch (1) { case 1: i = 3; default: while (i < 5) { i++; } }` with a parameter `int i`
   pub in_switch : over 1 (int_variable ∷ [])

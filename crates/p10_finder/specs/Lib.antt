@@ -1,8 +1,7 @@
 -- The definitions that the contracts of this crate cite.
-pub mod Candidates
-pub mod Trials
 pub mod Loops
 pub mod Functions
+pub mod Ranking
 pub mod Answers
 pub mod Finding
 pub mod Worked

@@ -14,29 +14,35 @@ use Rattle.p10_fit.specs.Fits.{is_task}
 use Rattle.p10_pass.specs.Scopes.{form_assigns}
 use Rattle.p10_pass.specs.Claiming.{head_of}
 use Rattle.p10_pass.specs.Arguments.{has_value}
-use Rattle.p10_pass.specs.Passing.{nowhere, Round, Manner, trial_manner, round_of, pass_statement, pass_statements, is_labelled}
-use Rattle.p10_finder.specs.Candidates.{LoopEntry}
-use Rattle.p10_finder.specs.Trials.{Rounds, LoopFound, loop_found, task_found, unreached_found}
+use Rattle.p10_pass.specs.Passing.{Manner, pass_statement, pass_statements, is_labelled}
+use Rattle.p10_candidates.specs.Candidates.{LoopEntry}
+use Rattle.p10_candidates.specs.Trials.{Rounds, LoopFound, loop_found, task_found, unreached_found, trial_rounds}
+use Rattle.p10_candidates.specs.Approaches.{Approach}
+use Rattle.p10_approach.specs.Approaches.{Approached}
+use Rattle.p10_turns.specs.LoopParts.{LoopParts}
 
--- where loops are looked for: what is claimed of functions, of which the results count; the variables of the function; and the number
--- of the task loop, if it has the task
+-- where loops are looked for: what is claimed of functions, of which the results count; the variables of the function; the number of the
+-- task loop, if it has the task; and what is offered for its other loops, by their numbers and by how many loops they stand in
 pub record Search : Type 0 where
   pub calls : Claims
   pub variables : List PlainVariable
   pub task : Option ℕ
+  pub offers : ℕ → ℕ → Option LoopParts → LoopEntry → Option Approached
 
--- the loops found so far, in text order: what is claimed of them, and the keywords of those whose turns have no bound
+-- the loops found so far, in text order: what is claimed of them; the keywords of those whose turns have no bound; and of each the
+-- variables whose approach bounds its turns, if such do
 pub record LoopsFound : Type 0 where
   pub claims : List Loop
   pub unbounded : List Span
+  pub approaches : List (Option Approach)
 
 -- none so far
 abbrev pub no_loops : LoopsFound
-no_loops = record { claims = []; unbounded = [] }
+no_loops = record { claims = []; unbounded = []; approaches = [] }
 
 -- one more
 abbrev pub with_loop : LoopsFound → LoopFound → LoopsFound
-with_loop found l = record { claims = found.claims ++ l.claim ∷ []; unbounded = found.unbounded ++ l.unbounded }
+with_loop found l = record { claims = found.claims ++ l.claim ∷ []; unbounded = found.unbounded ++ l.unbounded; approaches = found.approaches ++ l.approach ∷ [] }
 
 -- ## Environments on the way
 
@@ -80,28 +86,19 @@ assigned_in s form n = nat_lt n (length s.variables) && form_assigns n form
 abbrev pub loop_entry : Search → (ℕ → Bool) → Option PlainValue → Environment → LoopEntry
 loop_entry s assigned tested entry = record { variables = s.variables; assigned = assigned; guard = tested; entry = entry }
 
--- the rounds of a loop in a trial
-abbrev pub trial_rounds : List PlainVariable → LoopKeyword → Option PlainValue → PlainStatements → PlainStatement → Rounds
-trial_rounds variables keyword tested third body =
-    let m : Manner = trial_manner variables in round_of m keyword tested (λ env. pass_statements m third env) (λ env. pass_statement m body env)
+-- what a loop counts with by what is offered for it, if something is
+abbrev pub found_with : Option Approached → LoopFound → LoopFound
+found_with None other = other
+found_with (Some a) other = record { claim = a.claim; unbounded = []; approach = Some a.approach }
 
--- no state comes anywhere
-abbrev pub no_round : Round
-no_round = record { enters = None; back = None; exits = None; body = nowhere; names = [] }
-
--- the rounds of a loop in a trial, by its whole statement; a statement that is no loop has none
-abbrev pub rounds_in : List PlainVariable → PlainStatement → Rounds
-rounds_in variables (statement at (loop head first tested third body)) = trial_rounds variables head.keyword tested third body
-rounds_in variables s = λ env. no_round
-
--- what a loop counts with that is entered, and may be the task
-abbrev pub entered_found : Bool → Span → Rounds → LoopEntry → ℕ → LoopFound
-entered_found task keyword round l depth = if task then task_found round l depth else loop_found keyword round l depth
+-- what a loop counts with that is entered, and may be the task: for the task nothing is offered
+abbrev pub entered_found : Option Approached → Bool → Span → Rounds → LoopEntry → ℕ → LoopFound
+entered_found offered task keyword round l depth = if task then task_found round l depth else found_with offered (loop_found keyword round l depth)
 
 -- the same for a loop to whose entry a state may not come
-abbrev pub reached_found : Bool → Span → Rounds → (Environment → LoopEntry) → ℕ → Option Environment → LoopFound
-reached_found task keyword round l depth None = unreached_found depth (if task then Task else One)
-reached_found task keyword round l depth (Some entry) = entered_found task keyword round (l entry) depth
+abbrev pub reached_found : (LoopEntry → Option Approached) → Bool → Span → Rounds → (Environment → LoopEntry) → ℕ → Option Environment → LoopFound
+reached_found offers task keyword round l depth None = unreached_found depth (if task then Task else One)
+reached_found offers task keyword round l depth (Some entry) = entered_found (offers (l entry)) task keyword round (l entry) depth
 
 -- a loop that was found: the loops with it, and what is known where its body is entered under its claim
 pub record LoopPassed : Type 0 where
@@ -116,7 +113,7 @@ passed_by s keyword tested entry found l = record { found = with_loop found l; i
 abbrev pub loop_passed : Search → ℕ → LoopHead → PlainStatements → Option PlainValue → PlainStatements → PlainStatement → Option Environment → LoopsFound → LoopPassed
 loop_passed s depth head first tested third body env found =
     let entry : Option Environment = known_at_entry s found first env in
-    passed_by s head.keyword tested entry found (reached_found (is_task s.task head.number) head.span (trial_rounds s.variables head.keyword tested third body)
+    passed_by s head.keyword tested entry found (reached_found (s.offers head.number depth (Some (record { head = head; first = first; tested = tested; third = third; body = body }))) (is_task s.task head.number) head.span (trial_rounds s.variables head.keyword tested third body)
     (loop_entry s (assigned_in s (loop head first tested third body)) tested) depth entry)
 
 -- ## All loops

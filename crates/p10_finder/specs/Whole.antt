@@ -12,6 +12,7 @@ use Rattle.p10_pass.specs.SmallPasses.{upto, all_ints, line, least_sum, wrapping
 use Rattle.p10_finder.specs.Functions.{counted_sum, total_of}
 use Rattle.p10_finder.specs.Answers.{bound_row, Violating, Over, Certified, IsDerived}
 use Rattle.p10_finder.specs.Worked.{claiming, outer_loop, to_the_end}
+use Rattle.p10_approach.specs.Offers.{no_offers}
 
 -- claims of functions, with the total of the program's `main`
 abbrev pub certificate_with : PlainProgram → List Func → Claims
@@ -37,6 +38,6 @@ long_claim = claiming 0 (10 ^ 18 + 1) 1 8 [] all_ints
 
 -- an answer of each kind
 pub record AnswersOfEachKind : Type 0 where
-  pub certified : IsDerived summing (Certified (certificate_with summing (summing_claim ∷ [])))
-  pub violating : IsDerived wrapping (Violating (unbounded_at 4 ∷ []))
-  pub over : IsDerived long_running (Over SUM)
+  pub certified : IsDerived no_offers summing (Certified (certificate_with summing (summing_claim ∷ [])))
+  pub violating : IsDerived no_offers wrapping (Violating (unbounded_at 4 ∷ []))
+  pub over : IsDerived no_offers long_running (Over SUM)

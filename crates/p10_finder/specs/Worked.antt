@@ -16,12 +16,13 @@ use Rattle.p10_meaning.specs.Tasks.{letters}
 use Rattle.p10_sums.specs.Worked.{asserted, mixing, halving, calling_one}
 use Rattle.p10_pass.specs.SmallPasses.{upto, all_ints, claims_for, line, least_sum}
 use Rattle.p10_finder.specs.Functions.{func_found}
+use Rattle.p10_approach.specs.Offers.{no_offers}
 
 -- ## What is found of all functions
 
 -- the claims of functions from number n on, under claims that have their ranks
 abbrev pub found_from : PlainProgram → Claims → ℕ → List PlainFunction → List Func → List Func
-found_from p c n (f ∷ functions) (claim ∷ claims) = func_found p c n claim.rank f ∷ found_from p c (suc n) functions claims
+found_from p c n (f ∷ functions) (claim ∷ claims) = func_found no_offers p c n claim.rank f ∷ found_from p c (suc n) functions claims
 found_from p c n functions claims = []
 
 -- claims of a program are those that are found where they stand

@@ -1,9 +1,8 @@
 -- What only the clauses of private functions cite: how the code comes to what is promised.
-pub mod Trying
 pub mod Looking
 pub mod Judging
 pub mod Counting
 pub mod Limits
 pub mod Texts
-pub mod Levels
+pub mod Visiting
 pub mod Settling

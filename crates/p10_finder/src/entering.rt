@@ -7,14 +7,16 @@ ghost use Rattle.p10_fit.specs.Fits.{is_task as is_task_of};
 ghost use Rattle.p10_pass.specs.Leaving.{values_in};
 ghost use Rattle.p10_pass.specs.Marks.{is_marked};
 ghost use Rattle.p10_finder.specs.Finding.{loops_by};
-ghost use Rattle.p10_finder.specs.private.Trying.{loop_found_by};
-ghost use Rattle.p10_finder.specs.private.Looking.{search_by, assigned_below, entered_in_parts, found_in_parts, passed_parts, passed_statement};
+ghost use Rattle.p10_candidates.specs.Offering.{entry_by, rounds_by, loop_found_by};
+ghost use Rattle.p10_candidates.specs.Trials.{loop_found as loop_found_of};
+ghost use Rattle.p10_approach.specs.Approaching.{approached_of};
+ghost use Rattle.p10_finder.specs.Loops.{found_with};
+ghost use Rattle.p10_finder.specs.private.Looking.{search_by, offered_in, assigned_below, entered_in_parts, found_in_parts, passed_parts, passed_statement};
 
-use crate::entry::LoopEntry;
-use crate::rounds::Rounds;
 use crate::search::{LoopsFound, Search, known_at_entry, known_under};
-use crate::standing::{LoopFound, loop_found, task_found, unreached_found};
 use p10_absx::Env;
+use p10_approach::{Approached, Site, first_approach};
+use p10_candidates::{LoopEntry, LoopFound, Rounds, loop_found, task_found, unreached_found};
 use p10_cert::Rank;
 use p10_core::{LoopHead, Stmt, StmtForm, Value};
 use p10_pass::assigned_marks;
@@ -126,7 +128,48 @@ fn entered_found(
     if task {
         task_found(alloc, &l, &rounds, s.depth)
     } else {
-        loop_found(alloc, &l, &rounds, parts.head.span, s.depth)
+        untasked_found(alloc, s, parts, &l, &rounds)
+    }
+}
+
+/// What a loop that isn't the task counts with: by what is offered for it, or else by its candidates.
+fn untasked_found(
+    alloc: Global,
+    s: &Search<'_, '_>,
+    parts: &LoopParts<'_>,
+    l: &LoopEntry<'_, '_>,
+    rounds: &Rounds<'_, '_>,
+) -> Result<LoopFound, AllocError>
+    ensures { IfOk result (λ found. loop_found_by found ≡ found_with (offered_in (search_by s.now) s.now.depth parts.now.head (plain_statement parts.now.looped.now) (entry_by l.now)) (loop_found_of parts.now.head.span (rounds_by rounds.now) (entry_by l.now) s.now.depth)) }
+{
+    match offered(alloc, s, parts, l)? {
+        Some(a) => Ok(LoopFound {
+            claim: a.claim,
+            unbounded: None,
+            approach: Some(a.approach),
+        }),
+        None => loop_found(alloc, l, rounds, parts.head.span, s.depth),
+    }
+}
+
+/// What is offered for a loop.
+fn offered(
+    alloc: Global,
+    s: &Search<'_, '_>,
+    parts: &LoopParts<'_>,
+    l: &LoopEntry<'_, '_>,
+) -> Result<Option<Approached>, AllocError>
+    ensures { IfOk result (λ a. option_map approached_of a ≡ offered_in (search_by s.now) s.now.depth parts.now.head (plain_statement parts.now.looped.now) (entry_by l.now)) }
+{
+    if s.approaching {
+        let site = Site {
+            function: s.number,
+            at: parts.head.number,
+            depth: s.depth,
+        };
+        first_approach(alloc, s.function, parts.looped, site, l)
+    } else {
+        Ok(None)
     }
 }
 

@@ -2,6 +2,7 @@
 
 use p10_base::{Limit, Violation};
 use p10_cert::Cert;
+use p10_diff::Rank;
 
 /// What is found of a program.
 #[derive(Debug, Drop)]
@@ -10,6 +11,13 @@ pub enum Found {
     Certificate(Cert),
     /// The violations of rows 1.3, 2.1, 2.2 and 3.1, of which there is at least one, in the order of violations, each once.
     Violations(Vec<Violation>),
+}
+
+/// What is found of a program, and the ranks that stand for loops of its certificate, by their functions and numbers in order.
+#[derive(Drop)]
+pub struct RankedFound {
+    pub found: Found,
+    pub ranks: Vec<Rank>,
 }
 
 /// Why nothing is found.

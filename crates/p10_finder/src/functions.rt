@@ -6,6 +6,7 @@ ghost use Rattle.p10_core.specs.Types.{plain_type};
 ghost use Rattle.p10_core.specs.Views.{plain_variable, plain_function, plain_program};
 ghost use Rattle.p10_range.specs.Ranges.{interval_of};
 ghost use Rattle.p10_cert.specs.Claims.{value_of, claims_of};
+ghost use Rattle.p10_approach.specs.Offers.{offers_if};
 ghost use Rattle.p10_finder.specs.Finding.{loops_by};
 ghost use Rattle.p10_finder.specs.Functions.{any_value as any_value_of, loops_of as loops_of_function, result_by as result_of_range, result_of as result_of_function, search_in as search_of};
 ghost use Rattle.p10_finder.specs.private.Looking.{search_by, returned_after};
@@ -37,11 +38,12 @@ pub fn function_found(
     claims: &Cert,
     number: u32,
     function: &Func<'_>,
+    approaching: bool,
 ) -> Result<FunctionFound, AllocError>
-    ensures loops { IfOk result (λ found. loops_by found.loops ≡ loops_of_function (plain_program program.now) (claims_of claims.now) number (plain_function function.now)) }
-    ensures result { IfOk result (λ found. value_of found.result ≡ result_of_function (plain_program program.now) (claims_of claims.now) number (plain_function function.now)) }
+    ensures loops { IfOk result (λ found. loops_by found.loops ≡ loops_of_function (offers_if approaching) (plain_program program.now) (claims_of claims.now) number (plain_function function.now)) }
+    ensures result { IfOk result (λ found. value_of found.result ≡ result_of_function (offers_if approaching) (plain_program program.now) (claims_of claims.now) number (plain_function function.now)) }
 {
-    let loops = loops_of(alloc, program, claims, number, function)?;
+    let loops = loops_of(alloc, program, claims, number, function, approaching)?;
     let result = result_of(alloc, program, claims, number, function, &loops)?;
     Ok(FunctionFound { loops, result })
 }
@@ -65,14 +67,18 @@ fn search_in<'a, 's>(
     claims: &'a Cert,
     number: u32,
     function: &'a Func<'s>,
+    approaching: bool,
 ) -> Search<'a, 's>
-    ensures search { search_by result ≡ search_of (plain_program program.now) (claims_of claims.now) number (plain_function function.now) }
+    ensures search { search_by result ≡ search_of (offers_if approaching) (plain_program program.now) (claims_of claims.now) number (plain_function function.now) }
     ensures depth { result.depth ≡ 0 }
 {
     Search {
         calls: claims,
+        function,
+        number,
         variables: function.vars.as_slice(),
         task: task_loop_number(program, number as usize, function),
+        approaching,
         depth: 0,
     }
 }
@@ -84,14 +90,16 @@ fn loops_of(
     claims: &Cert,
     number: u32,
     function: &Func<'_>,
+    approaching: bool,
 ) -> Result<LoopsFound, AllocError>
-    ensures { IfOk result (λ found. loops_by found ≡ loops_of_function (plain_program program.now) (claims_of claims.now) number (plain_function function.now)) }
+    ensures { IfOk result (λ found. loops_by found ≡ loops_of_function (offers_if approaching) (plain_program program.now) (claims_of claims.now) number (plain_function function.now)) }
 {
     let start = Some(Env::start(alloc, function)?);
-    let search = search_in(program, claims, number, function);
+    let search = search_in(program, claims, number, function, approaching);
     let mut found = LoopsFound {
         claims: Vec::new(alloc),
         unbounded: Vec::new(alloc),
+        approaches: Vec::new(alloc),
     };
     loops_in_all(alloc, &search, function.body.as_slice(), &start, &mut found)?;
     Ok(found)
@@ -109,7 +117,7 @@ fn range_returned(
     ensures { IfOk result (λ range. option_map interval_of range ≡ returned_after (plain_program program.now) (claims_of claims.now) number (plain_function function.now) (loops_by found.now)) }
 {
     let start = Env::start(alloc, function)?;
-    let search = search_in(program, claims, number, function);
+    let search = search_in(program, claims, number, function, false);
     let left = pass_statements(
         alloc,
         &found.manner(&search),

@@ -10,13 +10,13 @@
 //! }
 //! ```
 //!
-//! Entry points: [`derive`], the certificate of a whole program, or the violations for which there is none; [`bound_rules`], these
-//! violations alone; [`function_found`], the loops and the result of one function; and [`candidates`], the ranks that are tried for a
-//! loop.
+//! Entry points: [`derive`], the certificate of a whole program, or the violations for which there is none; [`derive_diff`], the same
+//! where two variables that approach each other may bound a loop's turns; [`bound_rules`], the violations alone; and [`function_found`],
+//! the loops and the result of one function.
 //!
-//! The definitions stand in `specs/`: which ranks a loop's guard offers (`Candidates.antt`), which of them stands by itself
-//! (`Trials.antt`), the walk that finds the claims of a function's loops in text order (`Loops.antt`), what is claimed of functions
-//! (`Functions.antt`), and what is answered of a program: violations, a limit, or one certificate (`Answers.antt`). What they say
+//! The definitions stand in `specs/`: the walk that finds the claims of a function's loops in text order (`Loops.antt`), by what is
+//! offered for a loop (`p10_approach`) or by its candidates (`p10_candidates`), what is claimed of functions (`Functions.antt`), the ranks
+//! of loops (`Ranking.antt`), and what is answered of a program: violations, a limit, or one certificate (`Answers.antt`). What they say
 //! of small programs is proved by computation ([`laws`]).
 //! Invariant: each function comes after those that it calls, once for its result and once for its sums. What is found of it depends on
 //! claims of its callees alone, so it stands when other claims change, and nothing is looked at again.
@@ -24,33 +24,23 @@
 #![tactic(auto)]
 
 mod calls;
-mod changing;
-mod claims;
 mod counting;
-mod course;
 mod derivation;
 mod entering;
-mod entry;
 mod found;
 mod functions;
-mod guard;
 pub mod laws;
 mod limits;
 mod results;
-mod rounds;
 mod search;
-mod standing;
 mod summed;
 mod text;
-mod trial;
 mod unsummed;
 mod violations;
 mod walk;
 
-pub use derivation::derive;
-pub use entry::LoopEntry;
-pub use found::{FinderFault, Found};
+pub use derivation::{derive, derive_diff};
+pub use found::{FinderFault, Found, RankedFound};
 pub use functions::{FunctionFound, any_value, function_found};
-pub use guard::{Candidate, candidates};
 pub use search::LoopsFound;
 pub use violations::bound_rules;

@@ -1,64 +1,102 @@
 //! The results of functions: each is found after those of the functions that it calls, except that one on a cycle of calls may give
 //! any value of its type.
 
-ghost use Rattle.std.specs.Prelude.{◌≡◌, ◌+◌, ◌≤◌, map, length, IfOk, OnOk};
+ghost use Rattle.std.specs.Prelude.{◌≡◌, ◌+◌, ◌<◌, ◌≤◌, map, length, slice_get, Some, IfOk, OnOk};
+ghost use Rattle.p10_core.specs.Typed.{PlainFunction};
 ghost use Rattle.p10_core.specs.Views.{plain_function, plain_program};
-ghost use Rattle.p10_calls.specs.CallGraphs.{call_graph};
+ghost use Rattle.p10_graph.specs.Graphs.{IsGraph};
 ghost use Rattle.p10_cert.specs.Claims.{value_of, func_of, claims_of};
-ghost use Rattle.p10_finder.specs.Functions.{any_value as any_value_of};
+ghost use Rattle.p10_approach.specs.Offers.{offers_if};
+ghost use Rattle.p10_finder.specs.Functions.{result_of};
 ghost use Rattle.p10_finder.specs.Answers.{HaveResults};
-ghost use Rattle.p10_finder.specs.private.Levels.{AreCalls, AreLevels};
-ghost use Rattle.p10_finder.specs.private.Settling.{bare_claim as bare_claim_of, claims_by, any_results as any_results_of, AreResultsBelow};
+ghost use Rattle.p10_finder.specs.private.Visiting.{AreCalls, IsLoneAt};
+ghost use Rattle.p10_finder.specs.private.Settling.{bare_claim as bare_claim_of, claims_by, with_claim, any_results as any_results_of, AreSettled};
 
-use crate::calls::Calls;
-use crate::counting::end_of;
+use crate::calls::{Calls, nodes_by_number};
 use crate::functions::{any_value, function_found};
 use crate::unsummed::any_parameters;
 use p10_base::{Bounds, ListBuf};
 use p10_cert::{Cert, FuncClaim, ValueClaim};
 use p10_core::Func;
+use p10_graph::is_on_cycle;
 use std::alloc::{AllocError, Global};
 
 impl Calls<'_, '_> {
     /// Claims with the results of all functions.
     pub(crate) fn results(&self, alloc: Global) -> Result<Cert, AllocError>
         requires { AreCalls self.now }
-        ensures { IfOk result (λ claims. HaveResults (plain_program self.now.program.now) (claims_of claims)) }
+        ensures { IfOk result (λ claims. HaveResults (offers_if self.now.approaching) (plain_program self.now.program.now) (claims_of claims)) }
     {
         let functions = self.program.functions.as_slice();
-        let levels = self.levels(alloc)?;
-        let mut results = any_results(alloc, functions)?;
-        for level in 1..end_of(levels.as_slice()) {
-            self.settle(alloc, levels.as_slice(), level, &mut results)?;
+        let end = self.graph.count();
+        let nodes = nodes_by_number(alloc, self.numbers)?;
+        let results = any_results(alloc, functions)?;
+        let mut claims = claims_with(alloc, functions, results.as_slice())?;
+        for number in 0..end {
+            self.settle(alloc, nodes[number as usize], number, &mut claims)?;
         }
-        claims_with(alloc, functions, results.as_slice())
+        Ok(claims)
     }
 
-    /// Finds the results of the functions of a level, where those of smaller levels are found.
+    /// Finds the result of a function, if it has the number before which all are found, and lies on no cycle of calls.
     fn settle(
         &self,
         alloc: Global,
-        levels: &[u32],
-        level: u64,
-        results: &mut Vec<ValueClaim>,
+        node: u32,
+        number: u32,
+        claims: &mut Cert,
     ) -> Result<(), AllocError>
         requires calls { AreCalls self.now }
-        requires levels { AreLevels (call_graph (plain_program self.now.program.now)) levels.now }
-        requires some { 1 ≤ level }
-        requires results { AreResultsBelow (plain_program self.now.program.now) levels.now level (map value_of results.old.items) }
-        ensures { OnOk result (AreResultsBelow (plain_program self.now.program.now) levels.now (level + 1) (map value_of results.new.items)) }
+        requires graph { IsGraph self.now.graph.now }
+        requires there { node < length self.now.graph.now }
+        requires lone { IsLoneAt self.now.graph.now self.now.numbers.now number node }
+        requires settled { AreSettled (offers_if self.now.approaching) (plain_program self.now.program.now) self.now.graph.now self.now.numbers.now number (claims_of claims.old) }
+        ensures { OnOk result (AreSettled (offers_if self.now.approaching) (plain_program self.now.program.now) self.now.graph.now self.now.numbers.now (number + 1) (claims_of claims.new)) }
     {
-        let functions = self.program.functions.as_slice();
-        let claims = claims_with(alloc, functions, results.as_slice())?;
-        for n in 0..self.graph.count() {
-            if levels[n as usize] as u64 == level {
-                let function = &functions[n as usize];
-                let found = function_found(alloc, self.program, &claims, n, function)?;
-                results[n as usize] = found.result;
+        if self.numbers[node as usize] == number {
+            if is_on_cycle(self.graph, self.numbers, node) {
+                Ok(())
+            } else {
+                self.find(alloc, node, claims)
             }
+        } else {
+            Ok(())
         }
+    }
+
+    /// Finds the result of a function, where those of the functions that it calls are found.
+    fn find(&self, alloc: Global, node: u32, claims: &mut Cert) -> Result<(), AllocError>
+        requires { node < length self.now.program.now.functions }
+        ensures { OnOk result ((f : PlainFunction) → slice_get (plain_program self.now.program.now).functions node ≡ Some f
+            → claims_of claims.new ≡ with_claim (claims_of claims.old) node (bare_claim_of f (result_of (offers_if self.now.approaching) (plain_program self.now.program.now) (claims_of claims.old) node f))) }
+    {
+        let function = &self.program.functions.as_slice()[node as usize];
+        let found = function_found(
+            alloc,
+            self.program,
+            claims,
+            node,
+            function,
+            self.approaching,
+        )?;
+        put_result(alloc, function, node, found.result, claims)?;
         Ok(())
     }
+}
+
+/// Puts a result in the place of what was claimed of a function.
+fn put_result(
+    alloc: Global,
+    function: &Func<'_>,
+    node: u32,
+    found: ValueClaim,
+    claims: &mut Cert,
+) -> Result<(), AllocError>
+    ensures { OnOk result (claims_of claims.new ≡ with_claim (claims_of claims.old) node (bare_claim_of (plain_function function.now) (value_of found))) }
+{
+    let mut claim = bare_claim(alloc, function, found)?;
+    claims.funcs.exchange(node as usize, &mut claim);
+    Ok(())
 }
 
 /// The results of which nothing is known.

@@ -9,15 +9,15 @@ ghost use Rattle.p10_pass.specs.Manners.{manner_by};
 ghost use Rattle.p10_pass.specs.Leaving.{values_in};
 ghost use Rattle.p10_finder.specs.Finding.{loops_by};
 ghost use Rattle.p10_finder.specs.Loops.{manner_after, with_loop, known_after_statement as after_statement, known_where_value as where_value, known_after_value as after_value, known_at_entry as at_entry, known_under as under_claim};
-ghost use Rattle.p10_finder.specs.private.Trying.{loop_found_by};
+ghost use Rattle.p10_candidates.specs.Offering.{loop_found_by};
 ghost use Rattle.p10_finder.specs.private.Looking.{search_by};
 
 use crate::entering::LoopParts;
-use crate::standing::LoopFound;
 use p10_absx::Env;
 use p10_base::Span;
+use p10_candidates::{Approach, LoopFound};
 use p10_cert::{Cert, LoopClaim};
-use p10_core::{LoopKeyword, Stmt, Value, Variable};
+use p10_core::{Func, LoopKeyword, Stmt, Value, Variable};
 use p10_pass::{Manner, head_under, pass_statement, pass_statements};
 use std::alloc::{AllocError, Global};
 
@@ -26,10 +26,14 @@ use std::alloc::{AllocError, Global};
 pub struct Search<'a, 's> {
     /// What is claimed of functions: their results count.
     pub calls: &'a Cert,
-    /// The variables of the function.
+    /// The function, its number and its variables.
+    pub function: &'a Func<'s>,
+    pub number: u32,
     pub variables: &'a [Variable<'s>],
     /// The number of the task loop, if the function has the task.
     pub task: Option<u32>,
+    /// Whether variables that approach each other may bound turns.
+    pub approaching: bool,
     /// How many loops the statements stand in.
     pub depth: u32,
 }
@@ -41,6 +45,8 @@ pub struct LoopsFound {
     pub claims: Vec<LoopClaim>,
     /// The keywords of those whose turns have no bound.
     pub unbounded: Vec<Span>,
+    /// Of each the variables whose approach bounds its turns, if such do.
+    pub approaches: Vec<Option<Approach>>,
 }
 
 impl LoopsFound {
@@ -51,6 +57,7 @@ impl LoopsFound {
         if let Some(keyword) = l.unbounded {
             self.unbounded.push(keyword)?;
         }
+        self.approaches.push(l.approach)?;
         self.claims.push(l.claim)?;
         Ok(())
     }

@@ -28,7 +28,11 @@ pub(crate) fn with_sums(
 }
 
 /// The claim with this sum.
-fn with_sum(alloc: Global, claim: &FuncClaim, sum: FuncSum) -> Result<FuncClaim, AllocError>
+pub(crate) fn with_sum(
+    alloc: Global,
+    claim: &FuncClaim,
+    sum: FuncSum,
+) -> Result<FuncClaim, AllocError>
     ensures { IfOk result (λ summed. func_of summed ≡ claim_with_sum sum (func_of claim.now)) }
 {
     let name = Vec::from_slice(alloc, claim.name.as_slice())?;

@@ -4,10 +4,12 @@ ghost use Rattle.std.specs.Prelude.{◌≡◌, map, length, IfOk};
 ghost use Rattle.p10_core.specs.Views.{plain_function, plain_program};
 ghost use Rattle.p10_core.specs.WholePrograms.{parameter_types};
 ghost use Rattle.p10_cert.specs.Claims.{value_of, func_of, claims_of};
+ghost use Rattle.p10_approach.specs.Offers.{offers_if};
+ghost use Rattle.p10_finder.specs.Finding.{loops_by};
 ghost use Rattle.p10_finder.specs.Functions.{any_value as any_value_of};
-ghost use Rattle.p10_finder.specs.private.Counting.{unsummed, AreUnsummed};
+ghost use Rattle.p10_finder.specs.private.Counting.{unsummed_by, AreUnsummed};
 
-use crate::functions::{any_value, function_found};
+use crate::functions::{FunctionFound, any_value, function_found};
 use p10_base::{Bounds, ListBuf};
 use p10_cert::{Cert, FuncClaim, ValueClaim};
 use p10_core::{Func, Program};
@@ -20,9 +22,10 @@ pub(crate) fn unsummed_claims(
     program: &Program<'_>,
     results: &Cert,
     ranks: &[u32],
+    approaching: bool,
 ) -> Result<Cert, AllocError>
     requires { length ranks.now ≡ length program.now.functions }
-    ensures { IfOk result (λ claims. AreUnsummed (plain_program program.now) (claims_of results.now) ranks.now (claims_of claims).funcs) }
+    ensures { IfOk result (λ claims. AreUnsummed (offers_if approaching) (plain_program program.now) (claims_of results.now) ranks.now (claims_of claims).funcs) }
 {
     let functions = program.functions.as_slice();
     if functions.len() > u32::MAX as usize {
@@ -30,8 +33,8 @@ pub(crate) fn unsummed_claims(
     }
     let mut funcs = Vec::with_capacity(alloc, functions.len())?;
     for (n, function) in functions.iter().enumerate() {
-        let rank = ranks[n];
-        funcs.push(unsummed_claim(alloc, program, results, n as u32, rank, function)?)?;
+        let found = function_found(alloc, program, results, n as u32, function, approaching)?;
+        funcs.push(unsummed_claim(alloc, ranks[n], function, found)?)?;
     }
     Ok(Cert {
         funcs: ListBuf::of(funcs),
@@ -44,18 +47,15 @@ pub(crate) fn unsummed_claims(
     })
 }
 
-/// The claim on the function with a number and a rank.
+/// The claim on a function with a rank, by what is found of it.
 fn unsummed_claim(
     alloc: Global,
-    program: &Program<'_>,
-    results: &Cert,
-    number: u32,
     rank: u32,
     function: &Func<'_>,
+    found: FunctionFound,
 ) -> Result<FuncClaim, AllocError>
-    ensures { IfOk result (λ claim. func_of claim ≡ unsummed (plain_program program.now) (claims_of results.now) number rank (plain_function function.now)) }
+    ensures { IfOk result (λ claim. func_of claim ≡ unsummed_by (loops_by found.loops).claims (value_of found.result) rank (plain_function function.now)) }
 {
-    let found = function_found(alloc, program, results, number, function)?;
     let name = Vec::from_slice(alloc, function.name)?;
     let params = any_parameters(alloc, function)?;
     Ok(FuncClaim {

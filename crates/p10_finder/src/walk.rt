@@ -148,8 +148,11 @@ fn loops_in_loop(
             }
             let deeper = Search {
                 calls: s.calls,
+                function: s.function,
+                number: s.number,
                 variables: s.variables,
                 task: s.task,
+                approaching: s.approaching,
                 depth: s.depth + 1,
             };
             let inside = enter_loop(alloc, s, x, env, found)?;

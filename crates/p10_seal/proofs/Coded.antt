@@ -8,7 +8,7 @@ use Rattle.p10_cert.specs.declared.sealed.Section.{Section as CodeSection}
 use Rattle.p10_cert.specs.Claims.{func_of, claims_of}
 use Rattle.p10_cert.specs.Sealed.{bytes_of, section_of, entry_of, entries_of, statement_of}
 use Rattle.p10_front.specs.Digests.{plain_digests}
-use Rattle.p10_seal.specs.Sealing.{sealed, sealed_entries}
+use Rattle.p10_seal.specs.Sealing.{sealed_with, sealed_entries}
 
 coded_entries : (fs : List FuncClaim) (ds : List Digest) → entries_of fs ds ≡ sealed_entries (map func_of fs) (map (λ d. d.0) ds)
 coded_entries [] [] = refl
@@ -16,9 +16,9 @@ coded_entries [] (d ∷ ds) = refl
 coded_entries (f ∷ fs) [] = refl
 coded_entries (f ∷ fs) (d ∷ ds) = ap (λ rest. entry_of f d ∷ rest) (coded_entries fs ds)
 
-pub sealed_is : (claims : Cert) (digests : Digests) (sections : List CodeSection) → sections ≡ []
-    → statement_of (record { base = claims; digests = digests.funcs; outside = digests.outside; sections = sections }) ≡ sealed (claims_of claims) (plain_digests digests)
-sealed_is claims digests sections none = λ i. record {
+pub sealed_is : (claims : Cert) (digests : Digests) (sections : List CodeSection)
+    → statement_of (record { base = claims; digests = digests.funcs; outside = digests.outside; sections = sections }) ≡ sealed_with (claims_of claims) (plain_digests digests) (map section_of sections)
+sealed_is claims digests sections = λ i. record {
   entries = coded_entries claims.funcs digests.funcs i;
-  ending = record { outside = Some (bytes_of digests.outside); total = claims.total; sections = ap (map section_of) none i };
+  ending = record { outside = Some (bytes_of digests.outside); total = claims.total; sections = map section_of sections };
 }

@@ -8,7 +8,7 @@ use Rattle.p10_cert.specs.Laws.{TextTellsStatement}
 use Rattle.p10_cert.specs.Lines.{IsDigest}
 use Rattle.p10_cert.specs.Statements.{Statement, IsEntry, entry_tasks}
 use Rattle.p10_seal.specs.Sealing.{sealed, sealed_entries}
-use Rattle.p10_seal.specs.Laws.{SealedSaysTheSame, SealedIsCertificate, SealedTellsAll}
+use Rattle.p10_seal.specs.Laws.{SealedSaysTheSame, SealedIsCertificate, SealedWithIsCertificate, SealedTellsAll}
 
 -- ## Functions
 
@@ -47,11 +47,14 @@ fewer_tasks [] (d ∷ ds) = omega arith
 fewer_tasks (f ∷ fs) [] = omega arith
 fewer_tasks (f ∷ fs) (d ∷ ds) = omega (arith, fewer_tasks fs ds)
 
-pub is_certificate : SealedIsCertificate
-is_certificate c digests good sized = record {
+pub with_sections : SealedWithIsCertificate
+with_sections c digests sections good sized fit = record {
   entries = record { all = all_entries c.funcs digests.funcs good.funcs.all sized.funcs; one_task = omega (arith, fewer_tasks c.funcs digests.funcs, good.funcs.one_task) };
-  ending = record { seal = sized.outside; total = good.total; sections = record { all = tt; rise = tt } };
+  ending = record { seal = sized.outside; total = good.total; sections = fit };
 }
+
+pub is_certificate : SealedIsCertificate
+is_certificate c digests good sized = with_sections c digests [] good sized (record { all = tt; rise = tt })
 
 -- ## Texts
 

@@ -1,13 +1,13 @@
 -- What holds of claims with digests.
-use Rattle.std.specs.Prelude.{◌≡◌, [], map, length, Some}
+use Rattle.std.specs.Prelude.{◌≡◌, List, [], map, length, Some}
 use Rattle.std.specs.List.{AllByRecursion}
 use Rattle.p10_cert.specs.Certificate.{IsCertificate}
 use Rattle.p10_cert.specs.Claims.{Claims}
 use Rattle.p10_cert.specs.Lines.{IsDigest}
-use Rattle.p10_cert.specs.Statements.{IsStatement}
+use Rattle.p10_cert.specs.Statements.{Section, AreSections, IsStatement}
 use Rattle.p10_front.specs.Digests.{PlainDigests, reading_digests}
 use Rattle.p10_front.specs.Readings.{PlainReading}
-use Rattle.p10_seal.specs.Sealing.{sealed, sealed_text}
+use Rattle.p10_seal.specs.Sealing.{sealed, sealed_with, sealed_text}
 
 -- what is said is what was to be said
 pub record SaysAll (c : Claims) (digests : PlainDigests) : Type 0 where
@@ -33,6 +33,10 @@ ReadingDigestsAreSized = (reading : PlainReading) → AreSized (reading_digests 
 -- claims that are a certificate's are one with digests
 abbrev pub SealedIsCertificate : Type 0
 SealedIsCertificate = (c : Claims) (digests : PlainDigests) → IsCertificate c → AreSized digests → IsStatement (sealed c digests)
+
+-- and so with sections that a certificate may have
+abbrev pub SealedWithIsCertificate : Type 0
+SealedWithIsCertificate = (c : Claims) (digests : PlainDigests) (sections : List Section) → IsCertificate c → AreSized digests → AreSections sections → IsStatement (sealed_with c digests sections)
 
 -- two claims with digests that have one text are the same
 pub record AreSame (b c : Claims) (these those : PlainDigests) : Type 0 where

@@ -3,7 +3,7 @@ use Rattle.std.specs.Prelude.{ℕ, nat_le, if◌then◌else◌, List, [], ◌∷
 use Rattle.p10_base.specs.declared.report.TheConstants.Limit.{MOST_CERTIFICATE_BYTES}
 use Rattle.p10_base.specs.Words.{Text}
 use Rattle.p10_cert.specs.Claims.{Func, Claims}
-use Rattle.p10_cert.specs.Statements.{Entry, Statement, statement_text}
+use Rattle.p10_cert.specs.Statements.{Entry, Section, Statement, statement_text}
 use Rattle.p10_front.specs.Digests.{PlainDigests}
 
 -- claims on functions, each with the digest at its place
@@ -11,12 +11,16 @@ abbrev pub sealed_entries : List Func → List (List ℕ) → List Entry
 sealed_entries (f ∷ functions) (digest ∷ digests) = record { func = f; digest = Some digest } ∷ sealed_entries functions digests
 sealed_entries _ _ = []
 
--- what the certificate says: these claims and digests, and nothing in sections
-abbrev pub sealed : Claims → PlainDigests → Statement
-sealed c digests = record {
+-- what the certificate with sections says
+abbrev pub sealed_with : Claims → PlainDigests → List Section → Statement
+sealed_with c digests sections = record {
   entries = sealed_entries c.funcs digests.funcs;
-  ending = record { outside = Some digests.outside; total = c.total; sections = [] };
+  ending = record { outside = Some digests.outside; total = c.total; sections = sections };
 }
+
+-- the same without sections: these claims and digests alone
+abbrev pub sealed : Claims → PlainDigests → Statement
+sealed c digests = sealed_with c digests []
 
 -- its text
 abbrev pub sealed_text : Claims → PlainDigests → Text

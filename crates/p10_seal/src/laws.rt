@@ -1,6 +1,6 @@
 //! What holds of claims with digests: each function does nothing, and its contract is the law.
 
-ghost use Rattle.p10_seal.specs.Laws.{ReadingDigestsAreSized, SealedSaysTheSame, SealedIsCertificate, SealedTellsAll};
+ghost use Rattle.p10_seal.specs.Laws.{ReadingDigestsAreSized, SealedSaysTheSame, SealedIsCertificate, SealedWithIsCertificate, SealedTellsAll};
 
 use p10_cert::laws::a_text_tells_its_statement;
 
@@ -17,6 +17,11 @@ pub fn sealed_says_the_same()
 /// Where the claims are a certificate's, they are one with digests, too.
 pub fn sealed_is_a_certificate()
     ensures { SealedIsCertificate }
+{}
+
+/// They are one with sections, too, that a certificate may have.
+pub fn sealed_with_is_a_certificate()
+    ensures { SealedWithIsCertificate }
 {}
 
 /// The text of claims with digests determines both.

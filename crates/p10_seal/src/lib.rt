@@ -17,5 +17,5 @@ pub mod laws;
 mod sealing;
 mod telling;
 
-pub use sealing::sealed_text;
+pub use sealing::{sealed_text, sealed_text_with};
 pub use telling::{tell_sealed, tell_text};

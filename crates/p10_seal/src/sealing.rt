@@ -1,13 +1,14 @@
 //! The text of claims with digests.
 
-ghost use Rattle.std.specs.Prelude.{◌≡◌, [], length, IfOk};
+ghost use Rattle.std.specs.Prelude.{◌≡◌, [], length, map, IfOk};
 ghost use Rattle.p10_cert.specs.Claims.{claims_of};
-ghost use Rattle.p10_cert.specs.Sealed.{HasDigests, statement_of};
+ghost use Rattle.p10_cert.specs.Sealed.{HasDigests, section_of, statement_of};
+ghost use Rattle.p10_cert.specs.Statements.{statement_text};
 ghost use Rattle.p10_front.specs.Digests.{plain_digests};
-ghost use Rattle.p10_seal.specs.Sealing.{sealed, sealed_text, within_limit};
+ghost use Rattle.p10_seal.specs.Sealing.{sealed_with, sealed_text, within_limit};
 
 use p10_base::{Digests, Limit, ListBuf};
-use p10_cert::{Cert, Cert2, write2};
+use p10_cert::{Cert, Cert2, Section, write2};
 use p10_world::{Sink, SinkFault};
 use std::alloc::{AllocError, Global};
 
@@ -25,7 +26,25 @@ pub fn sealed_text(
     requires { length digests.funcs ≡ length claims.funcs }
     ensures { IfOk result (λ found. found ≡ within_limit (sealed_text (claims_of claims) (plain_digests digests))) }
 {
-    let certificate = sealed(alloc, claims, digests);
+    let none = ListBuf::of(Vec::new(alloc));
+    sealed_text_with(alloc, claims, digests, none)
+}
+
+/// The same with these sections.
+///
+/// # Errors
+///
+/// Out of memory.
+pub fn sealed_text_with(
+    alloc: Global,
+    claims: Cert,
+    digests: Digests,
+    sections: ListBuf<Section>,
+) -> Result<Option<ListBuf<u8>>, AllocError>
+    requires { length digests.funcs ≡ length claims.funcs }
+    ensures { IfOk result (λ found. found ≡ within_limit (statement_text (sealed_with (claims_of claims) (plain_digests digests) (map section_of sections)))) }
+{
+    let certificate = sealed_with(claims, digests, sections);
     let mut text = GrowingText::new(alloc);
     match write2(&certificate, &mut text) {
         Ok(()) => Ok(within_limit(text.bytes)),
@@ -33,17 +52,17 @@ pub fn sealed_text(
     }
 }
 
-/// The certificate of version 2 with these claims and digests.
-fn sealed(alloc: Global, claims: Cert, digests: Digests) -> Cert2
+/// The certificate of version 2 with these claims, digests and sections.
+fn sealed_with(claims: Cert, digests: Digests, sections: ListBuf<Section>) -> Cert2
     requires { length digests.funcs ≡ length claims.funcs }
-    ensures same { statement_of result ≡ sealed (claims_of claims) (plain_digests digests) }
+    ensures same { statement_of result ≡ sealed_with (claims_of claims) (plain_digests digests) (map section_of sections) }
     ensures each { HasDigests result }
 {
     Cert2 {
         base: claims,
         digests: digests.funcs,
         outside: digests.outside,
-        sections: ListBuf::of(Vec::new(alloc)),
+        sections,
     }
 }
 

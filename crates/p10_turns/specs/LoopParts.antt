@@ -1,5 +1,5 @@
 -- The loops of a function by their numbers, and a round of one in a pass.
-use Rattle.std.specs.Prelude.{List, [], ◌∷◌, ◌++◌, Option}
+use Rattle.std.specs.Prelude.{List, [], ◌∷◌, ◌++◌, Option, Some, None}
 use Rattle.p10_core.specs.declared.statements.LoopHead.{LoopHead}
 use Rattle.p10_core.specs.Typed.{PlainValue, PlainStatement, statement, PlainStatementForm, block, if_then, if_else, loop, switch, PlainStatements, no_statements, more_statements}
 use Rattle.p10_cert.specs.Claims.{Loop}
@@ -18,6 +18,11 @@ pub record LoopParts : Type 0 where
 -- the form of statement that the parts make
 abbrev pub form_of : LoopParts → PlainStatementForm
 form_of l = loop l.head l.first l.tested l.third l.body
+
+-- what a statement consists of, if it is a loop
+abbrev pub parts_of : PlainStatement → Option LoopParts
+parts_of (statement at (loop head first tested third body)) = Some (record { head = head; first = first; tested = tested; third = third; body = body })
+parts_of s = None
 
 abbrev mutual
   -- the loops in a statement, in text order of their keywords, which is that of their numbers

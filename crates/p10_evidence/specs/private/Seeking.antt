@@ -1,17 +1,12 @@
 -- The loop with a number, sought among loops one after the other.
 use Rattle.std.specs.Prelude.{ℕ, ◌-◌, nat_eq, if◌then◌else◌, List, [], ◌∷◌, Option, Some, None}
-use Rattle.p10_core.specs.Typed.{PlainStatement, statement, loop}
+use Rattle.p10_core.specs.Typed.{PlainStatement}
 use Rattle.p10_core.specs.Views.{plain_statement}
-use Rattle.p10_turns.specs.LoopParts.{LoopParts, loops_within}
+use Rattle.p10_turns.specs.LoopParts.{LoopParts, parts_of, loops_within}
 use Rattle.p10_evidence.specs.declared.seeking.Sought.{Sought as CodeSought}
 use Rattle.p10_evidence.specs.declared.seeking.Sought.TheVariants.{Found, Passed}
 
--- what a statement consists of, if it is a loop
-abbrev pub parts_of : PlainStatement → Option LoopParts
-parts_of (statement at (loop head first tested third body)) = Some (record { head = head; first = first; tested = tested; third = third; body = body })
-parts_of s = None
-
--- the same for a statement, if one was found
+-- what a statement that was found consists of, if it is a loop
 abbrev pub parts_found : Option PlainStatement → Option LoopParts
 parts_found None = None
 parts_found (Some s) = parts_of s

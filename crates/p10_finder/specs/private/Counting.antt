@@ -1,5 +1,5 @@
--- Claims whose sums are counted, the functions of one rank after the other.
-use Rattle.std.specs.Prelude.{◌≡◌, ℕ, ◌+◌, ◌<◌, ◌≤◌, false, List, [], ◌∷◌, map, length, slice_get, slice_index, Some}
+-- Claims whose sums are counted, each after those of the functions that are called.
+use Rattle.std.specs.Prelude.{◌≡◌, ℕ, ◌+◌, ◌<◌, ◌≤◌, false, List, [], ◌∷◌, map, length, slice_get, slice_set, slice_index, Some}
 use Rattle.p10_base.specs.declared.report.TheConstants.Limit.{MOST_SUM}
 use Rattle.p10_core.specs.Typed.{PlainFunction, PlainProgram}
 use Rattle.p10_core.specs.Views.{plain_program}
@@ -8,17 +8,19 @@ use Rattle.p10_calls.specs.CallGraphs.{call_graph}
 use Rattle.p10_calls.specs.Ranks.{AreRanks}
 use Rattle.p10_cert.specs.declared.claims.Rank.{Rank}
 use Rattle.p10_cert.specs.declared.claims.Rank.TheVariants.{Task}
-use Rattle.p10_cert.specs.Claims.{Func, Claims, claims_of}
+use Rattle.p10_cert.specs.Claims.{Value, Loop, Func, Claims, claims_of}
 use Rattle.p10_sums.specs.declared.sum.FuncSum.{FuncSum}
 use Rattle.p10_sums.specs.Sums.{sum_at}
 use Rattle.p10_finder.specs.declared.counting.Ranked.{Ranked}
 use Rattle.p10_finder.specs.Functions.{any_value, loops_of, result_of, with_turn_steps, counted_sum}
+use Rattle.p10_finder.specs.private.Visiting.{AreCalls}
+use Rattle.p10_approach.specs.Offers.{Offers, offers_if}
 
 -- ## Before the sums are counted
 
--- what is claimed of the function with a number and a rank before its sums are counted
-abbrev pub unsummed : PlainProgram → Claims → ℕ → ℕ → PlainFunction → Func
-unsummed p c n rank f = record {
+-- what is claimed of a function with a rank before its sums are counted, by its loops and its result
+abbrev pub unsummed_by : List Loop → Value → ℕ → PlainFunction → Func
+unsummed_by loops result rank f = record {
   name = f.name;
   rank = rank;
   steps = 0;
@@ -26,20 +28,25 @@ unsummed p c n rank f = record {
   bytes = 0;
   alloc = false;
   params = map any_value (parameter_types f);
-  result = result_of p c n f;
-  loops = (loops_of p c n f).claims;
+  result = result;
+  loops = loops;
 }
 
+-- the same for the function with a number
+abbrev pub unsummed : Offers → PlainProgram → Claims → ℕ → ℕ → PlainFunction → Func
+unsummed o p c n rank f = unsummed_by (loops_of o p c n f).claims (result_of o p c n f) rank f
+
 -- the same for all functions
-pub record AreUnsummed (p : PlainProgram) (c : Claims) (ranks : List ℕ) (funcs : List Func) : Type 0 where
+pub record AreUnsummed (o : Offers) (p : PlainProgram) (c : Claims) (ranks : List ℕ) (funcs : List Func) : Type 0 where
   pub each : length funcs ≡ length p.functions
-  pub claims : (n : ℕ) (f : PlainFunction) → slice_get p.functions n ≡ Some f → slice_get funcs n ≡ Some (unsummed p c n (slice_index ranks n) f)
+  pub claims : (n : ℕ) (f : PlainFunction) → slice_get p.functions n ≡ Some f → slice_get funcs n ≡ Some (unsummed o p c n (slice_index ranks n) f)
 
 -- the ranks are those of the program, and the claims are those that are found where they themselves stand
 pub record IsRanked (r : Ranked) : Type 0 where
-  pub whole : IsWholeProgram (plain_program r.program.now)
-  pub ranks : AreRanks (call_graph (plain_program r.program.now)) r.ranks.now
-  pub claims : AreUnsummed (plain_program r.program.now) (claims_of r.claims.now) r.ranks.now (claims_of r.claims.now).funcs
+  pub whole : IsWholeProgram (plain_program r.calls.program.now)
+  pub calls : AreCalls r.calls
+  pub ranks : AreRanks (call_graph (plain_program r.calls.program.now)) r.ranks.now
+  pub claims : AreUnsummed (offers_if r.calls.approaching) (plain_program r.calls.program.now) (claims_of r.claims.now) r.ranks.now (claims_of r.claims.now).funcs
 
 -- ## With sums
 
@@ -64,23 +71,36 @@ first_sum = record { steps = 0; calls = 0; bytes = 0; alloc = false; turn = MOST
 
 -- ## Counting
 
--- the sums of the first k functions are counted under claims where they have a rank, and the others are as they were
-pub record AreCountedAt (p : PlainProgram) (funcs : List Func) (ranks : List ℕ) (rank k : ℕ) (old new : List FuncSum) : Type 0 where
-  pub each : length new ≡ length old
-  pub counted : (n : ℕ) → n < k → slice_index ranks n ≡ rank → slice_get new n ≡ Some (counted_sum (sum_at p funcs n))
-  pub others : (n : ℕ) → (slice_index ranks n ≡ rank → ⊥) → slice_get new n ≡ slice_get old n
+-- the sums after that of the function with a number is counted where the others stand
+abbrev pub counted_once : PlainProgram → List Func → ℕ → List FuncSum → List FuncSum
+counted_once p funcs n sums = slice_set sums n (counted_sum (sum_at p (with_sums funcs sums) n))
 
 -- the sum of the function with a number is the one that is counted where the others stand
 abbrev pub IsSum : PlainProgram → Claims → List FuncSum → ℕ → Type 0
 IsSum p c sums n = slice_get sums n ≡ Some (counted_sum (sum_at p (with_sums c.funcs sums) n))
 
--- the sums of functions of smaller ranks are counted, and the others not yet
-pub record AreSumsBelow (p : PlainProgram) (c : Claims) (ranks : List ℕ) (rank : ℕ) (sums : List FuncSum) : Type 0 where
+-- the sums of functions with smaller numbers are counted, and the others not yet
+pub record AreSumsBelow (p : PlainProgram) (c : Claims) (numbers : List ℕ) (k : ℕ) (sums : List FuncSum) : Type 0 where
   pub each : length sums ≡ length p.functions
-  pub counted : (n : ℕ) → n < length p.functions → slice_index ranks n < rank → IsSum p c sums n
-  pub first : (n : ℕ) → n < length p.functions → rank ≤ slice_index ranks n → slice_get sums n ≡ Some first_sum
+  pub counted : (n : ℕ) → n < length p.functions → slice_index numbers n < k → IsSum p c sums n
+  pub first : (n : ℕ) → n < length p.functions → k ≤ slice_index numbers n → slice_get sums n ≡ Some first_sum
 
 -- the sums of all functions
 pub record AreSums (p : PlainProgram) (c : Claims) (sums : List FuncSum) : Type 0 where
   pub each : length sums ≡ length p.functions
   pub counted : (n : ℕ) → n < length p.functions → IsSum p c sums n
+
+-- claims on functions have sums, of which those of smaller numbers are counted
+pub record IsCounting (r : Ranked) (k : ℕ) (funcs : List Func) (sums : List FuncSum) : Type 0 where
+  pub claims : funcs ≡ with_sums (claims_of r.claims.now).funcs sums
+  pub below : AreSumsBelow (plain_program r.calls.program.now) (claims_of r.claims.now) r.calls.numbers.now k sums
+
+-- claims on functions have sums, of which that of one function was counted twice
+pub record IsCountedTwice (r : Ranked) (n : ℕ) (old : List FuncSum) (funcs : List Func) (new : List FuncSum) : Type 0 where
+  pub claims : funcs ≡ with_sums (claims_of r.claims.now).funcs new
+  pub sums : new ≡ counted_once (plain_program r.calls.program.now) (claims_of r.claims.now).funcs n (counted_once (plain_program r.calls.program.now) (claims_of r.claims.now).funcs n old)
+
+-- claims on functions have the sums that are counted
+pub record IsCounted (r : Ranked) (funcs : List Func) (sums : List FuncSum) : Type 0 where
+  pub claims : funcs ≡ with_sums (claims_of r.claims.now).funcs sums
+  pub right : AreSums (plain_program r.calls.program.now) (claims_of r.claims.now) sums

@@ -3,34 +3,48 @@ use Rattle.std.specs.Prelude.{ℕ, nat_lt, ◌&&◌, length, Bool, map, Option, 
 use Rattle.p10_core.specs.declared.statements.LoopHead.{LoopHead}
 use Rattle.p10_range.specs.Ranges.{Interval}
 use Rattle.p10_core.specs.Typed.{PlainFunction, PlainProgram, PlainValue, PlainStatement, statement, if_then, if_else, loop, switch}
-use Rattle.p10_core.specs.Views.{plain_variable}
+use Rattle.p10_core.specs.Views.{plain_variable, plain_function}
 use Rattle.p10_cert.specs.Claims.{Claims, claims_of}
 use Rattle.p10_absx.specs.Environments.{Environment}
 use Rattle.p10_fit.specs.Fits.{is_task}
+use Rattle.p10_turns.specs.LoopParts.{parts_of}
 use Rattle.p10_pass.specs.Scopes.{assigns}
 use Rattle.p10_pass.specs.Passing.{pass_statements}
 use Rattle.p10_finder.specs.declared.search.Search.{Search as CodeSearch}
-use Rattle.p10_finder.specs.Trials.{LoopFound}
-use Rattle.p10_finder.specs.Loops.{Search, LoopsFound, loop_entry, rounds_in, entered_found, reached_found, LoopPassed, passed_by, loop_passed, loops_in_form, manner_after}
+use Rattle.p10_candidates.specs.Trials.{LoopFound, rounds_in}
+use Rattle.p10_finder.specs.Loops.{Search, LoopsFound, loop_entry, entered_found, reached_found, LoopPassed, passed_by, loop_passed, loops_in_form, manner_after}
 use Rattle.p10_finder.specs.Functions.{search_in, known_at_start}
+use Rattle.p10_candidates.specs.Candidates.{LoopEntry}
+use Rattle.p10_approach.specs.Approaches.{Approached}
+use Rattle.p10_approach.specs.Offers.{no_offers, offers_if}
 
 -- a search of the code
 abbrev pub search_by : CodeSearch → Search
-search_by s = record { calls = claims_of s.calls.now; variables = map plain_variable s.variables.now; task = s.task }
+search_by s = record {
+  calls = claims_of s.calls.now;
+  variables = map plain_variable s.variables.now;
+  task = s.task;
+  offers = offers_if s.approaching s.number (plain_function s.function.now);
+}
 
 -- which of the first `count` variables a statement assigns
 abbrev pub assigned_below : ℕ → PlainStatement → ℕ → Bool
 assigned_below count x n = nat_lt n count && assigns n x
 
+-- what is offered for a loop, by how it begins and its whole statement
+abbrev pub offered_in : Search → ℕ → LoopHead → PlainStatement → LoopEntry → Option Approached
+offered_in s depth head x = s.offers head.number depth (parts_of x)
+
 -- what a loop counts with that is entered, by how it begins, its test and its whole statement
 abbrev pub entered_in_parts : Search → ℕ → LoopHead → Option PlainValue → PlainStatement → Bool → Environment → LoopFound
 entered_in_parts s depth head tested x task entry =
-    entered_found task head.span (rounds_in s.variables x) (loop_entry s (assigned_below (length s.variables) x) tested entry) depth
+    let l : LoopEntry = loop_entry s (assigned_below (length s.variables) x) tested entry in
+    entered_found (offered_in s depth head x l) task head.span (rounds_in s.variables x) l depth
 
 -- the same where a state may not come to its entry
 abbrev pub found_in_parts : Search → ℕ → LoopHead → Option PlainValue → PlainStatement → Option Environment → LoopFound
 found_in_parts s depth head tested x entry =
-    reached_found (is_task s.task head.number) head.span (rounds_in s.variables x) (loop_entry s (assigned_below (length s.variables) x) tested) depth entry
+    reached_found (offered_in s depth head x) (is_task s.task head.number) head.span (rounds_in s.variables x) (loop_entry s (assigned_below (length s.variables) x) tested) depth entry
 
 -- what comes of it
 abbrev pub passed_parts : Search → ℕ → LoopHead → Option PlainValue → PlainStatement → Option Environment → LoopsFound → LoopPassed
@@ -63,4 +77,4 @@ loops_in_chosen s depth x env found = found
 
 -- the range that a function returns by the claims of loops that were found
 abbrev pub returned_after : PlainProgram → Claims → ℕ → PlainFunction → LoopsFound → Option Interval
-returned_after p c n f found = (pass_statements (manner_after (search_in p c n f) found) f.body (known_at_start f)).returned
+returned_after p c n f found = (pass_statements (manner_after (search_in no_offers p c n f) found) f.body (known_at_start f)).returned

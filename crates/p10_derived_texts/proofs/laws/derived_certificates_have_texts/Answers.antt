@@ -1,4 +1,4 @@
-use Rattle.p10_derived_texts.proofs.Texts.{claims_have_text, derived_have_text, derived_read_back}
+use Rattle.p10_derived_texts.proofs.Texts.{claims_have_text, derived_have_text, derived_read_back, derived_are_few}
 use Rattle.p10_derived_texts.proofs.laws.derived_certificates_have_texts.Goals as goal
 
 pub returns-clause-claims : goal.returns-clause-claims
@@ -9,3 +9,6 @@ returns-clause-derived c = derived_have_text
 
 pub returns-clause-read : goal.returns-clause-read
 returns-clause-read c = derived_read_back
+
+pub returns-clause-small : goal.returns-clause-small
+returns-clause-small c = derived_are_few

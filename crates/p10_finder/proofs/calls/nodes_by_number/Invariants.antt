@@ -1,5 +1,5 @@
 -- The nodes so far that are alone with their numbers are at their places.
-use Rattle.p10_finder.specs.private.Levels.{FindsLone}
+use Rattle.p10_finder.specs.private.Visiting.{FindsLone}
 use Rattle.p10_finder.proofs.calls.nodes_by_number.Given as goal
 
 abbrev pub invariant-loop-node : goal.invariant-loop-node

@@ -1,5 +1,5 @@
 use Rattle.std.proofs.Common.{◌≡◌, ◌+◌, ◌<◌, ◌≤◌, ◌++◌, ◌∷◌, [], List, length, map, ◌∙◌, ap, arith, length-append}
-use Rattle.std.specs.Prelude.{slice_get}
+use Rattle.std.specs.Prelude.{slice_get, slice_index}
 use Rattle.std.proofs.lemmas.List.{length-map}
 use Rattle.p10_core.specs.declared.program.Func.{Func as CodeFunc}
 use Rattle.p10_core.specs.Views.{plain_function, plain_program}
@@ -7,6 +7,8 @@ use Rattle.p10_cert.specs.declared.claims.FuncClaim.{FuncClaim}
 use Rattle.p10_cert.specs.Claims.{func_of, claims_of}
 use Rattle.p10_absx.proofs.Entries.{get_below}
 use Rattle.p10_finder.proofs.UnsummedClaims.{unsummed_more}
+use Rattle.p10_approach.specs.Offers.{offers_if}
+use Rattle.p10_finder.specs.private.Counting.{unsummed_by}
 use Rattle.p10_finder.proofs.unsummed.unsummed_claims.Goals as goal
 
 pub loop-n-preserved : goal.loop-n-preserved
@@ -16,8 +18,9 @@ loop-n-preserved c = record {
       let size : length c.loop-n.funcs.items ≡ c.loop-n.n = c.loop-n.invariant.each in
       let more : length (c.loop-n.funcs.items ++ c.in_ok-unsummed_claim.field-0 ∷ []) ≡ length c.loop-n.funcs.items + 1 = length-append c.loop-n.funcs.items (c.in_ok-unsummed_claim.field-0 ∷ []) in
       ap (λ (l : List FuncClaim). length l) put ∙ omega (arith, size, more);
-  claims = λ k f low got. unsummed_more (plain_program c.args.program.now) (claims_of c.args.results.now) c.args.ranks.now c.as_slice-functions.result.now c.loop-n.n c.index-functions-n.result c.loop-n.funcs.items c.push.new.self.items
-      c.in_ok-unsummed_claim.field-0 c.loop-n-test.true c.index-functions-n.is c.in_ok-unsummed_claim.ensures c.in_ok-push.ensures.items c.loop-n.invariant.each (λ m g below at. c.loop-n.invariant.claims m g below at) k f low got;
+  claims = λ k f low got. unsummed_more (offers_if c.args.approaching) (plain_program c.args.program.now) (claims_of c.args.results.now) c.args.ranks.now c.as_slice-functions.result.now c.loop-n.n c.index-functions-n.result c.loop-n.funcs.items c.push.new.self.items
+      c.in_ok-unsummed_claim.field-0 c.loop-n-test.true c.index-functions-n.is (c.in_ok-unsummed_claim.ensures ∙ (λ i. unsummed_by (c.in_ok-found.ensures.loops i).claims (c.in_ok-found.ensures.result i) (slice_index c.args.ranks.now c.loop-n.n) (plain_function c.index-functions-n.result)))
+      c.in_ok-push.ensures.items c.loop-n.invariant.each (λ m g below at. c.loop-n.invariant.claims m g below at) k f low got;
 }
 
 pub returns : goal.returns

@@ -1,9 +1,9 @@
--- The results of smaller levels are found.
-use Rattle.std.proofs.Common.{map}
+-- The results of smaller numbers are found.
 use Rattle.p10_core.specs.Views.{plain_program}
-use Rattle.p10_cert.specs.Claims.{value_of}
-use Rattle.p10_finder.specs.private.Settling.{AreResultsBelow}
+use Rattle.p10_cert.specs.Claims.{claims_of}
+use Rattle.p10_finder.specs.private.Settling.{AreSettled}
+use Rattle.p10_approach.specs.Offers.{offers_if}
 use Rattle.p10_finder.proofs.calls.Calls.results.Given as goal
 
-abbrev pub invariant-loop-level : goal.invariant-loop-level
-invariant-loop-level l = AreResultsBelow (plain_program l.self.program.now) l.levels.items l.level (map value_of l.results.items)
+abbrev pub invariant-loop-number : goal.invariant-loop-number
+invariant-loop-number l = AreSettled (offers_if l.self.approaching) (plain_program l.self.program.now) l.self.graph.now l.self.numbers.now l.number (claims_of l.claims)

@@ -1,39 +1,44 @@
-use Rattle.std.proofs.Common.{◌≡◌, ◌+◌, ◌<◌, List, Vec, Global, map, length, vec_len, sym, ◌∙◌, ap, subst, arith}
-use Rattle.p10_core.specs.Views.{plain_program}
+-- The sum is counted under the claims, and put among them.
+use Rattle.std.proofs.Common.{◌≡◌, ◌∙◌, ◌<◌, List, length, map, Some, ap, sym, subst, arith}
+use Rattle.std.specs.Prelude.{slice_get, slice_set}
+use Rattle.std.proofs.Math.ListN.{length-set}
+use Rattle.std.proofs.lemmas.List.{length-map, map-set}
+use Rattle.std.proofs.lemmas.Option.{slice_get-get_or}
+use Rattle.p10_core.specs.Views.{plain_function, plain_program}
 use Rattle.p10_cert.specs.declared.claims.FuncClaim.{FuncClaim}
 use Rattle.p10_cert.specs.Claims.{Func, func_of}
-use Rattle.p10_sums.specs.declared.sum.FuncSum.{FuncSum}
+use Rattle.p10_absx.proofs.Entries.{get_map}
 use Rattle.p10_sums.specs.Sums.{sum_at}
 use Rattle.p10_finder.specs.Functions.{counted_sum}
-use Rattle.p10_finder.specs.private.Counting.{with_sums, AreCountedAt}
-use Rattle.p10_finder.proofs.Counted.{counted_here, counted_past, sum_is}
+use Rattle.p10_finder.proofs.Counted.{sum_is}
+use Rattle.p10_finder.proofs.Listing.{with_sums_set}
 use Rattle.p10_finder.proofs.counting.Ranked.count_once.Goals as goal
-use Rattle.p10_finder.proofs.counting.Ranked.count_once.Goals.{then-self-n, else-self-n}
 
-pub loop-n-preserved : goal.loop-n-preserved
-loop-n-preserved c =
-    let funcs : map func_of c.of.result ≡ with_sums (map func_of c.args.self.now.claims.now.funcs) c.args.sums.now.items =
-    ap (λ (l : List FuncClaim). map func_of l) c.of.ensures
-    ∙ (c.in_ok-funcs.ensures
-    ∙ (ap (λ (l : List FuncClaim). with_sums (map func_of l) c.as_slice-2.result.now) c.as_slice.ensures ∙ ap (with_sums (map func_of c.args.self.now.claims.now.funcs)) c.as_slice-2.ensures.value)) in
-    let size : vec_len c.args.sums.now ≡ length c.args.sums.now.items = c.args.sums.now.ok.0 in
-    let each : length c.loop-n.sums.items ≡ length c.args.sums.now.items = c.loop-n.invariant.each in
-    let end : c.len-n-end.result ≡ vec_len c.args.sums.now = c.len-n-end.ensures in
-    let low : c.loop-n.n < c.len-n-end.result = c.loop-n-test.true in
-    elim c.if-self-n.branch [
-      | then-self-n w ↦
-          let made : FuncSum = w.capped_sum_of.result in
-          let e = w.capped_sum_of.ensures in
-          let is : made ≡ counted_sum (sum_at (plain_program c.args.self.now.program.now) (with_sums (map func_of c.args.self.now.claims.now.funcs) c.args.sums.now.items) c.loop-n.n) =
-          sum_is made (sum_at (plain_program c.args.self.now.program.now) (map func_of c.of.result) c.loop-n.n) e.steps e.calls e.bytes e.alloc e.turn
-          ∙ ap (λ (fs : List Func). counted_sum (sum_at (plain_program c.args.self.now.program.now) fs c.loop-n.n)) funcs in
-          subst (λ (v : Vec FuncSum Global). AreCountedAt (plain_program c.args.self.now.program.now) (with_sums (map func_of c.args.self.now.claims.now.funcs) c.args.sums.now.items) c.args.self.now.ranks.now c.args.rank (c.loop-n.n + 1) c.args.sums.now.items v.items)
-          (sym w.sums-is)
-          (counted_here (plain_program c.args.self.now.program.now) (with_sums (map func_of c.args.self.now.claims.now.funcs) c.args.sums.now.items) c.args.self.now.ranks.now c.args.rank c.loop-n.n c.args.sums.now.items c.loop-n.sums.items made
-          (omega (arith, size, each, end, low)) w.if-self-n.true is c.loop-n.invariant)
-      | else-self-n w ↦
-          subst (λ (v : Vec FuncSum Global). AreCountedAt (plain_program c.args.self.now.program.now) (with_sums (map func_of c.args.self.now.claims.now.funcs) c.args.sums.now.items) c.args.self.now.ranks.now c.args.rank (c.loop-n.n + 1) c.args.sums.now.items v.items)
-          (sym w.sums-is)
-          (counted_past (plain_program c.args.self.now.program.now) (with_sums (map func_of c.args.self.now.claims.now.funcs) c.args.sums.now.items) c.args.self.now.ranks.now c.args.rank c.loop-n.n c.args.sums.now.items c.loop-n.sums.items w.if-self-n.false
-          c.loop-n.invariant)
-    ]
+pub returns-clause-sums : goal.returns-clause-sums
+returns-clause-sums c =
+    let p = plain_program c.args.self.now.calls.program.now in
+    let made = c.capped_sum_of-sum.result in
+    let e = c.capped_sum_of-sum.ensures in
+    ap (slice_set c.args.sums.now.items c.args.node)
+    (sum_is made (sum_at p (map func_of c.args.claims.now.funcs) c.args.node) e.steps e.calls e.bytes e.alloc e.turn ∙ ap (λ (fs : List Func). counted_sum (sum_at p fs c.args.node)) c.requires.claims)
+
+pub returns-clause-each : goal.returns-clause-each
+returns-clause-each c = length-set c.args.sums.now.items c.args.node c.capped_sum_of-sum.result ∙ c.requires.each
+
+pub returns-clause-claims : goal.returns-clause-claims
+returns-clause-claims c =
+    let self = c.args.self.now in
+    let made = c.capped_sum_of-sum.result in
+    let all = c.as_slice-unsummed.result.now in
+    let x = c.index-unsummed-node.result in
+    let count : length (map func_of self.claims.now.funcs) ≡ length (plain_program self.calls.program.now).functions = c.requires.ranked.claims.each in
+    let mapped = length-map self.claims.now.funcs func_of in
+    let functions = length-map self.calls.program.now.functions plain_function in
+    let inside : c.args.node < length self.claims.now.funcs = omega (arith, c.requires.there, count, mapped, functions) in
+    let within : c.args.node < length all = subst (λ (fs : List FuncClaim). c.args.node < length fs) (sym c.as_slice-unsummed.ensures) inside in
+    let there : slice_get (map func_of self.claims.now.funcs) c.args.node ≡ Some (func_of x) =
+    ap (λ (fs : List FuncClaim). slice_get (map func_of fs) c.args.node) (sym c.as_slice-unsummed.ensures) ∙ get_map func_of all c.args.node x (slice_get-get_or all c.args.node x within ∙ ap Some (sym c.index-unsummed-node.is)) in
+    ap (map func_of) c.exchange.ensures.put
+    ∙ map-set func_of c.args.claims.now.funcs c.args.node c.in_ok-claim.claim
+    ∙ (λ i. slice_set (c.requires.claims i) c.args.node (c.in_ok-claim.ensures i))
+    ∙ with_sums_set (map func_of self.claims.now.funcs) c.args.sums.now.items c.args.node (func_of x) made there

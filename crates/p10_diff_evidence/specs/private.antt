@@ -1,0 +1,2 @@
+-- The definitions that private contracts of this crate cite.
+pub mod Reading
