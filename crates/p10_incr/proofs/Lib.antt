@@ -1,0 +1,7 @@
+-- Lemmas for this crate.
+pub mod Deciding
+pub mod FirstFound
+pub mod Suffice
+pub mod Marks
+pub mod Entries
+pub mod Judged
