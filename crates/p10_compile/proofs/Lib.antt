@@ -1,0 +1,9 @@
+pub mod Calls
+pub mod Compiled
+pub mod Forms
+pub mod Items
+pub mod Literals
+pub mod Members
+pub mod Moved
+pub mod Rows
+pub mod ScalarsOfTypes
