@@ -1,5 +1,5 @@
 -- On what `derive` and `verify` agree.
-use Rattle.std.specs.Prelude.{ℕ, ◌≡◌, ◌≢◌, false, List, [], Some, IsSome}
+use Rattle.std.specs.Prelude.{ℕ, ◌≡◌, ◌≢◌, true, false, List, [], Some, IsSome}
 use Rattle.p10_base.specs.declared.report.Bounds.{Bounds}
 use Rattle.p10_base.specs.Gathered.{Gathered}
 use Rattle.p10_base.specs.Words.{Text}
@@ -15,6 +15,7 @@ use Rattle.p10_expand.specs.Gathering.{Setting, Gathers}
 use Rattle.p10_expand.specs.Setting.{setting}
 use Rattle.p10_command.specs.Saying.{Saying}
 use Rattle.p10_command.specs.Seen.{Seen}
+use Rattle.p10_approach.specs.Offers.{offers_if}
 use Rattle.p10_finder.specs.Answers.{Certified, IsDerived}
 use Rattle.p10_derive_command.specs.declared.command.DeriveCommand.{DeriveCommand}
 use Rattle.p10_command.specs.Programs.{HasProgram}
@@ -76,14 +77,18 @@ pub record IsVerifiedText (command : DeriveCommand) (files : List Named) (claims
   pub text_is : text ≡ statement_text certificate
   pub verified : (name : Text) (later : List Named) → HaveCertificate (with_certificate command name) text files later → IsVerified (with_certificate command name) later claims.total
 
+-- where variables that approach each other may bound turns, a text with ranks is asked for
+abbrev pub AsksFully : DeriveCommand → Type 0
+AsksFully command = command.diff ≡ true → command.version ≡ 2
+
 -- so is the text of what is derived of the program of a command's sources, in the version that is asked for
 abbrev pub DerivedCertificatesAreVerified : Type 0
 DerivedCertificatesAreVerified =
-    (command : DeriveCommand) (files : List Named) (g : Gathered) (p : PlainProgram) (c : Claims) (text : List ℕ) → HasProgram (setting (Some files) command.sources command.directories) g p → IsDerived p (Certified c)
-    → IsTextInVersion command.version (setting (Some files) command.sources command.directories) g p c text → IsVerifiedText command files c text
+    (command : DeriveCommand) (files : List Named) (g : Gathered) (p : PlainProgram) (c : Claims) (text : List ℕ) → HasProgram (setting (Some files) command.sources command.directories) g p → IsDerived (offers_if command.diff) p (Certified c)
+    → AsksFully command → IsTextInVersion command.version command.diff (setting (Some files) command.sources command.directories) g p c text → IsVerifiedText command files c text
 
 -- and so is what is said to `derive` on the output with status 0
 abbrev pub DerivedTextsAreVerified : Type 0
 DerivedTextsAreVerified =
-    (command : DeriveCommand) (files : List Named) (before after : ℕ) (saying : Saying) → derive.SaysRight command (seen_files files before after) saying → saying.status ≡ 0
+    (command : DeriveCommand) (files : List Named) (before after : ℕ) (saying : Saying) → AsksFully command → derive.SaysRight command (seen_files files before after) saying → saying.status ≡ 0
     → (c : Claims) × IsVerifiedText command files c saying.out

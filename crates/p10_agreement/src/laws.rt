@@ -4,8 +4,12 @@ ghost use Rattle.p10_agreement.specs.Laws.{DerivedCertificatesAreVerified, Deriv
 
 use p10_acceptance::laws::derived_certificates_are_accepted;
 use p10_derive_command::laws::success_is_a_certificate;
+use p10_derived_ranks::laws::derived_ranks_have_sections;
+use p10_diff_evidence::laws::rank_sections_say;
 use p10_names::laws::{programs_are_named, readings_are_programs};
-use p10_seal::laws::{reading_digests_are_sized, sealed_is_a_certificate, sealed_says_the_same};
+use p10_seal::laws::{
+    reading_digests_are_sized, sealed_says_the_same, sealed_with_is_a_certificate,
+};
 use p10_verify_command::laws::one_answer_is_right;
 
 /// Files that hold the same at each name at which the files of a program are looked for are gathered alike; so are files that differ at one
@@ -28,8 +32,10 @@ pub fn derived_certificates_are_verified()
     ensures texts { DerivedTextsAreVerified }
 {
     reading_digests_are_sized();
-    sealed_is_a_certificate();
     sealed_says_the_same();
+    sealed_with_is_a_certificate();
+    rank_sections_say();
+    derived_ranks_have_sections();
     success_is_a_certificate();
     readings_are_programs();
     programs_are_named();

@@ -21,6 +21,7 @@ use Rattle.p10_pprules.specs.Violations as directives
 use Rattle.p10_pprules.proofs.Ordered.{same, strictly_sorted, still_exact}
 use Rattle.p10_userules.specs.Violations as uses
 use Rattle.p10_flowrules.specs.FlowRows.{ViolatesFlow}
+use Rattle.p10_approach.specs.Offers.{no_offers}
 use Rattle.p10_finder.specs.Answers.{HasViolations, HaveResults, LacksBoundAt, ViolatesBounds, no_bound, flow}
 use Rattle.p10_finder.specs.Laws.{SameLoopsLackBounds}
 use Rattle.p10_warn.specs.Violations as warnings
@@ -52,11 +53,11 @@ joined xs ys ys' zs zs' all is second third = is ∙ ap (λ l. (xs ++ l) ++ zs')
 -- ## Programs
 
 -- 1.3, 2.1, 2.2 and 3.1
-bound_rows : (p : PlainProgram) (c : Claims) (v : Violation) (sub : Sub) (span : Span) → HaveResults p c → v.sub ≡ sub → v.span ≡ span → ViolatesBounds p c sub span → BreaksProgramRow p v
-bound_rows p c v sub span right sub_is span_is (no_bound at lacks) = by_bound c right (subst (λ s. LacksBoundAt p c s) (sym span_is) lacks) sub_is
+bound_rows : (p : PlainProgram) (c : Claims) (v : Violation) (sub : Sub) (span : Span) → HaveResults no_offers p c → v.sub ≡ sub → v.span ≡ span → ViolatesBounds no_offers p c sub span → BreaksProgramRow p v
+bound_rows p c v sub span right sub_is span_is (no_bound at lacks) = by_bound c right (subst (λ s. LacksBoundAt no_offers p c s) (sym span_is) lacks) sub_is
 bound_rows p c v sub span right sub_is span_is (flow row at breaks) = by_flow (subst (λ s. ViolatesFlow p s v.span) (sym sub_is) (subst (λ s. ViolatesFlow p row s) (sym span_is) breaks))
 
-pub program_rows : (p : PlainProgram) (bounds used warned all : List Violation) → all ≡ (bounds ++ used) ++ warned → SameLoopsLackBounds → HasViolations p bounds
+pub program_rows : (p : PlainProgram) (bounds used warned all : List Violation) → all ≡ (bounds ++ used) ++ warned → SameLoopsLackBounds → HasViolations no_offers p bounds
     → ((v : Violation) → Contains used v ↔ uses.Violates p v.sub v.span) → ((v : Violation) → Contains warned v ↔ warnings.Violates p v.sub v.span) → (v : Violation) → Contains all v ↔ BreaksProgramRow p v
 program_rows p bounds used warned all is same_loops has used_are warned_are v = (λ held. stands (in_three bounds used warned all v is held), λ breaks. of_three bounds used warned all v is (listed breaks))
   where
@@ -68,7 +69,7 @@ program_rows p bounds used warned all is same_loops has used_are warned_are v = 
     listed : BreaksProgramRow p v → Contains bounds v ⊎ (Contains used v ⊎ Contains warned v)
     listed (by_flow breaks) = inl ((has.all.exact v).1 (flow v.sub v.span breaks))
     listed (by_bound c right lacks is) =
-        inl ((has.all.exact v).1 (subst (λ s. ViolatesBounds p has.claims s v.span) (sym is) (no_bound v.span (same_loops p c has.claims v.span right has.right lacks))))
+        inl ((has.all.exact v).1 (subst (λ s. ViolatesBounds no_offers p has.claims s v.span) (sym is) (no_bound v.span (same_loops no_offers p c has.claims v.span right has.right lacks))))
     listed (by_use breaks) = inr (inl ((used_are v).1 breaks))
     listed (by_warning breaks) = inr (inr ((warned_are v).1 breaks))
 

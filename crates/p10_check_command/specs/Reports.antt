@@ -15,6 +15,7 @@ use Rattle.p10_pprules.specs.Violations as directives
 use Rattle.p10_synrules.specs.Violations as trees
 use Rattle.p10_userules.specs.Violations as uses
 use Rattle.p10_flowrules.specs.FlowRows as flow
+use Rattle.p10_approach.specs.Offers.{no_offers}
 use Rattle.p10_finder.specs.Answers.{HaveResults, LacksBoundAt, bound_row}
 use Rattle.p10_warn.specs.Violations as warnings
 use Rattle.p10_check_command.specs.declared.report.Report.{Report}
@@ -24,7 +25,7 @@ pub data BreaksProgramRow (p : PlainProgram) (v : Violation) : Type 0 where
   -- 1.3, 2.2 and 3.1: calls, the task loop, and allocation
   by_flow : flow.ViolatesFlow p v.sub v.span → BreaksProgramRow p v
   -- 2.1: a loop other than the task loop of which no bound is found, where of each function the result is claimed that is found
-  by_bound : (c : Claims) → HaveResults p c → LacksBoundAt p c v.span → v.sub ≡ bound_row → BreaksProgramRow p v
+  by_bound : (c : Claims) → HaveResults no_offers p c → LacksBoundAt no_offers p c v.span → v.sub ≡ bound_row → BreaksProgramRow p v
   -- 6.1 to 7.2: how objects and results are used
   by_use : uses.Violates p v.sub v.span → BreaksProgramRow p v
   -- 10.1 to 10.8: what compilers warn of

@@ -12,6 +12,7 @@
 
 ghost use Rattle.std.specs.Prelude.{◌≡◌, ◌≢◌, ◌⊎◌, ◌≤◌, length};
 ghost use Rattle.p10_world.specs.Faults.{Rose};
+ghost use Rattle.p10_command.specs.Seen.{files_seen};
 ghost use Rattle.p10_command.specs.Told.{Told, Stopped};
 ghost use Rattle.p10_check_command.specs.Answers.{SaysRight};
 
@@ -46,12 +47,12 @@ pub fn check<F: Files, O: Sink, E: Sink>(
 
     // The status and both texts are those of a right answer.
     ensures told { result ≢ 6 → Told (SaysRight command.now
-        (record { held = F.held files.old; faults_before = F.faults files.old; faults_after = F.faults files.new }))
+        (files_seen (F.held files.old) (F.faults files.old) (F.faults files.new)))
         (O.taken out.old) (O.taken out.new) (E.taken err.old) (E.taken err.new) result }
 
     // Where a write failed, each output has taken a prefix of its text.
     ensures stopped { result ≡ 6 → Stopped (SaysRight command.now
-        (record { held = F.held files.old; faults_before = F.faults files.old; faults_after = F.faults files.new }))
+        (files_seen (F.held files.old) (F.faults files.old) (F.faults files.new)))
         (O.taken out.old) (O.taken out.new) (E.taken err.old) (E.taken err.new) }
     ensures write { result ≡ 6 → Rose (O.faults out.old) (O.faults out.new) ⊎ Rose (E.faults err.old) (E.faults err.new) }
 

@@ -7,6 +7,7 @@ use Rattle.p10_cert.specs.Certificate.{certificate_text}
 use Rattle.p10_cert.specs.Claims.{Claims}
 use Rattle.p10_expand.specs.Gathering.{Setting, Gathers}
 use Rattle.p10_expand.specs.Setting.{setting}
+use Rattle.p10_approach.specs.Offers.{offers_if}
 use Rattle.p10_finder.specs.Answers.{Derived, Violating, Over, Certified, IsDerived}
 use Rattle.p10_front.specs.Digests.{PlainDigests}
 use Rattle.p10_command.specs.declared.gathering.Ungathered.{Ungathered}
@@ -18,7 +19,8 @@ use Rattle.p10_command.specs.Programs.{HasProgram, HasProgramWithDigests}
 use Rattle.p10_command.specs.Saying.{Saying, limit_saying, line_saying, text_saying, trouble_saying, ungathered_saying, unread_saying}
 use Rattle.p10_command.specs.Seen.{HasCause, Seen}
 use Rattle.p10_seal.specs.Saying.{sealed_saying}
-use Rattle.p10_seal.specs.Sealing.{sealed_text, within_limit}
+use Rattle.p10_seal.specs.Sealing.{within_limit}
+use Rattle.p10_derive_command.specs.Ranks.{ranks_if, ranked_text}
 use Rattle.p10_derive_command.specs.declared.command.DeriveCommand.{DeriveCommand}
 
 -- the sources of the command are gathered from the files, where they are told
@@ -44,9 +46,9 @@ pub data SaysRight (derive : DeriveCommand) (seen : Seen) (saying : Saying) : Ty
   -- the sources are gathered, but are no program
   unread : (g : Gathered) (why : Unread) → Gathers (setting_of seen derive) g → AreUnread g why → saying ≡ unread_saying g why → SaysRight derive seen saying
   -- this is derived of the program
-  derived : (g : Gathered) (p : PlainProgram) (answer : Derived) → HasProgram (setting_of seen derive) g p → IsDerived p answer → AsksForNoDigests derive.version answer → saying ≡ derived_saying g answer → SaysRight derive seen saying
-  -- the certificate that is derived of the program goes with the digests of its words
-  sealed : (g : Gathered) (p : PlainProgram) (digests : PlainDigests) (claims : Claims) → HasProgramWithDigests (setting_of seen derive) g p digests → IsDerived p (Certified claims) → derive.version ≡ 2
-      → saying ≡ sealed_saying (within_limit (sealed_text claims digests)) → SaysRight derive seen saying
+  derived : (g : Gathered) (p : PlainProgram) (answer : Derived) → HasProgram (setting_of seen derive) g p → IsDerived (offers_if derive.diff) p answer → AsksForNoDigests derive.version answer → saying ≡ derived_saying g answer → SaysRight derive seen saying
+  -- the certificate that is derived of the program goes with the digests of its words, and with its ranks
+  sealed : (g : Gathered) (p : PlainProgram) (digests : PlainDigests) (claims : Claims) → HasProgramWithDigests (setting_of seen derive) g p digests → IsDerived (offers_if derive.diff) p (Certified claims) → derive.version ≡ 2
+      → saying ≡ sealed_saying (within_limit (ranked_text claims digests (ranks_if derive.diff p claims))) → SaysRight derive seen saying
   -- a read has failed or memory is out
   troubled : (trouble : Trouble) → HasCause trouble seen.faults_before seen.faults_after → saying ≡ trouble_saying trouble → SaysRight derive seen saying

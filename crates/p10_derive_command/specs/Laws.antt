@@ -1,5 +1,5 @@
 -- What holds of the answers.
-use Rattle.std.specs.Prelude.{◌≡◌, ◌≢◌, ◌≤◌, ℕ, List, [], length}
+use Rattle.std.specs.Prelude.{Bool, ◌≡◌, ◌≢◌, ◌≤◌, ℕ, List, [], length}
 use Rattle.p10_base.specs.declared.report.TheConstants.Limit.{MOST_CERTIFICATE_BYTES}
 use Rattle.p10_base.specs.declared.report.Violation.{Violation}
 use Rattle.p10_base.specs.Gathered.{Gathered}
@@ -10,23 +10,25 @@ use Rattle.p10_front.specs.Digests.{PlainDigests}
 use Rattle.p10_report.specs.Violations.{violation_lines}
 use Rattle.p10_cert.specs.Certificate.{certificate_text}
 use Rattle.p10_cert.specs.Claims.{Claims}
+use Rattle.p10_approach.specs.Offers.{offers_if}
 use Rattle.p10_finder.specs.Answers.{Violating, Certified, IsDerived}
 use Rattle.p10_command.specs.Laws.{OneIsRight}
 use Rattle.p10_command.specs.Programs.{HasProgram, HasProgramWithDigests}
 use Rattle.p10_command.specs.Saying.{Saying}
 use Rattle.p10_command.specs.Seen.{Seen}
-use Rattle.p10_seal.specs.Sealing.{sealed_text}
 use Rattle.p10_derive_command.specs.declared.command.DeriveCommand.{DeriveCommand}
+use Rattle.p10_derive_command.specs.Ranks.{ranks_if, ranked_text}
 use Rattle.p10_derive_command.specs.Answers.{SaysRight, setting_of}
 
 -- where files are told, only one thing is right to say to a command, unless a read fails or memory runs out
 abbrev pub DeriveSaysOneThing : Type 0
 DeriveSaysOneThing = (derive : DeriveCommand) → OneIsRight (SaysRight derive)
 
--- the text of claims in a version: theirs alone, or in version 2 with the digests of the program's words, and within limit M10
-pub data IsTextInVersion (version : ℕ) (s : Setting) (g : Gathered) (p : PlainProgram) (claims : Claims) (text : Text) : Type 0 where
-  alone : version ≢ 2 → text ≡ certificate_text claims → IsTextInVersion version s g p claims text
-  sealed : version ≡ 2 → (digests : PlainDigests) → HasProgramWithDigests s g p digests → text ≡ sealed_text claims digests → length text ≤ MOST_CERTIFICATE_BYTES → IsTextInVersion version s g p claims text
+-- the text of claims in a version: theirs alone, or in version 2 with the digests of the program's words and with ranks, if such are
+-- asked for, and within limit M10
+pub data IsTextInVersion (version : ℕ) (diff : Bool) (s : Setting) (g : Gathered) (p : PlainProgram) (claims : Claims) (text : Text) : Type 0 where
+  alone : version ≢ 2 → text ≡ certificate_text claims → IsTextInVersion version diff s g p claims text
+  sealed : version ≡ 2 → (digests : PlainDigests) → HasProgramWithDigests s g p digests → text ≡ ranked_text claims digests (ranks_if diff p claims) → length text ≤ MOST_CERTIFICATE_BYTES → IsTextInVersion version diff s g p claims text
 
 -- what is said is the text of the certificate that is derived of the sources' program, in the version that was asked for
 pub record TellsCertificate (derive : DeriveCommand) (seen : Seen) (saying : Saying) : Type 0 where
@@ -34,8 +36,8 @@ pub record TellsCertificate (derive : DeriveCommand) (seen : Seen) (saying : Say
   pub program : PlainProgram
   pub claims : Claims
   pub gathers : HasProgram (setting_of seen derive) files program
-  pub derived : IsDerived program (Certified claims)
-  pub on_out : IsTextInVersion derive.version (setting_of seen derive) files program claims saying.out
+  pub derived : IsDerived (offers_if derive.diff) program (Certified claims)
+  pub on_out : IsTextInVersion derive.version derive.diff (setting_of seen derive) files program claims saying.out
   pub on_err : saying.err ≡ []
 
 -- with status 0 what is said is a derived certificate
@@ -48,7 +50,7 @@ pub record TellsViolations (derive : DeriveCommand) (seen : Seen) (saying : Sayi
   pub program : PlainProgram
   pub violations : List Violation
   pub gathers : HasProgram (setting_of seen derive) files program
-  pub derived : IsDerived program (Violating violations)
+  pub derived : IsDerived (offers_if derive.diff) program (Violating violations)
   pub on_out : saying.out ≡ []
   pub on_err : saying.err ≡ violation_lines files violations
 

@@ -8,6 +8,8 @@
 //!
 //!     derive --cert-version 2 a.c    the same claims in version 2, with the digests of the words of a.c
 //!
+//!     derive --diff a.c              the same, where variables that approach each other may bound turns, with the ranks that say so
+//!
 //!     derive b.c                     b.c:3:5: rule 2.1: loop without a proved bound
 //!
 //! Entry point: [`derive`]. The sources are gathered and read as a program, and what derivation answers of it is reported: the text
@@ -19,6 +21,7 @@
 
 ghost use Rattle.std.specs.Prelude.{◌≡◌, ◌≢◌, ◌⊎◌, ◌≤◌, length};
 ghost use Rattle.p10_world.specs.Faults.{Rose};
+ghost use Rattle.p10_command.specs.Seen.{files_seen};
 ghost use Rattle.p10_command.specs.Told.{Told, Stopped};
 ghost use Rattle.p10_derive_command.specs.Answers.{SaysRight};
 
@@ -50,12 +53,12 @@ pub fn derive<F: Files, O: Sink, E: Sink>(
 
     // The status and both texts are those of a right answer.
     ensures told { result ≢ 6 → Told (SaysRight command.now
-        (record { held = F.held files.old; faults_before = F.faults files.old; faults_after = F.faults files.new }))
+        (files_seen (F.held files.old) (F.faults files.old) (F.faults files.new)))
         (O.taken out.old) (O.taken out.new) (E.taken err.old) (E.taken err.new) result }
 
     // Where a write failed, each output has taken a prefix of its text.
     ensures stopped { result ≡ 6 → Stopped (SaysRight command.now
-        (record { held = F.held files.old; faults_before = F.faults files.old; faults_after = F.faults files.new }))
+        (files_seen (F.held files.old) (F.faults files.old) (F.faults files.new)))
         (O.taken out.old) (O.taken out.new) (E.taken err.old) (E.taken err.new) }
     ensures write { result ≡ 6 → Rose (O.faults out.old) (O.faults out.new) ⊎ Rose (E.faults err.old) (E.faults err.new) }
 
@@ -67,6 +70,7 @@ pub fn derive<F: Files, O: Sink, E: Sink>(
             alloc,
             &sources,
             command.version,
+            command.diff,
             out,
             err,
         ),

@@ -5,6 +5,7 @@ use Rattle.p10_cert.specs.Certificate.{certificate_text}
 use Rattle.p10_cert.specs.Claims.{Claims}
 use Rattle.p10_expand.specs.Gathering.{Setting}
 use Rattle.p10_finder.specs.Answers.{Violating, Over as Passing, Certified}
+use Rattle.p10_approach.specs.Offers.{no_offers}
 use Rattle.p10_finder.specs.Laws.{DerivesOnce}
 use Rattle.p10_front.specs.Laws.{ReadsOnce}
 use Rattle.p10_judge.specs.declared.judgement.Judgement.{Judgement}
@@ -28,15 +29,15 @@ pub record Laws : Type 0 where
 
 one_shown : Laws → (p : PlainProgram) (this that : Answer) → IsShown p this → IsShown p that → this ≡ that
 one_shown laws p this that (violating v derived is) (violating w derived' is') = is ∙ sym is'
-one_shown laws p this that (violating v derived is) (passing l derived' is') = absurd (let e = laws.derives p (Violating v) (Passing l) derived derived' in cc)
-one_shown laws p this that (violating v derived is) (certified c j derived' weighed' is') = absurd (let e = laws.derives p (Violating v) (Certified c) derived derived' in cc)
-one_shown laws p this that (passing l derived is) (violating w derived' is') = absurd (let e = laws.derives p (Passing l) (Violating w) derived derived' in cc)
-one_shown laws p this that (passing l derived is) (passing m derived' is') = let e = laws.derives p (Passing l) (Passing m) derived derived' in cc
-one_shown laws p this that (passing l derived is) (certified c j derived' weighed' is') = absurd (let e = laws.derives p (Passing l) (Certified c) derived derived' in cc)
-one_shown laws p this that (certified c j derived weighed is) (violating w derived' is') = absurd (let e = laws.derives p (Certified c) (Violating w) derived derived' in cc)
-one_shown laws p this that (certified c j derived weighed is) (passing m derived' is') = absurd (let e = laws.derives p (Certified c) (Passing m) derived derived' in cc)
+one_shown laws p this that (violating v derived is) (passing l derived' is') = absurd (let e = laws.derives no_offers p (Violating v) (Passing l) derived derived' in cc)
+one_shown laws p this that (violating v derived is) (certified c j derived' weighed' is') = absurd (let e = laws.derives no_offers p (Violating v) (Certified c) derived derived' in cc)
+one_shown laws p this that (passing l derived is) (violating w derived' is') = absurd (let e = laws.derives no_offers p (Passing l) (Violating w) derived derived' in cc)
+one_shown laws p this that (passing l derived is) (passing m derived' is') = let e = laws.derives no_offers p (Passing l) (Passing m) derived derived' in cc
+one_shown laws p this that (passing l derived is) (certified c j derived' weighed' is') = absurd (let e = laws.derives no_offers p (Passing l) (Certified c) derived derived' in cc)
+one_shown laws p this that (certified c j derived weighed is) (violating w derived' is') = absurd (let e = laws.derives no_offers p (Certified c) (Violating w) derived derived' in cc)
+one_shown laws p this that (certified c j derived weighed is) (passing m derived' is') = absurd (let e = laws.derives no_offers p (Certified c) (Passing m) derived derived' in cc)
 one_shown laws p this that (certified c j derived weighed is) (certified d k derived' weighed' is') =
-    let e : Certified c ≡ Certified d = laws.derives p (Certified c) (Certified d) derived derived' in
+    let e : Certified c ≡ Certified d = laws.derives no_offers p (Certified c) (Certified d) derived derived' in
     let same : c ≡ d = cc in
     let judged : j ≡ k = laws.judges p [] (certificate_text c) j k weighed (subst (λ (x : Claims). IsWeighed p [] (certificate_text x) k) (sym same) weighed') in
     is ∙ ap (λ (x : Judgement). judged_answer p c x) judged ∙ ap (λ (x : Claims). judged_answer p x k) same ∙ sym is'

@@ -8,6 +8,7 @@ use Rattle.p10_core.specs.Views.{plain_program}
 use Rattle.p10_cert.specs.declared.claims.Cert.{Cert}
 use Rattle.p10_cert.specs.Certificate.{certificate_text}
 use Rattle.p10_cert.specs.Claims.{Claims, claims_of}
+use Rattle.p10_approach.specs.Offers.{no_offers}
 use Rattle.p10_finder.specs.declared.found.Found.{Found}
 use Rattle.p10_finder.specs.declared.found.Found.TheVariants.{Certificate, Violations}
 use Rattle.p10_finder.specs.declared.found.FinderFault.{FinderFault}
@@ -31,12 +32,12 @@ of_reading o program r is shown = subst (λ (x : Option Program). IfOk r (λ ans
 
 -- ## Derivation
 
-pub certificate_shown : {E : Type 0} (p : PlainProgram) (found : Found) (certificate : Cert) (r : Result Answer E) → found ≡ Certificate certificate → IsDerived p (derived_of found) → IfOk r (IsJudged p (claims_of certificate)) → IfOk r (IsShown p)
+pub certificate_shown : {E : Type 0} (p : PlainProgram) (found : Found) (certificate : Cert) (r : Result Answer E) → found ≡ Certificate certificate → IsDerived no_offers p (derived_of found) → IfOk r (IsJudged p (claims_of certificate)) → IfOk r (IsShown p)
 certificate_shown p found certificate (Err e) is derived judged = tt
-certificate_shown p found certificate (Ok answer) is derived judged = certified (claims_of certificate) judged.judgement (subst (λ (f : Found). IsDerived p (derived_of f)) is derived) judged.weighed judged.is
+certificate_shown p found certificate (Ok answer) is derived judged = certified (claims_of certificate) judged.judgement (subst (λ (f : Found). IsDerived no_offers p (derived_of f)) is derived) judged.weighed judged.is
 
-pub violations_shown : (p : PlainProgram) (found : Found) → IsDerived p (derived_of found) → (violations : _) → found ≡ Violations violations → IsShown p (Fails Deriving)
-violations_shown p found derived violations is = violating violations.items (subst (λ (f : Found). IsDerived p (derived_of f)) is derived) refl
+pub violations_shown : (p : PlainProgram) (found : Found) → IsDerived no_offers p (derived_of found) → (violations : _) → found ≡ Violations violations → IsShown p (Fails Deriving)
+violations_shown p found derived violations is = violating violations.items (subst (λ (f : Found). IsDerived no_offers p (derived_of f)) is derived) refl
 
-pub limit_shown : (p : PlainProgram) (fault : FinderFault) (limit : Limit) → fault ≡ finder.Over limit → IsFault p fault → IsShown p (Over limit)
-limit_shown p fault limit is over = passing limit (subst (λ (f : FinderFault). IsFault p f) is over) refl
+pub limit_shown : (p : PlainProgram) (fault : FinderFault) (limit : Limit) → fault ≡ finder.Over limit → IsFault no_offers p fault → IsShown p (Over limit)
+limit_shown p fault limit is over = passing limit (subst (λ (f : FinderFault). IsFault no_offers p f) is over) refl

@@ -7,6 +7,7 @@ use Rattle.p10_cert.specs.Certificate.{certificate_text}
 use Rattle.p10_cert.specs.Claims.{Claims}
 use Rattle.p10_expand.specs.declared.fault.GatherFault.{GatherFault}
 use Rattle.p10_expand.specs.declared.fault.GatherFault.TheVariants as fault
+use Rattle.p10_approach.specs.Offers.{no_offers}
 use Rattle.p10_finder.specs.Answers.{Certified, IsDerived}
 use Rattle.p10_judge.specs.declared.judgement.Judgement.{Judgement}
 use Rattle.p10_judge.specs.declared.judgement.Judgement.TheVariants.{TooLong, BadCertificate, Stale, Failing, Accepted}
@@ -56,7 +57,7 @@ returned_by total other value (Returned v) is = record { same = cc; is = cc }
 returned_by total other value (Turns n) is = absurd (cc)
 returned_by total other value (Ended end) is = absurd (cc)
 
-by_judgement : (n : ℕ) (g : _) (p : PlainProgram) (claims : Claims) (judgement : Judgement) (total : Bounds) (value : ℤ) → HasProgram (setting_of n) g p → IsDerived p (Certified claims) → IsWeighed p [] (certificate_text claims) judgement
+by_judgement : (n : ℕ) (g : _) (p : PlainProgram) (claims : Claims) (judgement : Judgement) (total : Bounds) (value : ℤ) → HasProgram (setting_of n) g p → IsDerived no_offers p (Certified claims) → IsWeighed p [] (certificate_text claims) judgement
     → Returns total value ≡ judged_answer p claims judgement → (saying : Saying) → saying ≡ saying_of n (Returns total value) → TellsReturn n saying
 by_judgement n g p claims TooLong total value has derived weighed is saying said = absurd (cc)
 by_judgement n g p claims (BadCertificate line) total value has derived weighed is saying said = absurd (cc)

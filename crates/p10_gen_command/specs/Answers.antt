@@ -12,6 +12,7 @@ use Rattle.p10_cert.specs.Claims.{Claims}
 use Rattle.p10_meaning.specs.Runs.{Outcome, Returned, Turns, Ended}
 use Rattle.p10_run.specs.Budgets.{budget_within}
 use Rattle.p10_run.specs.WholeRuns.{run_with}
+use Rattle.p10_approach.specs.Offers.{no_offers}
 use Rattle.p10_finder.specs.Answers.{Violating, Over as Passing, Certified, IsDerived}
 use Rattle.p10_expand.specs.declared.fault.GatherFault.{GatherFault}
 use Rattle.p10_expand.specs.declared.fault.GatherFault.TheVariants as fault
@@ -75,11 +76,11 @@ judged_answer p claims judgement = Fails Verifying
 -- what derivation, the verification of what is derived, and a run within it come to, for a program
 pub data IsShown (p : PlainProgram) (answer : Answer) : Type 0 where
   -- a row of the rules for which there is no certificate is violated
-  violating : (violations : List Violation) → IsDerived p (Violating violations) → answer ≡ Fails Deriving → IsShown p answer
+  violating : (violations : List Violation) → IsDerived no_offers p (Violating violations) → answer ≡ Fails Deriving → IsShown p answer
   -- a limit of derivation is exceeded (M9, M10)
-  passing : (limit : Limit) → IsDerived p (Passing limit) → answer ≡ Over limit → IsShown p answer
+  passing : (limit : Limit) → IsDerived no_offers p (Passing limit) → answer ≡ Over limit → IsShown p answer
   -- a certificate is derived, and its text is judged
-  certified : (claims : Claims) (judgement : Judgement) → IsDerived p (Certified claims) → IsWeighed p [] (certificate_text claims) judgement → answer ≡ judged_answer p claims judgement → IsShown p answer
+  certified : (claims : Claims) (judgement : Judgement) → IsDerived no_offers p (Certified claims) → IsWeighed p [] (certificate_text claims) judgement → answer ≡ judged_answer p claims judgement → IsShown p answer
 
 -- what is right to answer, where the sources are gathered so
 pub data IsRight (s : Setting) (answer : Answer) : Type 0 where

@@ -5,6 +5,7 @@ use Rattle.p10_base.specs.Gathered.{Gathered}
 use Rattle.p10_core.specs.Typed.{PlainProgram}
 use Rattle.p10_cert.specs.Certificate.{certificate_text}
 use Rattle.p10_cert.specs.Claims.{Claims}
+use Rattle.p10_approach.specs.Offers.{no_offers}
 use Rattle.p10_finder.specs.Answers.{Certified, IsDerived}
 use Rattle.p10_meaning.specs.Runs.{Returned}
 use Rattle.p10_command.specs.Saying.{Saying}
@@ -32,7 +33,7 @@ pub record TellsReturn (n : ℕ) (saying : Saying) : Type 0 where
   pub bounds : Bounds
   pub value : ℤ
   pub has : HasProgram (setting_of n) files program
-  pub derived : IsDerived program (Certified claims)
+  pub derived : IsDerived no_offers program (Certified claims)
   pub accepted : IsWeighed program [] (certificate_text claims) (Accepted bounds)
   pub returned : outcome_within program bounds ≡ Returned value
   pub on_out : saying.out ≡ shown_text n claims.total value

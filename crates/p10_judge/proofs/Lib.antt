@@ -5,3 +5,5 @@ pub mod Files
 pub mod Verdicts
 pub mod Once
 pub mod Claimed
+pub mod LineCounts
+pub mod Ranked

@@ -4,23 +4,26 @@ use Rattle.p10_base.specs.declared.digest.Digest.{Digest}
 use Rattle.p10_base.specs.declared.span.Span.{Span}
 use Rattle.p10_world.specs.Files.{Named}
 use Rattle.p10_core.specs.Typed.{PlainProgram}
-use Rattle.p10_cert.specs.Claims.{Claims}
 use Rattle.p10_cert.specs.Sealed.{bytes_of}
 use Rattle.p10_cert.specs.Statements.{Statement, IsStatement, statement_text}
-use Rattle.p10_cert.specs.WrongLines.{IsFirstWrong}
 use Rattle.p10_check.specs.declared.verdict.Verdict.{Verdict}
 use Rattle.p10_check.specs.declared.verdict.Verdict.TheVariants as verdicts
+use Rattle.p10_check.specs.declared.verdict.TextVerdict.{TextVerdict}
+use Rattle.p10_check.specs.declared.verdict.TextVerdict.TheVariants as said
 use Rattle.p10_check.specs.Conditions.{IsVerdict}
 use Rattle.p10_check.specs.Places.{name_at}
 use Rattle.p10_check.specs.Texts.{StaleAt, claims_in, first_stale}
-use Rattle.p10_turns.specs.Evidence.{stands_by_ranges}
+use Rattle.p10_diff_evidence.specs.Standing.{standing_by}
+use Rattle.p10_diff_evidence.specs.Placing.{IsBad, IsRanked}
 use Rattle.p10_judge.specs.declared.judgement.Judgement.{Judgement}
 use Rattle.p10_judge.specs.declared.judgement.Judgement.TheVariants.{TooLong, BadCertificate, Stale, Failing, Accepted}
 use Rattle.p10_judge.specs.Loading.{Gives, certificate_limit}
 
--- what the verdict on the claims of a certificate for a program is, with the evidence of ranges
-abbrev pub HasVerdict : PlainProgram → Claims → Verdict → Type 0
-HasVerdict p c v = IsVerdict (stands_by_ranges p) p c v
+-- what the verdict on the claims of a certificate for a program is: with the evidence of ranges, and with that of differences where the
+-- certificate has a section of ranks
+pub record HasVerdict (p : PlainProgram) (s : Statement) (v : Verdict) : Type 0 where
+  pub ranked : IsRanked s
+  pub is : IsVerdict (standing_by p ranked.ranks) p (claims_in s) v
 
 -- bytes within the limit are the text of this certificate
 pub record IsCertificateOf (bytes : List ℕ) (s : Statement) : Type 0 where
@@ -33,12 +36,13 @@ pub record IsClaimed (p : PlainProgram) (digests : List (List ℕ)) (bytes : Lis
   pub certificate : Statement
   pub read : IsCertificateOf bytes certificate
   pub words : first_stale 0 certificate.entries digests ≡ None
-  pub has : HasVerdict p (claims_in certificate) verdict
+  pub has : HasVerdict p certificate verdict
 
 -- bytes are the text of a certificate that speaks of other words, first of those of this function
 pub record IsOfOtherWords (digests : List (List ℕ)) (bytes : List ℕ) (stale : StaleAt) : Type 0 where
   pub certificate : Statement
   pub read : IsCertificateOf bytes certificate
+  pub ranked : IsRanked certificate
   pub words : first_stale 0 certificate.entries digests ≡ Some stale
 
 -- the place of a function of a program, the digest that is kept of it, and its own
@@ -50,7 +54,7 @@ pub record IsToldAs (p : PlainProgram) (stale : StaleAt) (at : Span) (kept found
 -- bytes within the limit are the text of no certificate, from this line on
 pub record IsNoCertificate (bytes : List ℕ) (line : ℕ) : Type 0 where
   pub short : length bytes ≤ certificate_limit
-  pub wrong : IsFirstWrong bytes line
+  pub wrong : IsBad bytes line
 
 -- what the bytes of a certificate come to, for a program whose functions have these digests
 abbrev pub IsWeighed : PlainProgram → List (List ℕ) → List ℕ → Judgement → Type 0
@@ -65,3 +69,10 @@ pub record IsJudged (held : Option (List Named)) (name : List ℕ) (p : PlainPro
   pub bytes : List ℕ
   pub given : Gives held name bytes
   pub weighed : IsWeighed p digests bytes j
+
+-- the judgement by a verdict on a text
+abbrev pub judgement_on : TextVerdict → Judgement
+judgement_on (said.BadLine line) = BadCertificate line
+judgement_on (said.Accepted bounds) = Accepted bounds
+judgement_on (said.Refused k at) = Failing k at
+judgement_on (said.Stale at kept found) = Stale at kept found

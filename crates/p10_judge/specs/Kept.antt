@@ -8,7 +8,10 @@ use Rattle.p10_cert.specs.Claims.{claims_of, func_of}
 use Rattle.p10_cert.specs.Records.{Progress, statement_from}
 use Rattle.p10_cert.specs.Sealed.{bytes_of}
 use Rattle.p10_cert.specs.Statements.{Ending, Statement, IsStatement, statement_text}
-use Rattle.p10_cert.specs.WrongLines.{IsFirstWrong}
+use Rattle.p10_diff_evidence.specs.declared.evidence.DiffEvidence.{DiffEvidence}
+use Rattle.p10_diff_evidence.specs.Reading.{ranks_in}
+use Rattle.p10_diff_evidence.specs.Standing.{diff_lines, AreRanks}
+use Rattle.p10_diff_evidence.specs.Placing.{IsBad}
 use Rattle.p10_judge.specs.declared.reading.Text.{Text}
 use Rattle.p10_judge.specs.declared.reading.Text.TheVariants.{Bad, Whole}
 use Rattle.p10_judge.specs.declared.stale.Stale.{Stale}
@@ -36,18 +39,20 @@ stale_among number _ _ = None
 
 -- ## Texts
 
--- a text is that of a certificate with these claims, which keeps these digests
-pub record IsReadAs (text : List ℕ) (claims : Cert) (kept : List (Option Digest)) : Type 0 where
+-- a text is that of a certificate with these claims, which keeps these digests, and whose section of ranks, if it has one, is this
+-- evidence
+pub record IsReadAs (text : List ℕ) (claims : Cert) (kept : List (Option Digest)) (evidence : Option DiffEvidence) : Type 0 where
   pub statement : Statement
   pub good : IsStatement statement
   pub exact : text ≡ statement_text statement
   pub claims_are : claims_of claims ≡ claims_in statement
   pub kept_are : map kept_of kept ≡ map (λ e. e.digest) statement.entries
+  pub ranks_are : AreRanks (diff_lines statement) (option_map ranks_in evidence)
 
 -- what is read of a text
 abbrev pub IsReadFrom : List ℕ → Text → Type 0
-IsReadFrom text (Bad line) = IsFirstWrong text line
-IsReadFrom text (Whole claims kept) = IsReadAs text claims kept
+IsReadFrom text (Bad line) = IsBad text line
+IsReadFrom text (Whole claims kept evidence) = IsReadAs text claims kept evidence
 
 -- all of a text was read, and these are the claims on functions, and the digests that it keeps of them
 pub record IsWhole (p : Progress) (funcs : List FuncClaim) (kept : List (Option Digest)) : Type 0 where

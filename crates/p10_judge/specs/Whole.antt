@@ -17,7 +17,7 @@ pub record IsAcceptedText (p : PlainProgram) (digests : List (List ℕ)) (bytes 
   pub read : IsCertificateOf bytes certificate
   pub words : first_stale 0 certificate.entries digests ≡ None
   pub claims_are : c ≡ claims_in certificate
-  pub has : HasVerdict p c (verdicts.Accepted c.total)
+  pub has : HasVerdict p certificate (verdicts.Accepted c.total)
 
 -- a judgement that a certificate isn't accepted
 abbrev pub IsNotAccepted : Judgement → Type 0

@@ -2,17 +2,19 @@
 
 ghost use Rattle.p10_judge.specs.Laws.{OneJudgement};
 
-use p10_cert::laws::{
-    a_statement_has_no_wrong_line, a_text_has_one_wrong_line_of_both, a_text_tells_its_statement,
-};
+use p10_cert::laws::a_text_tells_its_statement;
 use p10_check::laws::one_verdict;
+use p10_diff_evidence::laws::{
+    a_ranked_certificate_has_no_bad_line, one_bad_line, one_list_of_ranks,
+};
 
 /// The bytes of a certificate come to one thing, for a program.
 pub fn one_judgement()
     ensures { OneJudgement }
 {
     a_text_tells_its_statement();
-    a_text_has_one_wrong_line_of_both();
-    a_statement_has_no_wrong_line();
+    one_bad_line();
+    a_ranked_certificate_has_no_bad_line();
+    one_list_of_ranks();
     one_verdict();
 }

@@ -5,17 +5,20 @@ ghost use Rattle.p10_cert.specs.Claims.{claims_of, func_of};
 ghost use Rattle.p10_cert.specs.Statements.{Entry, IsEntry, entry_text};
 ghost use Rattle.p10_judge.specs.Kept.{kept_of, IsReadFrom, IsWhole};
 
+use crate::ranks::{Ranks, ranks_at_end};
 use p10_base::{Digest, ListBuf};
 use p10_cert::{Cert, FuncClaim, FuncRecord, Records, claim, records};
+use p10_diff_evidence::DiffEvidence;
 use std::alloc::{AllocError, Global};
 
 /// What is read of a text.
 #[derive(Drop)]
 pub enum Text {
-    /// The first line that no certificate has.
+    /// The first line that no certificate has, or that isn't one of ranks in their section.
     Bad(u64),
-    /// The claims of a certificate, and the digest that it keeps of each function; none in version 1.
-    Whole(Cert, ListBuf<Option<Digest>>),
+    /// The claims of a certificate, the digest that it keeps of each function, none in version 1, and the ranks of its section, if it
+    /// has one.
+    Whole(Cert, ListBuf<Option<Digest>>, Option<DiffEvidence>),
 }
 
 /// What the text of a certificate of either version claims, and which digests it keeps.
@@ -33,7 +36,7 @@ pub fn read(alloc: Global, bytes: &[u8]) -> Result<Text, AllocError>
         match reader.next() {
             Ok(next) => match next {
                 Some(lines) => push(alloc, &mut funcs, &mut kept, &lines)?,
-                None => return Ok(whole(funcs, kept, &reader)),
+                None => return whole(alloc, bytes, funcs, kept, &reader),
             },
             Err(bad) => return Ok(Text::Bad(bad.line)),
         }
@@ -74,10 +77,25 @@ fn push_kept(kept: &mut ListBuf<Option<Digest>>, lines: &FuncRecord<'_>) -> Resu
 }
 
 /// The certificate of what was read, once all was.
-fn whole(funcs: ListBuf<FuncClaim>, kept: ListBuf<Option<Digest>>, records: &Records<'_>) -> Text
-    requires { IsWhole records.now funcs kept }
-    ensures { IsReadFrom records.now.text result }
+///
+/// # Errors
+///
+/// Out of memory.
+fn whole(
+    alloc: Global,
+    bytes: &[u8],
+    funcs: ListBuf<FuncClaim>,
+    kept: ListBuf<Option<Digest>>,
+    records: &Records<'_>,
+) -> Result<Text, AllocError>
+    requires whole { IsWhole records.now funcs kept }
+    requires text { records.now.text ≡ bytes.now }
+    ensures { IfOk result (IsReadFrom bytes.now) }
 {
     let total = records.total().unwrap();
-    Text::Whole(Cert { funcs, total }, kept)
+    match ranks_at_end(alloc, records, bytes)? {
+        Ranks::Bad(line) => Ok(Text::Bad(line)),
+        Ranks::Absent => Ok(Text::Whole(Cert { funcs, total }, kept, None)),
+        Ranks::Listed(evidence) => Ok(Text::Whole(Cert { funcs, total }, kept, Some(evidence))),
+    }
 }

@@ -4,11 +4,11 @@ ghost use Rattle.std.specs.Prelude.{◌≡◌, ◌≤◌, ◌<◌, true, false, 
 ghost use Rattle.p10_core.specs.Views.{plain_program};
 ghost use Rattle.p10_core.specs.WholePrograms.{IsWholeProgram};
 ghost use Rattle.p10_check.specs.Texts.{digests_of};
-ghost use Rattle.p10_judge.specs.Judging.{IsWeighed};
+ghost use Rattle.p10_judge.specs.Judging.{IsWeighed, judgement_on};
 ghost use Rattle.p10_judge.specs.Loading.{certificate_limit};
-ghost use Rattle.p10_judge.specs.private.Weighing.{judgement_on};
 
 use crate::judgement::Judgement;
+use crate::ranks::{Ranks, ranks_of};
 use p10_base::{Digests, Limit};
 use p10_check::{TextVerdict, check_text};
 use p10_core::Program;
@@ -33,8 +33,17 @@ pub fn weigh(
     if is_too_long(certificate) {
         return Ok(Judgement::TooLong);
     }
-    let verdict = check_text(alloc, program, digests, certificate, &RangeEvidence)?;
-    Ok(judgement_on(verdict))
+    match ranks_of(alloc, certificate)? {
+        Ranks::Bad(line) => Ok(Judgement::BadCertificate(line)),
+        Ranks::Absent => {
+            let verdict = check_text(alloc, program, digests, certificate, &RangeEvidence)?;
+            Ok(judgement_on(verdict))
+        }
+        Ranks::Listed(evidence) => {
+            let verdict = check_text(alloc, program, digests, certificate, &evidence)?;
+            Ok(judgement_on(verdict))
+        }
+    }
 }
 
 /// Whether there are more bytes than a certificate may have.
@@ -46,7 +55,7 @@ pub fn is_too_long(certificate: &[u8]) -> bool
 }
 
 /// The judgement by the verdict on a text.
-fn judgement_on(verdict: TextVerdict) -> Judgement
+pub fn judgement_on(verdict: TextVerdict) -> Judgement
     ensures { result ≡ judgement_on verdict }
 {
     match verdict {

@@ -1,11 +1,13 @@
 //! What the bytes of a certificate come to, for a program, where the claims of an accepted one are wanted.
 
-ghost use Rattle.std.specs.Prelude.{◌≡◌, ℕ, List, map, IfOk};
+ghost use Rattle.std.specs.Prelude.{◌≡◌, ℕ, List, map, option_map, IfOk};
 ghost use Rattle.p10_core.specs.Views.{plain_program};
 ghost use Rattle.p10_core.specs.WholePrograms.{IsWholeProgram};
 ghost use Rattle.p10_check.specs.Texts.{digests_of};
 ghost use Rattle.p10_judge.specs.Kept.{IsReadAs};
 ghost use Rattle.p10_judge.specs.Whole.{IsWeighedWhole};
+ghost use Rattle.p10_diff_evidence.specs.Reading.{ranks_in};
+ghost use Rattle.p10_diff_evidence.specs.Standing.{standing_by};
 ghost use Rattle.p10_judge.specs.private.Weighing.{IsShort, IsTried, weighed_by};
 
 use crate::judgement::Judgement;
@@ -15,8 +17,9 @@ use crate::stale::first_stale;
 use crate::weighing::is_too_long;
 use p10_base::{Digest, Digests};
 use p10_cert::Cert;
-use p10_check::{Verdict, check};
+use p10_check::{Evidence, Verdict, check};
 use p10_core::Program;
+use p10_diff_evidence::DiffEvidence;
 use p10_evidence::RangeEvidence;
 use std::alloc::{AllocError, Global};
 
@@ -49,8 +52,8 @@ pub fn weigh_whole(
     }
     match read(alloc, certificate)? {
         Text::Bad(line) => Ok(Weighed::Refused(Judgement::BadCertificate(line))),
-        Text::Whole(claims, kept) => {
-            weigh_claims(alloc, program, digests, claims, kept.as_slice())
+        Text::Whole(claims, kept, evidence) => {
+            weigh_claims(alloc, program, digests, claims, kept.as_slice(), &evidence)
         }
     }
 }
@@ -66,9 +69,10 @@ fn weigh_claims(
     digests: &Digests,
     claims: Cert,
     kept: &[Option<Digest>],
+    evidence: &Option<DiffEvidence>,
 ) -> Result<Weighed, AllocError>
     requires { IsWholeProgram (plain_program program.now) }
-    ensures { IfOk result (λ weighed. (bytes : List ℕ) → IsShort bytes → IsReadAs bytes claims kept.now → IsWeighedWhole (plain_program program.now) (digests_of digests.now) bytes weighed) }
+    ensures { IfOk result (λ weighed. (bytes : List ℕ) → IsShort bytes → IsReadAs bytes claims kept.now evidence.now → IsWeighedWhole (plain_program program.now) (digests_of digests.now) bytes weighed) }
 {
     match first_stale(kept, digests.funcs.as_slice()) {
         Some(stale) => Ok(Weighed::Refused(Judgement::Stale {
@@ -76,11 +80,11 @@ fn weigh_claims(
             kept: stale.kept,
             found: stale.found,
         })),
-        None => try_conditions(alloc, program, claims),
+        None => try_conditions(alloc, program, claims, evidence),
     }
 }
 
-/// Whether the conditions of a certificate hold of a program.
+/// Whether the conditions of a certificate hold of a program, with the evidence of its ranks, if it has any, or else that of ranges.
 ///
 /// # Errors
 ///
@@ -89,11 +93,32 @@ fn try_conditions(
     alloc: Global,
     program: &Program<'_>,
     certificate: Cert,
+    evidence: &Option<DiffEvidence>,
 ) -> Result<Weighed, AllocError>
     requires { IsWholeProgram (plain_program program.now) }
-    ensures { IfOk result (IsTried (plain_program program.now) certificate) }
+    ensures { IfOk result (IsTried (standing_by (plain_program program.now) (option_map ranks_in evidence.now)) (plain_program program.now) certificate) }
 {
-    let verdict = check(alloc, program, &certificate, &RangeEvidence)?;
+    match evidence {
+        Some(evidence) => try_with(alloc, program, certificate, evidence),
+        None => try_with(alloc, program, certificate, &RangeEvidence),
+    }
+}
+
+/// The same with this evidence.
+///
+/// # Errors
+///
+/// Out of memory.
+fn try_with<E: Evidence>(
+    alloc: Global,
+    program: &Program<'_>,
+    certificate: Cert,
+    evidence: &E,
+) -> Result<Weighed, AllocError>
+    requires { IsWholeProgram (plain_program program.now) }
+    ensures { IfOk result (IsTried (E.standing evidence.now (plain_program program.now)) (plain_program program.now) certificate) }
+{
+    let verdict = check(alloc, program, &certificate, evidence)?;
     Ok(weighed_by(certificate, verdict))
 }
 

@@ -15,6 +15,8 @@ use Rattle.p10_fit.specs.Laws.{FitSpeaks}
 use Rattle.p10_front.specs.Digests.{PlainDigests}
 use Rattle.std.proofs.lemmas.List.{length-map}
 use Rattle.p10_migrate_command.specs.declared.migration.Migration.{Migration}
+use Rattle.p10_diff_evidence.specs.declared.evidence.DiffEvidence.{DiffEvidence}
+use Rattle.p10_diff_evidence.specs.Reading.{ranks_in}
 use Rattle.p10_judge.specs.declared.reading.Text.{Text}
 use Rattle.p10_judge.specs.declared.reading.Text.TheVariants.{Bad, Whole}
 use Rattle.p10_judge.specs.declared.stale.Stale.{Stale as CodeStale}
@@ -29,17 +31,17 @@ module _ (p : PlainProgram) (digests : PlainDigests) where
   pub bad_comes : (bytes : List ℕ) (t : Text) (line : ℕ) → length bytes ≤ MOST_CERTIFICATE_BYTES → t ≡ Bad line → IsReadFrom bytes t → Migrates p digests bytes (BadCertificate line)
   bad_comes bytes t line short is read = bad line short (subst (IsReadFrom bytes) is read) refl
 
-  of_whole : (bytes : List ℕ) (claims : Cert) (kept : List (Option Digest)) (to : Migrated) → length bytes ≤ MOST_CERTIFICATE_BYTES → IsReadAs bytes claims kept → to ≡ migrated_by p digests (claims_of claims) (stale_among 0 (map kept_of kept) digests.funcs)
+  of_whole : (bytes : List ℕ) (claims : Cert) (kept : List (Option Digest)) (e : Option DiffEvidence) (to : Migrated) → length bytes ≤ MOST_CERTIFICATE_BYTES → IsReadAs bytes claims kept e → to ≡ migrated_by p digests (claims_of claims) (stale_among 0 (map kept_of kept) digests.funcs)
       → Migrates p digests bytes to
-  of_whole bytes claims kept to short read is =
-      certificate read.statement (record { short = short; good = read.good; exact = read.exact })
+  of_whole bytes claims kept e to short read is =
+      certificate read.statement (record { short = short; good = read.good; exact = read.exact; ranked = record { ranks = option_map ranks_in e; are = read.ranks_are } })
       (is ∙ (λ i. migrated_by p digests (read.claims_are i) (stale_among 0 (read.kept_are i) digests.funcs)) ∙ ap (migrated_by p digests (claims_in read.statement)) (sym (among_entries 0 read.statement.entries digests.funcs)))
 
-  pub whole_comes : {E : Type 0} (bytes : List ℕ) (t : Text) (claims : Cert) (kept slice : List (Option Digest)) (r : Result Migration E) → length bytes ≤ MOST_CERTIFICATE_BYTES → t ≡ Whole claims kept → IsReadFrom bytes t → slice ≡ kept
+  pub whole_comes : {E : Type 0} (bytes : List ℕ) (t : Text) (claims : Cert) (kept slice : List (Option Digest)) (e : Option DiffEvidence) (r : Result Migration E) → length bytes ≤ MOST_CERTIFICATE_BYTES → t ≡ Whole claims kept e → IsReadFrom bytes t → slice ≡ kept
       → IfOk r (λ m. migrated_of m ≡ migrated_by p digests (claims_of claims) (stale_among 0 (map kept_of slice) digests.funcs)) → IfOk r (λ m. Migrates p digests bytes (migrated_of m))
-  whole_comes bytes t claims kept slice (Err e) short is read same comes = tt
-  whole_comes bytes t claims kept slice (Ok m) short is read same comes =
-      of_whole bytes claims kept (migrated_of m) short (subst (IsReadFrom bytes) is read) (comes ∙ ap (λ (k : List (Option Digest)). migrated_by p digests (claims_of claims) (stale_among 0 (map kept_of k) digests.funcs)) same)
+  whole_comes bytes t claims kept slice e (Err fault) short is read same comes = tt
+  whole_comes bytes t claims kept slice e (Ok m) short is read same comes =
+      of_whole bytes claims kept e (migrated_of m) short (subst (IsReadFrom bytes) is read) (comes ∙ ap (λ (k : List (Option Digest)). migrated_by p digests (claims_of claims) (stale_among 0 (map kept_of k) digests.funcs)) same)
 
   -- ## By the words
 

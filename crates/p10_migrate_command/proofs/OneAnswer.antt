@@ -5,9 +5,10 @@ use Rattle.std.proofs.lemmas.Bool.{cases_order}
 use Rattle.std.proofs.lemmas.Option.{same_Some}
 use Rattle.p10_base.specs.Gathered.{Gathered}
 use Rattle.p10_world.specs.Files.{Named}
-use Rattle.p10_cert.specs.Laws.{TextTellsStatement, HasOneWrongLineOfBoth, StatementHasNoWrongLine}
+use Rattle.p10_cert.specs.Laws.{TextTellsStatement}
 use Rattle.p10_cert.specs.Statements.{Statement}
-use Rattle.p10_cert.specs.WrongLines.{IsFirstWrong}
+use Rattle.p10_diff_evidence.specs.Laws.{OneBadLine, RankedHasNoBadLine}
+use Rattle.p10_diff_evidence.specs.Placing.{IsBad}
 use Rattle.p10_core.specs.Typed.{PlainProgram}
 use Rattle.p10_expand.specs.Gathering.{Gathers}
 use Rattle.p10_front.specs.Digests.{PlainDigests}
@@ -28,14 +29,14 @@ use Rattle.p10_migrate_command.specs.Told.{SaysRight, IsMigrated, IsRight, migra
 
 -- ## Bytes
 
--- the laws of the crate below: one certificate and one wrong line of a text
+-- the laws of the crates below: one certificate and one bad line of a text
 pub record Laws : Type 0 where
   pub statement : TextTellsStatement
-  pub one_line : HasOneWrongLineOfBoth
-  pub no_line : StatementHasNoWrongLine
+  pub one_bad : OneBadLine
+  pub no_bad : RankedHasNoBadLine
 
-text_and_wrong : Laws → (bytes : List ℕ) (s : Statement) (line : ℕ) → IsCertificateText bytes s → IsFirstWrong bytes line → ⊥
-text_and_wrong laws bytes s line text wrong = laws.no_line s line text.good (subst (λ (b : List ℕ). IsFirstWrong b line) text.exact wrong)
+text_and_bad : Laws → (bytes : List ℕ) (s : Statement) (line : ℕ) → IsCertificateText bytes s → IsBad bytes line → ⊥
+text_and_bad laws bytes s line text wrong = laws.no_bad s line text.good text.ranked (subst (λ (b : List ℕ). IsBad b line) text.exact wrong)
 
 -- one thing comes of bytes, for a program with its digests
 one_migrated : Laws → (p : PlainProgram) (digests : PlainDigests) (bytes : List ℕ) (this that : migrating.Migrated) → Migrates p digests bytes this → Migrates p digests bytes that → this ≡ that
@@ -43,10 +44,10 @@ one_migrated laws p digests bytes this that (too_long long is) (too_long long' i
 one_migrated laws p digests bytes this that (too_long long is) (bad line short wrong is') = absurd (omega (arith, long, short))
 one_migrated laws p digests bytes this that (too_long long is) (certificate s text is') = absurd (omega (arith, long, text.short))
 one_migrated laws p digests bytes this that (bad line short wrong is) (too_long long is') = absurd (omega (arith, long, short))
-one_migrated laws p digests bytes this that (bad line short wrong is) (bad line' short' wrong' is') = is ∙ ap BadCertificate (laws.one_line bytes line line' wrong wrong') ∙ sym is'
-one_migrated laws p digests bytes this that (bad line short wrong is) (certificate s text is') = absurd (text_and_wrong laws bytes s line text wrong)
+one_migrated laws p digests bytes this that (bad line short wrong is) (bad line' short' wrong' is') = is ∙ ap BadCertificate (laws.one_bad bytes line line' wrong wrong') ∙ sym is'
+one_migrated laws p digests bytes this that (bad line short wrong is) (certificate s text is') = absurd (text_and_bad laws bytes s line text wrong)
 one_migrated laws p digests bytes this that (certificate s text is) (too_long long is') = absurd (omega (arith, long, text.short))
-one_migrated laws p digests bytes this that (certificate s text is) (bad line short wrong is') = absurd (text_and_wrong laws bytes s line text wrong)
+one_migrated laws p digests bytes this that (certificate s text is) (bad line short wrong is') = absurd (text_and_bad laws bytes s line text wrong)
 one_migrated laws p digests bytes this that (certificate s text is) (certificate t text' is') =
     is ∙ ap (λ (x : Statement). migrated p digests x) (laws.statement s t text.good text'.good (sym text.exact ∙ text'.exact)) ∙ sym is'
 

@@ -67,4 +67,4 @@ stays_the_same is_certificate says speaks p digests s each sized good fits short
     let words = none_stale 0 c.funcs digests.funcs in
     let to : migrated p digests (sealed c digests) ≡ Written (sealed_text c digests) =
     (λ i. migrated_by p digests (claims i) (words i)) ∙ ap (fitted p digests c) fits ∙ ap text_or_limit (within_is (sealed_text c digests) short) in
-    certificate (sealed c digests) (record { short = short; good = is_certificate c digests (claims_good s good) sized; exact = refl }) (sym to)
+    certificate (sealed c digests) (record { short = short; good = is_certificate c digests (claims_good s good) sized; exact = refl; ranked = record { ranks = None; are = tt } }) (sym to)

@@ -94,7 +94,7 @@ told_of good_with sized m seen g to saying is (certificate s text same) said zer
       fits = speaks.rest.fits;
       on_out = told.on_out;
       on_err = told.on_err;
-      written = record { short = subst (λ (t : Text). length t ≤ MOST_CERTIFICATE_BYTES) (sym told.on_out) told.short; good = good_with (claims_in s) is.digests (claims_good s text.good) sizes; exact = told.on_out };
+      written = record { short = subst (λ (t : Text). length t ≤ MOST_CERTIFICATE_BYTES) (sym told.on_out) told.short; good = good_with (claims_in s) is.digests (claims_good s text.good) sizes; exact = told.on_out; ranked = record { ranks = None; are = tt } };
     }
 
 -- ## All answers

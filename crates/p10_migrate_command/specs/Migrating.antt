@@ -6,7 +6,7 @@ use Rattle.p10_base.specs.Words.{Text}
 use Rattle.p10_cert.specs.Claims.{Claims}
 use Rattle.p10_cert.specs.Sealed.{bytes_of}
 use Rattle.p10_cert.specs.Statements.{Statement, IsStatement, statement_text}
-use Rattle.p10_cert.specs.WrongLines.{IsFirstWrong}
+use Rattle.p10_diff_evidence.specs.Placing.{IsBad, IsRanked}
 use Rattle.p10_check.specs.Places.{name_at}
 use Rattle.p10_core.specs.Typed.{PlainProgram}
 use Rattle.p10_fit.specs.Fits.{unfit}
@@ -20,7 +20,7 @@ use Rattle.p10_check.specs.Texts.{StaleAt, claims_in, first_stale}
 pub data Migrated : Type 0 where
   -- they are more than a certificate may have, or its text of version 2 would have more (M10)
   TooLong : Migrated
-  -- no certificate has this line after those before it
+  -- no certificate has this line after those before it, or it isn't one of ranks in their section
   BadCertificate : ℕ → Migrated
   -- K0: the words of the function at this place have another digest than the certificate keeps; both are told
   Stale : Span → List ℕ → List ℕ → Migrated
@@ -63,9 +63,10 @@ pub record IsCertificateText (bytes : List ℕ) (s : Statement) : Type 0 where
   pub short : length bytes ≤ MOST_CERTIFICATE_BYTES
   pub good : IsStatement s
   pub exact : bytes ≡ statement_text s
+  pub ranked : IsRanked s
 
 -- what comes of bytes, for a program with these digests
 pub data Migrates (p : PlainProgram) (digests : PlainDigests) (bytes : List ℕ) (m : Migrated) : Type 0 where
   too_long : MOST_CERTIFICATE_BYTES < length bytes → m ≡ TooLong → Migrates p digests bytes m
-  bad : (line : ℕ) → length bytes ≤ MOST_CERTIFICATE_BYTES → IsFirstWrong bytes line → m ≡ BadCertificate line → Migrates p digests bytes m
+  bad : (line : ℕ) → length bytes ≤ MOST_CERTIFICATE_BYTES → IsBad bytes line → m ≡ BadCertificate line → Migrates p digests bytes m
   certificate : (s : Statement) → IsCertificateText bytes s → m ≡ migrated p digests s → Migrates p digests bytes m

@@ -132,7 +132,7 @@ fn migrate_bytes(
     }
     match read(alloc, certificate)? {
         Text::Bad(line) => Ok(Migration::BadCertificate(line)),
-        Text::Whole(claims, kept) => {
+        Text::Whole(claims, kept, _) => {
             migrate_whole(alloc, program, found, claims, kept.as_slice())
         }
     }

@@ -2,9 +2,8 @@
 
 ghost use Rattle.p10_migrate_command.specs.Laws.{MigrateSaysOneThing, MigratedIsAcceptedAlike, MigratedIsJudgedAlike, MigratedIsVerifiedAlike, MigratedStaysTheSame, SuccessIsMigrated};
 
-use p10_cert::laws::{
-    a_statement_has_no_wrong_line, a_text_has_one_wrong_line_of_both, a_text_tells_its_statement,
-};
+use p10_cert::laws::a_text_tells_its_statement;
+use p10_diff_evidence::laws::{a_ranked_certificate_has_no_bad_line, one_bad_line};
 use p10_fit::laws::fit_speaks;
 use p10_front::laws::one_reading;
 use p10_seal::laws::{reading_digests_are_sized, sealed_is_a_certificate, sealed_says_the_same};
@@ -15,8 +14,8 @@ pub fn one_answer_is_right()
 {
     one_reading();
     a_text_tells_its_statement();
-    a_text_has_one_wrong_line_of_both();
-    a_statement_has_no_wrong_line();
+    one_bad_line();
+    a_ranked_certificate_has_no_bad_line();
 }
 
 /// With status 0 the output takes the text of a certificate of version 2, with the claims of the one that was read.

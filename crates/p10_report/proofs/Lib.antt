@@ -2,4 +2,3 @@
 pub mod Stopping
 pub mod Written
 pub mod Values
-pub mod Hex

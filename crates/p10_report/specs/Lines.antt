@@ -1,6 +1,7 @@
 -- The lines that report what was found in the sources.
 use Rattle.std.specs.Prelude.{ℕ, ◌/◌, ◌%◌, false, ℤ, List, [], ◌∷◌, codes, decimal}
-use Rattle.std.specs.Fmt.{signed_decimal, digit_glyph}
+use Rattle.std.specs.Fmt.{signed_decimal}
+use Rattle.p10_base.specs.Hex.{hex_text}
 use Rattle.p10_base.specs.Gathered.{Gathered, name_of, text_of}
 use Rattle.p10_base.specs.Places.{column_of, line_of}
 use Rattle.p10_base.specs.declared.report.Bounds.{Bounds}
@@ -66,11 +67,6 @@ condition_part label g condition at = labelled label condition then at_part g at
 unfoldable pub failing_line : Gathered → ℕ → Span → List ℕ
 failing_line g condition at = condition_part (codes "refused: K") g condition at
 
--- bytes, each as two digits of 0 to 9 and a to f, the high one first, as certificates have them
-abbrev pub hex_text : List ℕ → List ℕ
-hex_text [] = []
-hex_text (byte ∷ bytes) = digit_glyph false (byte / 16) ∷ digit_glyph false (byte % 16) ∷ hex_text bytes
-
 -- a digest after the text that says whose it is
 unfoldable pub labelled_digest : List ℕ → List ℕ → List ℕ
 labelled_digest label digest = label then hex_text digest
@@ -90,6 +86,10 @@ stale_line g at kept found = stale_label then place_text g at then digests_part 
 -- the line of a condition of clean certificates that does not hold: refused: CN FILE:LINE:COLUMN
 unfoldable pub unclean_line : Gathered → ℕ → Span → List ℕ
 unclean_line g condition at = condition_part (codes "refused: C") g condition at
+
+-- the line of how many functions were passed, of all: passed N of M
+unfoldable pub passed_line : ℕ → ℕ → List ℕ
+passed_line passed functions = labelled (codes "passed ") passed then labelled (codes " of ") functions then codes "\n"
 
 -- the line of a limit that is exceeded: p10: limit MN
 unfoldable pub limit_line : Limit → List ℕ

@@ -5,7 +5,7 @@ use Rattle.p10_report.specs.Stops.{◌then◌}
 
 -- the command line is that of no command
 unfoldable pub usage_line : List ℕ
-usage_line = codes "p10: usage: p10 (check|derive|verify|run|gen|migrate) [options] FILE..\n"
+usage_line = codes "p10: usage: p10 (check|derive|verify|run|gen|migrate|recheck) [options] FILE..\n"
 
 -- what stands before the name of a file that isn't there
 unfoldable pub absent_label : List ℕ
@@ -22,6 +22,14 @@ refused_at_label = codes "p10: certificate refused at line "
 -- a text is no certificate's: p10: certificate refused at line N
 unfoldable pub bad_certificate_line : ℕ → List ℕ
 bad_certificate_line line = labelled refused_at_label line then codes "\n"
+
+-- what stands before the number of the line at which the certificate from before an edit is refused
+unfoldable pub old_refused_label : List ℕ
+old_refused_label = codes "p10: old certificate refused at line "
+
+-- the text of the certificate from before an edit is no certificate's: p10: old certificate refused at line N
+unfoldable pub bad_old_certificate_line : ℕ → List ℕ
+bad_old_certificate_line line = labelled old_refused_label line then codes "\n"
 
 -- what stands before the number of the line at which a file of sensor values is refused
 unfoldable pub sensors_refused_label : List ℕ

@@ -1,9 +1,9 @@
 //! The lines in which `p10` reports what it found.
 //!
 //! Entry points, each of which writes one line to a sink, without memory: [`put_refusal`],
-//! [`put_accepted`], [`put_clean`], [`put_failing`], [`put_stale`], [`put_unclean`] and [`put_limit`] report what was found in the
-//! sources and the certificate; [`put_returned`], [`put_turns`], [`put_assertion_failed`], [`put_undefined`] and [`put_steps_spent`] how a
-//! run has ended; [`put_usage`], [`put_absent`], [`put_bad_certificate`], [`put_bad_sensors`], [`put_read_fault`] and
+//! [`put_accepted`], [`put_clean`], [`put_failing`], [`put_stale`], [`put_unclean`], [`put_passed`] and [`put_limit`] report what was found
+//! in the sources and the certificate; [`put_returned`], [`put_turns`], [`put_assertion_failed`], [`put_undefined`] and [`put_steps_spent`] how a
+//! run has ended; [`put_usage`], [`put_absent`], [`put_bad_certificate`], [`put_bad_old_certificate`], [`put_bad_sensors`], [`put_read_fault`] and
 //! [`put_out_of_memory`] why there is nothing to report of them. [`put_violation`] reports a violation of a rule, [`put_violations`] one on each line,
 //! and [`json`] gives the text of a whole report as JSON, which takes memory. Invariant: what a sink took of a line is always
 //! a prefix of the line, and all of it at `Ok`. A line is written in several pieces, so the `wrote` of a fault counts bytes of the
@@ -20,10 +20,12 @@ ghost use Rattle.p10_report.specs.Stops.{StopsWithin};
 pub use endings::{put_assertion_failed, put_returned, put_steps_spent, put_turns, put_undefined};
 pub use json_report::json;
 pub use messages::{
-    put_absent, put_bad_certificate, put_bad_sensors, put_out_of_memory, put_read_fault, put_usage,
+    put_absent, put_bad_certificate, put_bad_old_certificate, put_bad_sensors, put_out_of_memory,
+    put_read_fault, put_usage,
 };
 use p10_base::{Bounds, Limit, Refusal, Sources, Span};
 use p10_world::{Sink, SinkFault};
+pub use passing::put_passed;
 use pieces::{
     put_bounds, put_bytes, put_condition, put_labelled, put_place, put_reason, put_refused,
 };
@@ -35,6 +37,7 @@ mod endings;
 mod json_report;
 pub mod laws;
 mod messages;
+mod passing;
 mod pieces;
 mod rows;
 mod stale;

@@ -3,7 +3,7 @@
 ghost use Rattle.std.specs.Prelude.{◌≡◌, ◌≤◌, OnErr, OnOk};
 ghost use Rattle.std.specs.Io.KnownBytes.{Appends};
 ghost use Rattle.p10_world.specs.Faults.{Rose};
-ghost use Rattle.p10_report.specs.Messages.{usage_line, absent_line, bad_certificate_line, bad_sensors_line, read_fault_line, out_of_memory_line, absent_label, refused_at_label, sensors_refused_label};
+ghost use Rattle.p10_report.specs.Messages.{usage_line, absent_line, bad_certificate_line, bad_old_certificate_line, bad_sensors_line, read_fault_line, out_of_memory_line, absent_label, refused_at_label, old_refused_label, sensors_refused_label};
 ghost use Rattle.p10_report.specs.Stops.{StopsWithin};
 
 use crate::pieces::{put_bytes, put_labelled};
@@ -23,7 +23,7 @@ pub fn put_usage<O: Sink>(out: &mut O) -> Result<(), SinkFault>
 {
     put_bytes(
         out,
-        b"p10: usage: p10 (check|derive|verify|run|gen|migrate) [options] FILE..\n",
+        b"p10: usage: p10 (check|derive|verify|run|gen|migrate|recheck) [options] FILE..\n",
     )
 }
 
@@ -58,6 +58,23 @@ pub fn put_bad_certificate<O: Sink>(out: &mut O, line: u64) -> Result<(), SinkFa
     ensures count { O.faults out.old ≤ O.faults out.new }
 {
     put_labelled(out, refused_at(), u128::from(line))?;
+    put_bytes(out, b"\n")
+}
+
+/// Writes the line of a text that is no certificate's from before an edit, `p10: old certificate refused at line N`, where `line`,
+/// counted from 1, is N.
+///
+/// # Errors
+///
+/// A fault only where the sink's count of faults rose; it then took a prefix of the line.
+#[tactic(auto, using(crate::proofs::Stopping::stops), unfolding(crate::specs::Messages::bad_old_certificate_line))]
+pub fn put_bad_old_certificate<O: Sink>(out: &mut O, line: u64) -> Result<(), SinkFault>
+    ensures ok { OnOk result (Appends (O.taken out.old) (O.taken out.new) (bad_old_certificate_line line)) }
+    ensures stopped { OnErr result (StopsWithin (O.taken out.old) (O.taken out.new) (bad_old_certificate_line line)) }
+    ensures failed { OnErr result (Rose (O.faults out.old) (O.faults out.new)) }
+    ensures count { O.faults out.old ≤ O.faults out.new }
+{
+    put_labelled(out, old_refused(), u128::from(line))?;
     put_bytes(out, b"\n")
 }
 
@@ -122,6 +139,14 @@ fn refused_at() -> &'static [u8]
     ensures { result.now ≡ refused_at_label }
 {
     b"p10: certificate refused at line "
+}
+
+/// What stands before the number of the line at which the certificate from before an edit is refused.
+#[tactic(auto, unfolding(crate::specs::Messages::old_refused_label))]
+fn old_refused() -> &'static [u8]
+    ensures { result.now ≡ old_refused_label }
+{
+    b"p10: old certificate refused at line "
 }
 
 /// What stands before the number of the line at which a file of sensor values is refused.

@@ -1,14 +1,13 @@
 //! The line of a function of whose words a certificate doesn't speak.
 
-ghost use Rattle.std.specs.Prelude.{◌≡◌, ◌≤◌, ◌<◌, false, OnErr, OnOk};
-ghost use Rattle.std.specs.Fmt.{digit_glyph};
+ghost use Rattle.std.specs.Prelude.{◌≡◌, ◌≤◌, OnErr, OnOk};
 ghost use Rattle.std.specs.Io.KnownBytes.{Appends};
 ghost use Rattle.p10_world.specs.Faults.{Rose};
-ghost use Rattle.p10_report.specs.Lines.{digests_part, hex_text, labelled_digest, stale_label, stale_line};
+ghost use Rattle.p10_report.specs.Lines.{digests_part, labelled_digest, stale_label, stale_line};
 ghost use Rattle.p10_report.specs.Stops.{StopsWithin};
 
 use crate::pieces::{put_bytes, put_place};
-use p10_base::{Digest, Sources, Span};
+use p10_base::{Digest, Sources, Span, hex};
 use p10_world::{Sink, SinkFault};
 
 /// Writes the line of a function of whose words a certificate doesn't speak,
@@ -66,30 +65,4 @@ fn put_digest<O: Sink>(out: &mut O, label: &[u8], digest: &Digest) -> Result<(),
 {
     put_bytes(out, label)?;
     put_bytes(out, hex(&digest.0).as_slice())
-}
-
-/// The text of a digest's bytes.
-fn hex(bytes: &[u8; 32]) -> [u8; 64]
-    ensures { result ≡ hex_text bytes.now }
-{
-    let mut text = [0u8; 64];
-    for i in 0..32 {
-        let high = hex_digit(bytes[i] / 16);
-        let low = hex_digit(bytes[i] % 16);
-        text[2 * i] = high;
-        text[2 * i + 1] = low;
-    }
-    text
-}
-
-/// The digit of a number below 16.
-fn hex_digit(number: u8) -> u8
-    requires { number < 16 }
-    ensures { result ≡ digit_glyph false number }
-{
-    if number < 10 {
-        b'0' + number
-    } else {
-        b'a' - 10 + number
-    }
 }

@@ -1,5 +1,7 @@
 -- What is written of a program that was to run.
-use Rattle.std.proofs.Common.{◌≡◌, ◌≢◌, ℕ, ℤ, List, [], ◌∷◌, ◌++◌, refl, sym, ap, ◌∙◌, subst, append-nil, Option, Some, None, IfSome, IsSomeAnd, ◌⊎◌, inl, inr, Result, Ok, Err, IfOk, Vec, Global}
+use Rattle.std.proofs.Common.{◌≡◌, ◌≢◌, ℕ, ◌<◌, Bool, true, false, ℤ, List, [], ◌∷◌, ◌++◌, refl, sym, ap, ◌∙◌, subst, append-nil, Option, Some, None, IfSome, IsSomeAnd, ◌⊎◌, inl, inr, Result, Ok, Err, IfOk, Vec, Global}
+use Rattle.std.specs.List.{All}
+use Rattle.std.proofs.lemmas.List.Elements.{All-append, All-nil}
 use Rattle.std.proofs.KnownBytes.{Appends-nil}
 use Rattle.std.specs.Prelude.{OnErr}
 use Rattle.std.specs.Io.KnownBytes.{Appends}
@@ -45,6 +47,10 @@ use Rattle.p10_run_command.proofs.Recorded.{no_values_of, values_of}
 
 -- ## What comes of a run
 
+given_bytes : (ended : Bool) (given : List ℕ) → All (λ byte. byte < 256) given → All (λ byte. byte < 256) (given ++ rest_of ended [])
+given_bytes true given are = All-append (λ byte. byte < 256) given [] are (All-nil (λ byte. byte < 256))
+given_bytes false given are = All-append (λ byte. byte < 256) given [] are (All-nil (λ byte. byte < 256))
+
 -- where the source tells its bytes they are the input, and else those that it gave are
 runs : (p : PlainProgram) (b : Budget) (values : List ℤ) (left left_after taken taken_after : Option (List ℕ)) (end : Result FinishedRun RunFault) →
     IfOk end (λ done. IfSome left (λ bytes. IsRun done taken taken_after (run_with p b values bytes))) →
@@ -54,8 +60,8 @@ runs : (p : PlainProgram) (b : Budget) (values : List ℤ) (left left_after take
     IsOutcome p b values left taken taken_after end
 runs p b values (Some bytes) left_after taken taken_after (Ok done) told each front each_front = (bytes, refl, told)
 runs p b values (Some bytes) left_after taken taken_after (Err fault) told each front each_front = (bytes, refl, front)
-runs p b values None left_after taken taken_after (Ok done) told each front each_front = (each.given ++ rest_of each.ended [], tt, each.holds [])
-runs p b values None left_after taken taken_after (Err fault) told each front each_front = (each_front.given ++ rest_of each_front.ended [], tt, each_front.holds [])
+runs p b values None left_after taken taken_after (Ok done) told each front each_front = (each.given ++ rest_of each.ended [], given_bytes each.ended each.given each.source.bytes, each.holds [])
+runs p b values None left_after taken taken_after (Err fault) told each front each_front = (each_front.given ++ rest_of each_front.ended [], given_bytes each_front.ended each_front.given each_front.source.bytes, each_front.holds [])
 
 -- the same with the values of the file of sensor values
 pub runs_within : (p : PlainProgram) (b : Budget) (file : Option (List ℕ)) (read : Recorded) (values : Vec ℤ Global) (left left_after taken taken_after : Option (List ℕ)) (end : Result FinishedRun RunFault) → read ≡ Values values → IsRecorded file read →

@@ -1,5 +1,6 @@
 -- What is right to say to the command `run`.
-use Rattle.std.specs.Prelude.{ℕ, ◌≡◌, ℤ, List, Option, IfSome}
+use Rattle.std.specs.Prelude.{ℕ, ◌≡◌, ◌<◌, ℤ, List, Option, Some, None}
+use Rattle.std.specs.List.{All}
 use Rattle.p10_base.specs.Gathered.{Gathered}
 use Rattle.p10_base.specs.Words.{Text}
 use Rattle.p10_core.specs.Typed.{PlainProgram}
@@ -34,9 +35,10 @@ use Rattle.p10_run_command.specs.Sensors.{HasValues, LacksValues, no_values_sayi
 abbrev pub setting_of : Seen → RunCommand → Setting
 setting_of seen run = setting seen.held run.sources run.directories
 
--- the input of a run: the bytes that the source had left at first; where it doesn't tell them, some bytes
+-- the input of a run: what the source had left at first; where it doesn't tell that, some bytes, which are numbers below 256
 abbrev pub IsInput : Option (List ℕ) → List ℕ → Type 0
-IsInput left bytes = IfSome left (λ told. bytes ≡ told)
+IsInput None bytes = All (λ byte. byte < 256) bytes
+IsInput (Some told) bytes = bytes ≡ told
 
 -- a certificate that isn't accepted
 abbrev pub IsRefusal : Judgement → Type 0

@@ -1,5 +1,5 @@
 -- What holds of the answers.
-use Rattle.std.specs.Prelude.{ℕ, ◌≡◌, ◌≢◌, ◌<◌, List, Some}
+use Rattle.std.specs.Prelude.{ℕ, ◌≡◌, ◌≢◌, ◌<◌, List, Option, Some, IfSome}
 use Rattle.std.specs.List.{All}
 use Rattle.p10_base.specs.Words.{Text}
 use Rattle.p10_world.specs.Files.{Named}
@@ -19,9 +19,13 @@ SaysOneThing =
     → some.status ≢ 5 → some.status ≢ 7 → other.status ≢ 5 → other.status ≢ 7
     → some ≡ other
 
--- Where the input tells its bytes, that no step is left is never said of a run by a certificate: where it is accepted, it bounds every run.
+-- an input that tells what it has left tells bytes
+abbrev pub TellsBytes : Option (List ℕ) → Type 0
+TellsBytes left = IfSome left (λ bytes. All (λ byte. byte < 256) bytes)
+
+-- that no step is left is never said of a run by a certificate: where it is accepted, it bounds every run
 abbrev pub CertificatesLeaveSteps : Type 0
 CertificatesLeaveSteps =
-    (run : RunCommand) (name : Text) (seen : Seen) (input : SeenInput) (bytes : List ℕ) (saying : Saying)
-    → run.budget ≡ Certificate name → input.left ≡ Some bytes → All (λ byte. byte < 256) bytes
+    (run : RunCommand) (name : Text) (seen : Seen) (input : SeenInput) (saying : Saying)
+    → run.budget ≡ Certificate name → TellsBytes input.left
     → SaysRight run seen input saying → saying.status ≢ 12

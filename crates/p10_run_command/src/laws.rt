@@ -2,6 +2,7 @@
 
 ghost use Rattle.p10_run_command.specs.Laws.{CertificatesLeaveSteps, SaysOneThing};
 
+use p10_diff_evidence::laws::standing_is_lawful;
 use p10_front::laws::one_reading;
 use p10_judge::laws::one_judgement;
 use p10_sensors::laws::{one_first_other, other_is_no_text, texts_tell_values};
@@ -18,9 +19,10 @@ pub fn one_thing_is_said()
     other_is_no_text();
 }
 
-/// A run by a certificate never runs out of steps, where the input tells its bytes.
+/// A run by a certificate never runs out of steps, where an input that tells what it has tells bytes.
 pub fn certificates_leave_steps()
     ensures { CertificatesLeaveSteps }
 {
     accepted_certificates_bound_every_run();
+    standing_is_lawful();
 }

@@ -7,7 +7,7 @@ ghost use Rattle.p10_core.specs.WholePrograms.{IsWholeProgram};
 ghost use Rattle.p10_expand.specs.Gathering.{Gathers, HaveWords};
 ghost use Rattle.p10_front.specs.Answers.{reading_of};
 ghost use Rattle.p10_front.specs.Digests.{reading_digests};
-ghost use Rattle.p10_command.specs.Seen.{Seen};
+ghost use Rattle.p10_command.specs.Seen.{Seen, input_seen};
 ghost use Rattle.p10_command.specs.Told.{Told, Stopped};
 ghost use Rattle.p10_run_command.specs.declared.command.RunCommand.{RunCommand};
 ghost use Rattle.p10_run_command.specs.Answers.{setting_of, SaysRight};
@@ -51,10 +51,10 @@ pub fn run_sources<I: Source, O: Sink, E: Sink>(
     requires words { HaveWords sources.now }
     requires turns { request.now.turns ≤ 10 ^ 18 }
     ensures told { result ≢ 6 → (command : RunCommand) (seen : Seen) → IsRequest seen.held command request.now → Gathers (setting_of seen command) sources.now → Told (SaysRight command seen
-        (record { left = I.left input.old; faults_before = I.faults input.old; faults_after = I.faults input.new }))
+        (input_seen (I.left input.old) (I.faults input.old) (I.faults input.new)))
         (O.taken out.old) (O.taken out.new) (E.taken err.old) (E.taken err.new) result }
     ensures stopped { result ≡ 6 → (command : RunCommand) (seen : Seen) → IsRequest seen.held command request.now → Gathers (setting_of seen command) sources.now → Stopped (SaysRight command seen
-        (record { left = I.left input.old; faults_before = I.faults input.old; faults_after = I.faults input.new }))
+        (input_seen (I.left input.old) (I.faults input.old) (I.faults input.new)))
         (O.taken out.old) (O.taken out.new) (E.taken err.old) (E.taken err.new) }
     ensures write { result ≡ 6 → Rose (O.faults out.old) (O.faults out.new) ⊎ Rose (E.faults err.old) (E.faults err.new) }
 {

@@ -22,7 +22,7 @@ pub few_sources : (words : List Text) (c : Command) → IsCommandLine words c �
 few_sources words (command.Check directories json sources) is =
     let check = is.rest.1 in
     omega (arith, few_files _ is.words check.options sources check.split.splits, ap length is.begins, is.few)
-few_sources words (command.Derive directories version sources) is =
+few_sources words (command.Derive directories version diff sources) is =
     let derive = is.rest.1 in
     omega (arith, few_files _ is.words derive.options sources derive.split.splits, ap length is.begins, is.few)
 few_sources words (command.Migrate directories certificate sources) is =
@@ -31,6 +31,9 @@ few_sources words (command.Migrate directories certificate sources) is =
 few_sources words (command.Verify directories clean certificate sources) is =
     let verify = is.rest.1 in
     omega (arith, few_files _ is.words verify.options sources verify.split.splits, ap length is.begins, is.few)
+few_sources words (command.Recheck directories old certificate sources) is =
+    let recheck = is.rest.1 in
+    omega (arith, few_files _ is.words recheck.options sources recheck.split.splits, ap length is.begins, is.few)
 few_sources words (command.Run directories budget turns deny sensors sources) is =
     let run = is.rest.1 in
     omega (arith, few_files _ is.words run.options sources run.split.splits, ap length is.begins, is.few)
@@ -43,17 +46,19 @@ number_is_small (Some text) standard n small is = is.small
 -- a command asks for no more than 10^18 turns
 pub few_turns : (words : List Text) (c : Command) → IsCommandLine words c → turns_asked c ≤ 10 ^ 18
 few_turns words (command.Check directories json sources) is = omega arith
-few_turns words (command.Derive directories version sources) is = omega arith
+few_turns words (command.Derive directories version diff sources) is = omega arith
 few_turns words (command.Migrate directories certificate sources) is = omega arith
 few_turns words (command.Verify directories clean certificate sources) is = omega arith
+few_turns words (command.Recheck directories old certificate sources) is = omega arith
 few_turns words (command.Run directories budget turns deny sensors sources) is = number_is_small _ 1 turns (omega arith) is.rest.1.has_turns
 few_turns words (command.Generate functions) is = omega arith
 
 -- the words of a `run` are one
 pub no_run : (words : List Text) (c : Command) → IsCommandLine words c → IsNoRunLine words → IsNoRun c
 no_run words (command.Check directories json sources) is none = tt
-no_run words (command.Derive directories version sources) is none = tt
+no_run words (command.Derive directories version diff sources) is none = tt
 no_run words (command.Migrate directories certificate sources) is none = tt
 no_run words (command.Verify directories clean certificate sources) is none = tt
+no_run words (command.Recheck directories old certificate sources) is none = tt
 no_run words (command.Run directories budget turns deny sensors sources) is none = none (record { directories = directories; budget = budget; turns = turns; deny = deny; sensors = sensors; sources = sources }) is
 no_run words (command.Generate functions) is none = tt

@@ -4,4 +4,5 @@ pub mod Telling
 pub mod Deriving
 pub mod OneThing
 pub mod Agreeing
+pub mod Completing
 pub mod Certified

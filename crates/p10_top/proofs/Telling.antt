@@ -13,10 +13,12 @@ use Rattle.p10_cert.specs.Claims.{Claims}
 use Rattle.p10_pass.specs.Passing as passing
 use Rattle.p10_check.specs.declared.verdict.Verdict.TheVariants as verdicts
 use Rattle.p10_check.specs.Conditions.{verdict_by}
-use Rattle.p10_soundness.specs.Laws.{CertificatesAcceptedByRangesBoundRuns}
+use Rattle.p10_soundness.specs.Laws.{AcceptedCertificatesBoundRuns}
 use Rattle.p10_clean.specs.declared.flaw.Clean.TheVariants.{Yes}
 use Rattle.p10_clean.specs.Clean.{cleanness}
-use Rattle.p10_clean_soundness.specs.Laws.{CleanCertificatesAcceptedByRangesExcludeUndefined, RunsAreDefined}
+use Rattle.p10_clean_soundness.specs.Laws.{CleanCertificatesExcludeUndefined, RunsAreDefined}
+use Rattle.p10_diff_evidence.specs.Laws.{StandingIsLawful}
+use Rattle.p10_diff_evidence.specs.Standing.{standing_by}
 use Rattle.p10_report.specs.Stops.{StopsWithin}
 use Rattle.p10_report.proofs.Stopping.{TakesFront-stop}
 use Rattle.p10_command.specs.declared.trouble.Trouble.TheVariants.{Read, Memory}
@@ -33,6 +35,7 @@ use Rattle.p10_words.specs.declared.command.Usage.TheVariants as usage
 use Rattle.p10_words.specs.Commands.{IsCommandLine}
 use Rattle.p10_words.proofs.OneCommand.{one_command}
 use Rattle.p10_judge.specs.declared.judgement.Judgement.TheVariants as judgement
+use Rattle.p10_cert.specs.Statements.{Statement}
 use Rattle.p10_check.specs.Texts.{claims_in}
 use Rattle.p10_front.specs.Digests.{reading_digests}
 use Rattle.p10_judge.specs.Judging.{HasVerdict, IsClaimed}
@@ -40,6 +43,7 @@ use Rattle.p10_judge.specs.Loading.{Gives}
 use Rattle.p10_check_command.specs.declared.command.CheckCommand.{CheckCommand}
 use Rattle.p10_derive_command.specs.declared.command.DeriveCommand.{DeriveCommand}
 use Rattle.p10_migrate_command.specs.declared.command.MigrateCommand.{MigrateCommand}
+use Rattle.p10_recheck_command.specs.declared.command.RecheckCommand.{RecheckCommand}
 use Rattle.p10_run_command.specs.declared.command.RunCommand.{RunCommand}
 use Rattle.p10_verify_command.specs.declared.command.VerifyCommand.{VerifyCommand}
 use Rattle.p10_verify_command.specs.declared.answer.Answer.{Answer}
@@ -64,13 +68,16 @@ abbrev pub of_check : CheckCommand → Command
 of_check check = command.Check check.directories check.json check.sources
 
 abbrev pub of_derive : DeriveCommand → Command
-of_derive derive = command.Derive derive.directories derive.version derive.sources
+of_derive derive = command.Derive derive.directories derive.version derive.diff derive.sources
 
 abbrev pub of_migrate : MigrateCommand → Command
 of_migrate migrate = command.Migrate migrate.directories migrate.certificate migrate.sources
 
 abbrev pub of_verify : VerifyCommand → Command
 of_verify verify = command.Verify verify.directories verify.clean verify.certificate verify.sources
+
+abbrev pub of_recheck : RecheckCommand → Command
+of_recheck recheck = command.Recheck recheck.directories recheck.since recheck.certificate recheck.sources
 
 abbrev pub of_run : RunCommand → Command
 of_run run = command.Run run.directories run.budget run.turns run.deny run.sensors run.sources
@@ -127,19 +134,21 @@ bounds_are : (total bounds : Bounds) (first : Option passing.Failing) → verdic
 bounds_are total bounds None is = cc
 bounds_are total bounds (Some e) is = absurd (cc)
 
-stays_within : CertificatesAcceptedByRangesBoundRuns → (p : PlainProgram) → IsWholeProgram p → (c : Claims) (bounds : Bounds) → HasVerdict p c (verdicts.Accepted bounds) → Within p c.total
-stays_within law p whole c bounds v = subst (λ (b : Bounds). Within p b) (bounds_are c.total bounds v.first v.is) (law p whole c bounds v)
+stays_within : AcceptedCertificatesBoundRuns → StandingIsLawful → (p : PlainProgram) → IsWholeProgram p → (s : Statement) (bounds : Bounds) → HasVerdict p s (verdicts.Accepted bounds) → Within p s.ending.total
+stays_within law lawful p whole s bounds v =
+    subst (λ (b : Bounds). Within p b) (bounds_are s.ending.total bounds v.is.first v.is.is) (law p whole (standing_by p v.ranked.ranks) (lawful p whole v.ranked.ranks) (claims_in s) bounds v.is)
 
 not_both : {A : Type 0} (b : Bool) → b ≡ false → b ≡ true → A
 not_both b off on = absurd (cc (off, on))
 
-stays_defined : CleanCertificatesAcceptedByRangesExcludeUndefined → (p : PlainProgram) → IsWholeProgram p → (c : Claims) (bounds : Bounds) → HasVerdict p c (verdicts.Accepted bounds) → Yes ≡ cleanness p c → RunsAreDefined p c.total
-stays_defined law p whole c bounds v is_clean = subst (λ (b : Bounds). RunsAreDefined p b) (bounds_are c.total bounds v.first v.is) (law p whole c bounds v (sym is_clean))
+stays_defined : CleanCertificatesExcludeUndefined → (p : PlainProgram) → IsWholeProgram p → (s : Statement) (bounds : Bounds) → HasVerdict p s (verdicts.Accepted bounds) → Yes ≡ cleanness p (claims_in s) → RunsAreDefined p s.ending.total
+stays_defined law p whole s bounds v is_clean =
+    subst (λ (b : Bounds). RunsAreDefined p b) (bounds_are s.ending.total bounds v.is.first v.is.is) (law p whole (standing_by p v.ranked.ranks) (claims_in s) bounds v.is (sym is_clean))
 
 -- a certificate that is accepted for the program of the sources bounds every run
-bounds_runs : CertificatesAcceptedByRangesBoundRuns → (files : List Named) (names : Names) (g : Gathered) (p : PlainProgram) (bytes : List ℕ) (bounds : Bounds) → (has : HasProgram (setting_of (Some files) names) g p) → Gives (Some files) names.certificate bytes
+bounds_runs : AcceptedCertificatesBoundRuns → StandingIsLawful → (files : List Named) (names : Names) (g : Gathered) (p : PlainProgram) (bytes : List ℕ) (bounds : Bounds) → (has : HasProgram (setting_of (Some files) names) g p) → Gives (Some files) names.certificate bytes
     → (claimed : IsClaimed p (reading_digests has.reading).funcs bytes (verdicts.Accepted bounds)) → (names.clean ≡ true → RunsAreDefined p claimed.certificate.ending.total) → BoundsRuns names files
-bounds_runs law files names g p bytes bounds has given claimed defined = record {
+bounds_runs law lawful files names g p bytes bounds has given claimed defined = record {
   sources = g;
   gathers = has.gathers;
   reading = has.reading;
@@ -150,42 +159,42 @@ bounds_runs law files names g p bytes bounds has given claimed defined = record 
   certificate_given = given ∙ ap Some claimed.read.text_is;
   is_certificate = claimed.read.is_certificate;
   words = claimed.words;
-  within = stays_within law p has.whole (claims_in claimed.certificate) bounds claimed.has;
+  within = stays_within law lawful p has.whole claimed.certificate bounds claimed.has;
   defined = defined;
 }
 
-accepted : CertificatesAcceptedByRangesBoundRuns → CleanCertificatesAcceptedByRangesExcludeUndefined → (files : List Named) (before after : ℕ) (names : Names) (g : Gathered) (answer : Answer) → status_of answer ≡ 0 → IsRight (record { held = Some files; faults_before = before; faults_after = after }) names g answer → BoundsRuns names files
-accepted law clean files before after names g (Judged (judgement.Accepted bounds)) zero (p, has, judged, enough) = bounds_runs law files names g p judged.bytes bounds has judged.given judged.weighed (λ asked. not_both names.clean enough asked)
-accepted law clean files before after names g (Clean bounds) zero tried = bounds_runs law files names g tried.program tried.bytes bounds tried.has tried.given tried.accepted.claimed
-    (λ asked. stays_defined clean tried.program tried.has.whole (claims_in tried.accepted.claimed.certificate) bounds tried.accepted.claimed.has tried.accepted.is)
-accepted law clean files before after names g (Unclean c at) zero right = absurd (omega (arith, zero))
-accepted law clean files before after names g (Judged (judgement.Failing k at)) zero right = absurd (omega (arith, zero))
-accepted law clean files before after names g (Judged (judgement.Stale at kept found)) zero right = absurd (omega (arith, zero))
-accepted law clean files before after names g (Judged judgement.TooLong) zero right = absurd (omega (arith, zero))
-accepted law clean files before after names g (Judged (judgement.BadCertificate line)) zero right = absurd (omega (arith, zero))
-accepted law clean files before after names g (Ungathered (gathering.AbsentRoot place)) zero right = absurd (omega (arith, zero))
-accepted law clean files before after names g (Ungathered (gathering.Refused refusal)) zero right = absurd (omega (arith, zero))
-accepted law clean files before after names g (Ungathered (gathering.Over limit)) zero right = absurd (omega (arith, zero))
-accepted law clean files before after names g AbsentCertificate zero right = absurd (omega (arith, zero))
-accepted law clean files before after names g (Unread (reading.Refused refusal)) zero right = absurd (omega (arith, zero))
-accepted law clean files before after names g (Unread (reading.Over limit)) zero right = absurd (omega (arith, zero))
-accepted law clean files before after names g (Trouble Read) zero right = absurd (omega (arith, zero))
-accepted law clean files before after names g (Trouble Memory) zero right = absurd (omega (arith, zero))
+accepted : AcceptedCertificatesBoundRuns → StandingIsLawful → CleanCertificatesExcludeUndefined → (files : List Named) (before after : ℕ) (names : Names) (g : Gathered) (answer : Answer) → status_of answer ≡ 0 → IsRight (record { held = Some files; faults_before = before; faults_after = after }) names g answer → BoundsRuns names files
+accepted law lawful clean files before after names g (Judged (judgement.Accepted bounds)) zero (p, has, judged, enough) = bounds_runs law lawful files names g p judged.bytes bounds has judged.given judged.weighed (λ asked. not_both names.clean enough asked)
+accepted law lawful clean files before after names g (Clean bounds) zero tried = bounds_runs law lawful files names g tried.program tried.bytes bounds tried.has tried.given tried.accepted.claimed
+    (λ asked. stays_defined clean tried.program tried.has.whole tried.accepted.claimed.certificate bounds tried.accepted.claimed.has tried.accepted.is)
+accepted law lawful clean files before after names g (Unclean c at) zero right = absurd (omega (arith, zero))
+accepted law lawful clean files before after names g (Judged (judgement.Failing k at)) zero right = absurd (omega (arith, zero))
+accepted law lawful clean files before after names g (Judged (judgement.Stale at kept found)) zero right = absurd (omega (arith, zero))
+accepted law lawful clean files before after names g (Judged judgement.TooLong) zero right = absurd (omega (arith, zero))
+accepted law lawful clean files before after names g (Judged (judgement.BadCertificate line)) zero right = absurd (omega (arith, zero))
+accepted law lawful clean files before after names g (Ungathered (gathering.AbsentRoot place)) zero right = absurd (omega (arith, zero))
+accepted law lawful clean files before after names g (Ungathered (gathering.Refused refusal)) zero right = absurd (omega (arith, zero))
+accepted law lawful clean files before after names g (Ungathered (gathering.Over limit)) zero right = absurd (omega (arith, zero))
+accepted law lawful clean files before after names g AbsentCertificate zero right = absurd (omega (arith, zero))
+accepted law lawful clean files before after names g (Unread (reading.Refused refusal)) zero right = absurd (omega (arith, zero))
+accepted law lawful clean files before after names g (Unread (reading.Over limit)) zero right = absurd (omega (arith, zero))
+accepted law lawful clean files before after names g (Trouble Read) zero right = absurd (omega (arith, zero))
+accepted law lawful clean files before after names g (Trouble Memory) zero right = absurd (omega (arith, zero))
 
-says_zero : CertificatesAcceptedByRangesBoundRuns → CleanCertificatesAcceptedByRangesExcludeUndefined → (files : List Named) (before after : ℕ) (names : Names) (saying : Saying) → SaysRight names (record { held = Some files; faults_before = before; faults_after = after }) saying → saying.status ≡ 0 → BoundsRuns names files
-says_zero law clean files before after names saying says zero = accepted law clean files before after names says.sources says.answer (ap (λ (s : Saying). s.status) (sym says.said) ∙ zero) says.is_right
+says_zero : AcceptedCertificatesBoundRuns → StandingIsLawful → CleanCertificatesExcludeUndefined → (files : List Named) (before after : ℕ) (names : Names) (saying : Saying) → SaysRight names (record { held = Some files; faults_before = before; faults_after = after }) saying → saying.status ≡ 0 → BoundsRuns names files
+says_zero law lawful clean files before after names saying says zero = accepted law lawful clean files before after names says.sources says.answer (ap (λ (s : Saying). s.status) (sym says.said) ∙ zero) says.is_right
 
 -- what is said with status 0 to `verify` is that its certificate is accepted
-by_line : CertificatesAcceptedByRangesBoundRuns → CleanCertificatesAcceptedByRangesExcludeUndefined → (words : List Text) (files : List Named) (before after : ℕ) (input : SeenInput) (saying : Saying) → MaySay words (record { held = Some files; faults_before = before; faults_after = after }) input saying → saying.status ≡ 0 → Verified words files
-by_line law clean words files before after input saying (for_none none said) zero names is = absurd (none (command.Verify names.directories names.clean names.certificate names.sources) is)
-by_line law clean words files before after input saying (for_command c line says) zero names is =
-    says_zero law clean files before after names saying
+by_line : AcceptedCertificatesBoundRuns → StandingIsLawful → CleanCertificatesExcludeUndefined → (words : List Text) (files : List Named) (before after : ℕ) (input : SeenInput) (saying : Saying) → MaySay words (record { held = Some files; faults_before = before; faults_after = after }) input saying → saying.status ≡ 0 → Verified words files
+by_line law lawful clean words files before after input saying (for_none none said) zero names is = absurd (none (command.Verify names.directories names.clean names.certificate names.sources) is)
+by_line law lawful clean words files before after input saying (for_command c line says) zero names is =
+    says_zero law lawful clean files before after names saying
     (subst (λ (d : Command). SaysFor d (record { held = Some files; faults_before = before; faults_after = after }) input saying) (one_command words c (command.Verify names.directories names.clean names.certificate names.sources) line is) says) zero
-by_line law clean words files before after input saying (for_any said) zero names is = absurd (omega (arith, ap (λ (s : Saying). s.status) said, zero))
+by_line law lawful clean words files before after input saying (for_any said) zero names is = absurd (omega (arith, ap (λ (s : Saying). s.status) said, zero))
 
-pub verified : CertificatesAcceptedByRangesBoundRuns → CleanCertificatesAcceptedByRangesExcludeUndefined → (held : Option (List Named)) (before after : ℕ) (words : List Text) (input : SeenInput) (out_old out_new err_old err_new : Option (List ℕ)) (status : ℕ) → (status ≢ 6 → Told (MaySay words (record { held = held; faults_before = before; faults_after = after }) input) out_old out_new err_old err_new status) →
+pub verified : AcceptedCertificatesBoundRuns → StandingIsLawful → CleanCertificatesExcludeUndefined → (held : Option (List Named)) (before after : ℕ) (words : List Text) (input : SeenInput) (out_old out_new err_old err_new : Option (List ℕ)) (status : ℕ) → (status ≢ 6 → Told (MaySay words (record { held = held; faults_before = before; faults_after = after }) input) out_old out_new err_old err_new status) →
     status ≡ 0 → IfSome held (Verified words)
-verified law clean None before after words input out_old out_new err_old err_new status told zero = tt
-verified law clean (Some files) before after words input out_old out_new err_old err_new status told zero =
+verified law lawful clean None before after words input out_old out_new err_old err_new status told zero = tt
+verified law lawful clean (Some files) before after words input out_old out_new err_old err_new status told zero =
     let t = told (λ six. omega (arith, zero, six)) in
-    by_line law clean words files before after input t.saying t.may (sym t.status_is ∙ zero)
+    by_line law lawful clean words files before after input t.saying t.may (sym t.status_is ∙ zero)

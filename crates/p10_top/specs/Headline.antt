@@ -1,5 +1,5 @@
 -- What a verified certificate promises, and one that is derived.
-use Rattle.std.specs.Prelude.{ℕ, ◌≡◌, true, List, Option, Some, None}
+use Rattle.std.specs.Prelude.{Bool, ℕ, ◌≡◌, true, List, Option, Some, None}
 use Rattle.std.specs.Io.KnownBytes.{Appends}
 use Rattle.p10_base.specs.Gathered.{Gathered}
 use Rattle.p10_base.specs.Words.{Text}
@@ -9,10 +9,10 @@ use Rattle.p10_core.specs.WholePrograms.{IsWholeProgram}
 use Rattle.p10_meaning.specs.Runs.{Within}
 use Rattle.p10_cert.specs.Claims.{Claims}
 use Rattle.p10_cert.specs.Statements.{Statement, IsStatement, statement_text}
-use Rattle.p10_turns.specs.Evidence.{stands_by_ranges}
 use Rattle.p10_check.specs.declared.verdict.Verdict.TheVariants.{Accepted}
 use Rattle.p10_check.specs.Conditions.{IsVerdict}
 use Rattle.p10_check.specs.Texts.{first_stale}
+use Rattle.p10_approach.specs.Offers.{offers_if}
 use Rattle.p10_finder.specs.Answers.{Certified, IsDerived}
 use Rattle.p10_expand.specs.Gathering.{Gathers}
 use Rattle.p10_expand.specs.Setting.{setting}
@@ -24,6 +24,7 @@ use Rattle.p10_verify_command.specs.Answers.{setting_of}
 use Rattle.p10_agreement.specs.Laws.{IsVerifiedText}
 use Rattle.p10_derive_command.specs.Laws.{IsTextInVersion}
 use Rattle.p10_top.specs.Commands.{IsDeriveLine, IsVerifyLine}
+use Rattle.p10_acceptance.specs.Supporting.{standing_if}
 
 -- The sources are read as a program, the certificate's bytes are the text of one of either version, which speaks of the program's words,
 -- and from every input each call of `main`, or each turn of the task loop and the part before it, returns, fails an assertion or stops at
@@ -48,9 +49,9 @@ abbrev pub Verified : List Text → List Named → Type 0
 Verified words files = (names : Names) → IsVerifyLine words names → BoundsRuns names files
 
 -- The sources are read as a program, and the output took the text of the claims that are derived of it, in version 2 with the digests of
--- its words; these are accepted for the program with their total, by the evidence of ranges, so that every run of it stays within them; and
+-- its words, and with ranks where variables that approach each other bound turns; these are accepted for the program with their total, by the evidence of ranges or of differences, so that every run of it stays within them; and
 -- `verify` accepts a file of this text.
-pub record TellsBounds (directories : List Text) (version : ℕ) (roots : List Text) (files : List Named) (out_old out_new : Option (List ℕ)) : Type 0 where
+pub record TellsBounds (directories : List Text) (version : ℕ) (diff : Bool) (roots : List Text) (files : List Named) (out_old out_new : Option (List ℕ)) : Type 0 where
   pub sources : Gathered
   pub gathers : Gathers (setting (Some files) roots directories) sources
   pub reading : PlainReading
@@ -58,14 +59,14 @@ pub record TellsBounds (directories : List Text) (version : ℕ) (roots : List T
   pub read : AreReadAs sources reading program
   pub whole : IsWholeProgram program
   pub claims : Claims
-  pub derived : IsDerived program (Certified claims)
+  pub derived : IsDerived (offers_if diff) program (Certified claims)
   pub text : List ℕ
-  pub written : IsTextInVersion version (setting (Some files) roots directories) sources program claims text
+  pub written : IsTextInVersion version diff (setting (Some files) roots directories) sources program claims text
   pub taken : Appends out_old out_new text
-  pub accepted : IsVerdict (stands_by_ranges program) program claims (Accepted claims.total)
+  pub accepted : IsVerdict (standing_if diff program claims) program claims (Accepted claims.total)
   pub within : Within program claims.total
-  pub verified : IsVerifiedText (record { directories = directories; version = version; sources = roots }) files claims text
+  pub verified : IsVerifiedText (record { directories = directories; version = version; diff = diff; sources = roots }) files claims text
 
 -- if the words are `derive` with sources and directories of included files, then the output took a certificate that bounds every run
 abbrev pub DerivesBounds : List Text → List Named → Option (List ℕ) → Option (List ℕ) → Type 0
-DerivesBounds words files out_old out_new = (directories : List Text) (version : ℕ) (roots : List Text) → IsDeriveLine words directories version roots → TellsBounds directories version roots files out_old out_new
+DerivesBounds words files out_old out_new = (directories : List Text) (version : ℕ) (diff : Bool) (roots : List Text) → IsDeriveLine words directories version diff roots → TellsBounds directories version diff roots files out_old out_new

@@ -1,5 +1,5 @@
 -- What holds of the answers.
-use Rattle.std.specs.Prelude.{ℕ, ◌≡◌, ◌≢◌, false, List, Some}
+use Rattle.std.specs.Prelude.{Bool, ℕ, ◌≡◌, ◌≢◌, false, List, Some}
 use Rattle.p10_base.specs.Words.{Text}
 use Rattle.p10_world.specs.Files.{Named}
 use Rattle.p10_command.specs.Saying.{Saying}
@@ -24,7 +24,7 @@ SaysOneThing =
 -- the same directories and sources, without `--clean`, unless a read fails or memory runs out.
 abbrev pub VerifyAcceptsWhatDeriveWrites : Type 0
 VerifyAcceptsWhatDeriveWrites =
-    (derive verify : List Text) (version : ℕ) (names : Names) → IsDeriveLine derive names.directories version names.sources → IsVerifyLine verify names → names.clean ≡ false
+    (derive verify : List Text) (version : ℕ) (diff : Bool) (names : Names) → IsDeriveLine derive names.directories version diff names.sources → IsVerifyLine verify names → names.clean ≡ false
     → (files later : List Named) (before after before_later after_later : ℕ) (input input_later : SeenInput) (written said : Saying)
     → MaySay derive (record { held = Some files; faults_before = before; faults_after = after }) input written → written.status ≡ 0
     → HaveCertificate names written.out files later

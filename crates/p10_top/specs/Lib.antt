@@ -2,5 +2,6 @@
 pub mod Commands
 pub mod Told
 pub mod Headline
+pub mod Completeness
 pub mod Laws
 pub mod private

@@ -6,6 +6,7 @@ use p10_base::{ListBuf, TextBuf};
 use p10_check_command::CheckCommand;
 use p10_derive_command::DeriveCommand;
 use p10_migrate_command::MigrateCommand;
+use p10_recheck_command::RecheckCommand;
 use p10_run_command::RunCommand;
 use p10_verify_command::VerifyCommand;
 use p10_words::Budget;
@@ -29,13 +30,15 @@ pub fn check_command(
 pub fn derive_command(
     directories: ListBuf<TextBuf>,
     version: u8,
+    diff: bool,
     sources: ListBuf<TextBuf>,
 ) -> DeriveCommand
-    ensures { result ≡ record { directories = directories; version = version; sources = sources } }
+    ensures { result ≡ record { directories = directories; version = version; diff = diff; sources = sources } }
 {
     DeriveCommand {
         directories,
         version,
+        diff,
         sources,
     }
 }
@@ -67,6 +70,23 @@ pub fn verify_command(
     VerifyCommand {
         directories,
         clean,
+        certificate,
+        sources,
+    }
+}
+
+/// `recheck` of these sources.
+pub fn recheck_command(
+    directories: ListBuf<TextBuf>,
+    since: TextBuf,
+    certificate: TextBuf,
+    sources: ListBuf<TextBuf>,
+) -> RecheckCommand
+    ensures { result ≡ record { directories = directories; since = since; certificate = certificate; sources = sources } }
+{
+    RecheckCommand {
+        directories,
+        since,
         certificate,
         sources,
     }

@@ -7,6 +7,7 @@ use p10_check_command::laws::one_answer_is_right as one_report_is_told;
 use p10_derive_command::laws::one_answer_is_right as one_certificate_is_told;
 use p10_gen_command::laws::one_answer_is_right as one_program_is_shown;
 use p10_migrate_command::laws::one_answer_is_right as one_migration_is_told;
+use p10_recheck_command::laws::one_answer_is_right as one_edit_is_told;
 use p10_run_command::laws::one_thing_is_said as one_run_is_said;
 use p10_verify_command::laws::one_answer_is_right;
 
@@ -20,6 +21,7 @@ pub fn one_thing_is_said()
     one_program_is_shown();
     one_run_is_said();
     one_migration_is_told();
+    one_edit_is_told();
 }
 
 /// What `derive` has written with status 0, in either version, `verify` accepts as a certificate of the same sources, as long as at each

@@ -5,29 +5,37 @@
 //! a read fails or memory runs out. What the parts of an answer mean is left to the crates below.
 #![tactic(auto)]
 
-ghost use Rattle.std.specs.Prelude.{◌≡◌, ◌≢◌, ◌⊎◌, ◌≤◌, ◌<◌, ◌^◌, IfSome, length, map, string_bytes};
-ghost use Rattle.std.specs.List.{All};
+ghost use Rattle.std.specs.Prelude.{◌≡◌, ◌≢◌, ◌⊎◌, ◌≤◌, ◌^◌, IfSome, length, map, string_bytes};
 ghost use Rattle.std.specs.Io.KnownBytes.{Appends};
 ghost use Rattle.p10_world.specs.Faults.{Rose};
 ghost use Rattle.p10_report.specs.Stops.{StopsWithin};
+ghost use Rattle.p10_command.specs.Seen.{files_seen, input_seen};
 ghost use Rattle.p10_command.specs.Told.{Told, Stopped};
+ghost use Rattle.p10_run_command.specs.Laws.{TellsBytes};
 ghost use Rattle.p10_top.specs.Commands.{sources_of, turns_asked, IsCertifiedRunLine, IsNoRun, IsNoRunLine};
+ghost use Rattle.p10_top.specs.Completeness.{AcceptsAccepted, DerivesDerived};
 ghost use Rattle.p10_top.specs.Headline.{DerivesBounds, Verified};
 ghost use Rattle.p10_top.specs.Told.{MaySay, SaysFor};
 ghost use Rattle.p10_top.specs.private.Unread.{saying_without_command};
 
-use commands::{check_command, derive_command, migrate_command, run_command, verify_command};
+use commands::{
+    check_command, derive_command, migrate_command, recheck_command, run_command, verify_command,
+};
 use p10_acceptance::laws::derived_certificates_are_accepted;
 use p10_agreement::laws::derived_certificates_are_verified;
 use p10_check_command::check;
 use p10_clean_soundness::laws::clean_certificates_exclude_undefined_operations;
 use p10_derive_command::derive;
+use p10_derive_command::laws::one_answer_is_right as one_derivation_is_told;
+use p10_diff_evidence::laws::standing_is_lawful;
 use p10_gen_command::generate;
 use p10_migrate_command::migrate;
+use p10_recheck_command::recheck;
 use p10_report::{put_out_of_memory, put_usage};
 use p10_run_command::laws::certificates_leave_steps;
 use p10_run_command::run;
 use p10_soundness::laws::accepted_certificates_bound_every_run;
+use p10_verify_command::laws::one_answer_is_right as one_verdict_is_told;
 use p10_verify_command::verify;
 use p10_words::{Command, Usage, read_words};
 use p10_world::{Files, Sink, Source};
@@ -44,7 +52,7 @@ mod tests;
 /// breaks a rule in the sources and why they are refused; all else is written to `err`. `DIRECTORIES` are joined by `:`, and
 /// included files are looked for in them. Nothing is read of `input` by this command.
 ///
-/// `derive [--include DIRECTORIES] [--cert-version 1|2] SOURCE..` writes to `out` the certificate that is derived of the sources' program,
+/// `derive [--include DIRECTORIES] [--cert-version 1|2 | --diff] SOURCE..` writes to `out` the certificate that is derived of the sources' program,
 /// in version 1 where none is named; the violations for which there is none, and all else, are written to `err`. Nothing is read of
 /// `input`.
 ///
@@ -54,6 +62,10 @@ mod tests;
 /// `verify [--include DIRECTORIES] [--clean] --cert CERTIFICATE SOURCE..` reports on `out` whether the certificate bounds every run of
 /// the sources' program, and with `--clean` whether it is clean, too; all else is written to `err`. Nothing is read of `input` by this
 /// command either.
+///
+/// `recheck [--include DIRECTORIES] --since OLD --cert CERTIFICATE SOURCE..` reports on `out` what `verify` would of the certificate, where
+/// that in the file `OLD` was accepted before an edit of the sources, and how many functions were passed for it: those that the edit can have
+/// touched, and their callers. All else is written to `err`. Nothing is read of `input`.
 ///
 /// `run [--include DIRECTORIES] [--steps N | --cert CERTIFICATE] [--turns N] [--deny N] [--sensors VALUES] SOURCE..` runs the sources'
 /// program on `input` and `out`, and reports on `err` how it has ended, or why there is none. With a certificate it runs only where
@@ -77,22 +89,28 @@ pub fn p10_main<F: Files, I: Source, O: Sink, E: Sink>(
     // An accepted certificate bounds every run of the sources' program; one that is accepted as clean excludes every undefined operation.
     ensures headline { result ≡ 0 → IfSome (F.held files.old) (Verified (map string_bytes words.now)) }
 
-    // A run by a certificate never runs out of steps.
-    ensures steps { IsCertifiedRunLine (map string_bytes words.now) → IfSome (I.left input.old) (λ bytes. All (λ byte. byte < 256) bytes → result ≢ 12) }
+    // An accepted certificate, which is clean where it has to be, is answered with 0, unless a read or a write fails or memory is out.
+    ensures accepts { IfSome (F.held files.old) (λ held. AcceptsAccepted (map string_bytes words.now) held result) }
+
+    // A run by a certificate never runs out of steps, whether or not the input tells what it has.
+    ensures steps { IsCertifiedRunLine (map string_bytes words.now) → TellsBytes (I.left input.old) → result ≢ 12 }
 
     // A certificate that is derived is accepted, and bounds every run of the sources' program.
     ensures derived { result ≡ 0 → IfSome (F.held files.old) (λ held. DerivesBounds (map string_bytes words.now) held (O.taken out.old) (O.taken out.new)) }
 
+    // Sources of whose program a certificate is derived are answered with 0, unless a read or a write fails or memory is out.
+    ensures derives { IfSome (F.held files.old) (λ held. DerivesDerived (map string_bytes words.now) held result) }
+
     // The status and both texts are those of a right answer.
     ensures told { result ≢ 6 → Told (MaySay (map string_bytes words.now)
-        (record { held = F.held files.old; faults_before = F.faults files.old; faults_after = F.faults files.new })
-        (record { left = I.left input.old; faults_before = I.faults input.old; faults_after = I.faults input.new }))
+        (files_seen (F.held files.old) (F.faults files.old) (F.faults files.new))
+        (input_seen (I.left input.old) (I.faults input.old) (I.faults input.new)))
         (O.taken out.old) (O.taken out.new) (E.taken err.old) (E.taken err.new) result }
 
     // Where a write failed, each output has taken a prefix of its text.
     ensures stopped { result ≡ 6 → Stopped (MaySay (map string_bytes words.now)
-        (record { held = F.held files.old; faults_before = F.faults files.old; faults_after = F.faults files.new })
-        (record { left = I.left input.old; faults_before = I.faults input.old; faults_after = I.faults input.new }))
+        (files_seen (F.held files.old) (F.faults files.old) (F.faults files.new))
+        (input_seen (I.left input.old) (I.faults input.old) (I.faults input.new)))
         (O.taken out.old) (O.taken out.new) (E.taken err.old) (E.taken err.new) }
     ensures write { result ≡ 6 → Rose (O.faults out.old) (O.faults out.new) ⊎ Rose (E.faults err.old) (E.faults err.new) }
 
@@ -100,12 +118,15 @@ pub fn p10_main<F: Files, I: Source, O: Sink, E: Sink>(
     ensures held { F.held files.new ≡ F.held files.old }
     ensures input { IsNoRunLine (map string_bytes words.now) → input.new ≡ input.old }
 {
-    // The laws that the headline, and the clauses on derivation and on steps, rest on.
+    // The laws that the headline, and the clauses on derivation, on steps and on what succeeds, rest on.
     accepted_certificates_bound_every_run();
+    standing_is_lawful();
     clean_certificates_exclude_undefined_operations();
     derived_certificates_are_accepted();
     derived_certificates_are_verified();
     certificates_leave_steps();
+    one_verdict_is_told();
+    one_derivation_is_told();
     match read_words(alloc, words) {
         Ok(command) => obey(alloc, command, files, input, out, err),
         Err(fault) => tell_unread(fault, err),
@@ -124,12 +145,12 @@ fn obey<F: Files, I: Source, O: Sink, E: Sink>(
     requires few { length (sources_of command) ≤ 65536 }
     requires turns { turns_asked command ≤ 10 ^ 18 }
     ensures told { result ≢ 6 → Told (SaysFor command
-        (record { held = F.held files.old; faults_before = F.faults files.old; faults_after = F.faults files.new })
-        (record { left = I.left input.old; faults_before = I.faults input.old; faults_after = I.faults input.new }))
+        (files_seen (F.held files.old) (F.faults files.old) (F.faults files.new))
+        (input_seen (I.left input.old) (I.faults input.old) (I.faults input.new)))
         (O.taken out.old) (O.taken out.new) (E.taken err.old) (E.taken err.new) result }
     ensures stopped { result ≡ 6 → Stopped (SaysFor command
-        (record { held = F.held files.old; faults_before = F.faults files.old; faults_after = F.faults files.new })
-        (record { left = I.left input.old; faults_before = I.faults input.old; faults_after = I.faults input.new }))
+        (files_seen (F.held files.old) (F.faults files.old) (F.faults files.new))
+        (input_seen (I.left input.old) (I.faults input.old) (I.faults input.new)))
         (O.taken out.old) (O.taken out.new) (E.taken err.old) (E.taken err.new) }
     ensures write { result ≡ 6 → Rose (O.faults out.old) (O.faults out.new) ⊎ Rose (E.faults err.old) (E.faults err.new) }
     ensures held { F.held files.new ≡ F.held files.old }
@@ -144,9 +165,10 @@ fn obey<F: Files, I: Source, O: Sink, E: Sink>(
         Command::Derive {
             dirs,
             version,
+            diff,
             files: sources,
         } => {
-            let command = derive_command(dirs, version, sources);
+            let command = derive_command(dirs, version, diff, sources);
             derive(alloc, &command, files, out, err)
         }
         Command::Migrate {
@@ -165,6 +187,15 @@ fn obey<F: Files, I: Source, O: Sink, E: Sink>(
         } => {
             let command = verify_command(dirs, clean, cert, sources);
             verify(alloc, &command, files, out, err)
+        }
+        Command::Recheck {
+            dirs,
+            since,
+            cert,
+            files: sources,
+        } => {
+            let command = recheck_command(dirs, since, cert, sources);
+            recheck(alloc, &command, files, out, err)
         }
         Command::Run {
             dirs,

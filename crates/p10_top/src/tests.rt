@@ -9,6 +9,8 @@ use std::alloc::Global;
 use std::process::Abort;
 use std::test::Fail;
 
+mod rechecking;
+
 const VERIFY: [&str; 4] = ["verify", "--cert", "a.p10", "a.c"];
 
 const CLEAN: [&str; 5] = ["verify", "--clean", "--cert", "a.p10", "a.c"];
@@ -20,6 +22,8 @@ const DERIVE: [&str; 2] = ["derive", "a.c"];
 const SEAL: [&str; 4] = ["derive", "--cert-version", "2", "a.c"];
 
 const MIGRATE: [&str; 4] = ["migrate", "--cert", "a.p10", "a.c"];
+
+const RECHECK: [&str; 6] = ["recheck", "--since", "a.p10", "--cert", "a.p10", "a.c"];
 
 const TWICE: [&str; 5] = ["verify", "--cert", "a.p10", "a.c", "a.c"];
 
@@ -45,9 +49,12 @@ total prefix 3 turn 0 calls 1 bytes 0
 end
 ";
 
-const USAGE: &str = "p10: usage: p10 (check|derive|verify|run|gen|migrate) [options] FILE..\n";
+const USAGE: &str =
+    "p10: usage: p10 (check|derive|verify|run|gen|migrate|recheck) [options] FILE..\n";
 
 const ACCEPTED: &str = "accepted: prefix 3 turn 0 calls 1 bytes 0\n";
+
+const RECHECKED: &str = "accepted: prefix 3 turn 0 calls 1 bytes 0\npassed 0 of 1\n";
 
 const UNASSERTED: &str = "a.c:1:5: rule 5.1: fewer than two assertions per function\n";
 
@@ -77,6 +84,8 @@ const ABSENT_CLAIM: &str = "p10: absent: a.p10\n";
 type Held = (Option<&'static str>, Option<&'static str>);
 
 const BOTH: Held = (Some(SOURCE), Some(CERTIFICATE));
+
+const BOTH_SEALED: Held = (Some(SOURCE), Some(SEALED));
 
 const NEITHER: Held = (None, None);
 
@@ -126,7 +135,7 @@ type Row = (
     &'static str,
 );
 
-static ROWS: [Row; 31] = [
+static ROWS: [Row; 37] = [
     (&["verify", "a.c"], BOTH, &[], 0, 2, USAGE),
     (&VERIFY, BOTH, &[3], 2, 0, ACCEPTED),
     (&VERIFY, ONE_MORE, &[], 2, 1, TOO_FEW_STEPS),
@@ -166,6 +175,13 @@ static ROWS: [Row; 31] = [
     (&MIGRATE, BOTH, &[2], 2, 5, READ_FAULT),
     (&MIGRATE, CLAIM_ALONE, &[2], 1, 9, ABSENT_SOURCE),
     (&MIGRATE, INCLUDES_ALONE, &[], 3, 9, ABSENT_CLAIM),
+    // A verdict after an edit asks for both certificates, the new one first.
+    (&RECHECK, BOTH_SEALED, &[4], 3, 0, RECHECKED),
+    (&RECHECK, BOTH_SEALED, &[1], 1, 5, READ_FAULT),
+    (&RECHECK, BOTH_SEALED, &[2], 2, 5, READ_FAULT),
+    (&RECHECK, BOTH_SEALED, &[3], 3, 5, READ_FAULT),
+    (&RECHECK, CLAIM_ALONE, &[2], 1, 9, ABSENT_SOURCE),
+    (&RECHECK, INCLUDES_ALONE, &[4], 3, 9, ABSENT_CLAIM),
 ];
 
 const RECORDED: [&str; 6] = ["run", "--sensors", "v.txt", "--cert", "a.p10", "a.c"];

@@ -23,7 +23,7 @@ use Rattle.p10_clean.specs.declared.flaw.Clean.TheVariants.{Yes, No}
 use Rattle.p10_clean.specs.Clean.{cleanness}
 use Rattle.p10_judge.specs.declared.judgement.Judgement.{Judgement}
 use Rattle.p10_judge.specs.declared.judgement.Judgement.TheVariants.{TooLong, BadCertificate, Stale, Failing, Accepted}
-use Rattle.p10_judge.specs.Judging.{HasVerdict, IsClaimed, IsWeighed}
+use Rattle.p10_judge.specs.Judging.{IsClaimed, IsWeighed}
 use Rattle.p10_judge.specs.Whole.{IsAcceptedText, IsNotAccepted}
 use Rattle.p10_verify_command.specs.declared.answer.Answer.{Answer}
 use Rattle.p10_verify_command.specs.declared.answer.Answer.TheVariants.{Ungathered, AbsentCertificate, Unread, Judged, Unclean, Clean, Trouble}
@@ -70,7 +70,7 @@ module _ (p : PlainProgram) (digests : List (List ℕ)) (bytes : List ℕ) where
   pub claims_tried : (c : Claims) (said : Cleanness) (answer : Answer) → IsAcceptedText p digests bytes c → said ≡ cleanness p c → answer ≡ cleaned c.total said → ComesTo p digests bytes true answer
   claims_tried c said answer accepted is same =
       let claimed : IsClaimed p digests bytes (verdicts.Accepted c.total) =
-      record { certificate = accepted.certificate; read = accepted.read; words = accepted.words; has = subst (λ (d : Claims). HasVerdict p d (verdicts.Accepted c.total)) accepted.claims_are accepted.has } in
+      record { certificate = accepted.certificate; read = accepted.read; words = accepted.words; has = accepted.has } in
       subst (ComesTo p digests bytes true) (sym same) (by_cleanness c.total said (record { claimed = claimed; is = is ∙ ap (cleanness p) accepted.claims_are }))
 
 -- a judgement that a certificate isn't accepted is enough

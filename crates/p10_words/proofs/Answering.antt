@@ -8,11 +8,11 @@ use Rattle.p10_words.specs.declared.command.Usage.{Usage}
 use Rattle.p10_words.specs.declared.command.Usage.TheVariants.{Refused, Memory}
 use Rattle.p10_base.specs.Words.{Text}
 use Rattle.p10_words.specs.CommandLines.{value_of}
-use Rattle.p10_words.specs.Commands.{check_options, derive_options, migrate_options, verify_options, run_options, IsRestOf}
+use Rattle.p10_words.specs.Commands.{check_options, derive_options, migrate_options, verify_options, recheck_options, run_options, IsRestOf}
 use Rattle.p10_words.specs.private.Parsing.{file_id, some_list, Matched, IsParse}
-use Rattle.p10_words.specs.private.Deciding.{is_given, has_files, IsCheckOf, IsDeriveOf, IsMigrateOf, IsVerifyOf, IsRunOf, IsGenerateOf, Answers}
+use Rattle.p10_words.specs.private.Deciding.{is_given, has_files, IsCheckOf, IsDeriveOf, IsMigrateOf, IsVerifyOf, IsRecheckOf, IsRunOf, IsGenerateOf, Answers}
 use Rattle.p10_words.proofs.Named.{Known, known, flag_value}
-use Rattle.p10_words.proofs.Deciding.{check_is, check_from, no_check, derive_is, derive_from, no_derive, migrate_is, migrate_from, no_migrate, verify_is, verify_from, no_verify, run_is, run_from, no_run, generate_is, generate_from, no_generate}
+use Rattle.p10_words.proofs.Deciding.{check_is, check_from, no_check, derive_is, derive_from, no_derive, migrate_is, migrate_from, no_migrate, verify_is, verify_from, no_verify, recheck_is, recheck_from, no_recheck, run_is, run_from, no_run, generate_is, generate_from, no_generate}
 
 -- an answer by another condition that is the same
 carried : (P Q : Command → Type 0) (r : Result Command Usage) → ((c : Command) → P c → Q c) → ((c : Command) → Q c → P c) → Answers P r → Answers Q r
@@ -51,17 +51,25 @@ check_lost words Refused n = λ c v. no_check words c n v
 check_lost words Memory n = tt
 
 -- ---- `derive`
-pub derive_done : (words : List Text) (m : ArgMatches) (include version : Option Text) (files : List Text) (r : Result Command Usage) → Matched derive_options words m
-    → include ≡ first_value (found_of m) (codes "include") → version ≡ first_value (found_of m) (codes "cert-version") → Some files ≡ option_map raw_values (matched_of (found_of m) file_id)
-    → Answers (IsDeriveOf include version files) r → Answers (λ c. IsRestOf c (codes "derive") words) r
-derive_done words m include version files r h i j k a =
+flag_given : (o : Option Text) → ((v : Text) → o ≡ Some v → bytes_eq v (codes "true") ≡ true) → is_given (Some (unwrap_or o (codes "false"))) ≡ is_some o
+flag_given None f = refl
+flag_given (Some v) f = f v refl
+
+pub derive_done : (words : List Text) (m : ArgMatches) (include version : Option Text) (diff : Bool) (flag : Option Text) (files : List Text) (r : Result Command Usage) → Matched derive_options words m
+    → include ≡ first_value (found_of m) (codes "include") → version ≡ first_value (found_of m) (codes "cert-version") → diff ≡ is_given flag → flag ≡ first_value (found_of m) (codes "diff") → Some files ≡ option_map raw_values (matched_of (found_of m) file_id)
+    → Answers (IsDeriveOf include version diff files) r → Answers (λ c. IsRestOf c (codes "derive") words) r
+unfolding Known
+derive_done words m include version diff flag files r h i j t g k a =
     let s = h.split in
+    let read = (known derive_options words).0 s h.scanned in
+    let given : diff ≡ is_some (value_of s.options (codes "diff")) =
+    t ∙ ap is_given (g ∙ h.reads.flags (codes "diff") refl refl) ∙ flag_given (value_of s.options (codes "diff")) (λ v e. flag_value derive_options s.options (codes "diff") v read refl e) in
     let includes = i ∙ h.reads.options (codes "include") refl refl in
     let versions = j ∙ h.reads.options (codes "cert-version") refl refl in
     let files_are = sym (some_files s.files files (sym (k ∙ h.reads.files))) in
-    carried (IsDeriveOf (value_of s.options (codes "include")) (value_of s.options (codes "cert-version")) s.files) (λ c. IsRestOf c (codes "derive") words) r
+    carried (IsDeriveOf (value_of s.options (codes "include")) (value_of s.options (codes "cert-version")) (is_some (value_of s.options (codes "diff"))) s.files) (λ c. IsRestOf c (codes "derive") words) r
     (λ c v. derive_is words s c h.scanned h.once v) (λ c v. derive_from words s c h.scanned v)
-    (subst (λ (P : Command → Type 0). Answers P r) (λ n. IsDeriveOf (includes n) (versions n) (files_are n)) a)
+    (subst (λ (P : Command → Type 0). Answers P r) (λ n. IsDeriveOf (includes n) (versions n) (given n) (files_are n)) a)
 
 pub derive_without : (words : List Text) (m : ArgMatches) → Matched derive_options words m → None ≡ option_map raw_values (matched_of (found_of m) file_id) → (c : Command) → IsRestOf c (codes "derive") words → ⊥
 derive_without words m h k c v =
@@ -101,10 +109,6 @@ pub migrated_given : (include : Option Text) (o : Option (Bor Text)) (cert : Bor
 migrated_given include o cert files r e a = subst (λ (p : Option (Bor Text)). Answers (IsMigrateOf include (option_map (λ w. w.now) p) files) r) (sym e) a
 
 -- ---- `verify`
-flag_given : (o : Option Text) → ((v : Text) → o ≡ Some v → bytes_eq v (codes "true") ≡ true) → is_given (Some (unwrap_or o (codes "false"))) ≡ is_some o
-flag_given None f = refl
-flag_given (Some v) f = f v refl
-
 pub verify_done : (words : List Text) (m : ArgMatches) (include : Option Text) (clean : Bool) (flag cert : Option Text) (files : List Text) (r : Result Command Usage) → Matched verify_options words m
     → include ≡ first_value (found_of m) (codes "include") → clean ≡ is_given flag → flag ≡ first_value (found_of m) (codes "clean") → cert ≡ first_value (found_of m) (codes "cert") → Some files ≡ option_map raw_values (matched_of (found_of m) file_id)
     → Answers (IsVerifyOf include clean cert files) r → Answers (λ c. IsRestOf c (codes "verify") words) r
@@ -130,6 +134,36 @@ verify_without words m h k c v =
 pub verify_lost : (words : List Text) (u : Usage) → IsParse verify_options words (Err u) → Answers (λ c. IsRestOf c (codes "verify") words) (Err u)
 verify_lost words Refused n = λ c v. no_verify words c n v
 verify_lost words Memory n = tt
+
+-- ---- `recheck`
+pub recheck_done : (words : List Text) (m : ArgMatches) (include since cert : Option Text) (files : List Text) (r : Result Command Usage) → Matched recheck_options words m
+    → include ≡ first_value (found_of m) (codes "include") → since ≡ first_value (found_of m) (codes "since") → cert ≡ first_value (found_of m) (codes "cert") → Some files ≡ option_map raw_values (matched_of (found_of m) file_id)
+    → Answers (IsRecheckOf include since cert files) r → Answers (λ c. IsRestOf c (codes "recheck") words) r
+recheck_done words m include since cert files r h i l j k a =
+    let s = h.split in
+    let includes = i ∙ h.reads.options (codes "include") refl refl in
+    let sinces = l ∙ h.reads.options (codes "since") refl refl in
+    let certs = j ∙ h.reads.options (codes "cert") refl refl in
+    let files_are = sym (some_files s.files files (sym (k ∙ h.reads.files))) in
+    carried (IsRecheckOf (value_of s.options (codes "include")) (value_of s.options (codes "since")) (value_of s.options (codes "cert")) s.files) (λ c. IsRestOf c (codes "recheck") words) r
+    (λ c v. recheck_is words s c h.scanned h.once v) (λ c v. recheck_from words s c h.scanned v)
+    (subst (λ (P : Command → Type 0). Answers P r) (λ n. IsRecheckOf (includes n) (sinces n) (certs n) (files_are n)) a)
+
+pub recheck_without : (words : List Text) (m : ArgMatches) → Matched recheck_options words m → None ≡ option_map raw_values (matched_of (found_of m) file_id) → (c : Command) → IsRestOf c (codes "recheck") words → ⊥
+recheck_without words m h k c v =
+    let none = no_files h.split.files (sym (k ∙ h.reads.files)) in
+    let some = subst (λ (l : List Text). has_files l ≡ true) none (recheck_from words h.split c h.scanned v).some in
+    cc
+
+pub recheck_lost : (words : List Text) (u : Usage) → IsParse recheck_options words (Err u) → Answers (λ c. IsRestOf c (codes "recheck") words) (Err u)
+recheck_lost words Refused n = λ c v. no_recheck words c n v
+recheck_lost words Memory n = tt
+
+pub rechecked_given : (include : Option Text) (o p : Option (Bor Text)) (since cert : Bor Text) (files : List Text) (r : Result Command Usage) → o ≡ Some since → p ≡ Some cert
+    → Answers (IsRecheckOf include (Some since.now) (Some cert.now) files) r → Answers (IsRecheckOf include (option_map (λ w. w.now) o) (option_map (λ w. w.now) p) files) r
+rechecked_given include o p since cert files r e f a =
+    subst (λ (x : Option (Bor Text)). Answers (IsRecheckOf include (option_map (λ w. w.now) x) (option_map (λ w. w.now) p) files) r) (sym e)
+    (subst (λ (x : Option (Bor Text)). Answers (IsRecheckOf include (Some since.now) (option_map (λ w. w.now) x) files) r) (sym f) a)
 
 -- ---- `run`
 pub run_done : (words : List Text) (m : ArgMatches) (include steps turns deny cert sensors : Option Text) (files : List Text) (r : Result Command Usage) → Matched run_options words m

@@ -2,20 +2,23 @@
 use Rattle.std.proofs.Common.{◌≡◌, refl, codes, true, []}
 use Rattle.clap.specs.Simple.{App, with_rule}
 use Rattle.clap.proofs.OnLiterals.{clap_on_literals}
-use Rattle.p10_words.specs.Commands.{check_options, derive_options, migrate_options, verify_options, run_options}
+use Rattle.p10_words.specs.Commands.{check_options, derive_options, migrate_options, verify_options, recheck_options, run_options}
 use Rattle.p10_words.specs.private.Parsing.{bare, option_asked, flag_asked, files_asked, IsAsked, are_askable}
 
 abbrev pub check_app : App
 check_app = with_rule (with_rule (with_rule (bare (codes "check")) (option_asked (codes "include"))) (option_asked (codes "format"))) files_asked
 
 abbrev pub derive_app : App
-derive_app = with_rule (with_rule (with_rule (bare (codes "derive")) (option_asked (codes "include"))) (option_asked (codes "cert-version"))) files_asked
+derive_app = with_rule (with_rule (with_rule (with_rule (bare (codes "derive")) (option_asked (codes "include"))) (option_asked (codes "cert-version"))) (flag_asked (codes "diff"))) files_asked
 
 abbrev pub migrate_app : App
 migrate_app = with_rule (with_rule (with_rule (bare (codes "migrate")) (option_asked (codes "include"))) (option_asked (codes "cert"))) files_asked
 
 abbrev pub verify_app : App
 verify_app = with_rule (with_rule (with_rule (with_rule (bare (codes "verify")) (option_asked (codes "include"))) (flag_asked (codes "clean"))) (option_asked (codes "cert"))) files_asked
+
+abbrev pub recheck_app : App
+recheck_app = with_rule (with_rule (with_rule (with_rule (bare (codes "recheck")) (option_asked (codes "include"))) (option_asked (codes "since"))) (option_asked (codes "cert"))) files_asked
 
 abbrev pub run_app : App
 run_app =
@@ -41,6 +44,10 @@ pub verify_asked : IsAsked verify_app verify_options
 unfolding clap_on_literals
 verify_asked = record { simple = refl; free = refl; no_binary_name = refl; subs = refl; rules = refl; overrides = refl; wants_help = refl; wants_subcommand = refl }
 
+pub recheck_asked : IsAsked recheck_app recheck_options
+unfolding clap_on_literals
+recheck_asked = record { simple = refl; free = refl; no_binary_name = refl; subs = refl; rules = refl; overrides = refl; wants_help = refl; wants_subcommand = refl }
+
 pub run_asked : IsAsked run_app run_options
 unfolding clap_on_literals
 run_asked = record { simple = refl; free = refl; no_binary_name = refl; subs = refl; rules = refl; overrides = refl; wants_help = refl; wants_subcommand = refl }
@@ -60,6 +67,9 @@ migrate_askable = refl
 
 pub verify_askable : are_askable verify_options ≡ true
 verify_askable = refl
+
+pub recheck_askable : are_askable recheck_options ≡ true
+recheck_askable = refl
 
 pub run_askable : are_askable run_options ≡ true
 run_askable = refl

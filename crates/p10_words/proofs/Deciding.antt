@@ -6,20 +6,20 @@ use Rattle.std.specs.Char.{digit_value}
 use Rattle.std.specs.Str.Parse.{IsNumeral}
 use Rattle.std.proofs.lemmas.Fmt.{decimal_is_IsNumeral}
 use Rattle.p10_words.specs.declared.command.Command.{Command}
-use Rattle.p10_words.specs.declared.command.Command.TheVariants.{Check, Derive, Migrate, Verify, Run}
+use Rattle.p10_words.specs.declared.command.Command.TheVariants.{Check, Derive, Migrate, Verify, Recheck, Run}
 use Rattle.p10_words.specs.declared.command.Budget.{Budget}
 use Rattle.p10_words.specs.declared.command.Budget.TheVariants.{Steps, Certificate}
 use Rattle.p10_base.specs.Words.{Text}
-use Rattle.p10_words.specs.CommandLines.{Given, AreGivenOnce, value_of, directories_in, HasNumber, HasFormat, HasVersion}
-use Rattle.p10_words.specs.Commands.{check_options, derive_options, migrate_options, verify_options, run_options, IsSplit, AreDirectories, IsCheck, IsDerive, IsMigrate, HasBudget, IsRun, IsRestOf}
+use Rattle.p10_words.specs.CommandLines.{Given, AreGivenOnce, value_of, directories_in, HasNumber, HasFormat, HasForm, HasVersion}
+use Rattle.p10_words.specs.Commands.{check_options, derive_options, migrate_options, verify_options, recheck_options, run_options, IsSplit, AreDirectories, IsCheck, IsDerive, IsMigrate, IsRecheck, HasBudget, IsRun, IsRestOf}
 use Rattle.p10_words.specs.private.Scanning.{Split, is_among, is_name, scan}
 use Rattle.p10_words.specs.private.Parsing.{are_askable, IsNoSplit}
-use Rattle.p10_words.specs.private.Deciding.{is_given_name, has_directories, has_files, IsCheckOf, IsDeriveOf, IsMigrateOf, IsVerifyOf, IsRunOf, IsGenerateOf}
+use Rattle.p10_words.specs.private.Deciding.{is_given_name, has_directories, has_files, IsCheckOf, IsDeriveOf, IsMigrateOf, IsVerifyOf, IsRecheckOf, IsRunOf, IsGenerateOf}
 use Rattle.p10_words.proofs.Rows.{same_text}
-use Rattle.p10_words.proofs.Asked.{check_askable, derive_askable, migrate_askable, verify_askable, run_askable, none_askable}
+use Rattle.p10_words.proofs.Asked.{check_askable, derive_askable, migrate_askable, verify_askable, recheck_askable, run_askable, none_askable}
 use Rattle.p10_words.proofs.Splitting.{and_left, and_right, all_named, all_names, read_so, split_so}
 use Rattle.p10_words.proofs.Named.{and_both, are_among, Known, known, all_pass, value_passes, flag_value, files_some, files_named, files_have}
-use Rattle.p10_words.proofs.Naming.{checks, derives, migrates, verifies, runs, generates}
+use Rattle.p10_words.proofs.Naming.{checks, derives, migrates, verifies, rechecks, runs, generates}
 
 -- ---- `check`
 by_check : (n : Text) (P : Text → Type 0) → is_among check_options n ≡ true → P (codes "include") → P (codes "format") → P n
@@ -56,13 +56,14 @@ check_is words sp c e g v =
     )
 
 -- ---- `derive`
-by_derive : (n : Text) (P : Text → Type 0) → is_among derive_options n ≡ true → P (codes "include") → P (codes "cert-version") → P n
-by_derive n P a i v = by_tests (bytes_eq (codes "include") n) (bytes_eq (codes "cert-version") n) refl refl a
+by_derive : (n : Text) (P : Text → Type 0) → is_among derive_options n ≡ true → P (codes "include") → P (codes "cert-version") → P (codes "diff") → P n
+by_derive n P a i v d = by_tests (bytes_eq (codes "include") n) (bytes_eq (codes "cert-version") n) (bytes_eq (codes "diff") n) refl refl refl a
   where
-    by_tests : (x y : Bool) → bytes_eq (codes "include") n ≡ x → bytes_eq (codes "cert-version") n ≡ y → x || (y || false) ≡ true → P n
-    by_tests true y p q e = subst P (same_text (codes "include") n p) i
-    by_tests false true p q e = subst P (same_text (codes "cert-version") n q) v
-    by_tests false false p q e = absurd cc
+    by_tests : (x y z : Bool) → bytes_eq (codes "include") n ≡ x → bytes_eq (codes "cert-version") n ≡ y → bytes_eq (codes "diff") n ≡ z → x || (y || (z || false)) ≡ true → P n
+    by_tests true y z p q r e = subst P (same_text (codes "include") n p) i
+    by_tests false true z p q r e = subst P (same_text (codes "cert-version") n q) v
+    by_tests false false true p q r e = subst P (same_text (codes "diff") n r) d
+    by_tests false false false p q r e = absurd cc
 
 -- a version is a name
 version_named : (o : Option Text) (version : ℕ) → HasVersion o version → is_given_name o ≡ true
@@ -70,14 +71,25 @@ version_named None version h = refl
 version_named (Some value) version (inl one) = ap is_name one.0
 version_named (Some value) version (inr two) = ap is_name two.0
 
+-- the same where `--diff` may be given
+form_named : (o : Option Text) (differences : Bool) (version : ℕ) (diff : Bool) → HasForm o differences version diff → is_given_name o ≡ true
+form_named o false version diff h = version_named o version h.0
+form_named o true version diff h = ap is_given_name h.0
+
+-- `true` is a name
+true_named : (o : Option Text) → ((v : Text) → o ≡ Some v → bytes_eq v (codes "true") ≡ true) → is_given_name o ≡ true
+true_named None f = refl
+true_named (Some v) f = ap is_name (same_text v (codes "true") (f v refl))
+
 pub derive_is : (words : List Text) (sp : Split) (c : Command) → scan derive_options None words ≡ Some sp → AreGivenOnce [] sp.options
-    → IsDeriveOf (value_of sp.options (codes "include")) (value_of sp.options (codes "cert-version")) sp.files c → IsRestOf c (codes "derive") words
+    → IsDeriveOf (value_of sp.options (codes "include")) (value_of sp.options (codes "cert-version")) (is_some (value_of sp.options (codes "diff"))) sp.files c → IsRestOf c (codes "derive") words
 unfolding Known
 derive_is words sp c e g v =
     let value = and_left (is_given_name (value_of sp.options (codes "include"))) (list_all is_name (directories_in (value_of sp.options (codes "include")))) v.directories in
     let parts = and_right (is_given_name (value_of sp.options (codes "include"))) (list_all is_name (directories_in (value_of sp.options (codes "include")))) v.directories in
-    let options = all_pass derive_options [] sp.options g ((known derive_options words).0 sp e)
-    (λ n a. by_derive n (λ m. is_given_name (value_of sp.options m) ≡ true) a value (version_named _ _ v.has_version)) in
+    let read = (known derive_options words).0 sp e in
+    let options = all_pass derive_options [] sp.options g read
+    (λ n a. by_derive n (λ m. is_given_name (value_of sp.options m) ≡ true) a value (form_named _ _ _ _ v.has_form) (true_named (value_of sp.options (codes "diff")) (λ x f. flag_value derive_options sp.options (codes "diff") x read refl f))) in
     let names = and_both (list_all (λ (o : Given). is_name o.1) sp.options) (list_all is_name sp.files) options (files_named sp.files v.some) in
     subst (λ (x : Command). IsRestOf x (codes "derive") words) (sym v.is) (
       refl,
@@ -85,7 +97,7 @@ derive_is words sp c e g v =
         options = sp.options;
         split = record { splits = split_so derive_options words sp e names; once = g; some = files_some sp.files v.some };
         include = record { are = refl; names = all_names (directories_in (value_of sp.options (codes "include"))) parts };
-        has_version = v.has_version;
+        has_form = v.has_form;
       },
     )
 
@@ -126,11 +138,6 @@ by_verify n P a i l c = by_tests (bytes_eq (codes "include") n) (bytes_eq (codes
     by_tests false true z p q r e = subst P (same_text (codes "clean") n q) l
     by_tests false false true p q r e = subst P (same_text (codes "cert") n r) c
     by_tests false false false p q r e = absurd cc
-
--- `true` is a name
-true_named : (o : Option Text) → ((v : Text) → o ≡ Some v → bytes_eq v (codes "true") ≡ true) → is_given_name o ≡ true
-true_named None f = refl
-true_named (Some v) f = ap is_name (same_text v (codes "true") (f v refl))
 
 pub verify_is : (words : List Text) (sp : Split) (c : Command) → scan verify_options None words ≡ Some sp → AreGivenOnce [] sp.options
     → IsVerifyOf (value_of sp.options (codes "include")) (is_some (value_of sp.options (codes "clean"))) (value_of sp.options (codes "cert")) sp.files c → IsRestOf c (codes "verify") words
@@ -220,26 +227,27 @@ check_from words sp c e r =
 pub no_check : (words : List Text) (c : Command) → IsNoSplit check_options words → IsRestOf c (codes "check") words → ⊥
 no_check words c n r = let v = checks words c r in not_split check_options words v.rest.options v.files check_askable n v.rest.split
 
-derive_of : (words directories : List Text) (version : ℕ) (files : List Text) (r : IsDerive words directories version files)
-    → IsDeriveOf (value_of r.options (codes "include")) (value_of r.options (codes "cert-version")) files (Derive directories version files)
-derive_of words directories version files r =
+derive_of : (words directories : List Text) (version : ℕ) (diff : Bool) (files : List Text) (r : IsDerive words directories version diff files)
+    → IsDeriveOf (value_of r.options (codes "include")) (value_of r.options (codes "cert-version")) (is_some (value_of r.options (codes "diff"))) files (Derive directories version diff files)
+derive_of words directories version diff files r =
     let q = read derive_options words r.options files derive_askable r.split in
     record {
       version = version;
+      diff = diff;
       directories = has_all r.options directories q.options_named r.include;
-      has_version = r.has_version;
+      has_form = r.has_form;
       some = q.files_are;
-      is = ap (λ (l : List Text). Derive l version files) r.include.are;
+      is = ap (λ (l : List Text). Derive l version diff files) r.include.are;
     }
 
 pub derive_from : (words : List Text) (sp : Split) (c : Command) → scan derive_options None words ≡ Some sp → IsRestOf c (codes "derive") words
-    → IsDeriveOf (value_of sp.options (codes "include")) (value_of sp.options (codes "cert-version")) sp.files c
+    → IsDeriveOf (value_of sp.options (codes "include")) (value_of sp.options (codes "cert-version")) (is_some (value_of sp.options (codes "diff"))) sp.files c
 derive_from words sp c e r =
     let v = derives words c r in
     let same = same_split _ _ _ (read derive_options words v.rest.options v.files derive_askable v.rest.split).scanned e in
-    subst (λ (d : Command). IsDeriveOf (value_of sp.options (codes "include")) (value_of sp.options (codes "cert-version")) sp.files d) (sym v.is)
-    (subst (λ (x : Split). IsDeriveOf (value_of x.options (codes "include")) (value_of x.options (codes "cert-version")) x.files (Derive v.directories v.version v.files)) same
-    (derive_of words v.directories v.version v.files v.rest))
+    subst (λ (d : Command). IsDeriveOf (value_of sp.options (codes "include")) (value_of sp.options (codes "cert-version")) (is_some (value_of sp.options (codes "diff"))) sp.files d) (sym v.is)
+    (subst (λ (x : Split). IsDeriveOf (value_of x.options (codes "include")) (value_of x.options (codes "cert-version")) (is_some (value_of x.options (codes "diff"))) x.files (Derive v.directories v.version v.diff v.files)) same
+    (derive_of words v.directories v.version v.diff v.files v.rest))
 
 pub no_derive : (words : List Text) (c : Command) → IsNoSplit derive_options words → IsRestOf c (codes "derive") words → ⊥
 no_derive words c n r = let v = derives words c r in not_split derive_options words v.rest.options v.files derive_askable n v.rest.split
@@ -280,6 +288,36 @@ verify_from words sp c e r =
 
 pub no_verify : (words : List Text) (c : Command) → IsNoSplit verify_options words → IsRestOf c (codes "verify") words → ⊥
 no_verify words c n r = let v = verifies words c r in not_split verify_options words v.rest.options v.files verify_askable n v.rest.split
+
+-- ---- `recheck`
+by_recheck : (n : Text) (P : Text → Type 0) → is_among recheck_options n ≡ true → P (codes "include") → P (codes "since") → P (codes "cert") → P n
+by_recheck n P a i s c = by_tests (bytes_eq (codes "include") n) (bytes_eq (codes "since") n) (bytes_eq (codes "cert") n) refl refl refl a
+  where
+    by_tests : (x y z : Bool) → bytes_eq (codes "include") n ≡ x → bytes_eq (codes "since") n ≡ y → bytes_eq (codes "cert") n ≡ z → x || (y || (z || false)) ≡ true → P n
+    by_tests true y z p q r e = subst P (same_text (codes "include") n p) i
+    by_tests false true z p q r e = subst P (same_text (codes "since") n q) s
+    by_tests false false true p q r e = subst P (same_text (codes "cert") n r) c
+    by_tests false false false p q r e = absurd cc
+
+pub recheck_is : (words : List Text) (sp : Split) (c : Command) → scan recheck_options None words ≡ Some sp → AreGivenOnce [] sp.options
+    → IsRecheckOf (value_of sp.options (codes "include")) (value_of sp.options (codes "since")) (value_of sp.options (codes "cert")) sp.files c → IsRestOf c (codes "recheck") words
+unfolding Known
+recheck_is words sp c e g v =
+    let value = and_left (is_given_name (value_of sp.options (codes "include"))) (list_all is_name (directories_in (value_of sp.options (codes "include")))) v.directories in
+    let parts = and_right (is_given_name (value_of sp.options (codes "include"))) (list_all is_name (directories_in (value_of sp.options (codes "include")))) v.directories in
+    let options = all_pass recheck_options [] sp.options g ((known recheck_options words).0 sp e)
+    (λ n a. by_recheck n (λ m. is_given_name (value_of sp.options m) ≡ true) a value (ap is_given_name v.given_old ∙ v.name_old) (ap is_given_name v.given ∙ v.name)) in
+    let names = and_both (list_all (λ (o : Given). is_name o.1) sp.options) (list_all is_name sp.files) options (files_named sp.files v.some) in
+    subst (λ (x : Command). IsRestOf x (codes "recheck") words) (sym v.is) (
+      refl,
+      record {
+        options = sp.options;
+        split = record { splits = split_so recheck_options words sp e names; once = g; some = files_some sp.files v.some };
+        include = record { are = refl; names = all_names (directories_in (value_of sp.options (codes "include"))) parts };
+        since = v.given_old;
+        cert = v.given;
+      },
+    )
 
 -- ---- `run`
 by_run : (n : Text) (P : Text → Type 0) → is_among run_options n ≡ true → P (codes "include") → P (codes "steps") → P (codes "turns") → P (codes "deny") → P (codes "cert") → P (codes "sensors") → P n
@@ -336,6 +374,34 @@ run_is words sp c e g v =
         has_sensors = refl;
       },
     )
+
+recheck_of : (words directories : List Text) (old certificate : Text) (files : List Text) (r : IsRecheck words directories old certificate files)
+    → IsRecheckOf (value_of r.options (codes "include")) (value_of r.options (codes "since")) (value_of r.options (codes "cert")) files (Recheck directories old certificate files)
+recheck_of words directories old certificate files r =
+    let q = read recheck_options words r.options files recheck_askable r.split in
+    record {
+      old = old;
+      certificate = certificate;
+      directories = has_all r.options directories q.options_named r.include;
+      given_old = r.since;
+      name_old = subst (λ (v : Option Text). is_given_name v ≡ true) r.since (value_passes r.options (codes "since") q.options_named);
+      given = r.cert;
+      name = subst (λ (v : Option Text). is_given_name v ≡ true) r.cert (value_passes r.options (codes "cert") q.options_named);
+      some = q.files_are;
+      is = ap (λ (l : List Text). Recheck l old certificate files) r.include.are;
+    }
+
+pub recheck_from : (words : List Text) (sp : Split) (c : Command) → scan recheck_options None words ≡ Some sp → IsRestOf c (codes "recheck") words
+    → IsRecheckOf (value_of sp.options (codes "include")) (value_of sp.options (codes "since")) (value_of sp.options (codes "cert")) sp.files c
+recheck_from words sp c e r =
+    let v = rechecks words c r in
+    let same = same_split _ _ _ (read recheck_options words v.rest.options v.files recheck_askable v.rest.split).scanned e in
+    subst (λ (d : Command). IsRecheckOf (value_of sp.options (codes "include")) (value_of sp.options (codes "since")) (value_of sp.options (codes "cert")) sp.files d) (sym v.is)
+    (subst (λ (x : Split). IsRecheckOf (value_of x.options (codes "include")) (value_of x.options (codes "since")) (value_of x.options (codes "cert")) x.files (Recheck v.directories v.old v.certificate v.files)) same
+    (recheck_of words v.directories v.old v.certificate v.files v.rest))
+
+pub no_recheck : (words : List Text) (c : Command) → IsNoSplit recheck_options words → IsRestOf c (codes "recheck") words → ⊥
+no_recheck words c n r = let v = rechecks words c r in not_split recheck_options words v.rest.options v.files recheck_askable n v.rest.split
 
 run_of : (words directories : List Text) (budget : Budget) (turns deny : ℕ) (sensors : Option Text) (files : List Text) (r : IsRun words directories budget turns deny sensors files)
     → IsRunOf (value_of r.options (codes "include")) (value_of r.options (codes "steps")) (value_of r.options (codes "turns")) (value_of r.options (codes "deny")) (value_of r.options (codes "cert")) (value_of r.options (codes "sensors")) files

@@ -2,10 +2,10 @@
 use Rattle.std.proofs.Common.{◌≡◌, ℕ, Bool, true, false, refl, subst, List, Option, codes}
 use Rattle.std.specs.Prelude.{bytes_eq}
 use Rattle.p10_words.specs.declared.command.Command.{Command}
-use Rattle.p10_words.specs.declared.command.Command.TheVariants.{Check, Derive, Migrate, Verify, Run, Generate}
+use Rattle.p10_words.specs.declared.command.Command.TheVariants.{Check, Derive, Migrate, Verify, Recheck, Run, Generate}
 use Rattle.p10_words.specs.declared.command.Budget.{Budget}
 use Rattle.p10_base.specs.Words.{Text}
-use Rattle.p10_words.specs.Commands.{IsCheck, IsDerive, IsMigrate, IsVerify, IsRun, IsGenerate, IsRestOf}
+use Rattle.p10_words.specs.Commands.{IsCheck, IsDerive, IsMigrate, IsVerify, IsRecheck, IsRun, IsGenerate, IsRestOf}
 use Rattle.p10_words.proofs.Rows.{text_same}
 
 -- texts that a test tells apart are two
@@ -21,24 +21,27 @@ pub record Checks (words : List Text) (c : Command) : Type 0 where
 
 pub checks : (words : List Text) (c : Command) → IsRestOf c (codes "check") words → Checks words c
 checks words (Check directories json files) r = record { directories = directories; json = json; files = files; rest = r.1; is = refl }
-checks words (Derive directories version files) r = absurd (apart (codes "check") (codes "derive") refl r.0)
+checks words (Derive directories version diff files) r = absurd (apart (codes "check") (codes "derive") refl r.0)
 checks words (Migrate directories certificate files) r = absurd (apart (codes "check") (codes "migrate") refl r.0)
 checks words (Verify directories clean certificate files) r = absurd (apart (codes "check") (codes "verify") refl r.0)
+checks words (Recheck directories old certificate files) r = absurd (apart (codes "check") (codes "recheck") refl r.0)
 checks words (Run directories budget turns deny sensors files) r = absurd (apart (codes "check") (codes "run") refl r.0)
 checks words (Generate functions) r = absurd (apart (codes "check") (codes "gen") refl r.0)
 
 pub record Derives (words : List Text) (c : Command) : Type 0 where
   pub directories : List Text
   pub version : ℕ
+  pub diff : Bool
   pub files : List Text
-  pub rest : IsDerive words directories version files
-  pub is : c ≡ Derive directories version files
+  pub rest : IsDerive words directories version diff files
+  pub is : c ≡ Derive directories version diff files
 
 pub derives : (words : List Text) (c : Command) → IsRestOf c (codes "derive") words → Derives words c
 derives words (Check directories json files) r = absurd (apart (codes "derive") (codes "check") refl r.0)
-derives words (Derive directories version files) r = record { directories = directories; version = version; files = files; rest = r.1; is = refl }
+derives words (Derive directories version diff files) r = record { directories = directories; version = version; diff = diff; files = files; rest = r.1; is = refl }
 derives words (Migrate directories certificate files) r = absurd (apart (codes "derive") (codes "migrate") refl r.0)
 derives words (Verify directories clean certificate files) r = absurd (apart (codes "derive") (codes "verify") refl r.0)
+derives words (Recheck directories old certificate files) r = absurd (apart (codes "derive") (codes "recheck") refl r.0)
 derives words (Run directories budget turns deny sensors files) r = absurd (apart (codes "derive") (codes "run") refl r.0)
 derives words (Generate functions) r = absurd (apart (codes "derive") (codes "gen") refl r.0)
 
@@ -51,9 +54,10 @@ pub record Migrates (words : List Text) (c : Command) : Type 0 where
 
 pub migrates : (words : List Text) (c : Command) → IsRestOf c (codes "migrate") words → Migrates words c
 migrates words (Check directories json files) r = absurd (apart (codes "migrate") (codes "check") refl r.0)
-migrates words (Derive directories version files) r = absurd (apart (codes "migrate") (codes "derive") refl r.0)
+migrates words (Derive directories version diff files) r = absurd (apart (codes "migrate") (codes "derive") refl r.0)
 migrates words (Migrate directories certificate files) r = record { directories = directories; certificate = certificate; files = files; rest = r.1; is = refl }
 migrates words (Verify directories clean certificate files) r = absurd (apart (codes "migrate") (codes "verify") refl r.0)
+migrates words (Recheck directories old certificate files) r = absurd (apart (codes "migrate") (codes "recheck") refl r.0)
 migrates words (Run directories budget turns deny sensors files) r = absurd (apart (codes "migrate") (codes "run") refl r.0)
 migrates words (Generate functions) r = absurd (apart (codes "migrate") (codes "gen") refl r.0)
 
@@ -67,11 +71,29 @@ pub record Verifies (words : List Text) (c : Command) : Type 0 where
 
 pub verifies : (words : List Text) (c : Command) → IsRestOf c (codes "verify") words → Verifies words c
 verifies words (Check directories json files) r = absurd (apart (codes "verify") (codes "check") refl r.0)
-verifies words (Derive directories version files) r = absurd (apart (codes "verify") (codes "derive") refl r.0)
+verifies words (Derive directories version diff files) r = absurd (apart (codes "verify") (codes "derive") refl r.0)
 verifies words (Migrate directories certificate files) r = absurd (apart (codes "verify") (codes "migrate") refl r.0)
 verifies words (Verify directories clean certificate files) r = record { directories = directories; clean = clean; certificate = certificate; files = files; rest = r.1; is = refl }
+verifies words (Recheck directories old certificate files) r = absurd (apart (codes "verify") (codes "recheck") refl r.0)
 verifies words (Run directories budget turns deny sensors files) r = absurd (apart (codes "verify") (codes "run") refl r.0)
 verifies words (Generate functions) r = absurd (apart (codes "verify") (codes "gen") refl r.0)
+
+pub record Rechecks (words : List Text) (c : Command) : Type 0 where
+  pub directories : List Text
+  pub old : Text
+  pub certificate : Text
+  pub files : List Text
+  pub rest : IsRecheck words directories old certificate files
+  pub is : c ≡ Recheck directories old certificate files
+
+pub rechecks : (words : List Text) (c : Command) → IsRestOf c (codes "recheck") words → Rechecks words c
+rechecks words (Check directories json files) r = absurd (apart (codes "recheck") (codes "check") refl r.0)
+rechecks words (Derive directories version diff files) r = absurd (apart (codes "recheck") (codes "derive") refl r.0)
+rechecks words (Migrate directories certificate files) r = absurd (apart (codes "recheck") (codes "migrate") refl r.0)
+rechecks words (Verify directories clean certificate files) r = absurd (apart (codes "recheck") (codes "verify") refl r.0)
+rechecks words (Recheck directories old certificate files) r = record { directories = directories; old = old; certificate = certificate; files = files; rest = r.1; is = refl }
+rechecks words (Run directories budget turns deny sensors files) r = absurd (apart (codes "recheck") (codes "run") refl r.0)
+rechecks words (Generate functions) r = absurd (apart (codes "recheck") (codes "gen") refl r.0)
 
 pub record Runs (words : List Text) (c : Command) : Type 0 where
   pub directories : List Text
@@ -85,9 +107,10 @@ pub record Runs (words : List Text) (c : Command) : Type 0 where
 
 pub runs : (words : List Text) (c : Command) → IsRestOf c (codes "run") words → Runs words c
 runs words (Check directories json files) r = absurd (apart (codes "run") (codes "check") refl r.0)
-runs words (Derive directories version files) r = absurd (apart (codes "run") (codes "derive") refl r.0)
+runs words (Derive directories version diff files) r = absurd (apart (codes "run") (codes "derive") refl r.0)
 runs words (Migrate directories certificate files) r = absurd (apart (codes "run") (codes "migrate") refl r.0)
 runs words (Verify directories clean certificate files) r = absurd (apart (codes "run") (codes "verify") refl r.0)
+runs words (Recheck directories old certificate files) r = absurd (apart (codes "run") (codes "recheck") refl r.0)
 runs words (Run directories budget turns deny sensors files) r = record { directories = directories; budget = budget; turns = turns; deny = deny; sensors = sensors; files = files; rest = r.1; is = refl }
 runs words (Generate functions) r = absurd (apart (codes "run") (codes "gen") refl r.0)
 
@@ -98,8 +121,9 @@ pub record Generates (words : List Text) (c : Command) : Type 0 where
 
 pub generates : (words : List Text) (c : Command) → IsRestOf c (codes "gen") words → Generates words c
 generates words (Check directories json files) r = absurd (apart (codes "gen") (codes "check") refl r.0)
-generates words (Derive directories version files) r = absurd (apart (codes "gen") (codes "derive") refl r.0)
+generates words (Derive directories version diff files) r = absurd (apart (codes "gen") (codes "derive") refl r.0)
 generates words (Migrate directories certificate files) r = absurd (apart (codes "gen") (codes "migrate") refl r.0)
 generates words (Verify directories clean certificate files) r = absurd (apart (codes "gen") (codes "verify") refl r.0)
+generates words (Recheck directories old certificate files) r = absurd (apart (codes "gen") (codes "recheck") refl r.0)
 generates words (Run directories budget turns deny sensors files) r = absurd (apart (codes "gen") (codes "run") refl r.0)
 generates words (Generate functions) r = record { functions = functions; rest = r.1; is = refl }

@@ -1,19 +1,19 @@
 -- A line is one command.
-use Rattle.std.proofs.Common.{◌≡◌, ℕ, Bool, true, refl, ap, sym, ◌∙◌, subst, List, [], ◌∷◌, Option, Some, None, inl, inr}
+use Rattle.std.proofs.Common.{◌≡◌, ℕ, Bool, true, false, refl, ap, sym, ◌∙◌, subst, List, [], ◌∷◌, Option, Some, None, inl, inr}
 use Rattle.std.specs.Prelude.{codes, ◌⊎◌, is_some}
 use Rattle.p10_words.specs.declared.command.Command.{Command}
-use Rattle.p10_words.specs.declared.command.Command.TheVariants.{Check, Derive, Migrate, Verify, Run, Generate}
+use Rattle.p10_words.specs.declared.command.Command.TheVariants.{Check, Derive, Migrate, Verify, Recheck, Run, Generate}
 use Rattle.p10_words.specs.declared.command.Budget.{Budget}
 use Rattle.p10_words.specs.declared.command.Budget.TheVariants.{Steps, Certificate}
 use Rattle.p10_base.specs.Words.{Text}
-use Rattle.p10_words.specs.CommandLines.{Given, value_of, directories_in, IsNumber, HasNumber, HasFormat, HasVersion}
-use Rattle.p10_words.specs.Commands.{check_options, derive_options, migrate_options, verify_options, run_options, IsSplit, IsCheck, IsDerive, IsMigrate, IsVerify, HasBudget, IsRun, IsGenerate, IsRestOf}
+use Rattle.p10_words.specs.CommandLines.{Given, value_of, directories_in, IsNumber, HasNumber, HasFormat, HasForm, HasVersion}
+use Rattle.p10_words.specs.Commands.{check_options, derive_options, migrate_options, verify_options, recheck_options, run_options, IsSplit, IsCheck, IsDerive, IsMigrate, IsVerify, IsRecheck, HasBudget, IsRun, IsGenerate, IsRestOf}
 use Rattle.p10_words.specs.Laws.{LinesAreOneCommand}
 use Rattle.p10_words.specs.private.Scanning.{Split}
 use Rattle.p10_words.specs.private.Parsing.{are_askable}
-use Rattle.p10_words.proofs.Asked.{check_askable, derive_askable, migrate_askable, verify_askable, run_askable, none_askable}
+use Rattle.p10_words.proofs.Asked.{check_askable, derive_askable, migrate_askable, verify_askable, recheck_askable, run_askable, none_askable}
 use Rattle.p10_words.proofs.Numbers.{same_number}
-use Rattle.p10_words.proofs.Naming.{apart, Checks, checks, Derives, derives, Migrates, migrates, Verifies, verifies, Runs, runs, Generates, generates}
+use Rattle.p10_words.proofs.Naming.{apart, Checks, checks, Derives, derives, Migrates, migrates, Verifies, verifies, Rechecks, rechecks, Runs, runs, Generates, generates}
 use Rattle.p10_words.proofs.Deciding.{read, same_split}
 
 split_of : List Given → List Text → Split
@@ -57,6 +57,11 @@ same_budget steps cert (Certificate m) (Certificate n) i j = ap Certificate (sam
 same_budget steps cert (Steps m) (Certificate n) i j = absurd (let w = sym i.0 ∙ j.1 in cc)
 same_budget steps cert (Certificate m) (Steps n) i j = absurd (let w = sym j.0 ∙ i.1 in cc)
 
+-- with `--diff` or without it there is one form
+same_form : (o : Option Text) (given : Bool) (m n : ℕ) (a b : Bool) → HasForm o given m a → HasForm o given n b → (m ≡ n) × (a ≡ b)
+same_form o false m n a b v w = (same_version o m n v.0 w.0, v.1 ∙ sym w.1)
+same_form o true m n a b v w = (v.1 ∙ sym w.1, v.2 ∙ sym w.2)
+
 -- each command beside another of the same word and words
 one_check : (words d : List Text) (b : Bool) (f : List Text) (v : IsCheck words d b f) (c : Command) → Checks words c → Check d b f ≡ c
 unfolding value_in split_of
@@ -67,14 +72,18 @@ one_check words d b f v c w =
     let json : b ≡ w.json = same_format (value_of w.rest.options (codes "format")) b w.json (subst (λ (o : Option Text). HasFormat o b) (ap (value_in (codes "format")) same) v.has_format) w.rest.has_format in
     (λ i. Check (dirs i) (json i) (files i)) ∙ sym w.is
 
-one_derive : (words d : List Text) (n : ℕ) (f : List Text) (v : IsDerive words d n f) (c : Command) → Derives words c → Derive d n f ≡ c
+one_derive : (words d : List Text) (n : ℕ) (b : Bool) (f : List Text) (v : IsDerive words d n b f) (c : Command) → Derives words c → Derive d n b f ≡ c
 unfolding value_in split_of
-one_derive words d n f v c w =
+one_derive words d n b f v c w =
     let same = one_split derive_options words v.options w.rest.options f w.files derive_askable v.split w.rest.split in
     let files : f ≡ w.files = ap (λ (x : Split). x.files) same in
     let dirs : d ≡ w.directories = v.include.are ∙ ap (λ (x : Split). directories_in (value_in (codes "include") x)) same ∙ sym w.rest.include.are in
-    let version : n ≡ w.version = same_version (value_of w.rest.options (codes "cert-version")) n w.version (subst (λ (o : Option Text). HasVersion o n) (ap (value_in (codes "cert-version")) same) v.has_version) w.rest.has_version in
-    (λ i. Derive (dirs i) (version i) (files i)) ∙ sym w.is
+    let given : is_some (value_of v.options (codes "diff")) ≡ is_some (value_of w.rest.options (codes "diff")) = ap (λ (x : Split). is_some (value_in (codes "diff") x)) same in
+    let form : HasForm (value_of w.rest.options (codes "cert-version")) (is_some (value_of w.rest.options (codes "diff"))) n b =
+    subst (λ (o : Option Text). HasForm o (is_some (value_of w.rest.options (codes "diff"))) n b) (ap (value_in (codes "cert-version")) same)
+    (subst (λ (g : Bool). HasForm (value_of v.options (codes "cert-version")) g n b) given v.has_form) in
+    let alike = same_form (value_of w.rest.options (codes "cert-version")) (is_some (value_of w.rest.options (codes "diff"))) n w.version b w.diff form w.rest.has_form in
+    (λ i. Derive (dirs i) (alike.0 i) (alike.1 i) (files i)) ∙ sym w.is
 
 one_migrate : (words d : List Text) (k : Text) (f : List Text) (v : IsMigrate words d k f) (c : Command) → Migrates words c → Migrate d k f ≡ c
 unfolding value_in split_of
@@ -94,6 +103,16 @@ one_verify words d b k f v c w =
     let clean : b ≡ w.clean = sym v.flag ∙ ap (λ (x : Split). is_some (value_in (codes "clean") x)) same ∙ w.rest.flag in
     let cert : k ≡ w.certificate = same_value _ _ k w.certificate (ap (value_in (codes "cert")) same) v.cert w.rest.cert in
     (λ i. Verify (dirs i) (clean i) (cert i) (files i)) ∙ sym w.is
+
+one_recheck : (words d : List Text) (o k : Text) (f : List Text) (v : IsRecheck words d o k f) (c : Command) → Rechecks words c → Recheck d o k f ≡ c
+unfolding value_in split_of
+one_recheck words d o k f v c w =
+    let same = one_split recheck_options words v.options w.rest.options f w.files recheck_askable v.split w.rest.split in
+    let files : f ≡ w.files = ap (λ (x : Split). x.files) same in
+    let dirs : d ≡ w.directories = v.include.are ∙ ap (λ (x : Split). directories_in (value_in (codes "include") x)) same ∙ sym w.rest.include.are in
+    let old : o ≡ w.old = same_value _ _ o w.old (ap (value_in (codes "since")) same) v.since w.rest.since in
+    let cert : k ≡ w.certificate = same_value _ _ k w.certificate (ap (value_in (codes "cert")) same) v.cert w.rest.cert in
+    (λ i. Recheck (dirs i) (old i) (cert i) (files i)) ∙ sym w.is
 
 one_run : (words d : List Text) (b : Budget) (t n : ℕ) (o : Option Text) (f : List Text) (v : IsRun words d b t n o f) (c : Command) → Runs words c → Run d b t n o f ≡ c
 unfolding value_in split_of
@@ -118,9 +137,10 @@ one_generate words n v c w =
 
 one_rest : (a b : Command) (word : Text) (words : List Text) → IsRestOf a word words → IsRestOf b word words → a ≡ b
 one_rest (Check d json f) b word words i j = one_check words d json f i.1 b (checks words b (subst (λ (w : Text). IsRestOf b w words) i.0 j))
-one_rest (Derive d n f) b word words i j = one_derive words d n f i.1 b (derives words b (subst (λ (w : Text). IsRestOf b w words) i.0 j))
+one_rest (Derive d n l f) b word words i j = one_derive words d n l f i.1 b (derives words b (subst (λ (w : Text). IsRestOf b w words) i.0 j))
 one_rest (Migrate d k f) b word words i j = one_migrate words d k f i.1 b (migrates words b (subst (λ (w : Text). IsRestOf b w words) i.0 j))
 one_rest (Verify d l k f) b word words i j = one_verify words d l k f i.1 b (verifies words b (subst (λ (w : Text). IsRestOf b w words) i.0 j))
+one_rest (Recheck d o k f) b word words i j = one_recheck words d o k f i.1 b (rechecks words b (subst (λ (w : Text). IsRestOf b w words) i.0 j))
 one_rest (Run d g t n o f) b word words i j = one_run words d g t n o f i.1 b (runs words b (subst (λ (w : Text). IsRestOf b w words) i.0 j))
 one_rest (Generate n) b word words i j = one_generate words n i.1 b (generates words b (subst (λ (w : Text). IsRestOf b w words) i.0 j))
 

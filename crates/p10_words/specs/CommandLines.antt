@@ -29,7 +29,7 @@ IsAmong names name = list_any (λ n. bytes_eq n name) names ≡ true
 
 -- the options that are flags: they are given without a value
 abbrev pub flags : List Text
-flags = codes "clean" ∷ []
+flags = codes "clean" ∷ codes "diff" ∷ []
 
 abbrev pub is_flag : Text → Bool
 is_flag name = list_any (λ n. bytes_eq n name) flags
@@ -84,3 +84,8 @@ HasFormat (Some value) json = (value ≡ codes "text") × (json ≡ false) ⊎ (
 abbrev pub HasVersion : Option Text → ℕ → Type 0
 HasVersion None version = version ≡ 1
 HasVersion (Some value) version = (value ≡ codes "1") × (version ≡ 1) ⊎ (value ≡ codes "2") × (version ≡ 2)
+
+-- whether ranks by differences are looked for, and the version of the text: with `--diff`, which excludes a version, they are and it is 2
+abbrev pub HasForm : Option Text → Bool → ℕ → Bool → Type 0
+HasForm version false n diff = HasVersion version n × (diff ≡ false)
+HasForm version true n diff = (version ≡ None) × (n ≡ 2) × (diff ≡ true)

@@ -1,24 +1,27 @@
 -- The commands, and the words that are each of them.
 use Rattle.std.specs.Prelude.{◌≡◌, ◌≢◌, ℕ, ◌≤◌, Bool, List, [], ◌∷◌, codes, length, Option, Some, None, is_some}
 use Rattle.p10_words.specs.declared.command.Command.{Command}
-use Rattle.p10_words.specs.declared.command.Command.TheVariants.{Check, Derive, Migrate, Verify, Run, Generate}
+use Rattle.p10_words.specs.declared.command.Command.TheVariants.{Check, Derive, Migrate, Verify, Recheck, Run, Generate}
 use Rattle.p10_words.specs.declared.command.Budget.{Budget}
 use Rattle.p10_words.specs.declared.command.Budget.TheVariants.{Steps, Certificate}
 use Rattle.p10_base.specs.Words.{Text}
-use Rattle.p10_words.specs.CommandLines.{Given, AreNames, Splits, AreGivenOnce, value_of, directories_in, IsNumber, HasNumber, HasFormat, HasVersion}
+use Rattle.p10_words.specs.CommandLines.{Given, AreNames, Splits, AreGivenOnce, value_of, directories_in, IsNumber, HasNumber, HasFormat, HasForm}
 
--- the options of `check`, of `derive`, of `migrate`, of `verify` and of `run`; `gen` has none
+-- the options of `check`, of `derive`, of `migrate`, of `verify`, of `recheck` and of `run`; `gen` has none
 abbrev pub check_options : List Text
 check_options = codes "include" ∷ codes "format" ∷ []
 
 abbrev pub derive_options : List Text
-derive_options = codes "include" ∷ codes "cert-version" ∷ []
+derive_options = codes "include" ∷ codes "cert-version" ∷ codes "diff" ∷ []
 
 abbrev pub migrate_options : List Text
 migrate_options = codes "include" ∷ codes "cert" ∷ []
 
 abbrev pub verify_options : List Text
 verify_options = codes "include" ∷ codes "clean" ∷ codes "cert" ∷ []
+
+abbrev pub recheck_options : List Text
+recheck_options = codes "include" ∷ codes "since" ∷ codes "cert" ∷ []
 
 abbrev pub run_options : List Text
 run_options = codes "include" ∷ codes "steps" ∷ codes "turns" ∷ codes "deny" ∷ codes "cert" ∷ codes "sensors" ∷ []
@@ -41,12 +44,12 @@ pub record IsCheck (words : List Text) (directories : List Text) (json : Bool) (
   pub include : AreDirectories options directories
   pub has_format : HasFormat (value_of options (codes "format")) json
 
--- `derive [--include D] [--cert-version 1|2] FILE..`: version 1 where none is given
-pub record IsDerive (words : List Text) (directories : List Text) (version : ℕ) (files : List Text) : Type 0 where
+-- `derive [--include D] [--cert-version 1|2 | --diff] FILE..`: version 1 where none is given, and 2 with `--diff`
+pub record IsDerive (words : List Text) (directories : List Text) (version : ℕ) (diff : Bool) (files : List Text) : Type 0 where
   pub options : List Given
   pub split : IsSplit derive_options words options files
   pub include : AreDirectories options directories
-  pub has_version : HasVersion (value_of options (codes "cert-version")) version
+  pub has_form : HasForm (value_of options (codes "cert-version")) (is_some (value_of options (codes "diff"))) version diff
 
 -- `migrate [--include D] --cert C FILE..`
 pub record IsMigrate (words : List Text) (directories : List Text) (certificate : Text) (files : List Text) : Type 0 where
@@ -61,6 +64,14 @@ pub record IsVerify (words : List Text) (directories : List Text) (clean : Bool)
   pub split : IsSplit verify_options words options files
   pub include : AreDirectories options directories
   pub flag : is_some (value_of options (codes "clean")) ≡ clean
+  pub cert : value_of options (codes "cert") ≡ Some certificate
+
+-- `recheck [--include D] --since OLD --cert C FILE..`
+pub record IsRecheck (words : List Text) (directories : List Text) (old certificate : Text) (files : List Text) : Type 0 where
+  pub options : List Given
+  pub split : IsSplit recheck_options words options files
+  pub include : AreDirectories options directories
+  pub since : value_of options (codes "since") ≡ Some old
   pub cert : value_of options (codes "cert") ≡ Some certificate
 
 -- what bounds the steps, by the values of `--steps` and `--cert`, which exclude each other: 10,000,000 steps where neither is given
@@ -88,9 +99,10 @@ pub record IsGenerate (words : List Text) (functions : ℕ) : Type 0 where
 -- what follows the command's own word
 abbrev pub IsRestOf : Command → Text → List Text → Type 0
 IsRestOf (Check directories json files) word words = (word ≡ codes "check") × IsCheck words directories json files
-IsRestOf (Derive directories version files) word words = (word ≡ codes "derive") × IsDerive words directories version files
+IsRestOf (Derive directories version diff files) word words = (word ≡ codes "derive") × IsDerive words directories version diff files
 IsRestOf (Migrate directories certificate files) word words = (word ≡ codes "migrate") × IsMigrate words directories certificate files
 IsRestOf (Verify directories clean certificate files) word words = (word ≡ codes "verify") × IsVerify words directories clean certificate files
+IsRestOf (Recheck directories old certificate files) word words = (word ≡ codes "recheck") × IsRecheck words directories old certificate files
 IsRestOf (Run directories budget turns deny sensors files) word words = (word ≡ codes "run") × IsRun words directories budget turns deny sensors files
 IsRestOf (Generate functions) word words = (word ≡ codes "gen") × IsGenerate words functions
 

@@ -14,12 +14,14 @@ pub enum Command {
         /// The source files; there is one at least.
         files: ListBuf<TextBuf>,
     },
-    /// `derive [--include D] [--cert-version 1|2] FILE..`
+    /// `derive [--include D] [--cert-version 1|2 | --diff] FILE..`
     Derive {
         /// The directories of `--include`, in their order.
         dirs: ListBuf<TextBuf>,
-        /// The version of the certificate's text, 1 or 2; 1 where it isn't given.
+        /// The version of the certificate's text, 1 or 2; 1 where neither option is given, and 2 with `--diff`.
         version: u8,
+        /// Whether ranks by differences of two variables are looked for.
+        diff: bool,
         /// The source files; there is one at least.
         files: ListBuf<TextBuf>,
     },
@@ -39,6 +41,17 @@ pub enum Command {
         /// Whether the certificate has to be clean, too.
         clean: bool,
         /// The name of the certificate's file.
+        cert: TextBuf,
+        /// The source files; there is one at least.
+        files: ListBuf<TextBuf>,
+    },
+    /// `recheck [--include D] --since OLD --cert C FILE..`
+    Recheck {
+        /// The directories of `--include`, in their order.
+        dirs: ListBuf<TextBuf>,
+        /// The name of the file of the certificate from before the edit.
+        since: TextBuf,
+        /// The name of the file of the certificate from after it.
         cert: TextBuf,
         /// The source files; there is one at least.
         files: ListBuf<TextBuf>,

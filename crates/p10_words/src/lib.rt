@@ -5,9 +5,11 @@
 //!     check --format json a.c        Check of the file a.c, as JSON
 //!     derive a.c                     Derive of the file a.c, a text of version 1
 //!     derive --cert-version 2 a.c    Derive of a.c, a text of version 2
+//!     derive --diff a.c              Derive of a.c with ranks by differences, a text of version 2
 //!     migrate --cert a.p10 a.c       Migrate of the certificate a.p10 and the file a.c
 //!     verify --cert a.p10 a.c        Verify of the certificate a.p10 and the file a.c
 //!     verify --clean --cert c a.c    Verify of the certificate c, which has to be clean, and a.c
+//!     recheck --since o --cert c a.c Recheck of the certificates o and c, and a.c
 //!     run a.c --steps=500            Run of a.c with 500 steps, 1 turn and no denied request
 //!     run --cert a.p10 a.c           Run of a.c with the steps that the certificate a.p10 claims
 //!     run --sensors v.txt a.c        Run of a.c with the sensor values in v.txt
@@ -22,6 +24,7 @@ mod command;
 pub mod laws;
 mod parse;
 mod read;
+mod recheck;
 mod values;
 
 pub use command::{Budget, Command, Usage};

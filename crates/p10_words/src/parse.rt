@@ -3,7 +3,7 @@
 ghost use Rattle.std.specs.Prelude.{◌≡◌, [], ◌∷◌, List, ℕ, false, true, map, string_bytes, IfOk, codes};
 ghost use Rattle.clap.specs.Walk.{rule_of};
 ghost use Rattle.clap.specs.Simple.{app_of, with_rule};
-ghost use Rattle.p10_words.specs.Commands.{check_options, derive_options, migrate_options, verify_options, run_options};
+ghost use Rattle.p10_words.specs.Commands.{check_options, derive_options, migrate_options, verify_options, recheck_options, run_options};
 ghost use Rattle.p10_words.specs.private.Parsing.{bare as bare_app, option_asked, flag_asked, files_asked, IsAsked, IsParse, IsUsage, are_askable};
 
 use crate::command::Usage;
@@ -51,6 +51,16 @@ pub fn verify_matches<'w>(alloc: Global, words: &'w [String]) -> Result<ArgMatch
     }
 }
 
+/// What `clap` reads of the words after `recheck`.
+pub fn recheck_matches<'w>(alloc: Global, words: &'w [String]) -> Result<ArgMatches<'w>, Usage>
+    ensures { IsParse recheck_options (map string_bytes words.entry.now) result }
+{
+    match recheck_command(alloc) {
+        Ok(command) => matches(command, words),
+        Err(_) => Err(Usage::Memory),
+    }
+}
+
 /// What `clap` reads of the words after `run`.
 pub fn run_matches<'w>(alloc: Global, words: &'w [String]) -> Result<ArgMatches<'w>, Usage>
     ensures { IsParse run_options (map string_bytes words.entry.now) result }
@@ -89,6 +99,7 @@ fn derive_command<'w>(alloc: Global) -> Result<Command<'w>, AllocError>
     let command = bare(alloc, "derive")
         .arg(option(alloc, "include"))?
         .arg(option(alloc, "cert-version"))?
+        .arg(flag(alloc, "diff"))?
         .arg(files(alloc))?;
     Ok(command)
 }
@@ -111,6 +122,18 @@ fn verify_command<'w>(alloc: Global) -> Result<Command<'w>, AllocError>
     let command = bare(alloc, "verify")
         .arg(option(alloc, "include"))?
         .arg(flag(alloc, "clean"))?
+        .arg(option(alloc, "cert"))?
+        .arg(files(alloc))?;
+    Ok(command)
+}
+
+/// The options and files of `recheck`.
+fn recheck_command<'w>(alloc: Global) -> Result<Command<'w>, AllocError>
+    ensures { IfOk result (λ c. IsAsked (app_of c) recheck_options) }
+{
+    let command = bare(alloc, "recheck")
+        .arg(option(alloc, "include"))?
+        .arg(option(alloc, "since"))?
         .arg(option(alloc, "cert"))?
         .arg(files(alloc))?;
     Ok(command)

@@ -12,9 +12,10 @@ use crate::command::{Budget, Command, Usage};
 use crate::parse::{
     check_matches, derive_matches, generate_matches, migrate_matches, run_matches, verify_matches,
 };
+use crate::recheck::recheck;
 use crate::values::{
-    cert_version, decimal, directories, is_given, is_json, name_files, names_directories,
-    names_file, names_given, number, text, texts,
+    decimal, directories, is_given, is_json, name_files, names_directories, names_file,
+    names_given, number, text, text_version, texts,
 };
 use p10_base::TextBuf;
 use std::alloc::{AllocError, Global};
@@ -78,6 +79,8 @@ fn by_name(alloc: Global, command: &str, words: &[String]) -> Result<Command, Us
         migrate(alloc, words)
     } else if command == "verify" {
         verify(alloc, words)
+    } else if command == "recheck" {
+        recheck(alloc, words)
     } else if command == "run" {
         run(alloc, words)
     } else if command == "gen" {
@@ -111,12 +114,16 @@ fn derive(alloc: Global, words: &[String]) -> Result<Command, Usage>
 {
     match derive_matches(alloc, words) {
         Ok(found) => match found.get_strs("FILE") {
-            Some(files) => derive_of(
-                alloc,
-                found.get_str("include"),
-                found.get_str("cert-version"),
-                files,
-            ),
+            Some(files) => {
+                let diff = is_given(found.get_str("diff"));
+                derive_of(
+                    alloc,
+                    found.get_str("include"),
+                    found.get_str("cert-version"),
+                    diff,
+                    files,
+                )
+            }
             None => Err(Usage::Refused),
         },
         Err(fault) => Err(fault),
@@ -240,15 +247,16 @@ fn derive_of(
     alloc: Global,
     include: Option<&str>,
     version: Option<&str>,
+    diff: bool,
     files: &[&str],
 ) -> Result<Command, Usage>
-    ensures { Answers (IsDeriveOf (option_map (λ w. w.now) include.entry) (option_map (λ w. w.now) version.entry) (map (λ w. w.now) files.now)) result }
+    ensures { Answers (IsDeriveOf (option_map (λ w. w.now) include.entry) (option_map (λ w. w.now) version.entry) diff (map (λ w. w.now) files.now)) result }
 {
-    let Some(version) = cert_version(version) else {
+    let Some(version) = text_version(version, diff) else {
         return Err(Usage::Refused);
     };
     if names_directories(include) && name_files(files) {
-        match new_derive(alloc, include, version, files) {
+        match new_derive(alloc, include, version, diff, files) {
             Ok(command) => Ok(command),
             Err(_) => Err(Usage::Memory),
         }
@@ -262,15 +270,17 @@ fn new_derive(
     alloc: Global,
     include: Option<&str>,
     version: u8,
+    diff: bool,
     files: &[&str],
 ) -> Result<Command, AllocError>
-    ensures { IfOk result (λ c. c ≡ Derive (directories_in (option_map (λ w. w.now) include.entry)) version (map (λ w. w.now) files.now)) }
+    ensures { IfOk result (λ c. c ≡ Derive (directories_in (option_map (λ w. w.now) include.entry)) version diff (map (λ w. w.now) files.now)) }
 {
     let dirs = directories(alloc, include)?;
     let files = texts(alloc, files)?;
     Ok(Command::Derive {
         dirs,
         version,
+        diff,
         files,
     })
 }

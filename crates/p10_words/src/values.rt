@@ -2,7 +2,7 @@
 
 ghost use Rattle.std.specs.Prelude.{◌≡◌, ◌++◌, ℕ, Bool, map, IfOk, OnOk, IfSome, IfNone, Some, option_map};
 ghost use Rattle.std.specs.List.{list_all};
-ghost use Rattle.p10_words.specs.CommandLines.{cut, directories_in, HasFormat, HasNumber, HasVersion, IsNumber};
+ghost use Rattle.p10_words.specs.CommandLines.{cut, directories_in, HasFormat, HasNumber, HasForm, HasVersion, IsNumber};
 ghost use Rattle.p10_words.specs.private.Scanning.{is_name};
 ghost use Rattle.p10_words.specs.private.Deciding.{is_given, is_given_name, has_directories, has_files};
 
@@ -194,8 +194,20 @@ fn format_named(name: &str) -> Option<bool>
     }
 }
 
+/// The version of a certificate's text, by the value of `--cert-version` and whether `--diff` is given, which exclude each other; `None`
+/// where both are given or the value is no version.
+pub fn text_version(value: Option<&str>, diff: bool) -> Option<u8>
+    ensures some { IfSome result (λ version. HasForm (option_map (λ w. w.now) value.entry) diff version diff) }
+    ensures none { IfNone result ((version : ℕ) (looks : Bool) → HasForm (option_map (λ w. w.now) value.entry) diff version looks → ⊥) }
+{
+    if diff {
+        return if value.is_none() { Some(2) } else { None };
+    }
+    cert_version(value)
+}
+
 /// The version of a certificate's text that is asked for; `None` where the value is no version.
-pub fn cert_version(value: Option<&str>) -> Option<u8>
+fn cert_version(value: Option<&str>) -> Option<u8>
     ensures some { IfSome result (HasVersion (option_map (λ w. w.now) value.entry)) }
     ensures none { IfNone result ((version : ℕ) → HasVersion (option_map (λ w. w.now) value.entry) version → ⊥) }
 {

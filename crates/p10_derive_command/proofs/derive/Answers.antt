@@ -10,11 +10,11 @@ pub derive_sources-requires : goal.derive_sources-requires
 derive_sources-requires g c = (all_gathered (g.F.Files.held c.args.files.now) c.as_slice-roots.result.now c.args.command.now.sources c.as_slice.result.now c.args.command.now.directories c.in-Ok-All.field-0 c.in-Ok-All.sources c.as_slice-roots.ensures c.as_slice.ensures c.in-Ok-All.field-0-is c.in-Ok-All.ensures.gathered).1
 
 pub returns-in-Ok-All-clause-told : goal.returns-in-Ok-All-clause-told
-returns-in-Ok-All-clause-told g c = λ six. c.derive_sources.ensures.told six c.args.command.now _ refl
+returns-in-Ok-All-clause-told g c = λ six. c.derive_sources.ensures.told six c.args.command.now _ refl refl
     (all_gathered (g.F.Files.held c.args.files.now) c.as_slice-roots.result.now c.args.command.now.sources c.as_slice.result.now c.args.command.now.directories c.in-Ok-All.field-0 c.in-Ok-All.sources c.as_slice-roots.ensures c.as_slice.ensures c.in-Ok-All.field-0-is c.in-Ok-All.ensures.gathered).0
 
 pub returns-in-Ok-All-clause-stopped : goal.returns-in-Ok-All-clause-stopped
-returns-in-Ok-All-clause-stopped g c = λ six. c.derive_sources.ensures.stopped six c.args.command.now _ refl
+returns-in-Ok-All-clause-stopped g c = λ six. c.derive_sources.ensures.stopped six c.args.command.now _ refl refl
     (all_gathered (g.F.Files.held c.args.files.now) c.as_slice-roots.result.now c.args.command.now.sources c.as_slice.result.now c.args.command.now.directories c.in-Ok-All.field-0 c.in-Ok-All.sources c.as_slice-roots.ensures c.as_slice.ensures c.in-Ok-All.field-0-is c.in-Ok-All.ensures.gathered).0
 
 pub tell_ungathered-requires : goal.tell_ungathered-requires

@@ -1,6 +1,6 @@
 use Rattle.std.proofs.Common.{ap, sym, ◌∙◌}
 use Rattle.p10_words.specs.declared.command.Command.TheVariants.{Generate}
-use Rattle.p10_top.proofs.Telling.{of_check, of_derive, of_migrate, of_verify, of_run, told_of, stopped_of}
+use Rattle.p10_top.proofs.Telling.{of_check, of_derive, of_migrate, of_verify, of_recheck, of_run, told_of, stopped_of}
 use Rattle.p10_top.proofs.obey.Goals as goal
 
 pub returns-in-Check-clause-told : goal.returns-in-Check-clause-told
@@ -26,6 +26,12 @@ returns-in-Verify-clause-told g c = λ six. told_of c.args.command (of_verify c.
 
 pub returns-in-Verify-clause-stopped : goal.returns-in-Verify-clause-stopped
 returns-in-Verify-clause-stopped g c = λ six. stopped_of c.args.command (of_verify c.verify_command-command.result) _ _ _ _ _ _ (c.in-Verify.is ∙ ap of_verify (sym c.verify_command-command.ensures)) (c.verify.ensures.stopped six)
+
+pub returns-in-Recheck-clause-told : goal.returns-in-Recheck-clause-told
+returns-in-Recheck-clause-told g c = λ six. told_of c.args.command (of_recheck c.recheck_command-command.result) _ _ _ _ _ _ _ (c.in-Recheck.is ∙ ap of_recheck (sym c.recheck_command-command.ensures)) (c.recheck.ensures.told six)
+
+pub returns-in-Recheck-clause-stopped : goal.returns-in-Recheck-clause-stopped
+returns-in-Recheck-clause-stopped g c = λ six. stopped_of c.args.command (of_recheck c.recheck_command-command.result) _ _ _ _ _ _ (c.in-Recheck.is ∙ ap of_recheck (sym c.recheck_command-command.ensures)) (c.recheck.ensures.stopped six)
 
 pub returns-in-Run-clause-told : goal.returns-in-Run-clause-told
 returns-in-Run-clause-told g c = λ six. told_of c.args.command (of_run c.run_command-command.result) _ _ _ _ _ _ _ (c.in-Run.is ∙ ap of_run (sym c.run_command-command.ensures)) (c.run.ensures.told six)

@@ -1,7 +1,9 @@
+use Rattle.std.proofs.Common.{None}
 use Rattle.p10_top.proofs.CommandWords.{few_sources, few_turns, no_run}
-use Rattle.p10_top.proofs.Certified.{never_spent, unread_leaves}
+use Rattle.p10_top.proofs.Certified.{never_spent, not_spent}
 use Rattle.p10_top.proofs.Deriving.{derived}
 use Rattle.p10_top.proofs.Telling.{verified, told_command, stopped_command, told_unread, stopped_unread, unread_is_none}
+use Rattle.p10_top.proofs.Completing.{accepts_accepted, derives_derived}
 use Rattle.p10_top.proofs.p10_main.Goals as goal
 
 pub obey-requires-clause-few : goal.obey-requires-clause-few
@@ -14,7 +16,7 @@ pub returns-in-Ok-clause-input : goal.returns-in-Ok-clause-input
 returns-in-Ok-clause-input g c = λ none. c.obey.ensures.input (no_run _ c.in-Ok.command c.in-Ok.ensures.found none)
 
 pub returns-in-Ok-clause-headline : goal.returns-in-Ok-clause-headline
-returns-in-Ok-clause-headline g c = verified c.accepted_certificates_bound_every_run.ensures.ranges c.clean_certificates_exclude_undefined_operations.ensures.ranges _ _ _ _ _ _ _ _ _ _ (λ six. told_command _ c.in-Ok.command _ _ _ _ _ _ _ c.in-Ok.ensures.found (c.obey.ensures.told six))
+returns-in-Ok-clause-headline g c = verified c.accepted_certificates_bound_every_run.ensures.lawful c.standing_is_lawful.ensures c.clean_certificates_exclude_undefined_operations.ensures.any_evidence _ _ _ _ _ _ _ _ _ _ (λ six. told_command _ c.in-Ok.command _ _ _ _ _ _ _ c.in-Ok.ensures.found (c.obey.ensures.told six))
 
 pub returns-in-Ok-clause-derived : goal.returns-in-Ok-clause-derived
 returns-in-Ok-clause-derived g c =
@@ -42,4 +44,16 @@ pub returns-in-Ok-clause-steps : goal.returns-in-Ok-clause-steps
 returns-in-Ok-clause-steps g c = λ line. never_spent c.certificates_leave_steps.ensures _ _ _ _ _ _ _ _ (λ six. told_command _ c.in-Ok.command _ _ _ _ _ _ _ c.in-Ok.ensures.found (c.obey.ensures.told six)) line
 
 pub returns-in-Err-clause-steps : goal.returns-in-Err-clause-steps
-returns-in-Err-clause-steps g c = λ line. unread_leaves c.in-Err.fault _ _ c.tell_unread.ensures.status
+returns-in-Err-clause-steps g c = λ line tells. not_spent c.in-Err.fault _ c.tell_unread.ensures.status
+
+pub returns-in-Ok-clause-accepts : goal.returns-in-Ok-clause-accepts
+returns-in-Ok-clause-accepts g c = accepts_accepted c.one_answer_is_right.ensures _ _ _ _ _ _ _ _ _ _ (λ six. told_command _ c.in-Ok.command _ _ _ _ _ _ _ c.in-Ok.ensures.found (c.obey.ensures.told six))
+
+pub returns-in-Err-clause-accepts : goal.returns-in-Err-clause-accepts
+returns-in-Err-clause-accepts g c = accepts_accepted c.one_answer_is_right.ensures _ 0 0 _ (record { left = None; faults_before = 0; faults_after = 0 }) None None _ _ _ (λ six. told_unread _ _ _ c.in-Err.fault c.read_words.result _ _ _ _ c.in-Err.is c.read_words.ensures.refused (c.tell_unread.ensures.status six) (c.tell_unread.ensures.told six))
+
+pub returns-in-Ok-clause-derives : goal.returns-in-Ok-clause-derives
+returns-in-Ok-clause-derives g c = derives_derived c.one_answer_is_right-2.ensures _ _ _ _ _ _ _ _ _ _ (λ six. told_command _ c.in-Ok.command _ _ _ _ _ _ _ c.in-Ok.ensures.found (c.obey.ensures.told six))
+
+pub returns-in-Err-clause-derives : goal.returns-in-Err-clause-derives
+returns-in-Err-clause-derives g c = derives_derived c.one_answer_is_right-2.ensures _ 0 0 _ (record { left = None; faults_before = 0; faults_after = 0 }) None None _ _ _ (λ six. told_unread _ _ _ c.in-Err.fault c.read_words.result _ _ _ _ c.in-Err.is c.read_words.ensures.refused (c.tell_unread.ensures.status six) (c.tell_unread.ensures.told six))

@@ -2,12 +2,12 @@
 use Rattle.std.specs.Prelude.{◌≡◌, ℕ, List, [], ◌∷◌, Bool, true, false, ◌&&◌, codes, bytes_eq, Option, Some, None, Result, Ok, Err}
 use Rattle.std.specs.List.{list_all}
 use Rattle.p10_words.specs.declared.command.Command.{Command}
-use Rattle.p10_words.specs.declared.command.Command.TheVariants.{Check, Derive, Migrate, Verify, Run, Generate}
+use Rattle.p10_words.specs.declared.command.Command.TheVariants.{Check, Derive, Migrate, Verify, Recheck, Run, Generate}
 use Rattle.p10_words.specs.declared.command.Budget.{Budget}
 use Rattle.p10_words.specs.declared.command.Usage.{Usage}
 use Rattle.p10_words.specs.declared.command.Usage.TheVariants.{Refused, Memory}
 use Rattle.p10_base.specs.Words.{Text}
-use Rattle.p10_words.specs.CommandLines.{directories_in, IsNumber, HasNumber, HasFormat, HasVersion}
+use Rattle.p10_words.specs.CommandLines.{directories_in, IsNumber, HasNumber, HasFormat, HasForm}
 use Rattle.p10_words.specs.Commands.{HasBudget}
 use Rattle.p10_words.specs.private.Scanning.{is_name}
 
@@ -38,13 +38,14 @@ pub record IsCheckOf (include format : Option Text) (files : List Text) (c : Com
   pub some : has_files files ≡ true
   pub is : c ≡ Check (directories_in include) json files
 
--- `derive` of these values and files
-pub record IsDeriveOf (include cert_version : Option Text) (files : List Text) (c : Command) : Type 0 where
+-- `derive` of these values and files, and whether `--diff` is given
+pub record IsDeriveOf (include cert_version : Option Text) (differences : Bool) (files : List Text) (c : Command) : Type 0 where
   pub version : ℕ
+  pub diff : Bool
   pub directories : has_directories include ≡ true
-  pub has_version : HasVersion cert_version version
+  pub has_form : HasForm cert_version differences version diff
   pub some : has_files files ≡ true
-  pub is : c ≡ Derive (directories_in include) version files
+  pub is : c ≡ Derive (directories_in include) version diff files
 
 -- `migrate` of these values and files
 pub record IsMigrateOf (include cert : Option Text) (files : List Text) (c : Command) : Type 0 where
@@ -63,6 +64,18 @@ pub record IsVerifyOf (include : Option Text) (clean : Bool) (cert : Option Text
   pub name : is_name certificate ≡ true
   pub some : has_files files ≡ true
   pub is : c ≡ Verify (directories_in include) clean certificate files
+
+-- `recheck` of these values and files
+pub record IsRecheckOf (include since cert : Option Text) (files : List Text) (c : Command) : Type 0 where
+  pub old : Text
+  pub certificate : Text
+  pub directories : has_directories include ≡ true
+  pub given_old : since ≡ Some old
+  pub name_old : is_name old ≡ true
+  pub given : cert ≡ Some certificate
+  pub name : is_name certificate ≡ true
+  pub some : has_files files ≡ true
+  pub is : c ≡ Recheck (directories_in include) old certificate files
 
 -- what bounds the steps, by the values of `--steps` and `--cert`
 pub record IsBudgetOf (steps cert : Option Text) (b : Budget) : Type 0 where

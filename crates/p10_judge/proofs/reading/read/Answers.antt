@@ -4,7 +4,7 @@ use Rattle.p10_cert.specs.Statements.{Entry, IsStatement, statement_text}
 use Rattle.p10_cert.specs.WrongLines.{IsFirstWrong}
 use Rattle.p10_cert.proofs.Collecting.{is_more, map-append}
 use Rattle.p10_cert.proofs.Wholes.{is_end}
-use Rattle.p10_judge.specs.Kept.{IsReadFrom}
+use Rattle.p10_diff_evidence.specs.Placing.{no_line}
 use Rattle.p10_judge.proofs.reading.read.Goals as goal
 
 pub loop-next-smaller : goal.loop-next-smaller
@@ -23,8 +23,8 @@ loop-next-preserved c =
           ∙ sym (map-append (λ (e : Entry). e.digest) c.loop-next.reader.given more.entry) ∙ ap (λ es. map (λ (e : Entry). e.digest) es) (sym more.given);
     }
 
-pub whole-requires : goal.whole-requires
-whole-requires c =
+pub whole-requires-clause-whole : goal.whole-requires-clause-whole
+whole-requires-clause-whole c =
     let end = is_end c.loop-next.reader c.next.new.self c.in-Ok.next c.in-Ok.ensures c.in-None.is in
     record {
       ending = end.ending;
@@ -35,10 +35,10 @@ whole-requires c =
       kept_are = c.loop-next.invariant.kept_are ∙ ap (λ es. map (λ (e : Entry). e.digest) es) (sym end.given);
     }
 
-pub returns-in-None : goal.returns-in-None
-returns-in-None c =
+pub whole-requires-clause-text : goal.whole-requires-clause-text
+whole-requires-clause-text c =
     let end = is_end c.loop-next.reader c.next.new.self c.in-Ok.next c.in-Ok.ensures c.in-None.is in
-    subst (λ t. IsReadFrom t c.whole.result) (end.text ∙ c.loop-next.invariant.text) c.whole.ensures
+    end.text ∙ c.loop-next.invariant.text
 
 pub returns-in-Err : goal.returns-in-Err
-returns-in-Err c = subst (λ t. IsFirstWrong t c.in-Err.bad.line) c.loop-next.invariant.text c.in-Err.ensures.0
+returns-in-Err c = no_line (subst (λ t. IsFirstWrong t c.in-Err.bad.line) c.loop-next.invariant.text c.in-Err.ensures.0)

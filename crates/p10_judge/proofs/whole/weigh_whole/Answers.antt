@@ -12,5 +12,5 @@ returns-in-Bad c =
 
 pub returns-in-Whole : goal.returns-in-Whole
 returns-in-Whole c =
-    whole_weighed (plain_program c.args.program.now) (digests_of c.args.digests.now) c.args.certificate.now c.in_ok-line.field-0 c.in-Whole.claims c.in-Whole.kept c.as_slice.result.now c.weigh_claims.result
+    whole_weighed (plain_program c.args.program.now) (digests_of c.args.digests.now) c.args.certificate.now c.in_ok-line.field-0 c.in-Whole.claims c.in-Whole.kept c.as_slice.result.now c.in-Whole.evidence c.weigh_claims.result
     (c.is_too_long.ensures.no c.if-is_too_long.false) c.in-Whole.is c.in_ok-line.ensures c.as_slice.ensures c.weigh_claims.ensures

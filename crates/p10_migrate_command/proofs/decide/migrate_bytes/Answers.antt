@@ -14,5 +14,5 @@ returns-in-Bad c =
 
 pub returns-in-Whole : goal.returns-in-Whole
 returns-in-Whole c =
-    whole_comes (plain_program c.args.program.now) (plain_digests c.args.found) c.args.certificate.now c.in_ok-line.field-0 c.in-Whole.claims c.in-Whole.kept c.as_slice.result.now c.migrate_whole.result
+    whole_comes (plain_program c.args.program.now) (plain_digests c.args.found) c.args.certificate.now c.in_ok-line.field-0 c.in-Whole.claims c.in-Whole.kept c.as_slice.result.now c.in-Whole.field-2 c.migrate_whole.result
     (c.is_too_long.ensures.no c.if-is_too_long.false) c.in-Whole.is c.in_ok-line.ensures c.as_slice.ensures c.migrate_whole.ensures

@@ -1,0 +1,5 @@
+-- The definitions that the contracts of this crate cite: those of public clauses, and in `private` those of private ones alone.
+pub mod Rechecking
+pub mod Told
+pub mod Laws
+pub mod private
