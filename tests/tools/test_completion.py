@@ -17,7 +17,7 @@ class Completions(Case):
         (self.folder / "inc").mkdir()
 
     CASES = [("p10 ", {"check", "derive", "verify", "run", "gen", "migrate"}), ("p10 ver", {"verify"}), ("p10 verify --c", {"--clean", "--cert"}),
-             ("p10 derive --c", {"--cert-version"}), ("p10 derive --cert-version ", {"1", "2"}), ("p10 migrate --cert m", {"main.p10"}),
+             ("p10 derive --c", {"--cert-version"}), ("p10 derive --d", {"--diff"}), ("p10 derive --cert-version ", {"1", "2"}), ("p10 migrate --cert m", {"main.p10"}),
              ("p10 check --format ", {"text", "json"}), ("p10 check m", {"main.c"}), ("p10 verify --cert m", {"main.p10"}),
              ("p10 run --t", {"--turns"}), ("p10-lint --format s", {"sarif"}), ("p10-lint --fo", {"--format"}), ("p10-report --ti", {"--title"}),
              ("p10-stack --no", {"--no-interrupts"}), ("p10-stack m", {"main.c"}), ("p10-lint --include i", {"inc"})]
