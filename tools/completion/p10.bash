@@ -52,7 +52,7 @@ _p10() {
     _p10_value && return
     case $program:${COMP_WORDS[1]} in
     p10:check) options='--include --format' ;;
-    p10:derive) options='--include --cert-version' ;;
+    p10:derive) options='--include --cert-version --diff' ;;
     p10:verify) options='--include --clean --cert' ;;
     p10:run) options='--include --steps --cert --turns --deny --sensors' ;;
     p10:migrate) options='--include --cert' ;;
