@@ -17,7 +17,7 @@ use Rattle.p10_elabx.specs.Operands.{PlainOperand}
 use Rattle.p10_elabx.specs.Calls.{Callee, of_library, undeclared, callee_of, Wanted, of_type, library_wants, wants_of, wanted_of, pointer_value, wanted_value, Listed, with_value, argument_judged, with_argument, call_problem, library_result, call_value, is_assert, is_allocator, with_problem, call_judged, operand_call, other_call, count_arguments, allocation, element_count}
 use Rattle.p10_elabx.specs.Judging.{for_name, is_memory, memory_called, for_memory}
 use Rattle.p10_renaming.specs.Renaming.{Pairing, SameType, same_void, same_integer, same_pointer, SameValue, same_value, same_cast, same_call, same_built_in, SameValues, same_no_values, same_more_values, SameMaybe, same_none, same_some}
-use Rattle.p10_expression_renaming.specs.Knowing.{Together, SameOperand, same_a_value, SameTypes, same_no_types, same_more_types, SameMeaning, same_callable, same_unknown_name, SameBindings, same_no_bindings, same_more_bindings, SameScope, IsOneToOne}
+use Rattle.p10_expression_renaming.specs.Knowing.{Together, Ruling, SameOperand, same_a_value, SameTypes, same_no_types, same_more_types, SameMeaning, same_callable, same_unknown_name, SameBindings, same_no_bindings, same_more_bindings, SameScope, IsOneToOne}
 use Rattle.p10_expression_renaming.proofs.Finding.{by_same, when_ok, on_both, pair_both, Pairs, refused_both, refused_always, part_both, Alike}
 use Rattle.p10_expression_renaming.proofs.Sameness.{SameNamed, same_nothing_named, same_one_named, SameName, same_no_name, same_name, SameMemory, same_no_memory, same_memory, SameCallee, same_of_program, same_of_library, same_not_declared, same_no_function, same_refused_before, same_anything, same_of_type, same_any_scalar, same_any_pointer, SameWanteds, same_nothing_more, same_more_wanted, SameMaybeWanted, same_nothing_wanted, same_one_wanted}
 use Rattle.p10_expression_renaming.proofs.Types.{is_integer_same, is_pointer_same, unqualified_same}
@@ -95,12 +95,12 @@ wanted_at R same_nothing_more i = same_nothing_wanted
 wanted_at R (same_more_wanted h rest) zero = same_one_wanted h
 wanted_at R (same_more_wanted h rest) (suc i) = wanted_at R rest i
 
-pointer_both : (R : Pairing) → IsOneToOne R → (v w : PlainValue) → SameValue R v w → Together (SameValue R) (pointer_value v) (pointer_value w)
+pointer_both : (R : Pairing) → IsOneToOne R → (v w : PlainValue) → SameValue R v w → Ruling (SameValue R) (pointer_value v) (pointer_value w)
 pointer_both R one v w h =
-    by_same (Together (SameValue R)) (is_pointer (type_of v)) (is_pointer (type_of w)) (is_pointer_same R (type_same R h)) (Ok v) _ (Ok w) _ h
+    by_same (Ruling (SameValue R)) (is_pointer (type_of v)) (is_pointer (type_of w)) (is_pointer_same R (type_same R h)) (Ok v) _ (Ok w) _ h
     (when_ok (SameValue R) _ _ _ _ _ _ _ (converted_both R one v w _ _ h (same_pointer same_integer)))
 
-wanted_both : (R : Pairing) → IsOneToOne R → (a b : Option Wanted) → SameMaybeWanted R a b → (v w : PlainValue) → SameValue R v w → Together (SameValue R) (wanted_value a v) (wanted_value b w)
+wanted_both : (R : Pairing) → IsOneToOne R → (a b : Option Wanted) → SameMaybeWanted R a b → (v w : PlainValue) → SameValue R v w → Ruling (SameValue R) (wanted_value a v) (wanted_value b w)
 wanted_both R one a b same_nothing_wanted v w h = h
 wanted_both R one a b (same_one_wanted same_anything) v w h = h
 wanted_both R one a b (same_one_wanted (same_of_type {t = t} {u = u} k)) v w h = fitted_both R one (at_of v) (at_of w) v w t u h k
@@ -136,7 +136,7 @@ result_both R library.Malloc = same_void
 result_both R library.Calloc = same_void
 result_both R library.Free = same_void
 
-call_value_both : (R : Pairing) (at name_at to name_to : At) (c d : Callee) → SameCallee R c d → (vs ws : PlainValues) → SameValues R vs ws → Together (SameOperand R) (call_value at name_at c vs) (call_value to name_to d ws)
+call_value_both : (R : Pairing) (at name_at to name_to : At) (c d : Callee) → SameCallee R c d → (vs ws : PlainValues) → SameValues R vs ws → Ruling (SameOperand R) (call_value at name_at c vs) (call_value to name_to d ws)
 call_value_both R at name_at to name_to c d (same_of_program ts k) vs ws h = same_a_value (same_value (unqualified_same R k) (same_call h))
 call_value_both R at name_at to name_to c d (same_of_library {f = f}) vs ws h = same_a_value (same_value (result_both R f) (same_built_in h))
 call_value_both R at name_at to name_to c d same_not_declared vs ws h = tt
@@ -193,10 +193,10 @@ counts_both R same_none = same_no_values
 counts_both R (same_some h) = same_more_values h same_no_values
 
 pub allocation_both : (R : Pairing) (cast_at at name_at cast_to to name_to : At) (t u a b : PlainType) (f : Library) (v w : Option PlainValue) → SameType R t u → SameMaybe R v w
-    → Together (SameOperand R) (allocation cast_at t at name_at f a v) (allocation cast_to u to name_to f b w)
+    → Ruling (SameOperand R) (allocation cast_at t at name_at f a v) (allocation cast_to u to name_to f b w)
 allocation_both R cast_at at name_at cast_to to name_to t u a b f v w k h =
     when_ok (SameOperand R) _ _ _ _ _ _ _ (same_a_value (same_value (unqualified_same R k) (same_cast (same_value (unqualified_same R k) (same_built_in (counts_both R h))))))
 
-pub element_count_both : (R : Pairing) → IsOneToOne R → (o q : Ruled PlainValue) → Together (SameValue R) o q → (v w : PlainValue) → SameValue R v w → Together (SameValue R) (element_count o v) (element_count q w)
+pub element_count_both : (R : Pairing) → IsOneToOne R → (o q : Ruled PlainValue) → Ruling (SameValue R) o q → (v w : PlainValue) → SameValue R v w → Ruling (SameValue R) (element_count o v) (element_count q w)
 element_count_both R one o q refused v w h =
-    by_same (Together (SameValue R)) (is_integer (type_of v)) (is_integer (type_of w)) (is_integer_same R (type_same R h)) _ o _ q (converted_both R one v w _ _ h same_integer) refused
+    by_same (Ruling (SameValue R)) (is_integer (type_of v)) (is_integer (type_of w)) (is_integer_same R (type_same R h)) _ o _ q (converted_both R one v w _ _ h same_integer) refused

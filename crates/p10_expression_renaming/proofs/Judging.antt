@@ -1,6 +1,6 @@
 -- In the same words expressions are the same in both programs.
 use Rattle.p10_core.specs.Rows.{is_void}
-use Rattle.std.proofs.Common.{◌≡◌, ℕ, ◌+◌, Bool, true, false, not, List, [], Option, Some, None, Ok, Err, refl, ap, subst, map}
+use Rattle.std.proofs.Common.{◌≡◌, ℕ, ◌+◌, Bool, true, false, not, List, [], ◌∷◌, Option, Some, None, Ok, Err, refl, ap, subst, map}
 use Rattle.std.specs.Prelude.{if◌then◌else◌, slice_get, pos}
 use Rattle.p10_base.specs.Words.{Text}
 use Rattle.p10_base.specs.declared.at.At.{At}
@@ -24,19 +24,19 @@ use Rattle.p10_elabx.specs.declared.signs.Operation.{Operation}
 use Rattle.p10_elabx.specs.declared.signs.Operation.TheVariants.{Values, Truth, Nothing}
 use Rattle.p10_elabx.specs.declared.shape.Made.{Made}
 use Rattle.p10_elabx.specs.declared.shape.Made.TheVariants as around
-use Rattle.p10_elabx.specs.First.{Keep, Found, Ruled, refused, Judged, pair, on, refused_where, unordered, lift}
+use Rattle.p10_elabx.specs.First.{Keep, joined, Found, Ruled, refused, Judged, pair, on, refused_where, unordered, lift}
 use Rattle.p10_elabx.specs.Scopes.{PlainScope, Meaning, unevaluated, evaluating, named, library_named}
 use Rattle.p10_elabx.specs.Operands.{PlainOperand, a_value, any_value, as_value, not_void}
 use Rattle.p10_elabx.specs.Operators.{binary_value, logic_value, operand_size, indexed, member_found, arrow_found, address_found}
 use Rattle.p10_elabx.specs.Calls.{of_library, callee_of, library_wants, Wanted, wants_of, wanted_of, Listed, no_arguments, argument_judged, with_argument, call_judged, operand_call, element_count, points_to, size_constant}
 use Rattle.p10_elabx.specs.TypeNames.{Shape, declarator_place, name_place, specifiers_judged, pointer_judged, array_judged, open_array_judged, is_alone, lacks_prototype, no_parameters, parameter_judged, parameter_type, with_parameter, function_judged}
-use Rattle.p10_elabx.specs.Literals.{constant_of_type, integer_value, number_found, character_by, character_found, string_by, strings_found, strings_value, first_type, constant_types}
+use Rattle.p10_elabx.specs.Literals.{constant_of_type, integer_value, character_by, string_by, strings_value, first_type, constant_types}
 use Rattle.p10_elabx.specs.Judging.{undeclared_name, name_found, valued, operation_of, is_and, is_star, unary_found, unary_judged, unary_by_sign, may_be_place, place_of, address_judged, values_judged, truth_judged, binary_judged, conditional_judged, index_judged, member_judged, arrow_judged, size_judged, shape_size, type_size_judged, cast_found, is_void_shape, cast_judged, nested, comma_judged, sized_shape, shape_allocation, one_element, counted_elements, size_shape, either_size, either_shape, two_sizes, other_allocation, product_judged, cleared_judged, count_of, called_name, memory_called, value_in, judge, judge_arguments, judge_cast, judge_allocation, judge_bytes, judge_size, judge_type, judge_declarator, judge_parameters}
 use Rattle.p10_renaming.specs.Renaming.{Pairing, SameType, same_void, same_integer, same_pointer, same_array, same_structure, SameValue, same_value, same_constant, same_place, same_variable, same_global, same_literal, same_no_values, SameMaybe, same_none, same_some}
 use Rattle.p10_expression_renaming.specs.Mapped.{mapped_expression, mapped_expressions, mapped_type_name, mapped_specifiers, mapped_declarator, mapped_parameters, mapped_qualifier}
-use Rattle.p10_expression_renaming.specs.Knowing.{Together, SameOperand, same_a_value, same_a_place, same_a_function, SameTypes, same_no_types, same_local, same_object, same_callable, same_number, SameScope, SameStructures, IsOneToOne}
+use Rattle.p10_expression_renaming.specs.Knowing.{Together, Ruling, SameOperand, same_a_value, same_a_place, same_a_function, SameTypes, same_no_types, same_local, same_object, same_callable, same_number, SameScope, SameStructures, IsOneToOne}
 use Rattle.p10_expression_renaming.specs.Laws.{ExpressionsRenamed}
-use Rattle.p10_expression_renaming.proofs.Finding.{none_right, by_same, when_ok, lift_both, on_both, ruled_both, pair_both, Pairs, refused_both, refused_always, parts_both, Alike}
+use Rattle.p10_expression_renaming.proofs.Finding.{told_left, told_right, refused_left, refused_right, joined_right, by_same, when_ok, on_both, ruled_both, pair_both, Pairs, refused_both, refused_always, parts_both, Alike}
 use Rattle.p10_expression_renaming.proofs.Sameness.{SameNamed, same_nothing_named, same_one_named, SameName, same_no_name, same_name, SameWanteds, SameShape, same_a_type, same_an_open_array, same_a_function_type, SameSize, same_no_size, same_one_size, SameMaybeType}
 use Rattle.p10_expression_renaming.proofs.Types.{one_same, size_same}
 use Rattle.p10_expression_renaming.proofs.Operands.{any_value_both, as_value_both, value_in_both}
@@ -46,10 +46,10 @@ use Rattle.p10_expression_renaming.proofs.TypeNames.{left, right, specifiers_jud
 
 -- ## Names and constants
 
-name_both : (R : Pairing) (at name_at to name_to : At) (name : Text) (a b : Option Meaning) → SameNamed R a b → Together (SameOperand R) (name_found at name_at name a) (name_found to name_to name b)
+name_both : (R : Pairing) (at name_at to name_to : At) (name : Text) (a b : Option Meaning) → SameNamed R a b → Ruling (SameOperand R) (name_found at name_at name a) (name_found to name_to name b)
 name_both R at name_at to name_to name a b same_nothing_named = by_library (library_named name)
   where
-    by_library : (o : Option Library) → Together (SameOperand R) (undeclared_name name_at o) (undeclared_name name_to o)
+    by_library : (o : Option Library) → Ruling (SameOperand R) (undeclared_name name_at o) (undeclared_name name_to o)
     by_library None = tt
     by_library (Some f) = same_a_function
 name_both R at name_at to name_to name a b (same_one_named (same_local h)) = same_a_place (same_place h same_variable)
@@ -58,28 +58,28 @@ name_both R at name_at to name_to name a b (same_one_named (same_callable hs h))
 name_both R at name_at to name_to name a b (same_one_named same_number) = same_a_value (same_value same_integer same_constant)
 name_both R at name_at to name_to name a b (same_one_named h) = tt
 
-of_type_both : (R : Pairing) (at to : At) (z : _) (o : Option IntType) → Together (SameOperand R) (constant_of_type at z o) (constant_of_type to z o)
+of_type_both : (R : Pairing) (at to : At) (z : _) (o : Option IntType) → Ruling (SameOperand R) (constant_of_type at z o) (constant_of_type to z o)
 of_type_both R at to z None = tt
 of_type_both R at to z (Some i) = same_a_value (same_value same_integer same_constant)
 
-integer_both : (R : Pairing) (at to : At) (o : Option Integer) → Together (SameOperand R) (integer_value at o) (integer_value to o)
+integer_both : (R : Pairing) (at to : At) (o : Option Integer) → Ruling (SameOperand R) (integer_value at o) (integer_value to o)
 integer_both R at to None = tt
 integer_both R at to (Some c) = of_type_both R at to _ (first_type (constant_types c.base c.suffix) _)
 
-character_both : (R : Pairing) (at to : At) (o : Option _) → Together (SameOperand R) (character_by at o) (character_by to o)
+character_both : (R : Pairing) (at to : At) (o : Option _) → Ruling (SameOperand R) (character_by at o) (character_by to o)
 character_both R at to None = tt
 character_both R at to (Some z) = same_a_value (same_value same_integer same_constant)
 
-string_both : (R : Pairing) (at to : At) (o : Option Text) → Together (SameOperand R) (string_by at o) (string_by to o)
+string_both : (R : Pairing) (at to : At) (o : Option Text) → Ruling (SameOperand R) (string_by at o) (string_by to o)
 string_both R at to None = tt
 string_both R at to (Some bytes) = when_ok (SameOperand R) _ _ _ _ _ _ _ (same_a_place (same_place (same_array same_integer) same_literal))
 
 -- ## Forms
 
-valued_both : (R : Pairing) (f g : Ruled PlainValue) → Together (SameValue R) f g → Together (SameOperand R) (valued f) (valued g)
+valued_both : (R : Pairing) (f g : Ruled PlainValue) → Ruling (SameValue R) f g → Ruling (SameOperand R) (valued f) (valued g)
 valued_both R f g h = ruled_both (SameValue R) (SameOperand R) f g (λ v. Ok (a_value v)) (λ v. Ok (a_value v)) h (λ v w k. same_a_value k)
 
-unary_found_both : (R : Pairing) → IsOneToOne R → (at to : At) (word : Sign) (v w : PlainValue) → SameValue R v w → Together (SameOperand R) (unary_found at word v) (unary_found to word w)
+unary_found_both : (R : Pairing) → IsOneToOne R → (at to : At) (word : Sign) (v w : PlainValue) → SameValue R v w → Ruling (SameOperand R) (unary_found at word v) (unary_found to word w)
 unary_found_both R one at to sign.Star v w h = dereferenced_both R at to v w h
 unary_found_both R one at to sign.Plus v w h = valued_both R _ _ (unary_value_both R one at to unary_operator.Plus v w h)
 unary_found_both R one at to sign.Minus v w h = valued_both R _ _ (unary_value_both R one at to unary_operator.Neg v w h)
@@ -136,7 +136,7 @@ size_form : (R : Pairing) (these others : List PlainStructure) → SameStructure
 unfolding size_judged
 size_form R these others know at to j k a = on_both (SameOperand R) (SameOperand R) j.found k.found (operand_size these at) (operand_size others to) a (operand_size_both R these others know at to)
 
-shape_size_both : (R : Pairing) (these others : List PlainStructure) → SameStructures R these others → (at to : At) (x y : Shape) → SameShape R x y → Together (SameOperand R) (shape_size these at x) (shape_size others to y)
+shape_size_both : (R : Pairing) (these others : List PlainStructure) → SameStructures R these others → (at to : At) (x y : Shape) → SameShape R x y → Ruling (SameOperand R) (shape_size these at x) (shape_size others to y)
 shape_size_both R these others know at to x y (same_a_type h) = size_value_both R these others know at to _ _ h
 shape_size_both R these others know at to x y (same_an_open_array h) = tt
 shape_size_both R these others know at to x y (same_a_function_type hs h) = tt
@@ -145,7 +145,7 @@ type_size_form : (R : Pairing) (these others : List PlainStructure) → SameStru
 unfolding type_size_judged
 type_size_form R these others know at to j k a = on_both (SameShape R) (SameOperand R) j.found k.found (shape_size these at) (shape_size others to) a (shape_size_both R these others know at to)
 
-cast_found_both : (R : Pairing) (at to : At) (x y : Shape) → SameShape R x y → (v w : PlainValue) → SameValue R v w → Together (SameOperand R) (cast_found at x v) (cast_found to y w)
+cast_found_both : (R : Pairing) (at to : At) (x y : Shape) → SameShape R x y → (v w : PlainValue) → SameValue R v w → Ruling (SameOperand R) (cast_found at x v) (cast_found to y w)
 cast_found_both R at to x y (same_a_type h) v w k = valued_both R _ _ (cast_value_both R at to _ _ v w h k)
 cast_found_both R at to x y (same_an_open_array h) v w k = tt
 cast_found_both R at to x y (same_a_function_type hs h) v w k = tt
@@ -159,8 +159,8 @@ value_either R these others false false j k a = as_value_both R these others j k
 value_either R these others true false j k a = one_void (any_value these j).found (any_value others k).found (any_value_both R these others j k a)
   where
     one_void : (f g : Found PlainValue) → Together (SameValue R) f g → Together (SameValue R) f (on g not_void)
-    one_void (Err r) g h = tt
-    one_void (Ok v) (Err r) h = tt
+    one_void f (Err rs) h = h
+    one_void (Err rs) (Ok w) h = told_left (SameValue R) rs (on (Ok w) not_void) (refused_left (SameValue R) rs w h)
     one_void (Ok v) (Ok w) h = not_void_right w (is_void (type_of w)) v h
       where
         not_void_right : (w : PlainValue) (b : Bool) (v : PlainValue) → SameValue R v w → Together (SameValue R) (lift (Ok v)) (lift (if b then refused subset.VoidValue (at_of w) else Ok w))
@@ -169,8 +169,8 @@ value_either R these others true false j k a = one_void (any_value these j).foun
 value_either R these others false true j k a = one_void (any_value these j).found (any_value others k).found (any_value_both R these others j k a)
   where
     one_void : (f g : Found PlainValue) → Together (SameValue R) f g → Together (SameValue R) (on f not_void) g
-    one_void (Err r) g h = tt
-    one_void (Ok v) (Err r) h = none_right (SameValue R) _ _
+    one_void (Err rs) g h = h
+    one_void (Ok v) (Err rs) h = told_right (SameValue R) (on (Ok v) not_void) rs (refused_right (SameValue R) v rs h)
     one_void (Ok v) (Ok w) h = not_void_left v (is_void (type_of v)) w h
       where
         not_void_left : (v : PlainValue) (b : Bool) (w : PlainValue) → SameValue R v w → Together (SameValue R) (lift (if b then refused subset.VoidValue (at_of v) else Ok v)) (lift (Ok w))
@@ -195,13 +195,13 @@ comma_both R h at to k l = refused_always (SameOperand R) h subset.CommaOperator
 
 -- ## Allocations
 
-sized_both : (R : Pairing) (these others : List PlainStructure) (at to : At) (x y : Shape) → SameShape R x y → Together (SameType R) (sized_shape these at x) (sized_shape others to y)
+sized_both : (R : Pairing) (these others : List PlainStructure) (at to : At) (x y : Shape) → SameShape R x y → Ruling (SameType R) (sized_shape these at x) (sized_shape others to y)
 sized_both R these others at to x y (same_a_type h) = when_ok (SameType R) _ _ _ _ _ _ _ h
 sized_both R these others at to x y (same_an_open_array h) = tt
 sized_both R these others at to x y (same_a_function_type hs h) = tt
 
 shape_allocation_both : (R : Pairing) (site other : Site) (f : Library) (x y : Shape) → SameShape R x y → (a b : PlainType) (v w : Option PlainValue) → SameMaybe R v w
-    → Together (SameOperand R) (shape_allocation site f x a v) (shape_allocation other f y b w)
+    → Ruling (SameOperand R) (shape_allocation site f x a v) (shape_allocation other f y b w)
 shape_allocation_both R site other f x y (same_a_type h) a b v w k = allocation_both R site.cast_at site.call_at site.name_at other.cast_at other.call_at other.name_at _ _ a b f v w h k
 shape_allocation_both R site other f x y (same_an_open_array h) a b v w k = tt
 shape_allocation_both R site other f x y (same_a_function_type hs h) a b v w k = tt
@@ -215,7 +215,7 @@ one_element_both R h these others site other at to i l x y a b =
     (on_both (SameShape R) (SameType R) x.found y.found (sized_shape these at) (sized_shape others to) b (sized_both R these others at to)))
     (λ p q both. shape_allocation_both R site other library.Malloc p.0 q.0 both.0 p.1 q.1 None None same_none)
 
-counted_elements_both : (R : Pairing) → IsOneToOne R → (h : Keep) (these others : List PlainStructure) (site other : Site) (f : Library) (o q : Ruled PlainValue) → Together (SameValue R) o q → (at to : At) (i l x y : Judged Shape)
+counted_elements_both : (R : Pairing) → IsOneToOne R → (h : Keep) (these others : List PlainStructure) (site other : Site) (f : Library) (o q : Ruled PlainValue) → Ruling (SameValue R) o q → (at to : At) (i l x y : Judged Shape)
     → Alike (SameShape R) i l → Alike (SameShape R) x y → (v w : Judged PlainValue) → Alike (SameValue R) v w → Alike (SameOperand R) (counted_elements h these site f o i at x v) (counted_elements h others other f q l to y w)
 unfolding counted_elements
 counted_elements_both R one h these others site other f o q refused at to i l x y a b v w c =
@@ -230,7 +230,7 @@ counted_elements_both R one h these others site other f o q refused at to i l x 
 abbrev Sizes : Pairing → PlainType × PlainValue → PlainType × PlainValue → Type 0
 Sizes R x y = SameType R x.0 y.0 × SameValue R x.1 y.1
 
-size_shape_both : (R : Pairing) (these others : List PlainStructure) → SameStructures R these others → (at to : At) (x y : Shape) → SameShape R x y → Together (Sizes R) (size_shape these at x) (size_shape others to y)
+size_shape_both : (R : Pairing) (these others : List PlainStructure) → SameStructures R these others → (at to : At) (x y : Shape) → SameShape R x y → Ruling (Sizes R) (size_shape these at x) (size_shape others to y)
 size_shape_both R these others know at to x y (same_a_type {t = t} {u = u} h) =
     when_ok (Sizes R) _ _ (t, size_constant these at t) (u, size_constant others to u) _ _ _ (h, same_value same_integer (constant_same R (pos (size_of these t)) (pos (size_of others u)) (ap pos (size_same R these others know h))))
 size_shape_both R these others know at to x y (same_an_open_array h) = tt
@@ -243,13 +243,13 @@ points_same R one same_integer k = refl
 points_same R one (same_array h) k = refl
 points_same R one (same_structure paired) k = refl
 
-either_size_both : (R : Pairing) → IsOneToOne R → (site other : Site) (t u : PlainType) → SameType R t u → (a b c d : PlainType × PlainValue) → Sizes R a b → Sizes R c d → Together (SameOperand R) (either_size site t a c) (either_size other u b d)
+either_size_both : (R : Pairing) → IsOneToOne R → (site other : Site) (t u : PlainType) → SameType R t u → (a b c d : PlainType × PlainValue) → Sizes R a b → Sizes R c d → Ruling (SameOperand R) (either_size site t a c) (either_size other u b d)
 either_size_both R one site other t u h a b c d k l =
-    by_same (Together (SameOperand R)) (points_to t c.0) (points_to u d.0) (points_same R one h l.0) _ _ _ _
+    by_same (Ruling (SameOperand R)) (points_to t c.0) (points_to u d.0) (points_same R one h l.0) _ _ _ _
     (allocation_both R site.cast_at site.call_at site.name_at other.cast_at other.call_at other.name_at t u c.0 d.0 library.Malloc (Some a.1) (Some b.1) h (same_some k.1))
     (allocation_both R site.cast_at site.call_at site.name_at other.cast_at other.call_at other.name_at t u a.0 b.0 library.Malloc (Some c.1) (Some d.1) h (same_some l.1))
 
-either_shape_both : (R : Pairing) → IsOneToOne R → (site other : Site) (x y : Shape) → SameShape R x y → (a b c d : PlainType × PlainValue) → Sizes R a b → Sizes R c d → Together (SameOperand R) (either_shape site x a c) (either_shape other y b d)
+either_shape_both : (R : Pairing) → IsOneToOne R → (site other : Site) (x y : Shape) → SameShape R x y → (a b c d : PlainType × PlainValue) → Sizes R a b → Sizes R c d → Ruling (SameOperand R) (either_shape site x a c) (either_shape other y b d)
 either_shape_both R one site other x y (same_a_type h) a b c d k l = either_size_both R one site other _ _ h a b c d k l
 either_shape_both R one site other x y (same_an_open_array h) a b c d k l = tt
 either_shape_both R one site other x y (same_a_function_type hs h) a b c d k l = tt
@@ -268,9 +268,11 @@ two_sizes_both R one h these others know site other i l k left_at left_to a b m 
 -- an allocation of another form is none
 never_both : {A B C : Type 0} (P : C → C → Type 0) (h : Keep) (f : Found A) (code : SubsetCode) (at : At) (g : Found B) (go : A × B → Ruled C) (x : Found C) → Together P (on (pair h f (refused_where h true code at g)) go) x
 never_both P h (Ok a) code at (Ok b) go x = tt
-never_both P h (Ok a) code at (Err r) go x = tt
-never_both P h (Err q) code at (Ok b) go x = tt
-never_both P h (Err q) code at (Err r) go x = tt
+never_both P h (Ok a) code at (Err rs) go x = told_left P (joined h rs (record { code = code; at = at } ∷ [])) x (joined_right h rs (record { code = code; at = at } ∷ []) tt)
+never_both P h (Err qs) code at (Ok b) go x = told_left P (joined h qs (record { code = code; at = at } ∷ [])) x (joined_right h qs (record { code = code; at = at } ∷ []) tt)
+never_both P h (Err qs) code at (Err rs) go x =
+    told_left P (joined h qs (joined h rs (record { code = code; at = at } ∷ []))) x
+    (joined_right h qs (joined h rs (record { code = code; at = at } ∷ [])) (joined_right h rs (record { code = code; at = at } ∷ []) tt))
 
 other_allocation_both : (R : Pairing) (h : Keep) (site other : Site) (i l : Judged Shape) (j k : Judged PlainOperand) → Alike (SameOperand R) (other_allocation h site i j) (other_allocation h other l k)
 unfolding other_allocation
@@ -298,11 +300,11 @@ cleared_both R one h these others site other i l m j k at to v w e size_at size_
 
 -- ## Trees at two places
 
-called_both : (e : Expression (At × At)) → SameName (called_name (mapped_expression left e)) (called_name (mapped_expression right e))
+pub called_both : (e : Expression (At × At)) → SameName (called_name (mapped_expression left e)) (called_name (mapped_expression right e))
 called_both (expression at n (Name x)) = same_name
 called_both (expression at n form) = same_no_name
 
-as_many : (all : Expressions (At × At)) → count_of (mapped_expressions left all) ≡ count_of (mapped_expressions right all)
+pub as_many : (all : Expressions (At × At)) → count_of (mapped_expressions left all) ≡ count_of (mapped_expressions right all)
 as_many NoExpressions = refl
 as_many (MoreExpressions e rest) = ap (λ n. n + 1) (as_many rest)
 
@@ -332,7 +334,7 @@ wants_same R s t know name count other e =
     subst (λ n. SameWanteds R (wanted_of (wants_of (callee_of (named s name) name)) count) (wanted_of (wants_of (callee_of (named t name) name)) n)) e
     (wants_both R count (callee_of (named s name) name) (callee_of (named t name) name) (callee_both R name (named_both R s t know name)))
 
-library_wants_same : (R : Pairing) (f : Library) (count other : ℕ) → count ≡ other → SameWanteds R (wanted_of (Some (library_wants f)) count) (wanted_of (Some (library_wants f)) other)
+pub library_wants_same : (R : Pairing) (f : Library) (count other : ℕ) → count ≡ other → SameWanteds R (wanted_of (Some (library_wants f)) count) (wanted_of (Some (library_wants f)) other)
 library_wants_same R f count other e = subst (λ n. SameWanteds R (wanted_of (Some (library_wants f)) count) (wanted_of (Some (library_wants f)) n)) e (counted_both R count (library_wants f) (library_wants f) (library_both R f))
 
 parameter_judged_both : (R : Pairing) (h : Keep) (alone other : Bool) (at to : At) (d e : Declarator At) (j k : Judged Shape) → Alike (SameShape R) j k
@@ -346,10 +348,10 @@ parameter_judged_both R h alone other at to d e j k a =
 mutual
   pub judging : (R : Pairing) → IsOneToOne R → (h : Keep) (s t : PlainScope) → SameScope R s t → (e : Expression (At × At)) → Alike (SameOperand R) (on_left h s e) (on_right h t e)
   judging R one h s t know (expression at n (Name x)) =
-      lift_both (SameOperand R) (name_found at.0 x.place.0 x.name (named s x.name)) (name_found at.1 x.place.1 x.name (named t x.name)) (name_both R at.0 x.place.0 at.1 x.place.1 x.name (named s x.name) (named t x.name) (named_both R s t know x.name))
-  judging R one h s t know (expression at n (Number text)) = lift_both (SameOperand R) (number_found at.0 text) (number_found at.1 text) (integer_both R at.0 at.1 (integer_constant text))
-  judging R one h s t know (expression at n (Character text)) = lift_both (SameOperand R) (character_found at.0 text) (character_found at.1 text) (character_both R at.0 at.1 (character_value text))
-  judging R one h s t know (expression at n (Strings texts)) = lift_both (SameOperand R) (strings_found at.0 texts) (strings_found at.1 texts) (string_both R at.0 at.1 (strings_value (Some []) texts))
+      name_both R at.0 x.place.0 at.1 x.place.1 x.name (named s x.name) (named t x.name) (named_both R s t know x.name)
+  judging R one h s t know (expression at n (Number text)) = integer_both R at.0 at.1 (integer_constant text)
+  judging R one h s t know (expression at n (Character text)) = character_both R at.0 at.1 (character_value text)
+  judging R one h s t know (expression at n (Strings texts)) = string_both R at.0 at.1 (strings_value (Some []) texts)
   judging R one h s t know (expression at n (Unary word e)) =
       unary_both R one h s t at.0 at.1 (is_and word) word (may_be_place (mapped_expression left e)) (may_be_place (mapped_expression right e)) (on_left h s e) (on_right h t e) (judging R one h s t know e)
   judging R one h s t know (expression at n (Step side word e)) = nested_both R h at.0 at.1 _ _
@@ -385,7 +387,7 @@ mutual
       (typing R one h (evaluating s) (evaluating t) (evaluating_both R s t know) name)
   judging R one h s t know (expression at n (Comma all)) = comma_both R h at.0 at.1 _ _
 
-  arguing : (R : Pairing) → IsOneToOne R → (h : Keep) (s t : PlainScope) → SameScope R s t → (ws vs : List Wanted) → SameWanteds R ws vs → (i : ℕ) (k l : Listed) → Likewise R k l → (all : Expressions (At × At))
+  pub arguing : (R : Pairing) → IsOneToOne R → (h : Keep) (s t : PlainScope) → SameScope R s t → (ws vs : List Wanted) → SameWanteds R ws vs → (i : ℕ) (k l : Listed) → Likewise R k l → (all : Expressions (At × At))
       → Likewise R (judge_arguments h s ws i k (mapped_expressions left all)) (judge_arguments h t vs i l (mapped_expressions right all))
   arguing R one h s t know ws vs w i k l a NoExpressions = a
   arguing R one h s t know ws vs w i k l a (MoreExpressions e rest) =

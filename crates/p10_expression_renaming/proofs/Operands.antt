@@ -10,7 +10,7 @@ use Rattle.p10_elabx.specs.Scopes.{PlainScope}
 use Rattle.p10_elabx.specs.Operands.{PlainOperand, sensed, read_form, read_value, place_value, operand_value, not_void, any_value, as_value, converted}
 use Rattle.p10_elabx.specs.Judging.{value_in}
 use Rattle.p10_renaming.specs.Renaming.{Pairing, SameType, same_array, same_pointer, SameValue, same_value, SameForm, same_read, same_sense, same_decay, same_convert, SamePlace, same_place, same_global}
-use Rattle.p10_expression_renaming.specs.Knowing.{Together, SameOperand, same_a_value, same_a_place, same_a_function, IsOneToOne}
+use Rattle.p10_expression_renaming.specs.Knowing.{Ruling, SameOperand, same_a_value, same_a_place, same_a_function, IsOneToOne}
 use Rattle.p10_expression_renaming.proofs.Finding.{by_same, when_ok, unless_ok, on_both, part_both, Alike}
 use Rattle.p10_expression_renaming.proofs.Types.{one_same, unqualified_same}
 use Rattle.p10_expression_renaming.proofs.Values.{type_same, place_type_same}
@@ -28,19 +28,19 @@ form_both R Sensor h = sensed_both R h
 form_both R Frame h = same_read h
 form_both R Object h = same_read h
 
-read_both : (R : Pairing) (these others : List PlainStructure) (kind : PlaceKind) {q r : PlainPlace} → SamePlace R q r → Together (SameValue R) (read_value these kind q) (read_value others kind r)
+read_both : (R : Pairing) (these others : List PlainStructure) (kind : PlaceKind) {q r : PlainPlace} → SamePlace R q r → Ruling (SameValue R) (read_value these kind q) (read_value others kind r)
 read_both R these others kind h = when_ok (SameValue R) _ _ _ _ _ _ _ (same_value (unqualified_same R (place_type_same R h)) (form_both R kind h))
 
-pub place_value_both : (R : Pairing) (these others : List PlainStructure) (kind : PlaceKind) {q r : PlainPlace} → SamePlace R q r → Together (SameValue R) (place_value these kind q) (place_value others kind r)
+pub place_value_both : (R : Pairing) (these others : List PlainStructure) (kind : PlaceKind) {q r : PlainPlace} → SamePlace R q r → Ruling (SameValue R) (place_value these kind q) (place_value others kind r)
 place_value_both R these others kind (same_place {at = at} {to = to} (same_array h) f) = same_value (same_pointer h) (same_decay (same_place {at = at} {to = to} (same_array h) f))
 place_value_both R these others kind (same_place {at = at} {to = to} h f) = read_both R these others kind (same_place {at = at} {to = to} h f)
 
-pub operand_value_both : (R : Pairing) (these others : List PlainStructure) (o k : PlainOperand) → SameOperand R o k → Together (SameValue R) (operand_value these o) (operand_value others k)
+pub operand_value_both : (R : Pairing) (these others : List PlainStructure) (o k : PlainOperand) → SameOperand R o k → Ruling (SameValue R) (operand_value these o) (operand_value others k)
 operand_value_both R these others o k (same_a_value h) = h
 operand_value_both R these others o k (same_a_place {kind = kind} h) = place_value_both R these others kind h
 operand_value_both R these others o k same_a_function = tt
 
-pub not_void_both : (R : Pairing) (v w : PlainValue) → SameValue R v w → Together (SameValue R) (not_void v) (not_void w)
+pub not_void_both : (R : Pairing) (v w : PlainValue) → SameValue R v w → Ruling (SameValue R) (not_void v) (not_void w)
 not_void_both R v w h = unless_ok (SameValue R) _ _ _ _ _ _ _ h
 
 pub any_value_both : (R : Pairing) (these others : List PlainStructure) (j k : Judged PlainOperand) → Alike (SameOperand R) j k → Alike (SameValue R) (any_value these j) (any_value others k)

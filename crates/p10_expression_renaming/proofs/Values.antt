@@ -10,8 +10,6 @@ use Rattle.p10_int.specs.Conversion.{converted}
 use Rattle.p10_int.specs.Operators.{truth_of}
 use Rattle.p10_core.specs.declared.typed.LogicOp.{LogicOp}
 use Rattle.p10_renaming.specs.Renaming.{Pairing, SameType, SameValue, same_value, same_constant, same_read, same_sense, same_address, same_decay, same_convert, same_cast, same_unary, same_binary, same_logic, same_conditional, same_call, same_built_in, SamePlace, same_place}
-use Rattle.p10_expression_renaming.specs.Knowing.{Together}
-use Rattle.p10_expression_renaming.proofs.Finding.{none_right, when_both}
 use Rattle.p10_expression_renaming.proofs.Types.{integer_of_same}
 
 pub type_same : (R : Pairing) {v w : PlainValue} → SameValue R v w → SameType R (type_of v) (type_of w)
@@ -22,38 +20,50 @@ place_type_same R (same_place h f) = h
 
 -- ---- numbers
 
-abbrev pub Numbers : ℤ → ℤ → Type 0
-Numbers x y = x ≡ y
+-- what constants give on both sides is the same; nothing is said where one of them stops
+abbrev pub Folded : Result ℤ At → Result ℤ At → Type 0
+Folded (Ok x) (Ok y) = x ≡ y
+Folded (Ok x) (Err e) = Unit {0}
+Folded (Err e) g = Unit {0}
 
-folded_both : (f g : Result ℤ At) (go went : ℤ → Result ℤ At) → Together Numbers f g → ((x y : ℤ) → x ≡ y → Together Numbers (go x) (went y)) → Together Numbers (folded_then f go) (folded_then g went)
+stops_right : (f : Result ℤ At) (e : At) → Folded f (Err e)
+stops_right (Ok x) e = tt
+stops_right (Err r) e = tt
+
+small_both : (b c : Bool) (f g : Result ℤ At) (e d : At) → Folded f g → Folded (if b then f else Err e) (if c then g else Err d)
+small_both true true f g e d h = h
+small_both true false f g e d h = stops_right f d
+small_both false c f g e d h = tt
+
+folded_both : (f g : Result ℤ At) (go went : ℤ → Result ℤ At) → Folded f g → ((x y : ℤ) → x ≡ y → Folded (go x) (went y)) → Folded (folded_then f go) (folded_then g went)
 folded_both (Ok x) (Ok y) go went h each = each x y h
-folded_both (Ok x) (Err e) go went h each = none_right Numbers (go x) e
+folded_both (Ok x) (Err e) go went h each = stops_right (go x) e
 folded_both (Err e) g go went h each = tt
 
-placed_both : (at to : At) (f g : Result ℤ Stop) → f ≡ g → Together Numbers (or_place at f) (or_place to g)
+placed_both : (at to : At) (f g : Result ℤ Stop) → f ≡ g → Folded (or_place at f) (or_place to g)
 placed_both at to (Ok x) (Ok y) h = cc
 placed_both at to (Ok x) (Err e) h = tt
 placed_both at to (Err e) g h = tt
 
 -- one of two, by a number
-either_both : (x y : ℤ) → x ≡ y → (a b c d : Result ℤ At) → Together Numbers a c → Together Numbers b d → Together Numbers (if is_zero x then a else b) (if is_zero y then c else d)
+either_both : (x y : ℤ) → x ≡ y → (a b c d : Result ℤ At) → Folded a c → Folded b d → Folded (if is_zero x then a else b) (if is_zero y then c else d)
 either_both x y same a b c d h k = by_test (is_zero x) (is_zero y) (ap is_zero same)
   where
-    by_test : (s t : Bool) → s ≡ t → Together Numbers (if s then a else b) (if t then c else d)
+    by_test : (s t : Bool) → s ≡ t → Folded (if s then a else b) (if t then c else d)
     by_test true true e = h
     by_test true false e = absurd cc
     by_test false true e = absurd cc
     by_test false false e = k
 
-truth_both : (x y : ℤ) → x ≡ y → Together Numbers (truth_number x) (truth_number y)
+truth_both : (x y : ℤ) → x ≡ y → Folded (truth_number x) (truth_number y)
 truth_both x y same = λ i. truth_of (not (is_zero (same i)))
 
-logic_both : (op : LogicOp) (a b c d : Result ℤ At) → Together Numbers a c → Together Numbers b d → Together Numbers (logic_result op a b) (logic_result op c d)
+logic_both : (op : LogicOp) (a b c d : Result ℤ At) → Folded a c → Folded b d → Folded (logic_result op a b) (logic_result op c d)
 logic_both both_sides.And a b c d h k = folded_both a c _ _ h (λ x y same. either_both x y same (Ok (pos 0)) (folded_then b truth_number) (Ok (pos 0)) (folded_then d truth_number) refl (folded_both b d truth_number truth_number k truth_both))
 logic_both both_sides.Or a b c d h k = folded_both a c _ _ h (λ x y same. either_both x y same (folded_then b truth_number) (Ok (pos 1)) (folded_then d truth_number) (Ok (pos 1)) (folded_both b d truth_number truth_number k truth_both) refl)
 
-pub fold_both : (R : Pairing) {v w : PlainValue} → SameValue R v w → Together Numbers (fold v) (fold w)
-fold_both R (same_value {at = at} {to = to} h (same_constant {z = z})) = when_both Numbers (is_small z) (is_small z) (Ok z) (Ok z) at to refl
+pub fold_both : (R : Pairing) {v w : PlainValue} → SameValue R v w → Folded (fold v) (fold w)
+fold_both R (same_value {at = at} {to = to} h (same_constant {z = z})) = small_both (is_small z) (is_small z) (Ok z) (Ok z) at to refl
 fold_both R (same_value h (same_read k)) = tt
 fold_both R (same_value h same_sense) = tt
 fold_both R (same_value h (same_address k)) = tt

@@ -1,22 +1,31 @@
 -- What is known in two programs that is the same but for places and for the numbers of objects, literals and structures.
-use Rattle.std.specs.Prelude.{◌≡◌, ℕ, ℤ, Bool, true, nat_eq, List, [], ◌∷◌, Result, Ok, Err}
+use Rattle.std.specs.Prelude.{◌≡◌, ℕ, ℤ, Bool, true, nat_eq, List, [], ◌∷◌, Ok, Err}
 use Rattle.p10_base.specs.Words.{Text}
 use Rattle.p10_base.specs.declared.at.At.{At}
 use Rattle.p10_core.specs.Types.{PlainType, PlainMember, PlainStructure, structure, members_of}
 use Rattle.p10_core.specs.Sizes.{size_of}
 use Rattle.p10_core.specs.Typed.{PlainValue, PlainPlace}
 use Rattle.p10_elabx.specs.declared.operand.PlaceKind.{PlaceKind}
+use Rattle.p10_elabx.specs.First.{Found, Ruled, lift}
 use Rattle.p10_elabx.specs.Scopes.{Meaning, local, object, callable, number, named_type, tagged_type, unknown_name, unknown_tag, Binding, PlainScope}
 use Rattle.p10_elabx.specs.Operands.{PlainOperand, a_value, a_place, a_function}
 use Rattle.p10_renaming.specs.Renaming.{Pairing, SameType, SameValue, SamePlace}
 
 -- ## What is found
 
--- where something is found on both sides it is the same; nothing is said where a row refuses one side
-abbrev pub Together : {A E F : Type 0} → (A → A → Type 0) → Result A E → Result A F → Type 0
-Together P (Err e) g = Unit {0}
-Together P (Ok a) (Err f) = Unit {0}
+-- where no row holds on either side, the same is found on both, or nothing is, since a name is used whose declaration was refused; nothing
+-- is said where a row refuses one side
+abbrev pub Together : {A : Type 0} → (A → A → Type 0) → Found A → Found A → Type 0
 Together P (Ok a) (Ok b) = P a b
+Together P (Ok a) (Err []) = ⊥
+Together P (Ok a) (Err (r ∷ rs)) = Unit {0}
+Together P (Err []) (Ok b) = ⊥
+Together P (Err []) (Err rs) = Unit {0}
+Together P (Err (r ∷ rs)) g = Unit {0}
+
+-- the same of what one row says
+abbrev pub Ruling : {A : Type 0} → (A → A → Type 0) → Ruled A → Ruled A → Type 0
+Ruling P f g = Together P (lift f) (lift g)
 
 pub data SameOperand (R : Pairing) : PlainOperand → PlainOperand → Type 0 where
   same_a_value : {v w : PlainValue} → SameValue R v w → SameOperand R (a_value v) (a_value w)
