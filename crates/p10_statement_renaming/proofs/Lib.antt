@@ -1,0 +1,12 @@
+-- Lemmas for this crate.
+pub mod GrowingDeclarations
+pub mod GrowingStatements
+pub mod Quiet
+pub mod Values
+pub mod Forms
+pub mod Made
+pub mod Labels
+pub mod Statements
+pub mod Trees
+pub mod Declarations
+pub mod Bodies
