@@ -1,0 +1,4 @@
+pub mod Extending
+pub mod ExtendingInitializers
+pub mod ExtendingDeclarations
+pub mod ExtendingStatements
