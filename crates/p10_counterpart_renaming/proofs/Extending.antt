@@ -1,0 +1,118 @@
+-- Pairings with more structures.
+use Rattle.std.proofs.Common.{lt-ltb, le-leb, eq-eqb, ne_eqb, ltb-true, leb-true, eqb-true, ◌≡◌, ◌∙◌, ℕ, ◌+◌, ◌-◌, ◌<◌, ◌≤◌, Bool, true, false, ◌&&◌, ◌||◌, nat_eq, nat_lt, nat_le, List, length, inl, inr, ◌⊎◌, ⊎_elim, refl, sym, ap, subst, arith}
+use Rattle.std.proofs.lemmas.Bool.{and_parts}
+use Rattle.p10_core.specs.Types.{PlainStructure}
+use Rattle.p10_linkage.specs.Linkage.{LinkedType, Linked}
+use Rattle.p10_elab.specs.Knowledge.{Known}
+use Rattle.p10_renaming.specs.Renaming.{Pairing}
+use Rattle.p10_expression_renaming.specs.Knowing.{IsOneToOne}
+use Rattle.p10_pairing_laws.specs.Laws.{IsWithin, IsNewPast}
+use Rattle.p10_pairing_laws.proofs.Trees.{type_stays}
+use Rattle.p10_pairing_laws.proofs.Scopes.{types_stay, scopes_stay_same}
+use Rattle.p10_root_renaming.specs.Roots.{SameLinkedType, same_a_function, same_an_object, same_a_part_function, same_unknown_object, SameLinkeds, same_no_linked, same_more_linked, SameKnown}
+use Rattle.p10_touched_renaming.proofs.Touched.{there_too}
+use Rattle.p10_counterpart_renaming.specs.Runs.{structures_in, extended, SameSoFar}
+
+-- ## Which structures are paired
+
+either_true : (b c : Bool) → (b || c) ≡ true → (b ≡ true) ⊎ (c ≡ true)
+either_true true c e = inl refl
+either_true false c e = inr e
+
+-- a pair that is new
+record IsNewPair (from other count n m : ℕ) : Type 0 where
+  least : from ≤ n
+  below : n < from + count
+  step : m + from ≡ n + other
+
+new_pair : (from other count n m : ℕ) → ((nat_le from n && nat_lt n (from + count)) && nat_eq (m + from) (n + other)) ≡ true → IsNewPair from other count n m
+new_pair from other count n m e =
+    let p = and_parts (nat_le from n && nat_lt n (from + count)) (nat_eq (m + from) (n + other)) e in
+    let q = and_parts (nat_le from n) (nat_lt n (from + count)) p.0 in
+    record { least = leb-true from n q.0; below = ltb-true n (from + count) q.1; step = eqb-true (m + from) (n + other) p.1 }
+
+pair_cases : (R : Pairing) (from other count n m : ℕ) → extended R from other count n m ≡ true → (R n m ≡ true) ⊎ IsNewPair from other count n m
+pair_cases R from other count n m e =
+    ⊎_elim (λ p. inl p) (λ p. inr (new_pair from other count n m p)) (either_true (R n m) ((nat_le from n && nat_lt n (from + count)) && nat_eq (m + from) (n + other)) e)
+
+pub within_extended : (R : Pairing) (from other count : ℕ) → IsWithin R (extended R from other count)
+within_extended R from other count n m e = ap (λ b. b || ((nat_le from n && nat_lt n (from + count)) && nat_eq (m + from) (n + other))) e
+
+or_right : (b c : Bool) → c ≡ true → (b || c) ≡ true
+or_right true c e = refl
+or_right false c e = e
+
+-- the next structures are paired
+pub next_extended : (R : Pairing) (from other count i : ℕ) → i + from < from + count → extended R from other count (i + from) (i + other) ≡ true
+next_extended R from other count i low =
+    or_right (R (i + from) (i + other)) ((nat_le from (i + from) && nat_lt (i + from) (from + count)) && nat_eq ((i + other) + from) ((i + from) + other))
+    ((λ x. (le-leb from (i + from) (omega arith) x && lt-ltb (i + from) (from + count) low x) && eq-eqb ((i + other) + from) ((i + from) + other) (omega arith) x))
+
+pub low_extended : (R : Pairing) (from other count : ℕ) → ((n m : ℕ) → R n m ≡ true → n < from) → (n m : ℕ) → extended R from other count n m ≡ true → n < from + count
+low_extended R from other count low n m e = ⊎_elim (λ p. omega (arith, low n m p)) (λ p. p.below) (pair_cases R from other count n m e)
+
+pub past_extended : (R : Pairing) (count : ℕ) (these others : List PlainStructure) → IsNewPast R (extended R (length these) (length others) count) these others
+past_extended R count these others n m e =
+    ⊎_elim (λ p. inl p) (λ p. inr (p.least, omega (arith, p.least, p.step))) (pair_cases R (length these) (length others) count n m e)
+
+both_false : (a b c d : ℕ) → a < b → c < d → nat_eq a b ≡ nat_eq c d
+both_false a b c d low other = ne_eqb a b (λ e. omega (arith, low, e)) ∙ sym (ne_eqb c d (λ e. omega (arith, other, e)))
+
+false_both : (a b c d : ℕ) → b < a → d < c → nat_eq a b ≡ nat_eq c d
+false_both a b c d low other = ne_eqb a b (λ e. omega (arith, low, e)) ∙ sym (ne_eqb c d (λ e. omega (arith, other, e)))
+
+same_tests : (b c : Bool) → (b ≡ true → c ≡ true) → (c ≡ true → b ≡ true) → b ≡ c
+same_tests true c f g = sym (f refl)
+same_tests false true f g = g refl
+same_tests false false f g = refl
+
+new_both : (from other count n m i j : ℕ) → IsNewPair from other count n i → IsNewPair from other count m j → nat_eq n m ≡ nat_eq i j
+new_both from other count n m i j p q =
+    same_tests (nat_eq n m) (nat_eq i j) (λ e. let d : n ≡ m = eqb-true n m e in eq-eqb i j (omega (arith, d, p.step, q.step))) (λ e. let d : i ≡ j = eqb-true i j e in eq-eqb n m (omega (arith, d, p.step, q.step)))
+
+pub one_extended : (R : Pairing) → IsOneToOne R → (from other count : ℕ) → ((n m : ℕ) → R n m ≡ true → n < from) → ((n m : ℕ) → R n m ≡ true → m < other) → IsOneToOne (extended R from other count)
+one_extended R one from other count low high n m i j e d =
+    ⊎_elim
+    (λ p. ⊎_elim (λ q. one n m i j p q) (λ q. both_false n m i j (omega (arith, low n i p, q.least)) (omega (arith, high n i p, q.least, q.step))) (pair_cases R from other count m j d))
+    (λ p. ⊎_elim (λ q. false_both n m i j (omega (arith, low m j q, p.least)) (omega (arith, high m j q, p.least, p.step))) (λ q. new_both from other count n m i j p q) (pair_cases R from other count m j d))
+    (pair_cases R from other count n i e)
+
+-- ## What is known
+
+type_linked : (R Q : Pairing) → IsWithin R Q → {t u : LinkedType} → SameLinkedType R t u → SameLinkedType Q t u
+type_linked R Q more (same_a_function ts h) = same_a_function (types_stay R Q more ts) (type_stays R Q more h)
+type_linked R Q more (same_an_object h) = same_an_object (type_stays R Q more h)
+type_linked R Q more same_a_part_function = same_a_part_function
+type_linked R Q more same_unknown_object = same_unknown_object
+
+linkeds_stay : (R Q : Pairing) → IsWithin R Q → {ls ms : List Linked} → SameLinkeds R ls ms → SameLinkeds Q ls ms
+linkeds_stay R Q more same_no_linked = same_no_linked
+linkeds_stay R Q more (same_more_linked h rest) =
+    same_more_linked (record { root = h.root; name = h.name; type = type_linked R Q more h.type; internal = h.internal; sensor = h.sensor }) (linkeds_stay R Q more rest)
+
+-- what is known with the next structures paired
+abbrev pub extended_by : Pairing → Known → Known → ℕ → Pairing
+extended_by R k j later = extended R (structures_in k) (structures_in j) (later - structures_in k)
+
+up_to : (from later : ℕ) → from ≤ later → from + (later - from) ≡ later
+up_to from later low = omega (arith, low)
+
+pub known_extended : (R : Pairing) (k j : Known) → SameSoFar R k j → (later : ℕ) → structures_in k ≤ later → SameKnown (extended_by R k j later) later k j
+known_extended R k j so later low =
+    let Q : Pairing = extended_by R k j later in
+    let more : IsWithin R Q = within_extended R (structures_in k) (structures_in j) (later - structures_in k) in
+    record {
+      standing = scopes_stay_same R Q more (structures_in k) later k.standing.scope j.standing.scope (past_extended R (later - structures_in k) k.standing.scope.structures j.standing.scope.structures)
+          (λ i below. next_extended R (structures_in k) (structures_in j) (later - structures_in k) i (subst (λ z. i + structures_in k < z) (sym (up_to (structures_in k) later low)) below)) so.known.standing;
+      root = so.known.root;
+      linked = linkeds_stay R Q more so.known.linked;
+      functions = so.known.functions;
+    }
+
+pub low_by : (R : Pairing) (k j : Known) → SameSoFar R k j → (later : ℕ) → structures_in k ≤ later → (n m : ℕ) → extended_by R k j later n m ≡ true → n < later
+low_by R k j so later low n m e = subst (λ z. n < z) (up_to (structures_in k) later low) (low_extended R (structures_in k) (structures_in j) (later - structures_in k) so.low n m e)
+
+pub one_by : (R : Pairing) (k j : Known) → SameSoFar R k j → (later : ℕ) → IsOneToOne (extended_by R k j later)
+one_by R k j so later =
+    one_extended R so.one (structures_in k) (structures_in j) (later - structures_in k) so.low
+    (λ n m e. there_too R k.standing.scope.structures j.standing.scope.structures so.known.standing.tables n m e (so.low n m e))

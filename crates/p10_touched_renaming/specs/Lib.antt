@@ -1,0 +1,3 @@
+-- The definitions that the contract of this crate cites.
+pub mod Touched
+pub mod Laws
