@@ -18,7 +18,7 @@ map_twice : {A B C : Type 0} (f : B → C) (g : A → B) (o : Option A) → opti
 map_twice f g None = refl
 map_twice f g (Some x) = refl
 
-digest_there : (r : PlainReading) (n : ℕ) → slice_get (reading_digests r).funcs n ≡ option_map sha256 (lines_of_function r n)
+pub digest_there : (r : PlainReading) (n : ℕ) → slice_get (reading_digests r).funcs n ≡ option_map sha256 (lines_of_function r n)
 digest_there r n =
     get_map (λ at. sha256 (hashed_lines (tree_words r.expansion.roots at))) (function_places (trees_in r.units)) n
     ∙ map_twice sha256 (λ at. hashed_lines (tree_words r.expansion.roots at)) (slice_get (function_places (trees_in r.units)) n)

@@ -1,0 +1,8 @@
+-- Lemmas for this crate.
+pub mod Settled
+pub mod Together
+pub mod Regular
+pub mod Tags
+pub mod Widths
+pub mod Joining
+pub mod Rechecking

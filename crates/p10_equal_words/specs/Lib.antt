@@ -1,0 +1,3 @@
+-- The definitions that the contracts of this crate cites.
+pub mod Comparable
+pub mod Laws
