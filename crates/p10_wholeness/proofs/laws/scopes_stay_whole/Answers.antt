@@ -1,0 +1,5 @@
+use Rattle.p10_wholeness.proofs.Staying.{scopes_stay_whole}
+use Rattle.p10_wholeness.proofs.laws.scopes_stay_whole.Goals as goal
+
+pub returns : goal.returns
+returns c = scopes_stay_whole

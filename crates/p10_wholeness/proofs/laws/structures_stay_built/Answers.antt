@@ -1,0 +1,5 @@
+use Rattle.p10_wholeness.proofs.Staying.{structures_stay_built}
+use Rattle.p10_wholeness.proofs.laws.structures_stay_built.Goals as goal
+
+pub returns : goal.returns
+returns c = structures_stay_built
