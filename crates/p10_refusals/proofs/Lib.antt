@@ -1,13 +1,24 @@
 -- Lemmas of this crate: what is alike, then from expressions to roots.
 pub mod Alike
+pub mod Bodies
 pub mod Declaring
 pub mod Forms
+pub mod FormsInFunctions
+pub mod FormsOutside
+pub mod Growing
+pub mod GrowingStatements
+pub mod GrowingTrees
 pub mod Initializing
+pub mod InRoots
+pub mod Inside
+pub mod InsideDeclarations
+pub mod Lengths
 pub mod Locals
 pub mod Outside
 pub mod Roots
 pub mod Shaping
 pub mod Statements
+pub mod Switches
 pub mod Tagging
 pub mod Told
 pub mod Values
