@@ -1,11 +1,13 @@
 -- What is found at a place: each step of the search for the next function.
-use Rattle.std.proofs.Common.{◌≡◌, ◌≢◌, ℕ, zero, suc, ◌+◌, ◌-◌, ◌≤◌, Bool, true, false, cond, nat_le, ◌==◌, List, [], ◌∷◌, ◌++◌, length, take, Option, Some, None, Result, Ok, Err, refl, sym, ap, subst, ◌∙◌, arith, length-append}
+use Rattle.std.proofs.Common.{◌≡◌, ◌≢◌, ℕ, zero, suc, ◌+◌, ◌-◌, ◌≤◌, Bool, true, false, cond, nat_le, ◌==◌, List, [], ◌∷◌, ◌++◌, length, get_or, take, codes, Option, Some, None, Result, Ok, Err, refl, sym, ap, subst, ◌∙◌, arith, length-append}
 use Rattle.std.proofs.Math.Seq.{take-append_seam}
 use Rattle.std.proofs.lemmas.Bool.Decides.{nat_tests}
 use Rattle.std.proofs.lemmas.Option.{cond_some, same_Some, none-some}
 use Rattle.std.specs.List.{AllByRecursion}
 use Rattle.p10_base.specs.declared.digest.Digest.{Digest}
 use Rattle.p10_base.specs.declared.report.Bounds.{Bounds}
+use Rattle.p10_cert.specs.declared.claims.Rank.{Rank}
+use Rattle.p10_cert.specs.declared.claims.Rank.TheVariants.{Up, Down, One, Task}
 use Rattle.p10_cert.specs.declared.cursor.Found.{Found}
 use Rattle.p10_cert.specs.declared.line.Head.{Head}
 use Rattle.p10_cert.specs.declared.line.Row.{Row}
@@ -15,7 +17,7 @@ use Rattle.p10_cert.specs.declared.state.Next.{Next as CodeNext}
 use Rattle.p10_cert.specs.declared.state.Next.TheVariants as code
 use Rattle.p10_cert.specs.declared.state.Seen.{Seen}
 use Rattle.p10_cert.specs.Claims.{Var}
-use Rattle.p10_cert.specs.Lines.{FuncHead, LoopHead, Line, FirstLine, FuncLine, ParamLine, ResultLine, LoopLine, VarLine, TotalLine, LastLine, SealedLine, DigestLine, OutsideLine, SectionLine, BodyLine, text_of}
+use Rattle.p10_cert.specs.Lines.{FuncHead, LoopHead, Line, FirstLine, FuncLine, ParamLine, ResultLine, LoopLine, VarLine, TotalLine, LastLine, SealedLine, DigestLine, OutsideLine, SectionLine, BodyLine, loop_then, line_then, text_of}
 use Rattle.p10_cert.specs.Statements.{first_line}
 use Rattle.p10_cert.specs.private.Plain.{plain_line}
 use Rattle.p10_cert.specs.private.States.{Next, next_of, is_over}
@@ -23,10 +25,11 @@ use Rattle.p10_cert.specs.private.States as next
 use Rattle.p10_cert.specs.private.Steps.{is_main, seen_first, step_func, step, run, step_at}
 use Rattle.p10_cert.specs.private.Places.{Reads, IsInner, is_loop, is_param, is_begun, is_start, further_at, parameter_at, Place, Goes, Leads, IsBetween, opening, Opens, HasFunction, results, FindsWrong}
 use Rattle.p10_cert.specs.private.Found.{Has, Finds}
-use Rattle.p10_cert.proofs.Steps.{then_some}
+use Rattle.p10_cert.specs.private.Reading.{after_front}
+use Rattle.p10_cert.proofs.Steps.{then_some, after_front_takes}
 use Rattle.p10_cert.proofs.Parts.{loop_stepped}
 use Rattle.p10_cert.proofs.ReadLines.{step_at_takes, reads_none, reads_step, reads_join, reads_shorter}
-use Rattle.p10_cert.proofs.Further.{further_some, further_takes, parameter_some, stays_inner, inside_param, leads_one, leads_join, between_no_loop, digest_step}
+use Rattle.p10_cert.proofs.Further.{further_some, further_takes, parameter_some, stays_inner, inside_param, leads_one, leads_join, between_no_loop, section_no_loop, digest_step}
 
 -- ---- where no further line comes
 
@@ -51,6 +54,44 @@ first_stops text = no_further next.First text first_no_loop
 
 func_stops : (t : Seen) (text : List ℕ) → further_at (next.Func t) text ≡ None
 func_stops t text = no_further (next.Func t) text (between_no_loop t)
+
+-- ---- where the next function begins
+
+-- what leads to loops is a line of a function but its first
+to_loop : (s u : Next) (l : Line) → step s l ≡ Some u → is_loop u ≡ true → IsInner l
+unfolding step
+to_loop next.First u l e loop = absurd (first_no_loop u l e loop)
+to_loop (next.Func t) u l e loop = absurd (between_no_loop t u l e loop)
+to_loop (next.Digest m t) u l e loop = (digest_step m t u l e).0
+to_loop (next.Param m t) u l e loop = stays_inner (next.Param m t) u l refl e loop
+to_loop (next.Loop m t d least) u l e loop = stays_inner (next.Loop m t d least) u l refl e loop
+to_loop next.Total u (TotalLine b) e loop = let section : is_loop (next.Section [] 0) ≡ true = ap is_loop (same_Some _ u e) ∙ loop in absurd cc
+to_loop (next.Section since left) u l e loop = absurd (section_no_loop since left u l e loop)
+to_loop next.Last u LastLine e loop = let over : is_loop next.Over ≡ true = ap is_loop (same_Some _ u e) ∙ loop in absurd cc
+to_loop s u l e loop = absurd (none-some u e)
+
+-- such a line has another text
+no_inner : (l : Line) (after rest : List ℕ) → codes "func " ++ rest ≡ line_then l after → IsInner l → ⊥
+unfolding line_then
+no_inner (ParamLine v) after rest e inner = omega (arith, ap (λ t. get_or t 0 0) e)
+no_inner (ResultLine v) after rest e inner = omega (arith, ap (λ t. get_or t 0 0) e)
+no_inner (LoopLine h) after rest e inner = by_rank h.rank e
+  where
+    by_rank : (rank : Rank) → codes "func " ++ rest ≡ loop_then h.depth rank h.turns (codes "\n" ++ after) → ⊥
+    by_rank (Up var bound) e = omega (arith, ap (λ t. get_or t 0 0) e)
+    by_rank (Down var bound) e = omega (arith, ap (λ t. get_or t 0 0) e)
+    by_rank One e = omega (arith, ap (λ t. get_or t 0 0) e)
+    by_rank Task e = omega (arith, ap (λ t. get_or t 0 0) e)
+no_inner (VarLine v) after rest e inner = omega (arith, ap (λ t. get_or t 0 0) e)
+no_inner (DigestLine d) after rest e inner = omega (arith, ap (λ t. get_or t 0 0) e)
+no_inner l after rest e inner = inner
+
+pub function_ends : (s : Next) (text rest : List ℕ) → Some rest ≡ after_front (codes "func ") text → further_at s text ≡ None
+function_ends s text rest e = is_none (further_at s text) (λ r found.
+    let took = further_takes s text r found in
+    let stepped = step_at_takes s text r took.0 in
+    let parts : text ≡ codes "func " ++ rest = after_front_takes (codes "func ") text rest (sym e) in
+    no_inner r.0 r.2 rest (sym parts ∙ stepped.0) (to_loop s r.1 r.0 stepped.2 took.1))
 
 -- ---- a line that may not come
 

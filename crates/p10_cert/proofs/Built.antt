@@ -1,9 +1,9 @@
 -- What is built from the lines of a function is the function.
-use Rattle.std.proofs.Common.{◌≡◌, ℕ, Bool, false, List, [], ◌∷◌, ◌++◌, map, Option, Some, None, Result, Ok, Err, IfOk, option_map, refl, sym, ap, ◌∙◌, append_assoc, append-nil}
+use Rattle.std.proofs.Common.{◌≡◌, ℕ, Bool, false, List, [], ◌∷◌, ◌++◌, map, Option, Some, None, option_map, refl, sym, ap, ◌∙◌, append_assoc, append-nil}
 use Rattle.std.proofs.lemmas.Option.{some_pair_parts, none-some}
 use Rattle.std.specs.List.{AllByRecursion, flat_map}
 use Rattle.p10_cert.specs.Claims.{Value, Var, Loop, Func}
-use Rattle.p10_cert.specs.Lines.{Line, FuncLine, ParamLine, ResultLine, VarLine, text_of, IsLine}
+use Rattle.p10_cert.specs.Lines.{Line, FuncLine, ParamLine, ResultLine, LoopLine, VarLine, text_of, IsLine}
 use Rattle.p10_cert.specs.Certificate.{loop_head, loop_lines, func_head}
 use Rattle.p10_cert.specs.Statements.{Entry, digest_lines, inner_lines, entry_lines, entry_text, IsEntry}
 use Rattle.p10_cert.specs.private.Reading.{line_at}
@@ -56,21 +56,52 @@ loops_built p (l ∷ loops) =
     last : (p : Part) (before : List Loop) (l : Loop) (loops : List Loop) → with_loops (finish (with_last p before l)) ((before ++ l ∷ []) ++ loops) ≡ with_loops (finish p) (before ++ (l ∷ loops))
     last p before l loops = ap (with_loops (finish p)) (append_assoc before (l ∷ []) loops)
 
--- a digest is no part of what is claimed
-digest_built : (p : Part) (digest : Option (List ℕ)) → build_all p (digest_lines digest) ≡ p
-digest_built p None = refl
-digest_built p (Some d) = refl
+with_digest : Part → Option (List ℕ) → Part
+with_digest p digest = record p { digest = digest }
+
+-- after the first line of a function
+begun : Func → Part
+begun f = build no_part (FuncLine (func_head f))
+
+seal_built : (f : Func) (digest : Option (List ℕ)) → build_all (begun f) (digest_lines digest) ≡ with_digest (begun f) digest
+unfolding with_digest begun
+seal_built f None = refl
+seal_built f (Some d) = refl
 
 -- what is built from the lines of a function
 pub built : (e : Entry) → finish (build_all no_part (entry_lines e)) ≡ e.func
-unfolding with_params with_loops
+unfolding with_params with_loops with_digest begun
 built e =
     let f : Func = e.func in
-    let start : Part = build no_part (FuncLine (func_head f)) in
+    let start : Part = with_digest (begun f) e.digest in
     let rest : List Line = ResultLine f.result ∷ flat_map loop_lines f.loops in
     let read : Part = build (with_params start f.params) (ResultLine f.result) in
-    ap finish (build_all-append start (digest_lines e.digest) (inner_lines f) ∙ ap (λ q. build_all q (inner_lines f)) (digest_built start e.digest) ∙ build_all-append start (map ParamLine f.params) rest)
+    ap finish (build_all-append (begun f) (digest_lines e.digest) (inner_lines f) ∙ ap (λ q. build_all q (inner_lines f)) (seal_built f e.digest) ∙ build_all-append start (map ParamLine f.params) rest)
     ∙ ap (λ q. finish (build_all q rest)) (params_built start f.params) ∙ loops_built read f.loops
+
+-- ---- the digest is that of the second line
+
+vars_keep : (p : Part) (vars : List Var) → (build_all p (map VarLine vars)).digest ≡ p.digest
+vars_keep p [] = refl
+vars_keep p (v ∷ vars) = vars_keep (build p (VarLine v)) vars
+
+loops_keep : (p : Part) (loops : List Loop) → (build_all p (flat_map loop_lines loops)).digest ≡ p.digest
+loops_keep p [] = refl
+loops_keep p (l ∷ loops) =
+    ap (λ (q : Part). q.digest) (build_all-append p (loop_lines l) (flat_map loop_lines loops))
+    ∙ loops_keep (build_all p (loop_lines l)) loops
+    ∙ vars_keep (build p (LoopLine (loop_head l))) l.vars
+
+params_keep : (p : Part) (params : List Value) (rest : List Line) → ((q : Part) → (build_all q rest).digest ≡ q.digest) → (build_all p (map ParamLine params ++ rest)).digest ≡ p.digest
+params_keep p [] rest keep = keep p
+params_keep p (v ∷ params) rest keep = params_keep (build p (ParamLine v)) params rest keep
+
+pub digest_built : (e : Entry) → (build_all no_part (entry_lines e)).digest ≡ e.digest
+unfolding with_digest begun
+digest_built e =
+    let f : Func = e.func in
+    ap (λ (q : Part). q.digest) (build_all-append (begun f) (digest_lines e.digest) (inner_lines f) ∙ ap (λ q. build_all q (inner_lines f)) (seal_built f e.digest))
+    ∙ params_keep (with_digest (begun f) e.digest) f.params (ResultLine f.result ∷ flat_map loop_lines f.loops) (λ q. loops_keep (build q (ResultLine f.result)) f.loops)
 
 -- ---- line by line
 
@@ -135,8 +166,3 @@ left_none p whole text e left = none left.lines left.good left.plain left.parts 
 pub mapped_none : {A B : Type 0} (o : Option A) (g : A → B) (y : Option B) → ((x : A) → o ≡ Some x → ⊥) → option_map g o ≡ y → None ≡ y
 mapped_none None g y never e = e
 mapped_none (Some x) g y never e = absurd (never x refl)
-
--- more of what went well
-pub ok_more : {T E : Type 0} (r : Result T E) (P Q : T → Type 0) → ((x : T) → P x → Q x) → IfOk r P → IfOk r Q
-ok_more (Ok x) P Q go p = go x p
-ok_more (Err e) P Q go p = tt

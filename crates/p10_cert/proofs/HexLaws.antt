@@ -1,15 +1,17 @@
 -- Laws of the reader of digests: what is read has the one text of its bytes, and that text is read.
-use Rattle.std.proofs.Common.{◌≡◌, ℕ, zero, suc, ◌+◌, ◌*◌, ◌/◌, ◌%◌, ◌<◌, ◌≤◌, Bool, true, false, cond, ◌==◌, nat_le, nat_lt, List, [], ◌∷◌, ◌++◌, length, take, drop, codes, bytes_eq, Option, Some, None, refl, sym, ap, subst, ◌∙◌, arith, take-append-drop, length-append}
+use Rattle.std.proofs.Common.{◌≡◌, ℕ, zero, suc, ◌+◌, ◌*◌, ◌/◌, ◌%◌, ◌-◌, ◌<◌, ◌≤◌, Bool, true, false, cond, ◌&&◌, ◌||◌, ◌==◌, nat_le, nat_lt, List, [], ◌∷◌, ◌++◌, length, take, drop, codes, bytes_eq, Option, Some, None, refl, sym, ap, subst, ◌∙◌, arith, take-append-drop, length-append}
 use Rattle.std.proofs.Math.Seq.{take-append_seam, drop-append_seam}
+use Rattle.std.proofs.lemmas.Bool.{true≢false}
 use Rattle.std.proofs.lemmas.Bool.Decides.{nat_tests}
 use Rattle.std.proofs.lemmas.Option.{cond_some, same_Some}
 use Rattle.std.proofs.lemmas.Slice.Eq.{bytes_eq-Decides}
+use Rattle.std.specs.Char.{is_ascii_digit}
 use Rattle.std.specs.Fmt.{digit_glyph}
-use Rattle.std.specs.List.{AllByRecursion}
+use Rattle.std.specs.List.{AllByRecursion, list_all}
 use Rattle.p10_base.specs.Hex.{hex_text}
 use Rattle.p10_cert.specs.Lines.{IsByte, IsDigest}
-use Rattle.p10_cert.specs.private.Reading.{after_front, nibble, spelled, digest_of, digest_at}
-use Rattle.p10_cert.proofs.Steps.{then_some, bind_is, if_some, else_some, after_front_takes, after_front_again}
+use Rattle.p10_cert.specs.private.Reading.{after_front, is_hex_digit, nibble, spelled, digest_of, digest_at}
+use Rattle.p10_cert.proofs.Steps.{then_some, bind_is, if_some, else_some, both_true, after_front_takes, after_front_again}
 
 -- ---- what digits spell
 
@@ -94,3 +96,78 @@ digest_again digest rest fits =
     not_first (nat_lt (length text) 64) _ _ long (
     bind_is _ digest _ _ (ap digest_of front ∙ digest_of_again digest fits)
     (bind_is _ rest _ _ (ap (λ t. after_front (codes "\n") t) back ∙ after_front_again (codes "\n") rest) refl))
+
+-- ---- digits that spell a digest
+
+-- the digit that is written for what a byte spells is this byte exactly where it is a digit
+glyph_same : (x : ℕ) → is_hex_digit x ≡ true → digit_glyph false (nibble x) ≡ x
+unfolding is_hex_digit
+glyph_same x is = by_kind (is_ascii_digit x) refl is
+  where
+    letter : nat_le 97 x ≡ true → nat_le x 102 ≡ true → digit_glyph false (nibble x) ≡ x
+    letter low high =
+        let least : 97 ≤ x = grind (arith, nat_tests) in
+        let most : x ≤ 102 = grind (arith, nat_tests) in
+        let value : (x - 87) % 16 ≡ x - 87 = omega (arith, least, most) in
+        let big : nat_lt (x - 87) 10 ≡ false = grind (arith, nat_tests) in
+        rw (low, value, big) (omega (arith, least))
+
+    digit : nat_le 48 x ≡ true → nat_le x 57 ≡ true → digit_glyph false (nibble x) ≡ x
+    digit low high =
+        let least : 48 ≤ x = grind (arith, nat_tests) in
+        let most : x ≤ 57 = grind (arith, nat_tests) in
+        let below : nat_le 97 x ≡ false = grind (arith, nat_tests) in
+        let value : (x - 48) % 16 ≡ x - 48 = omega (arith, least, most) in
+        let small : nat_lt (x - 48) 10 ≡ true = grind (arith, nat_tests) in
+        rw (below, value, small) (omega (arith, least))
+
+    by_kind : (b : Bool) → is_ascii_digit x ≡ b → (b || (nat_le 97 x && nat_le x 102)) ≡ true → digit_glyph false (nibble x) ≡ x
+    by_kind true kind e = let ends = both_true (nat_le 48 x) (nat_le x 57) kind in digit ends.0 ends.1
+    by_kind false kind e = let ends = both_true (nat_le 97 x) (nat_le x 102) e in letter ends.0 ends.1
+
+glyph_digit : (n : ℕ) → n < 16 → is_hex_digit (digit_glyph false n) ≡ true
+unfolding is_hex_digit
+glyph_digit n small = by_size (nat_lt n 10) refl
+  where
+    either : (b : Bool) → ((b && false) || true) ≡ true
+    either true = refl
+    either false = refl
+
+    by_size : (b : Bool) → nat_lt n 10 ≡ b → is_hex_digit (cond b (48 + n) (87 + n)) ≡ true
+    by_size true e =
+        let low : nat_le 48 (48 + n) ≡ true = grind (arith, nat_tests) in
+        let high : nat_le (48 + n) 57 ≡ true = grind (arith, nat_tests) in
+        rw (low, high) refl
+    by_size false e =
+        let digit : nat_le (87 + n) 57 ≡ false = grind (arith, nat_tests) in
+        let low : nat_le 97 (87 + n) ≡ true = grind (arith, nat_tests) in
+        let high : nat_le (87 + n) 102 ≡ true = grind (arith, nat_tests) in
+        rw (digit, low, high) (either (nat_le 48 (87 + n)))
+
+glyph_test : (x : ℕ) → (digit_glyph false (nibble x) == x) ≡ is_hex_digit x
+glyph_test x = by_digit (is_hex_digit x) refl (digit_glyph false (nibble x) == x) refl
+  where
+    by_digit : (b : Bool) → is_hex_digit x ≡ b → (c : Bool) → (digit_glyph false (nibble x) == x) ≡ c → c ≡ b
+    by_digit true d true c = refl
+    by_digit true d false c = let same : digit_glyph false (nibble x) ≡ x = glyph_same x d in absurd (grind (arith, nat_tests))
+    by_digit false d true c =
+        let same : digit_glyph false (nibble x) ≡ x = grind (arith, nat_tests) in
+        absurd (true≢false (sym (glyph_digit (nibble x) (omega arith)) ∙ ap is_hex_digit same ∙ d))
+    by_digit false d false c = refl
+
+hex_test : (digits : List ℕ) (n : ℕ) → length digits ≡ n + n → bytes_eq (hex_text (spelled digits)) digits ≡ list_all is_hex_digit digits
+hex_test [] n e = refl
+hex_test (x ∷ []) n e = absurd (omega (arith, e))
+hex_test (x ∷ y ∷ digits) zero e = absurd (omega (arith, e))
+hex_test (x ∷ y ∷ digits) (suc n) e =
+    let high : (16 * nibble x + nibble y) / 16 ≡ nibble x = omega arith in
+    let low : (16 * nibble x + nibble y) % 16 ≡ nibble y = omega arith in
+    rw (high, low, glyph_test x, glyph_test y, hex_test digits n (omega (arith, e))) refl
+
+pub digest_of_digits : (digits : List ℕ) → digest_of digits ≡ cond (length digits == 64) (cond (list_all is_hex_digit digits) (Some (spelled digits)) None) None
+unfolding digest_of
+digest_of_digits digits = by_length (length digits == 64) refl
+  where
+    by_length : (b : Bool) → (length digits == 64) ≡ b → cond b (cond (bytes_eq (hex_text (spelled digits)) digits) (Some (spelled digits)) None) None ≡ cond b (cond (list_all is_hex_digit digits) (Some (spelled digits)) None) None
+    by_length true e = let many : length digits ≡ 32 + 32 = grind (arith, nat_tests) in rw (hex_test digits 32 many) refl
+    by_length false e = refl

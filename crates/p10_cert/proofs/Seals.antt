@@ -1,9 +1,10 @@
 -- The second line of a function tells its digest, where it has one.
-use Rattle.std.proofs.Common.{◌≡◌, ◌++◌, Bool, true, false, ℕ, List, [], ◌∷◌, map, Option, Some, None, Result, Ok, Err, refl, ap, ◌∙◌}
+use Rattle.std.proofs.Common.{◌≡◌, ◌++◌, Bool, true, false, ℕ, List, [], ◌∷◌, map, Option, Some, None, Result, Ok, Err, option_map, refl, sym, ap, ◌∙◌}
 use Rattle.std.specs.Prelude.{OnOk}
 use Rattle.std.specs.List.{AllByRecursion, flat_map}
 use Rattle.p10_base.specs.declared.digest.Digest.{Digest}
-use Rattle.p10_cert.specs.Claims.{Value, Func}
+use Rattle.p10_cert.specs.declared.claims.FuncClaim.{FuncClaim}
+use Rattle.p10_cert.specs.Claims.{Value, Func, func_of}
 use Rattle.p10_cert.specs.Lines.{FuncLine, ParamLine, ResultLine, DigestLine, text_of, IsParam}
 use Rattle.p10_cert.specs.Certificate.{func_head, loop_lines, IsFunc}
 use Rattle.p10_cert.specs.Sealed.{bytes_of}
@@ -45,10 +46,19 @@ pub always : {T E : Type 0} (r : Result T E) (P : Type 0) → P → OnOk r P
 always (Ok x) P p = p
 always (Err e) P p = tt
 
-pub pushed_digest : {T E : Type 0} (r : Result T E) (text : List ℕ) (old new : List Digest) (d : Digest) → OnOk r (new ≡ old ++ d ∷ []) → ((e : Entry) (sealed : Bool) → IsEntry sealed e → text ≡ entry_text e → Some (bytes_of d) ≡ e.digest)
-    → OnOk r ((e : Entry) → IsEntry true e → text ≡ entry_text e → map seal_of new ≡ map seal_of old ++ e.digest ∷ [])
-pushed_digest (Ok x) text old new d pushed told = λ e good exact. ap (map seal_of) pushed ∙ map-append seal_of old d ∙ ap (λ s. map seal_of old ++ s ∷ []) (told e true good exact)
-pushed_digest (Err x) text old new d pushed told = tt
+pub pushed_digest : {T E : Type 0} (r : Result T E) (old new : List Digest) (d : Digest) (digest : Option Digest) → digest ≡ Some d → OnOk r (new ≡ old ++ d ∷ [])
+    → OnOk r ((e : Entry) → IsEntry true e → option_map bytes_of digest ≡ e.digest → map seal_of new ≡ map seal_of old ++ e.digest ∷ [])
+pushed_digest (Ok x) old new d digest is pushed = λ e good told. ap (map seal_of) pushed ∙ map-append seal_of old d ∙ ap (λ s. map seal_of old ++ s ∷ []) (ap (option_map bytes_of) (sym is) ∙ told)
+pushed_digest (Err x) old new d digest is pushed = tt
+
+-- a claim that is pushed
+pub pushed_func : (old new : List FuncClaim) (claim : FuncClaim) (f : Func) → new ≡ old ++ claim ∷ [] → func_of claim ≡ f → map func_of new ≡ map func_of old ++ f ∷ []
+pushed_func old new claim f pushed is = ap (map func_of) pushed ∙ map-append func_of old claim ∙ ap (λ x. map func_of old ++ x ∷ []) is
+
+-- less of what went well
+pub pushed_so : {T E : Type 0} (r : Result T E) (P Q : Type 0) → (P → Q) → OnOk r P → OnOk r Q
+pushed_so (Ok x) P Q go p = go p
+pushed_so (Err x) P Q go p = tt
 
 -- in version 2 each function has one
 pub never_none : (e : Entry) → IsEntry true e → None ≡ e.digest → ⊥

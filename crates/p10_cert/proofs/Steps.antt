@@ -1,9 +1,10 @@
 -- Laws of steps that may fail, of fixed texts, and of runs of bytes.
-use Rattle.std.proofs.Common.{◌≡◌, ℕ, ◌-◌, Bool, true, false, cond, ◌&&◌, List, [], ◌∷◌, ◌++◌, length, take, drop, Option, Some, None, bytes_eq, refl, ap, ◌∙◌, arith, length-append, take-append-drop}
+use Rattle.std.proofs.Common.{◌≡◌, ℕ, ◌-◌, Bool, true, false, not, cond, ◌&&◌, ◌==◌, List, [], ◌∷◌, ◌++◌, length, take, drop, Option, Some, None, bytes_eq, refl, ap, ◌∙◌, arith, length-append, take-append-drop}
 use Rattle.std.proofs.Math.Seq.{take-append_seam, drop-append_seam}
 use Rattle.std.proofs.lemmas.Slice.Eq.{bytes_eq-Decides}
+use Rattle.std.specs.Char.{is_ascii_digit}
 use Rattle.std.specs.List.{list_all}
-use Rattle.p10_cert.specs.private.Reading.{◌>>=◌, or_else, after_front, after_run, front_of}
+use Rattle.p10_cert.specs.private.Reading.{◌>>=◌, or_else, after_front, begin_apart, after_run, front_of}
 
 -- ---- steps
 
@@ -58,6 +59,18 @@ unfolding after_front
 after_front_again front rest =
     rw (take-append_seam front rest, drop-append_seam front rest, (bytes_eq-Decides front front).1 refl) refl
 
+-- a text that begins with another byte
+pub apart : (text front : List ℕ) → begin_apart text front ≡ true → after_front front text ≡ None
+unfolding after_front
+apart [] [] differ = absurd cc
+apart [] (y ∷ front) differ = absurd cc
+apart (x ∷ text) [] differ = absurd cc
+apart (x ∷ text) (y ∷ front) differ = by_first (x == y) refl differ
+  where
+    by_first : (same : Bool) → (x == y) ≡ same → not same ≡ true → after_front (y ∷ front) (x ∷ text) ≡ None
+    by_first true same differs = absurd cc
+    by_first false same differs = rw same refl
+
 -- ---- runs
 
 -- a text is a run of bytes that pass, and what is left after them
@@ -89,3 +102,7 @@ after_run-append test [] rest all stop = stop
 after_run-append test (x ∷ xs) rest all stop =
     let passed = both_true (test x) (list_all test xs) all in
     rw passed.0 (after_run-append test xs rest passed.1 stop)
+
+-- the front of a run of digits
+pub digits_front : (text : List ℕ) → list_all is_ascii_digit (front_of text (after_run is_ascii_digit text)) ≡ true
+digits_front text = (run_front is_ascii_digit text).1

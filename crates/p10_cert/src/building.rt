@@ -1,4 +1,4 @@
-//! What is claimed of a function, built from its lines one after the other.
+//! What is claimed of a function, and its digest, built from its lines one after the other.
 
 ghost use Rattle.std.specs.Prelude.{◌≡◌, [], ◌∷◌, ◌++◌, map, IfOk, OnOk};
 ghost use Rattle.std.specs.Option.{option_map};
@@ -8,13 +8,14 @@ ghost use Rattle.p10_cert.specs.private.Plain.{plain_start};
 
 use crate::claims::{FuncClaim, LoopClaim, ValueClaim, VarRange};
 use crate::line::{Head, LoopStart, Row};
-use p10_base::ListBuf;
+use p10_base::{Digest, ListBuf};
 use std::alloc::{AllocError, Global};
 
 /// What was read of a function. The loop that was read last is kept apart, since variables may still come.
 #[derive(Drop)]
 pub(crate) struct Partial<'c> {
     head: Head<'c>,
+    digest: Option<Digest>,
     params: ListBuf<ValueClaim>,
     result: ValueClaim,
     loops: ListBuf<LoopClaim>,
@@ -22,7 +23,9 @@ pub(crate) struct Partial<'c> {
 }
 
 impl<'c> Partial<'c> {
+    ghost use Rattle.std.specs.Option.{option_map};
     ghost use Rattle.p10_cert.specs.Lines.{LoopLine, VarLine};
+    ghost use Rattle.p10_cert.specs.Sealed.{bytes_of};
     ghost use Rattle.p10_cert.specs.private.Plain.{plain_line};
     ghost use Rattle.p10_cert.specs.private.Building.{no_part, build, finish};
     ghost use Rattle.p10_cert.specs.private.Partials.{part_of};
@@ -40,6 +43,7 @@ impl<'c> Partial<'c> {
                 bytes: 0,
                 alloc: false,
             },
+            digest: None,
             params: ListBuf::of(Vec::new(alloc)),
             result: ValueClaim::Void,
             loops: ListBuf::of(Vec::new(alloc)),
@@ -54,6 +58,10 @@ impl<'c> Partial<'c> {
         match line {
             Row::Func(head) => {
                 self.head = head;
+                Ok(())
+            }
+            Row::Digest(digest) => {
+                self.digest = Some(digest);
                 Ok(())
             }
             Row::Param(value) => self.params.push(value),
@@ -88,12 +96,20 @@ impl<'c> Partial<'c> {
         }
     }
 
+    /// The digest, where a line told one.
+    pub(crate) fn digest(&self) -> Option<Digest>
+        ensures { option_map bytes_of result ≡ (part_of self.now).digest }
+    {
+        self.digest
+    }
+
     /// The claim, after the last line.
     pub(crate) fn finish(self, alloc: Global) -> Result<FuncClaim, AllocError>
         ensures { IfOk result (λ f. func_of f ≡ finish (part_of self.entry)) }
     {
         let Partial {
             head,
+            digest: _,
             params,
             result,
             loops,

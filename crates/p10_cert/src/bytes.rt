@@ -4,11 +4,36 @@ ghost use Rattle.std.specs.Prelude.{◌≡◌, ◌≤◌, length, option_copied,
 ghost use Rattle.std.specs.Char.{is_ascii_digit};
 ghost use Rattle.std.specs.List.{list_all};
 ghost use Rattle.p10_cert.specs.Lines.{is_name, is_name_byte, is_nondigit, is_section_name, is_section_byte, is_body_byte};
-ghost use Rattle.p10_cert.specs.private.Reading.{after_front, after_run, name_at, section_name_at};
+ghost use Rattle.p10_cert.specs.private.Reading.{after_front, begin_apart, after_run, name_at, section_name_at};
 
 /// What stands after the label, if the text begins with it.
-#[tactic(auto, unfolding(crate::specs::private::Reading::after_front))]
+#[tactic(auto, using(crate::proofs::Steps::apart))]
 pub fn after<'t>(text: &'t [u8], label: &[u8]) -> Option<&'t [u8]>
+    ensures { option_copied result ≡ after_front label.now text.now }
+{
+    // a line differs from most labels in its first byte
+    if begin_apart(text, label) {
+        return None;
+    }
+    stripped(text, label)
+}
+
+/// Whether two texts begin with different bytes.
+fn begin_apart(text: &[u8], label: &[u8]) -> bool
+    ensures { result ≡ begin_apart text.now label.now }
+{
+    match text {
+        [byte, ..] => match label {
+            [wanted, ..] => *byte != *wanted,
+            [] => false,
+        },
+        [] => false,
+    }
+}
+
+/// The text without the label at its beginning.
+#[tactic(auto, unfolding(crate::specs::private::Reading::after_front))]
+fn stripped<'t>(text: &'t [u8], label: &[u8]) -> Option<&'t [u8]>
     ensures { option_copied result ≡ after_front label.now text.now }
 {
     text.strip_prefix(label)

@@ -2,6 +2,7 @@
 
 ghost use Rattle.std.specs.Prelude.{◌≡◌, ◌+◌, ◌^◌, ◌<◌, ◌≤◌, true, Some, None, length, option_map, IfSome, IfOk, IfErr};
 
+use crate::bytes::after;
 use crate::line::Row;
 use crate::next::step;
 use crate::record::{BadLine, FuncRecord};
@@ -281,10 +282,24 @@ impl<'c> Cursor<'c> {
         ensures goes { Goes (further_at (next_of self.entry.next) self.entry.rest.now) (place_of self.entry) (option_map place_of result) }
         ensures few { IfSome result (λ x. x.lines + length x.rest.now ≤ self.entry.lines + length self.entry.rest.now) }
     {
+        // the first line of the next function is read with that function
+        if self.begins_function() {
+            return None;
+        }
         let (_, after) = self.step()?;
         match after.next {
             Next::Loop { .. } => Some(after),
             _ => None,
+        }
+    }
+
+    /// Whether a function begins here.
+    fn begins_function(self) -> bool
+        ensures { result ≡ true → further_at (next_of self.entry.next) self.entry.rest.now ≡ None }
+    {
+        match after(self.rest, b"func ") {
+            Some(_) => true,
+            None => false,
         }
     }
 

@@ -1,11 +1,12 @@
 //! Digests that a text spells: two hexadecimal digits a byte, with lower-case letters.
 
 ghost use Rattle.std.specs.Prelude.{◌≡◌, ◌<◌, length, option_map};
+ghost use Rattle.std.specs.List.{list_all};
 ghost use Rattle.p10_cert.specs.Sealed.{bytes_of};
-ghost use Rattle.p10_cert.specs.private.Reading.{digest_at, digest_of, nibble, spelled};
+ghost use Rattle.p10_cert.specs.private.Reading.{digest_at, digest_of, is_hex_digit, nibble, spelled};
 
 use crate::bytes::after;
-use p10_base::{Digest, hex};
+use p10_base::Digest;
 
 /// The digest that the text begins with, at the end of its line, and what stands after the line.
 #[tactic(auto, unfolding(crate::specs::private::Reading::digest_at))]
@@ -22,20 +23,33 @@ pub(crate) fn digest(text: &[u8]) -> Option<(Digest, &[u8])>
 }
 
 /// The digest whose text these digits are.
-#[tactic(auto, unfolding(crate::specs::private::Reading::digest_of))]
+#[tactic(auto, using(crate::proofs::HexLaws::digest_of_digits))]
 fn digest_of(digits: &[u8]) -> Option<Digest>
     ensures { option_map bytes_of result ≡ digest_of digits.now }
 {
     if digits.len() != 64 {
         return None;
     }
-    // each digest is written in one way, so no other spelling of it passes
-    let bytes = spelled(digits);
-    if hex(&bytes).as_slice() == digits {
-        Some(Digest(bytes))
+    if are_hex_digits(digits) {
+        Some(Digest(spelled(digits)))
     } else {
         None
     }
+}
+
+/// Whether all bytes are hexadecimal digits with lower-case letters.
+fn are_hex_digits(digits: &[u8]) -> bool
+    ensures { result ≡ list_all is_hex_digit digits.now }
+{
+    digits.iter().all(|digit| is_hex_digit(*digit))
+}
+
+/// Whether a byte is a hexadecimal digit, where letters are of lower case.
+#[tactic(auto, unfolding(crate::specs::private::Reading::is_hex_digit))]
+fn is_hex_digit(digit: u8) -> bool
+    ensures { result ≡ is_hex_digit digit }
+{
+    digit.is_ascii_digit() || (b'a' <= digit && digit <= b'f')
 }
 
 /// The bytes that these digits spell, two digits a byte.

@@ -1,9 +1,10 @@
 //! A certificate's text is read: one function after the other, or all at once.
 
-ghost use Rattle.std.specs.Prelude.{◌≡◌, ◌∷◌, [], ◌++◌, Bool, true, map, codes, IfOk, OnOk};
+ghost use Rattle.std.specs.Prelude.{◌≡◌, ◌∷◌, [], ◌++◌, Bool, true, map, option_map, codes, IfOk, OnOk};
 ghost use Rattle.p10_cert.specs.Claims.{func_of};
 ghost use Rattle.p10_cert.specs.Reading.{Fits, ReadsAs, ReadsAsSealed, begins_with, version_of};
 ghost use Rattle.p10_cert.specs.Records.{at_start};
+ghost use Rattle.p10_cert.specs.Sealed.{bytes_of};
 ghost use Rattle.p10_cert.specs.Statements.{Entry, IsEntry, entry_text};
 ghost use Rattle.p10_cert.specs.private.Whole.{seal_of, IsWhole, IsWholeFirst};
 
@@ -141,13 +142,26 @@ pub fn records<'c>(bytes: &'c [u8]) -> Records<'c>
 pub fn claim(alloc: Global, r: &FuncRecord<'_>) -> Result<FuncClaim, AllocError>
     ensures { IfOk result (λ claim. (e : Entry) (sealed : Bool) → IsEntry sealed e → r.now.text.now ≡ entry_text e → func_of claim ≡ e.func) }
 {
+    let (func, _) = claim_and_digest(alloc, r)?;
+    Ok(func)
+}
+
+/// What the lines of a record claim, and the digest that they tell, if they tell one.
+fn claim_and_digest(
+    alloc: Global,
+    r: &FuncRecord<'_>,
+) -> Result<(FuncClaim, Option<Digest>), AllocError>
+    ensures { IfOk result (λ told. (e : Entry) (sealed : Bool) → IsEntry sealed e → r.now.text.now ≡ entry_text e → (func_of told.0 ≡ e.func) × (option_map bytes_of told.1 ≡ e.digest)) }
+{
     let mut partial = Partial::new(alloc);
     let mut rest = r.text;
     while let Some((line, after)) = Row::read(rest) {
         partial.take(alloc, line)?;
         rest = after;
     }
-    partial.finish(alloc)
+    let told = partial.digest();
+    let func = partial.finish(alloc)?;
+    Ok((func, told))
 }
 
 /// Puts what a record claims at the end of the functions.
@@ -172,15 +186,16 @@ fn push_sealed(
     ensures claims { OnOk result ((e : Entry) → IsEntry true e → r.now.text.now ≡ entry_text e → map func_of funcs.new ≡ map func_of funcs.old ++ e.func ∷ []) }
     ensures digests { OnOk result ((e : Entry) → IsEntry true e → r.now.text.now ≡ entry_text e → map seal_of digests.new ≡ map seal_of digests.old ++ e.digest ∷ []) }
 {
-    push_claim(alloc, funcs, r)?;
-    push_digest(digests, r)
+    let (func, digest) = claim_and_digest(alloc, r)?;
+    funcs.push(func)?;
+    push_digest(digests, digest)
 }
 
-/// Puts the digest of a record of version 2 at the end of the digests.
-fn push_digest(digests: &mut ListBuf<Digest>, r: &FuncRecord<'_>) -> Result<(), AllocError>
-    ensures { OnOk result ((e : Entry) → IsEntry true e → r.now.text.now ≡ entry_text e → map seal_of digests.new ≡ map seal_of digests.old ++ e.digest ∷ []) }
+/// Puts a digest that a record of version 2 tells at the end of the digests.
+fn push_digest(digests: &mut ListBuf<Digest>, digest: Option<Digest>) -> Result<(), AllocError>
+    ensures { OnOk result ((e : Entry) → IsEntry true e → option_map bytes_of digest ≡ e.digest → map seal_of digests.new ≡ map seal_of digests.old ++ e.digest ∷ []) }
 {
-    match r.digest() {
+    match digest {
         Some(digest) => digests.push(digest),
         None => Ok(()),
     }

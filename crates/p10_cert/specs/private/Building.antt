@@ -1,12 +1,13 @@
--- How what is claimed of a function is built from its lines, one after the other.
-use Rattle.std.specs.Prelude.{false, List, [], ◌∷◌, ◌++◌, Option, Some, None}
+-- How what is claimed of a function, and its digest, are built from its lines, one after the other.
+use Rattle.std.specs.Prelude.{ℕ, false, List, [], ◌∷◌, ◌++◌, Option, Some, None}
 use Rattle.std.specs.Option.{option_map}
 use Rattle.p10_cert.specs.Claims.{Value, Nothing, Var, Loop, Func}
-use Rattle.p10_cert.specs.Lines.{FuncHead, LoopHead, Line, FuncLine, ParamLine, ResultLine, LoopLine, VarLine}
+use Rattle.p10_cert.specs.Lines.{FuncHead, LoopHead, Line, FuncLine, ParamLine, ResultLine, LoopLine, VarLine, DigestLine}
 
 -- what was read of a function: the loop that was read last is kept apart, since variables may still come
 pub record Part : Type 0 where
   pub head : FuncHead
+  pub digest : Option (List ℕ)
   pub params : List Value
   pub result : Value
   pub loops : List Loop
@@ -28,6 +29,7 @@ closed loops (Some l) = loops ++ l ∷ []
 -- one line more
 abbrev pub build : Part → Line → Part
 build p (FuncLine h) = record p { head = h }
+build p (DigestLine d) = record p { digest = Some d }
 build p (ParamLine v) = record p { params = p.params ++ v ∷ [] }
 build p (ResultLine v) = record p { result = v }
 build p (LoopLine h) = record p { loops = closed p.loops p.last; last = Some (bare_loop h) }
@@ -57,6 +59,7 @@ finish p = record {
 abbrev pub no_part : Part
 no_part = record {
   head = record { name = []; rank = 0; steps = 0; calls = 0; bytes = 0; alloc = false };
+  digest = None;
   params = [];
   result = Nothing;
   loops = [];

@@ -1,5 +1,5 @@
 -- How a line is read, on lists of bytes: each reader gives a value and what stands after it.
-use Rattle.std.specs.Prelude.{ℕ, ◌+◌, ◌-◌, ◌*◌, ◌%◌, Bool, true, false, ◌==◌, nat_le, nat_lt, if◌then◌else◌, List, [], ◌∷◌, length, take, drop, fold, decimal, ℤ, pos, neg_ℤ, int_le, codes, bytes_eq, Option, Some, None, option_and_then}
+use Rattle.std.specs.Prelude.{ℕ, ◌+◌, ◌-◌, ◌*◌, ◌%◌, Bool, true, false, not, ◌&&◌, ◌||◌, ◌==◌, nat_le, nat_lt, if◌then◌else◌, List, [], ◌∷◌, length, take, drop, fold, decimal, ℤ, pos, neg_ℤ, int_le, codes, bytes_eq, Option, Some, None, option_and_then}
 use Rattle.std.specs.Char.{is_ascii_digit}
 use Rattle.p10_cert.specs.declared.claims.Rank.{Rank}
 use Rattle.p10_cert.specs.declared.claims.Rank.TheVariants.{Up, Down, One, Task}
@@ -24,6 +24,11 @@ or_else (Some x) f other = f x
 unfoldable pub after_front : List ℕ → List ℕ → Option (List ℕ)
 after_front front text = if bytes_eq (take (length front) text) front then Some (drop (length front) text) else None
 
+-- whether two texts begin with different bytes
+abbrev pub begin_apart : List ℕ → List ℕ → Bool
+begin_apart (x ∷ text) (y ∷ label) = not (x == y)
+begin_apart text label = false
+
 -- what is left after the bytes at the beginning that pass the test
 abbrev pub after_run : (ℕ → Bool) → List ℕ → List ℕ
 after_run test [] = []
@@ -42,6 +47,11 @@ most_digits = 21
 -- the number that the bytes spell where they are digits
 abbrev pub value_of_digits : List ℕ → ℕ
 value_of_digits digits = fold (λ value byte. 10 * value + (byte - 48)) 0 digits
+
+-- whether there are digits, and no zero before others
+abbrev pub is_numeral : List ℕ → Bool
+is_numeral [] = false
+is_numeral (first ∷ others) = (length others == 0) || not (first == 48)
 
 -- the number whose decimal form these bytes are
 unfoldable pub numeral_of : List ℕ → Option ℕ
@@ -178,6 +188,10 @@ total_at text =
 -- the number of a hexadecimal digit, and some number below 16 of another byte
 abbrev pub nibble : ℕ → ℕ
 nibble byte = (if nat_le 97 byte then byte - 87 else byte - 48) % 16
+
+-- whether a byte is a hexadecimal digit, where letters are of lower case
+unfoldable pub is_hex_digit : ℕ → Bool
+is_hex_digit byte = is_ascii_digit byte || (nat_le 97 byte && nat_le byte 102)
 
 -- the bytes that these digits spell, two digits a byte
 abbrev pub spelled : List ℕ → List ℕ

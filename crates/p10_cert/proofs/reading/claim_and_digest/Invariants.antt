@@ -3,7 +3,7 @@ use Rattle.p10_cert.specs.Statements.{Entry, IsEntry, entry_text, entry_lines}
 use Rattle.p10_cert.specs.private.Building.{build_all, no_part}
 use Rattle.p10_cert.specs.private.Partials.{part_of}
 use Rattle.p10_cert.proofs.Built.{IsLeft}
-use Rattle.p10_cert.proofs.reading.claim.Given as goal
+use Rattle.p10_cert.proofs.reading.claim_and_digest.Given as goal
 
 -- the lines that are left will come to the function
 abbrev pub invariant-loop-line : goal.invariant-loop-line
