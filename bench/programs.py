@@ -101,6 +101,8 @@ SHAPES = {
     "members copied": (80000, lambda n: structure(n, "    static struct wide v; struct wide w = v; w = v; s = w.m0;")),
     "redeclarations": (65000, lambda n: program("", many("extern int x;", n))),
     "roots with one header": (240, lambda n: roots(n, many("extern int x@;", 1000) + "\n", "static int f@;\n")),
+    "roots with one header of structures": (240, lambda n: roots(n, many("struct s@ { int m; };\nextern struct s@ o@;", 300) + "\n", "static int f@;\n")),
+    "statics of one name": (12000, lambda n: program("", many("static int f@(int x) { static int n; n = x; return n; }", n))),
     "cases": (28000, lambda n: program("    switch (s) {\n" + many("    case @: s = 2; break;", n) + "\n    default: break;\n    }")),
     "literals": (37000, lambda n: program(many('    s = "text @"[0];', n))),
     "bytes of arrays": (4 * MIB, arrays),

@@ -71,7 +71,7 @@ either_way : {A : Type 0} (b : Bool) (s : PlainStanding) (p q : Passed A) → Gr
 either_way true s p q g h = g
 either_way false s p q g h = h
 
-listed_either : (b : Bool) (s : PlainStanding) (p q : Listing) → Grows s p.after → Grows s q.after → Grows s (if b then p else q).after
+pub listed_either : (b : Bool) (s : PlainStanding) (p q : Listing) → Grows s p.after → Grows s q.after → Grows s (if b then p else q).after
 listed_either true s p q g h = g
 listed_either false s p q g h = h
 
@@ -119,7 +119,7 @@ grows_begun_for : (tag : Option (Identifier At)) (s : PlainStanding) → Grows s
 grows_begun_for None s = as_before s
 grows_begun_for (Some tag) s = grows_begun_by (known_tag (tagged_here s.scope tag.name)) tag s
 
-grows_begun : (word : Sign) (tag : Option (Identifier At)) (s : PlainStanding) → Grows s (begun_with every word tag s).standing
+pub grows_begun : (word : Sign) (tag : Option (Identifier At)) (s : PlainStanding) → Grows s (begun_with every word tag s).standing
 grows_begun sign.Union tag s = as_before s
 grows_begun word tag s = grows_begun_for tag s
 
@@ -133,11 +133,11 @@ grows_unknown_tag : (tag : Option (Identifier At)) (s : PlainStanding) → Grows
 grows_unknown_tag None s = as_before s
 grows_unknown_tag (Some tag) s = as_before s
 
-grows_made : (at : At) (tag : Option (Identifier At)) (n : ℕ) (members : Option (List PlainMember)) (s : PlainStanding) → Grows s (structure_made every at tag n members s).after
+pub grows_made : (at : At) (tag : Option (Identifier At)) (n : ℕ) (members : Option (List PlainMember)) (s : PlainStanding) → Grows s (structure_made every at tag n members s).after
 grows_made at tag n None s = grows_unknown_tag tag s
 grows_made at tag n (Some members) s = grows_completed at n members s
 
-grows_with_enumeration : (tag : Option (Identifier At)) (s : PlainStanding) → Grows s (with_enumeration tag s)
+pub grows_with_enumeration : (tag : Option (Identifier At)) (s : PlainStanding) → Grows s (with_enumeration tag s)
 grows_with_enumeration None s = as_before s
 grows_with_enumeration (Some tag) s = as_before s
 
@@ -153,11 +153,11 @@ grows_member_type name_at (of_open_array t) s = as_before s
 grows_member_type name_at (of_function f) s = as_before s
 grows_member_type name_at (of_part_function f) s = as_before s
 
-grows_member : (name_at : At) (o : Option DeclaredType) (s : PlainStanding) → Grows s (member_declared every name_at o s).after
+pub grows_member : (name_at : At) (o : Option DeclaredType) (s : PlainStanding) → Grows s (member_declared every name_at o s).after
 grows_member name_at None s = as_before s
 grows_member name_at (Some d) s = grows_member_type name_at d s
 
-grows_width : (at : At) (width : Optional At) (s : PlainStanding) → Grows s (with_width every at width s)
+pub grows_width : (at : At) (width : Optional At) (s : PlainStanding) → Grows s (with_width every at width s)
 grows_width at Absent s = as_before s
 grows_width at (Present e) s = grows_on (grows_refusing true subset.UnionOrBitField at s) (grows_value (refusing every true subset.UnionOrBitField at s) e constant_number)
 
@@ -179,7 +179,7 @@ grows_enumerator next name value s =
 grows_one_enumerator : (p : Passed ℤ) (e : Enumerator At) → Grows p.after (one_enumerator_passed every p e).after
 grows_one_enumerator p (enumerator at name value) = grows_enumerator p.made name value p.after
 
-grows_enumerators : (p : Passed ℤ) (all : Enumerators At) → Grows p.after (enumerators_passed every p all).after
+pub grows_enumerators : (p : Passed ℤ) (all : Enumerators At) → Grows p.after (enumerators_passed every p all).after
 grows_enumerators p NoEnumerators = as_before p.after
 grows_enumerators p (MoreEnumerators e rest) = grows_on (grows_one_enumerator p e) (grows_enumerators (one_enumerator_passed every p e) rest)
 
@@ -211,7 +211,7 @@ grows_pointer_by at name_at qualifiers (Some d) s (Some word_at) e =
     let t : PlainStanding = refusing every true subset.BadSpecifier word_at s in
     rw e (grows_on (grows_refusing true subset.BadSpecifier word_at s) (grows_pointed at name_at (has_const_word qualifiers) d t))
 
-grows_pointer : (at name_at : At) (qualifiers : List (Qualifier At)) (target : Option DeclaredType) (s : PlainStanding) → Grows s (pointer_declared every at name_at qualifiers target s).after
+pub grows_pointer : (at name_at : At) (qualifiers : List (Qualifier At)) (target : Option DeclaredType) (s : PlainStanding) → Grows s (pointer_declared every at name_at qualifiers target s).after
 grows_pointer at name_at qualifiers target s = grows_pointer_by at name_at qualifiers target s (other_word qualifiers) refl
 
 pub grows_element : (name_at : At) (o : Option DeclaredType) (s : PlainStanding) → Grows s (element_declared every name_at o s).after
@@ -257,7 +257,7 @@ grows_result_type at name_at (of_open_array t) s = grows_refusing true subset.In
 grows_result_type at name_at (of_function f) s = as_before s
 grows_result_type at name_at (of_part_function f) s = as_before s
 
-grows_result : (at name_at : At) (o : Option DeclaredType) (s : PlainStanding) → Grows s (result_declared every at name_at o s).after
+pub grows_result : (at name_at : At) (o : Option DeclaredType) (s : PlainStanding) → Grows s (result_declared every at name_at o s).after
 grows_result at name_at None s = as_before s
 grows_result at name_at (Some d) s = grows_result_type at name_at d s
 
@@ -268,19 +268,19 @@ grows_plain_parameter at name_at (void c) s = grows_refusing true subset.Incompl
 grows_plain_parameter at name_at (integer c i) s = as_before s
 grows_plain_parameter at name_at (pointer c t) s = as_before s
 
-grows_parameter : (at name_at : At) (o : Option DeclaredType) (s : PlainStanding) → Grows s (parameter_declared every at name_at o s).after
+pub grows_parameter : (at name_at : At) (o : Option DeclaredType) (s : PlainStanding) → Grows s (parameter_declared every at name_at o s).after
 grows_parameter at name_at None s = as_before s
 grows_parameter at name_at (Some (of_type t)) s = grows_plain_parameter at name_at t s
 grows_parameter at name_at (Some (of_open_array t)) s = as_before s
 grows_parameter at name_at (Some (of_function f)) s = as_before s
 grows_parameter at name_at (Some (of_part_function f)) s = as_before s
 
-grows_with_parameter : (i : ℕ) (name : Option (Identifier At)) (t : Option PlainType) (s : PlainStanding) → Grows s (with_parameter every i name t s)
+pub grows_with_parameter : (i : ℕ) (name : Option (Identifier At)) (t : Option PlainType) (s : PlainStanding) → Grows s (with_parameter every i name t s)
 grows_with_parameter i None t s = as_before s
 grows_with_parameter i (Some name) None s = grows_declaring name unknown_name s
 grows_with_parameter i (Some name) (Some t) s = grows_declaring name (local i t false) s
 
-grows_declared_parameter : (i : ℕ) (before : List ListedParameter) (at : At) (d : Declarator At) (j : Passed DeclaredType) → Grows j.after (with_declared_parameter every i before at d j).after
+pub grows_declared_parameter : (i : ℕ) (before : List ListedParameter) (at : At) (d : Declarator At) (j : Passed DeclaredType) → Grows j.after (with_declared_parameter every i before at d j).after
 grows_declared_parameter i before at d j =
     let s : PlainStanding = refusing every (declares_function d) subset.BadPointer (declarator_place d) j.after in
     let u : Passed PlainType = parameter_declared every at (place_or at (name_in d)) j.made s in
@@ -289,7 +289,7 @@ grows_declared_parameter i before at d j =
 
 -- ## Specifiers
 
-grows_type_specified : (specifiers : Specifiers At) (p : Passed (Option PlainType)) → Grows p.after (type_specified every specifiers p).after
+pub grows_type_specified : (specifiers : Specifiers At) (p : Passed (Option PlainType)) → Grows p.after (type_specified every specifiers p).after
 grows_type_specified specifiers p = grows_refusing (is_bad_mixture (said_of specifiers nothing_specified)) subset.BadSpecifier (specifiers_at nowhere specifiers) p.after
 
 grows_tag_passed : (alone : Bool) (at : At) (word : Sign) (tag : Option (Identifier At)) (s : PlainStanding) → Grows s (tag_passed every alone at word tag s).after
@@ -297,7 +297,7 @@ grows_tag_passed alone at sign.Union tag s = grows_refusing true subset.UnionOrB
 grows_tag_passed alone at word None s = as_before s
 grows_tag_passed alone at word (Some tag) s = grows_structure_named alone tag s
 
-grows_unless_union : (at : At) (word : Sign) (p : Passed PlainType) → Grows p.after (unless_union every at word p).after
+pub grows_unless_union : (at : At) (word : Sign) (p : Passed PlainType) → Grows p.after (unless_union every at word p).after
 grows_unless_union at sign.Union p = grows_refusing true subset.UnionOrBitField at p.after
 grows_unless_union at word p = as_before p.after
 
@@ -307,14 +307,14 @@ grows_typedef site allowed alone stored s name = grows_noted (lift (typedef_rule
 -- ## The trees
 
 mutual
-  grows_specifiers : (site : Site) (allowed : Allowed) (alone stored : Bool) (p : Passed (Option PlainType)) (all : Specifiers At) → Grows p.after (specifiers_passed every site allowed alone stored p all).after
+  pub grows_specifiers : (site : Site) (allowed : Allowed) (alone stored : Bool) (p : Passed (Option PlainType)) (all : Specifiers At) → Grows p.after (specifiers_passed every site allowed alone stored p all).after
   grows_specifiers site allowed alone stored p NoSpecifiers = as_before p.after
   grows_specifiers site allowed alone stored p (MoreSpecifiers one rest) =
       let q : Passed (Option PlainType) = specifier_passed every site allowed alone stored p.after one in
       grows_on (grows_specifier site allowed alone stored p.after one)
       (grows_specifiers site allowed alone (stored_by stored one) (record { made = both_named p.made q.made; after = q.after }) rest)
 
-  grows_specifier : (site : Site) (allowed : Allowed) (alone stored : Bool) (s : PlainStanding) (one : Specifier At) → Grows s (specifier_passed every site allowed alone stored s one).after
+  pub grows_specifier : (site : Site) (allowed : Allowed) (alone stored : Bool) (s : PlainStanding) (one : Specifier At) → Grows s (specifier_passed every site allowed alone stored s one).after
   grows_specifier site allowed alone stored s (Keyword at word) = grows_row (word_row site allowed stored word) at s
   grows_specifier site allowed alone stored s (Typedef name) = grows_typedef site allowed alone stored s name
   grows_specifier site allowed alone stored s (Structure at word tag members) = grows_structure alone at word tag s members
@@ -333,22 +333,22 @@ mutual
       (grows_on (grows_members q rest)
       (grows_on (grows_made at tag n p.made (ended p.after)) (grows_unless_union at word made))))
 
-  grows_members : (p : Passed (List PlainMember)) (all : Members At) → Grows p.after (members_passed every p all).after
+  pub grows_members : (p : Passed (List PlainMember)) (all : Members At) → Grows p.after (members_passed every p all).after
   grows_members p NoMembers = as_before p.after
   grows_members p (MoreMembers m rest) = grows_on (grows_one_member p m) (grows_members (member_passed every p m) rest)
 
-  grows_one_member : (p : Passed (List PlainMember)) (m : MemberDeclaration At) → Grows p.after (member_passed every p m).after
+  pub grows_one_member : (p : Passed (List PlainMember)) (m : MemberDeclaration At) → Grows p.after (member_passed every p m).after
   grows_one_member p (member_declaration at specifiers fields) =
       let q : Passed (Option PlainType) = specifiers_passed every site_is.OfMembers none_allowed false false (passed None p.after) specifiers in
       let t : Passed PlainType = type_specified every specifiers q in
       grows_on (grows_specifiers site_is.OfMembers none_allowed false false (passed None p.after) specifiers)
       (grows_on (grows_type_specified specifiers q) (grows_fields t.made (record { made = p.made; after = t.after }) fields))
 
-  grows_fields : (t : Option PlainType) (p : Passed (List PlainMember)) (all : Fields At) → Grows p.after (fields_passed every t p all).after
+  pub grows_fields : (t : Option PlainType) (p : Passed (List PlainMember)) (all : Fields At) → Grows p.after (fields_passed every t p all).after
   grows_fields t p NoFields = as_before p.after
   grows_fields t p (MoreFields f rest) = grows_on (grows_field t p f) (grows_fields t (field_passed every t p f) rest)
 
-  grows_field : (t : Option PlainType) (p : Passed (List PlainMember)) (f : Field At) → Grows p.after (field_passed every t p f).after
+  pub grows_field : (t : Option PlainType) (p : Passed (List PlainMember)) (f : Field At) → Grows p.after (field_passed every t p f).after
   grows_field t p (field at d width) =
       let name_at : At = place_or (declarator_place d) (name_in d) in
       let w : PlainStanding = with_width every (declarator_place d) width p.after in
@@ -404,12 +404,12 @@ mutual
       (listed_either (is_no_parameter d t.made) t.after (none_listed t.after) (with_declared_parameter every 0 [] at d j) (as_before t.after)
       (grows_on (grows_declarator (place_or at (name_in d)) (based t.made t.after) d) (grows_declared_parameter 0 [] at d j))))
 
-  grows_parameters : (i : ℕ) (p : Listing) (all : Parameters At) → Grows p.after (parameters_passed every i p all).after
+  pub grows_parameters : (i : ℕ) (p : Listing) (all : Parameters At) → Grows p.after (parameters_passed every i p all).after
   grows_parameters i p NoParameters = as_before p.after
   grows_parameters i p (MoreParameters one rest) =
       grows_on (grows_one_parameter i p one) (grows_parameters (i + 1) (one_parameter_passed every i p one) rest)
 
-  grows_one_parameter : (i : ℕ) (p : Listing) (one : Parameter At) → Grows p.after (one_parameter_passed every i p one).after
+  pub grows_one_parameter : (i : ℕ) (p : Listing) (one : Parameter At) → Grows p.after (one_parameter_passed every i p one).after
   grows_one_parameter i p (parameter at specifiers d) =
       let q : Passed (Option PlainType) = specifiers_passed every site_is.OfParameter none_allowed false false (passed None p.after) specifiers in
       let t : Passed PlainType = type_specified every specifiers q in

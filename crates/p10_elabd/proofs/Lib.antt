@@ -3,10 +3,11 @@ mod BracedParts
 mod DeclaratorArms
 mod FirstScalars
 mod FormRows
-mod Growing
+pub mod Growing
 mod ItemRows
 pub mod Keeping
 mod KnownParameters
+mod Membership
 mod ParameterArms
 mod SlotRows
 mod SpecifierTrees

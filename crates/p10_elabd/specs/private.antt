@@ -1,2 +1,3 @@
 -- What the proofs of this crate alone speak of.
 pub mod Heads
+pub mod NamedMembers

@@ -9,15 +9,17 @@ ghost use Rattle.p10_elabd.specs.Words.{none_allowed};
 ghost use Rattle.p10_elabd.specs.Tagged.{ended, structure_made};
 ghost use Rattle.p10_elabd.specs.Shapes.{of_type};
 ghost use Rattle.p10_elabd.specs.Declaring.{as_named, unless_union};
-ghost use Rattle.p10_elabd.specs.Views.{plain_standing, plain_named, plain_declared, plain_members, told};
+ghost use Rattle.p10_elabd.specs.Views.{plain_standing, plain_named, plain_declared, told};
+ghost use Rattle.p10_elabd.specs.private.NamedMembers.{named_members};
 
 use crate::declaration::Declared;
+use crate::named_members::NamedMembers;
 use crate::site::Allowed;
 use crate::specifiers::unless_union;
 use crate::standing::Standing;
 use crate::structures::{end, structure_made};
 use p10_base::At;
-use p10_core::{CType, Member};
+use p10_core::CType;
 use p10_syn::{Identifier, Sign};
 use std::alloc::{AllocError, Global};
 
@@ -79,9 +81,9 @@ pub fn structure_ended<'s>(
     sign: Sign,
     tag: Option<Identifier<'s>>,
     number: u32,
-    members: Option<Vec<Member<'s>>>,
+    members: Option<NamedMembers<'s>>,
 ) -> Result<Option<CType>, AllocError>
-    ensures { IfOk result (λ made. told (option_map plain_type made) standing.new ≡ unless_union only_first at sign (structure_made only_first at (tag_of tag.entry) number (option_map plain_members members.entry) (ended (plain_standing standing.old)))) }
+    ensures { IfOk result (λ made. told (option_map plain_type made) standing.new ≡ unless_union only_first at sign (structure_made only_first at (tag_of tag.entry) number (option_map named_members members.entry) (ended (plain_standing standing.old)))) }
 {
     end(standing);
     let made = structure_made(standing, at, tag, number, members)?;

@@ -27,6 +27,7 @@ mod known_tag;
 pub mod laws;
 mod lifetime;
 mod members;
+mod named_members;
 mod parameters;
 mod pointers;
 mod shapes;

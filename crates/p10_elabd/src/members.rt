@@ -1,14 +1,16 @@
 //! Members of structures, one at a time (C99 6.7.2.1).
 
-ghost use Rattle.std.specs.Prelude.{◌≡◌, IfOk, map, option_map};
+ghost use Rattle.std.specs.Prelude.{◌≡◌, IfOk, option_map};
 ghost use Rattle.p10_syn.specs.Built.{identifier_of};
-ghost use Rattle.p10_core.specs.Types.{plain_type, plain_member};
+ghost use Rattle.p10_core.specs.Types.{plain_type};
 ghost use Rattle.p10_elabx.specs.First.{only_first};
-ghost use Rattle.p10_elabd.specs.Members.{member_type, member_declared, with_width, member_added, has_name, is_member, with_member};
-ghost use Rattle.p10_elabd.specs.Views.{plain_standing, plain_declared, plain_members, optional_boxed, told};
+ghost use Rattle.p10_elabd.specs.Members.{member_type, member_declared, with_width, member_added, is_member, with_member};
+ghost use Rattle.p10_elabd.specs.Views.{plain_standing, plain_declared, optional_boxed, told};
+ghost use Rattle.p10_elabd.specs.private.NamedMembers.{named_members};
 
 use crate::declaration::Declared;
 use crate::expressions::constant_value;
+use crate::named_members::NamedMembers;
 use crate::standing::Standing;
 use p10_base::{At, SubsetCode};
 use p10_core::{CType, Member};
@@ -66,43 +68,30 @@ pub fn judge_width<'s>(
     }
 }
 
-/// Whether one of the members has a name.
-fn has_name(name: &[u8], members: &[Member<'_>]) -> bool
-    ensures { result ≡ has_name name.now (map plain_member members.now) }
-{
-    for member in members {
-        if member.name == name {
-            return true;
-        }
-    }
-    false
-}
-
 /// Whether a member has this name already.
-fn is_member(members: &Option<Vec<Member<'_>>>, name: Option<Identifier<'_>>) -> bool
-    ensures { result ≡ is_member (option_map plain_members members.now) (option_map identifier_of name.entry) }
+fn is_member(members: &Option<NamedMembers<'_>>, name: Option<Identifier<'_>>) -> bool
+    ensures { result ≡ is_member (option_map named_members members.now) (option_map identifier_of name.entry) }
 {
     match members {
         None => false,
         Some(members) => match name {
             None => false,
-            Some(name) => has_name(name.text, members.as_slice()),
+            Some(name) => members.has(name.text),
         },
     }
 }
 
 /// The members so far with one more.
 fn member_added<'s>(
-    members: Option<Vec<Member<'s>>>,
+    members: Option<NamedMembers<'s>>,
     name: Option<Identifier<'s>>,
     ty: Option<CType>,
-) -> Result<Option<Vec<Member<'s>>>, AllocError>
-    ensures { IfOk result (λ made. option_map plain_members made ≡ member_added (option_map plain_members members.entry) (option_map identifier_of name.entry) (option_map plain_type ty)) }
+) -> Result<Option<NamedMembers<'s>>, AllocError>
+    ensures { IfOk result (λ made. option_map named_members made ≡ member_added (option_map named_members members.entry) (option_map identifier_of name.entry) (option_map plain_type ty)) }
 {
     match (members, name, ty) {
         (Some(members), Some(name), Some(ty)) => {
-            let mut members = members;
-            members.push(Member {
+            let members = members.with(Member {
                 name: name.text,
                 ty,
             })?;
@@ -116,11 +105,11 @@ fn member_added<'s>(
 pub fn with_member<'s>(
     standing: &mut Standing<'s>,
     name_at: At,
-    members: Option<Vec<Member<'s>>>,
+    members: Option<NamedMembers<'s>>,
     name: Option<Identifier<'s>>,
     ty: Option<CType>,
-) -> Result<Option<Vec<Member<'s>>>, AllocError>
-    ensures { IfOk result (λ made. told (option_map plain_members made) standing.new ≡ with_member only_first name_at (option_map plain_members members.entry) (option_map identifier_of name.entry) (told (option_map plain_type ty) standing.old)) }
+) -> Result<Option<NamedMembers<'s>>, AllocError>
+    ensures { IfOk result (λ made. told (option_map named_members made) standing.new ≡ with_member only_first name_at (option_map named_members members.entry) (option_map identifier_of name.entry) (told (option_map plain_type ty) standing.old)) }
 {
     standing.refuse_where(is_member(&members, name), SubsetCode::DefinedTwice, name_at);
     member_added(members, name, ty)

@@ -7,9 +7,11 @@ ghost use Rattle.p10_core.specs.WholePrograms.{is_among};
 ghost use Rattle.p10_elabx.specs.First.{only_first};
 ghost use Rattle.p10_elabd.specs.Tagged.{begun_anew, begun_with_tag, begun_twice, begun_known, may_complete, begun_by_tag, begun_for, begun, ended, completed_by, structure_made};
 ghost use Rattle.p10_elabd.specs.Declaring.{begun_with};
-ghost use Rattle.p10_elabd.specs.Views.{plain_standing, plain_members, begins, told};
+ghost use Rattle.p10_elabd.specs.Views.{plain_standing, begins, told};
+ghost use Rattle.p10_elabd.specs.private.NamedMembers.{named_members};
 
 use crate::known_tag::{KnownTag, known_tag};
+use crate::named_members::NamedMembers;
 use crate::standing::Standing;
 use crate::tagged::set_unknown_tag;
 use crate::tags::add_tag;
@@ -156,15 +158,15 @@ pub fn structure_made<'s>(
     at: At,
     tag: Option<Identifier<'s>>,
     number: u32,
-    members: Option<Vec<Member<'s>>>,
+    members: Option<NamedMembers<'s>>,
 ) -> Result<Option<CType>, AllocError>
-    ensures { IfOk result (λ made. told (option_map plain_type made) standing.new ≡ structure_made only_first at (tag_of tag.entry) number (option_map plain_members members.entry) (plain_standing standing.old)) }
+    ensures { IfOk result (λ made. told (option_map plain_type made) standing.new ≡ structure_made only_first at (tag_of tag.entry) number (option_map named_members members.entry) (plain_standing standing.old)) }
 {
     match members {
         None => {
             set_unknown_tag(standing, tag)?;
             Ok(None)
         }
-        Some(members) => Ok(completed_by(standing, at, number, members)),
+        Some(members) => Ok(completed_by(standing, at, number, members.into_list())),
     }
 }

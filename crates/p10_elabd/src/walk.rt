@@ -8,7 +8,8 @@ ghost use Rattle.p10_core.specs.Types.{plain_type};
 ghost use Rattle.p10_elabx.specs.First.{only_first};
 ghost use Rattle.p10_elabd.specs.Standing.{passed};
 ghost use Rattle.p10_elabd.specs.Declaring.{specifiers_passed, specifier_passed, structure_passed, members_passed, member_passed, fields_passed, field_passed, declarator_passed, function_passed, all_parameters_passed, only_parameter_passed, parameters_passed, one_parameter_passed, typed_parameter_passed, none_listed, specified};
-ghost use Rattle.p10_elabd.specs.Views.{plain_standing, plain_named, plain_members, plain_declared, plain_parameters, lists, told};
+ghost use Rattle.p10_elabd.specs.Views.{plain_standing, plain_named, plain_declared, plain_parameters, lists, told};
+ghost use Rattle.p10_elabd.specs.private.NamedMembers.{named_members};
 
 use crate::arrays::{array_declared, array_inside, open_declared};
 use crate::bases::{as_named, based, based_on, next_number, none_allowed, structure_ended};
@@ -16,6 +17,7 @@ use crate::declaration::{Declared, PlacedParameter};
 use crate::enumerations::enumeration_passed;
 use crate::functions::{function_inside, result_declared};
 use crate::members::{judge_width, member_declared, with_member};
+use crate::named_members::NamedMembers;
 use crate::parameters::{
     ParameterSite, function_declared, is_no_parameter, list_of, with_declared_parameter,
 };
@@ -28,7 +30,7 @@ use crate::specifiers::{
 use crate::standing::Standing;
 use crate::structures::begin;
 use p10_base::{At, SubsetCode};
-use p10_core::{CType, Member};
+use p10_core::CType;
 use p10_elabx::declarator_place;
 use p10_syn::{Declarator, Field, Member as MemberTree, Parameter, Spec, Structure};
 use std::alloc::{AllocError, Global};
@@ -136,10 +138,10 @@ fn members_passed<'s>(
     alloc: Global,
     standing: &mut Standing<'s>,
     all: &[MemberTree<'s>],
-) -> Result<Option<Vec<Member<'s>>>, AllocError>
-    ensures { IfOk result (λ made. told (option_map plain_members made) standing.new ≡ members_passed only_first (passed [] (plain_standing standing.old)) (member_row (map member_of all.now))) }
+) -> Result<Option<NamedMembers<'s>>, AllocError>
+    ensures { IfOk result (λ made. told (option_map named_members made) standing.new ≡ members_passed only_first (passed [] (plain_standing standing.old)) (member_row (map member_of all.now))) }
 {
-    let mut members = Some(Vec::new(alloc));
+    let mut members = Some(NamedMembers::new(alloc));
     for one in all {
         members = member_passed(alloc, standing, members, one)?;
     }
@@ -152,10 +154,10 @@ fn members_passed<'s>(
 fn member_passed<'s>(
     alloc: Global,
     standing: &mut Standing<'s>,
-    members: Option<Vec<Member<'s>>>,
+    members: Option<NamedMembers<'s>>,
     one: &MemberTree<'s>,
-) -> Result<Option<Vec<Member<'s>>>, AllocError>
-    ensures { IfOk result (λ made. told (option_map plain_members made) standing.new ≡ member_passed only_first (told (option_map plain_members members.entry) standing.old) (member_of one.now)) }
+) -> Result<Option<NamedMembers<'s>>, AllocError>
+    ensures { IfOk result (λ made. told (option_map named_members made) standing.new ≡ member_passed only_first (told (option_map named_members members.entry) standing.old) (member_of one.now)) }
 {
     let ty = specified(
         alloc,
@@ -175,10 +177,10 @@ fn fields_passed<'s>(
     alloc: Global,
     standing: &mut Standing<'s>,
     ty: &Option<CType>,
-    members: Option<Vec<Member<'s>>>,
+    members: Option<NamedMembers<'s>>,
     fields: &[Field<'s>],
-) -> Result<Option<Vec<Member<'s>>>, AllocError>
-    ensures { IfOk result (λ made. told (option_map plain_members made) standing.new ≡ fields_passed only_first (option_map plain_type ty.now) (told (option_map plain_members members.entry) standing.old) (field_row (map field_of fields.now))) }
+) -> Result<Option<NamedMembers<'s>>, AllocError>
+    ensures { IfOk result (λ made. told (option_map named_members made) standing.new ≡ fields_passed only_first (option_map plain_type ty.now) (told (option_map named_members members.entry) standing.old) (field_row (map field_of fields.now))) }
 {
     let mut members = members;
     for field in fields {
@@ -194,10 +196,10 @@ fn field_passed<'s>(
     alloc: Global,
     standing: &mut Standing<'s>,
     ty: &Option<CType>,
-    members: Option<Vec<Member<'s>>>,
+    members: Option<NamedMembers<'s>>,
     field: &Field<'s>,
-) -> Result<Option<Vec<Member<'s>>>, AllocError>
-    ensures { IfOk result (λ made. told (option_map plain_members made) standing.new ≡ field_passed only_first (option_map plain_type ty.now) (told (option_map plain_members members.entry) standing.old) (field_of field.now)) }
+) -> Result<Option<NamedMembers<'s>>, AllocError>
+    ensures { IfOk result (λ made. told (option_map named_members made) standing.new ≡ field_passed only_first (option_map plain_type ty.now) (told (option_map named_members members.entry) standing.old) (field_of field.now)) }
 {
     let place = declarator_place(&field.declarator);
     let name = name_in(&field.declarator);

@@ -1,4 +1,5 @@
 mod CaseSteps
+mod CaseValues
 mod DeclaratorRows
 mod DeclaredObjects
 mod Enumerated

@@ -11,6 +11,7 @@ use Rattle.p10_elabs.specs.declared.local.Local.{Local as CodeLocal}
 use Rattle.p10_elabs.specs.declared.labels.Labelled.{Labelled as CodeLabelled}
 use Rattle.p10_elabs.specs.Locals.{Local, Done}
 use Rattle.p10_elabs.specs.Statements.{Labelled}
+use Rattle.p10_elabs.specs.private.CaseLabels.{known_cases}
 
 -- an object with its number
 abbrev pub numbered_object : ℕ × Global → ℕ × PlainObject
@@ -40,4 +41,4 @@ plain_cases cases = option_map (λ all. all.items) cases
 
 -- the labels of a `switch` so far, and what the body has then
 abbrev pub plain_labelled : CodeLabelled → Local → Labelled
-plain_labelled k l = record { cases = plain_cases k.cases; otherwise = k.otherwise; after = l }
+plain_labelled k l = record { cases = known_cases k.cases; otherwise = k.otherwise; after = l }

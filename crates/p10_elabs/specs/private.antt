@@ -1,4 +1,5 @@
 -- What the private functions of this crate rest on.
+pub mod CaseLabels
 pub mod Cases
 pub mod Clauses
 pub mod Declarators

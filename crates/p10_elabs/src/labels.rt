@@ -1,10 +1,12 @@
 //! Labels of a `switch` (C99 6.8.1, 6.8.4.2).
 
-ghost use Rattle.std.specs.Prelude.{◌≡◌, Some, IfOk};
+ghost use Rattle.std.specs.Prelude.{◌≡◌, IfOk};
 ghost use Rattle.p10_elabx.specs.First.{only_first};
 ghost use Rattle.p10_elabs.specs.LocalViews.{plain_local, plain_cases, plain_labelled};
 ghost use Rattle.p10_elabs.specs.Statements.{is_labelled, label_added, case_noted, default_done};
+ghost use Rattle.p10_elabs.specs.private.CaseLabels.{known_cases};
 
+use crate::case_labels::CaseLabels;
 use crate::local::Local;
 use p10_base::{At, SubsetCode};
 use p10_core::Label;
@@ -14,45 +16,43 @@ use std::alloc::AllocError;
 #[derive(Drop)]
 pub(crate) struct Labelled {
     /// The `case` labels, if none was refused.
-    pub cases: Option<Vec<Label>>,
+    pub cases: Option<CaseLabels>,
     /// The place of the item that `default` stands before.
     pub otherwise: Option<u32>,
 }
 
-/// Whether a value is that of a label.
-fn is_labelled(value: i128, cases: &[Label]) -> bool
-    ensures { result ≡ is_labelled value (Some cases.now) }
+/// The `case` labels, if none was refused.
+pub(crate) fn listed(cases: Option<CaseLabels>) -> Option<Vec<Label>>
+    ensures { plain_cases result ≡ known_cases cases }
 {
-    for label in cases {
-        if label.value == value {
-            return true;
-        }
+    match cases {
+        Some(cases) => Some(cases.into_list()),
+        None => None,
     }
-    false
 }
 
 /// Whether a value is that of a label, if no label was refused.
-fn is_known(value: i128, cases: &Option<Vec<Label>>) -> bool
-    ensures { result ≡ is_labelled value (plain_cases cases.now) }
+fn is_known(value: i128, cases: &Option<CaseLabels>) -> bool
+    ensures { result ≡ is_labelled value (known_cases cases.now) }
 {
     match cases {
         None => false,
-        Some(cases) => is_labelled(value, cases),
+        Some(cases) => cases.has(value),
     }
 }
 
 /// A label more, where nothing was refused.
 fn label_added(
-    cases: Option<Vec<Label>>,
+    cases: Option<CaseLabels>,
     value: i128,
     place: u32,
-) -> Result<Option<Vec<Label>>, AllocError>
-    ensures { IfOk result (λ all. plain_cases all ≡ label_added (plain_cases cases) value place) }
+) -> Result<Option<CaseLabels>, AllocError>
+    ensures { IfOk result (λ all. known_cases all ≡ label_added (known_cases cases) value place) }
 {
     match cases {
         None => Ok(None),
-        Some(mut cases) => {
-            cases.push(Label { value, place })?;
+        Some(cases) => {
+            let cases = cases.with(Label { value, place })?;
             Ok(Some(cases))
         }
     }

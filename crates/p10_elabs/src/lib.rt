@@ -10,6 +10,7 @@
 #![tactic(auto)]
 
 mod both;
+mod case_labels;
 mod cases;
 mod clauses;
 mod conditions;

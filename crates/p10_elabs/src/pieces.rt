@@ -11,7 +11,7 @@ ghost use Rattle.p10_elabs.specs.Statements.{block_of, if_of, if_else_of, loop_o
 ghost use Rattle.p10_elabs.specs.private.Labels.{labelled_where};
 
 use crate::both::{both, kept};
-use crate::labels::Labelled;
+use crate::labels::{Labelled, listed};
 use crate::local::Local;
 use p10_base::{At, ListBuf, SubsetCode};
 use p10_core::{Clauses, Labels, LoopHead, MarkKind, Stmt, Value};
@@ -204,7 +204,7 @@ pub(crate) fn switch_of(
     ensures { IfOk result (λ made. (l : PlainLocal) → option_map plain_statement made ≡ switch_of at keyword (option_map plain_value value) (plain_labelled labels l) (option_map plain_statement body)) }
 {
     let Labelled { cases, otherwise } = labels;
-    let most = both(value, cases);
+    let most = both(value, listed(cases));
     match both(most, body) {
         Some((most, body)) => {
             let (value, cases) = most;

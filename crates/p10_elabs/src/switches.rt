@@ -6,6 +6,7 @@ ghost use Rattle.p10_elabs.specs.LocalViews.{plain_labelled};
 ghost use Rattle.p10_elabs.specs.Statements.{nothing_switched};
 ghost use Rattle.p10_elabs.specs.private.StepViews.{plain_switched};
 
+use crate::case_labels::CaseLabels;
 use crate::items::{Items, no_items};
 use crate::labels::Labelled;
 use std::alloc::{AllocError, Global};
@@ -22,7 +23,7 @@ pub(crate) fn no_labels(alloc: Global) -> Labelled
     ensures { (l : PlainLocal) → plain_labelled result l ≡ record { cases = Some []; otherwise = None; after = l } }
 {
     Labelled {
-        cases: Some(Vec::new(alloc)),
+        cases: Some(CaseLabels::new(alloc)),
         otherwise: None,
     }
 }

@@ -1,8 +1,8 @@
 pub mod ListRows
 pub mod CutRoots
+mod BlockNumbers
 mod BlockObjects
 mod DefiningOnce
-mod IsAt
 mod FirstNames
 mod Numbered
 mod RootHeads

@@ -20,6 +20,10 @@ pub cut_list : {A : Type 0} (all : List A) (i : ℕ) (x : A) → i < length all 
 cut_list all i x below is =
     drop-cons all i x below ∙ ap (λ y. y ∷ drop (suc i) all) (sym is) ∙ ap (λ n. x ∷ drop n all) (sym (add-one i))
 
+-- the same, of an element by its place alone
+pub cut_at : {A : Type 0} (all : List A) (i : ℕ) (default : A) → i < length all → drop i all ≡ get_or all i default ∷ drop (i + 1) all
+cut_at all i default below = drop-cons all i default below ∙ ap (λ n. get_or all i default ∷ drop n all) (sym (add-one i))
+
 -- one part more is put down
 pub more_put : {A : Type 0} (before one rest all after whole : List A) → after ≡ before ++ one → all ≡ one ++ rest → before ++ all ≡ whole → after ++ rest ≡ whole
 more_put before one rest all after whole is cut holds =

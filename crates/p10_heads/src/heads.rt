@@ -1,12 +1,14 @@
 //! All that the roots define: functions, objects outside of functions, and objects of static lifetime in blocks.
 
-ghost use Rattle.std.specs.Prelude.{◌≡◌, map};
+ghost use Rattle.std.specs.Prelude.{◌≡◌, ℕ, nat_eq, map};
+ghost use Rattle.indexmap.specs.IndexMap.{get};
 ghost use Rattle.p10_heads.specs.HeadViews.{plain_head};
-ghost use Rattle.p10_heads.specs.private.Numbering.{plain_numbers, numbers_of};
+ghost use Rattle.p10_heads.specs.private.Numbering.{plain_numbers, numbers_of, block_place};
 
-use crate::block_numbers::number_at;
+use crate::block_numbers::block_numbers;
 use crate::head::Head;
-use crate::numbers::Numbers;
+use crate::numbers::{Numbers, number_by};
+use indexmap::IndexMap;
 use p10_base::At;
 use std::alloc::{AllocError, Global};
 
@@ -18,8 +20,11 @@ pub struct Heads<'s> {
     objects: Vec<Head<'s>>,
     function_numbers: Numbers<'s>,
     object_numbers: Numbers<'s>,
+    /// The numbers of objects in blocks, by the first words of their names.
+    blocks: IndexMap<u32, u32>,
     ghost functions_numbered: { plain_numbers function_numbers ≡ numbers_of (map plain_head functions.items) },
     ghost objects_numbered: { plain_numbers object_numbers ≡ numbers_of (map plain_head objects.items) },
+    ghost blocks_numbered: { (first : ℕ) → get nat_eq blocks first ≡ block_place first (map plain_head objects.items) },
 }
 
 #[tactic(auto, using(crate::proofs::Numbered::numbers_are))]
@@ -38,11 +43,13 @@ impl<'s> Heads<'s> {
     {
         let function_numbers = Numbers::of(alloc, &functions)?;
         let object_numbers = Numbers::of(alloc, &objects)?;
+        let blocks = block_numbers(alloc, &objects)?;
         Ok(Heads {
             functions,
             objects,
             function_numbers,
             object_numbers,
+            blocks,
         })
     }
 
@@ -74,11 +81,24 @@ impl<'s> Heads<'s> {
         self.object_numbers.number(root, internal, name)
     }
 
-    /// The number of the object in a block whose name stands at a place; where there is none, the number of all objects. All objects
-    /// before it are looked at.
+    /// The number of the object in a block whose name stands at a place; where there is none, the number of all objects.
     pub fn block_number(&self, at: At) -> u32
         ensures { result ≡ number_at (plain_heads self.now).objects at }
     {
-        number_at(&self.objects, at, self.object_numbers.count())
+        number_by(
+            self.block_place(at.first),
+            None,
+            self.object_numbers.count(),
+        )
+    }
+
+    /// The number of the first object in a block whose name begins with a word.
+    fn block_place(&self, first: u32) -> Option<u32>
+        ensures { result ≡ block_place first (map plain_head self.now.objects.items) }
+    {
+        match self.blocks.get(&first) {
+            Some(number) => Some(*number),
+            None => None,
+        }
     }
 }

@@ -86,7 +86,7 @@ impl<'s> Numbers<'s> {
 }
 
 /// The first number, or else the second one, or that of all.
-fn number_by(first: Option<u32>, second: Option<u32>, count: u32) -> u32
+pub(crate) fn number_by(first: Option<u32>, second: Option<u32>, count: u32) -> u32
     ensures { result ≡ number_by first second count }
 {
     match first {

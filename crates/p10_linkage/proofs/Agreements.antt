@@ -11,7 +11,7 @@ use Rattle.p10_linkage.specs.Laws.{CompatibleDeclarationsAgree, TypesAreCompatib
 use Rattle.p10_linkage.proofs.Comparisons.{within_settled}
 use Rattle.p10_linkage.proofs.OneType.{united_kept, built_stands, united_built}
 
-same_flag : (b : Bool) → beq b b ≡ true
+pub same_flag : (b : Bool) → beq b b ≡ true
 same_flag true = refl
 same_flag false = refl
 

@@ -11,7 +11,7 @@ found_or_not : (o : Option ℕ) → (o ≡ None) ⊎ ((n : ℕ) × (o ≡ Some n
 found_or_not None = inl refl
 found_or_not (Some n) = inr (n, refl)
 
-true_or_false : (b : Bool) → (b ≡ true) ⊎ (b ≡ false)
+pub true_or_false : (b : Bool) → (b ≡ true) ⊎ (b ≡ false)
 true_or_false true = inl refl
 true_or_false false = inr refl
 

@@ -12,3 +12,6 @@ pub mod LinkedTypes
 mod UnitedAlike
 mod ComparedWell
 mod EachFound
+mod Sameness
+mod Covering
+mod SharedNames

@@ -21,83 +21,91 @@ use Rattle.p10_linkage.specs.private.Grouping.{with_row, rows_at, named}
 use Rattle.p10_linkage.specs.private.Agreeing.{agreed_row, stood, noted_where, is_defined_row}
 use Rattle.p10_linkage.proofs.ByNumbers.{then_none}
 use Rattle.p10_linkage.proofs.LinkedTypes.{drop_here, rest_of}
-use Rattle.p10_linkage.proofs.OneType.{some_is, none_is_not, some_if, some_then, united_built}
+use Rattle.p10_linkage.proofs.Joining.{StandsWell, IsKept, kept_itself, kept_on}
+use Rattle.p10_linkage.proofs.OneType.{some_is, none_is_not, some_if, some_then, united_kept, built_stands, kept_built}
 
--- ## Structures stay built
+-- ## Structures that are kept
 
-known_built : (t u : Option PlainType) (ss rs : List PlainStructure) → AreBuilt ss → known_united t u ss ≡ Some rs → AreBuilt rs
-known_built (Some t) (Some u) ss rs b e = united_built t u ss rs b e
-known_built (Some t) None ss rs b e = subst AreBuilt (some_is ss rs e) b
-known_built None (Some u) ss rs b e = subst AreBuilt (some_is ss rs e) b
-known_built None None ss rs b e = subst AreBuilt (some_is ss rs e) b
+as_before : (ss rs : List PlainStructure) → StandsWell ss → Some ss ≡ Some rs → IsKept ss rs
+as_before ss rs w e = subst (IsKept ss) (some_is ss rs e) (kept_itself ss w)
 
-parameters_built : (ts us : List (Option PlainType)) (ss rs : List PlainStructure) → AreBuilt ss → parameters_united ts us ss ≡ Some rs → AreBuilt rs
-parameters_built [] [] ss rs b e = subst AreBuilt (some_is ss rs e) b
-parameters_built (t ∷ ts) (u ∷ us) ss rs b e =
+known_kept : (t u : Option PlainType) (ss rs : List PlainStructure) → StandsWell ss → known_united t u ss ≡ Some rs → IsKept ss rs
+known_kept (Some t) (Some u) ss rs w e = (united_kept t u ss rs w e).0
+known_kept (Some t) None ss rs w e = as_before ss rs w e
+known_kept None (Some u) ss rs w e = as_before ss rs w e
+known_kept None None ss rs w e = as_before ss rs w e
+
+parameters_kept : (ts us : List (Option PlainType)) (ss rs : List PlainStructure) → StandsWell ss → parameters_united ts us ss ≡ Some rs → IsKept ss rs
+parameters_kept [] [] ss rs w e = as_before ss rs w e
+parameters_kept (t ∷ ts) (u ∷ us) ss rs w e =
     let next : (qs : List PlainStructure) × (known_united t u ss ≡ Some qs) × (parameters_united ts us qs ≡ Some rs) = some_then (known_united t u ss) (parameters_united ts us) rs e in
-    parameters_built ts us next.0 rs (known_built t u ss next.0 b next.1) next.2
-parameters_built [] (u ∷ us) ss rs b e = none_is_not rs e
-parameters_built (t ∷ ts) [] ss rs b e = none_is_not rs e
+    let first : IsKept ss next.0 = known_kept t u ss next.0 w next.1 in
+    kept_on ss next.0 rs first (parameters_kept ts us next.0 rs first.stands next.2)
+parameters_kept [] (u ∷ us) ss rs w e = none_is_not rs e
+parameters_kept (t ∷ ts) [] ss rs w e = none_is_not rs e
 
 either_some : {A : Type 0} (t : Bool) (o p : Option A) (y : A) → (if t then o else p) ≡ Some y → (o ≡ Some y) ⊎ (p ≡ Some y)
 either_some true o p y e = inl e
 either_some false o p y e = inr e
 
-listed_built : (t u : LinkedType) (ss rs : List PlainStructure) → AreBuilt ss → listed_united t u ss ≡ Some rs → AreBuilt rs
-listed_built t u ss rs b e =
-    elim (either_some (is_none_listed t u) (Some ss) (parameters_united (parameters_of t) (parameters_of u) ss) rs e) as (λ _. AreBuilt rs) [
-      | inl none ↦ subst AreBuilt (some_is ss rs none) b
-      | inr both ↦ parameters_built (parameters_of t) (parameters_of u) ss rs b both
+listed_kept : (t u : LinkedType) (ss rs : List PlainStructure) → StandsWell ss → listed_united t u ss ≡ Some rs → IsKept ss rs
+listed_kept t u ss rs w e =
+    elim (either_some (is_none_listed t u) (Some ss) (parameters_united (parameters_of t) (parameters_of u) ss) rs e) as (λ _. IsKept ss rs) [
+      | inl none ↦ as_before ss rs w none
+      | inr both ↦ parameters_kept (parameters_of t) (parameters_of u) ss rs w both
     ]
 
-functions_built : (l now : Linked) (ss rs : List PlainStructure) → AreBuilt ss → functions_united l now ss ≡ Some rs → AreBuilt rs
-functions_built l now ss rs b e =
+functions_kept : (l now : Linked) (ss rs : List PlainStructure) → StandsWell ss → functions_united l now ss ≡ Some rs → IsKept ss rs
+functions_kept l now ss rs w e =
     let both : Option (List PlainStructure) = and_then (known_united (known_result l.type) (known_result now.type) ss) (listed_united l.type now.type) in
     let next : (qs : List PlainStructure) × (known_united (known_result l.type) (known_result now.type) ss ≡ Some qs) × (listed_united l.type now.type qs ≡ Some rs) =
     some_then (known_united (known_result l.type) (known_result now.type) ss) (listed_united l.type now.type) rs (some_if (lists_agree l.defines now.defines l.type now.type) both rs e).1 in
-    listed_built l.type now.type next.0 rs (known_built (known_result l.type) (known_result now.type) ss next.0 b next.1) next.2
+    let first : IsKept ss next.0 = known_kept (known_result l.type) (known_result now.type) ss next.0 w next.1 in
+    kept_on ss next.0 rs first (listed_kept l.type now.type next.0 rs first.stands next.2)
 
-as_before : (t u : LinkedType) (ss rs : List PlainStructure) → AreBuilt ss → (if beq (is_function t) (is_function u) then Some ss else None) ≡ Some rs → AreBuilt rs
-as_before t u ss rs b e = subst AreBuilt (some_is ss rs (some_if (beq (is_function t) (is_function u)) (Some ss) rs e).1) b
+apart_before : (t u : LinkedType) (ss rs : List PlainStructure) → StandsWell ss → (if beq (is_function t) (is_function u) then Some ss else None) ≡ Some rs → IsKept ss rs
+apart_before t u ss rs w e = as_before ss rs w (some_if (beq (is_function t) (is_function u)) (Some ss) rs e).1
 
-objects_built : (t u : LinkedType) (ss rs : List PlainStructure) → AreBuilt ss → objects_united t u ss ≡ Some rs → AreBuilt rs
-objects_built (an_object t) (an_object u) ss rs b e = united_built t u ss rs b e
-objects_built (an_object t) (a_function ws q) ss rs b e = as_before (an_object t) (a_function ws q) ss rs b e
-objects_built (an_object t) (a_part_function p) ss rs b e = as_before (an_object t) (a_part_function p) ss rs b e
-objects_built (an_object t) unknown_object ss rs b e = as_before (an_object t) unknown_object ss rs b e
-objects_built (a_function vs r) u ss rs b e = as_before (a_function vs r) u ss rs b e
-objects_built (a_part_function p) u ss rs b e = as_before (a_part_function p) u ss rs b e
-objects_built unknown_object u ss rs b e = as_before unknown_object u ss rs b e
+objects_kept : (t u : LinkedType) (ss rs : List PlainStructure) → StandsWell ss → objects_united t u ss ≡ Some rs → IsKept ss rs
+objects_kept (an_object t) (an_object u) ss rs w e = (united_kept t u ss rs w e).0
+objects_kept (an_object t) (a_function ws q) ss rs w e = apart_before (an_object t) (a_function ws q) ss rs w e
+objects_kept (an_object t) (a_part_function p) ss rs w e = apart_before (an_object t) (a_part_function p) ss rs w e
+objects_kept (an_object t) unknown_object ss rs w e = apart_before (an_object t) unknown_object ss rs w e
+objects_kept (a_function vs r) u ss rs w e = apart_before (a_function vs r) u ss rs w e
+objects_kept (a_part_function p) u ss rs w e = apart_before (a_part_function p) u ss rs w e
+objects_kept unknown_object u ss rs w e = apart_before unknown_object u ss rs w e
 
-linked_built : (l now : Linked) (ss rs : List PlainStructure) → AreBuilt ss → linked_united l now ss ≡ Some rs → AreBuilt rs
-linked_built l now ss rs b e =
-    elim (either_some (is_function l.type && is_function now.type) (functions_united l now ss) (objects_united l.type now.type ss) rs e) as (λ _. AreBuilt rs) [
-      | inl functions ↦ functions_built l now ss rs b functions
-      | inr objects ↦ objects_built l.type now.type ss rs b objects
+linked_kept : (l now : Linked) (ss rs : List PlainStructure) → StandsWell ss → linked_united l now ss ≡ Some rs → IsKept ss rs
+linked_kept l now ss rs w e =
+    elim (either_some (is_function l.type && is_function now.type) (functions_united l now ss) (objects_united l.type now.type ss) rs e) as (λ _. IsKept ss rs) [
+      | inl functions ↦ functions_kept l now ss rs w functions
+      | inr objects ↦ objects_kept l.type now.type ss rs w objects
     ]
 
-unless_built : (l now : Linked) (ss rs : List PlainStructure) (found : Option (List PlainStructure)) → AreBuilt ss →
-    ((qs : List PlainStructure) → found ≡ Some qs → AreBuilt qs) → unless_compatible l now ss found ≡ Some rs → AreBuilt rs
-unless_built l now ss rs (Some after) b h e = h rs e
-unless_built l now ss rs None b h e = subst AreBuilt (some_is ss rs (some_if (are_compatible ss l now) (Some ss) rs e).1) b
+unless_kept : (l now : Linked) (ss rs : List PlainStructure) (found : Option (List PlainStructure)) → StandsWell ss →
+    ((qs : List PlainStructure) → found ≡ Some qs → IsKept ss qs) → unless_compatible l now ss found ≡ Some rs → IsKept ss rs
+unless_kept l now ss rs (Some after) w h e = h rs e
+unless_kept l now ss rs None w h e = as_before ss rs w (some_if (are_compatible ss l now) (Some ss) rs e).1
 
-with_built : (l now : Linked) (ss rs : List PlainStructure) → AreBuilt ss → agreed_with l now ss ≡ Some rs → AreBuilt rs
-with_built l now ss rs b e =
+with_kept : (l now : Linked) (ss rs : List PlainStructure) → StandsWell ss → agreed_with l now ss ≡ Some rs → IsKept ss rs
+with_kept l now ss rs w e =
     let found : Option (List PlainStructure) = unless_compatible l now ss (linked_united l now ss) in
-    elim (either_some (is_other l now) (if beq l.sensor now.sensor then found else None) (Some ss) rs e) as (λ _. AreBuilt rs) [
-      | inl both ↦ unless_built l now ss rs (linked_united l now ss) b (λ qs. linked_built l now ss qs b) (some_if (beq l.sensor now.sensor) found rs both).1
-      | inr same ↦ subst AreBuilt (some_is ss rs same) b
+    elim (either_some (is_other l now) (if beq l.sensor now.sensor then found else None) (Some ss) rs e) as (λ _. IsKept ss rs) [
+      | inl both ↦ unless_kept l now ss rs (linked_united l now ss) w (λ qs. linked_kept l now ss qs w) (some_if (beq l.sensor now.sensor) found rs both).1
+      | inr same ↦ as_before ss rs w same
     ]
 
-agreed_built : (ls : List Linked) (now : Linked) (ss rs : List PlainStructure) → AreBuilt ss → agreed ls now ss ≡ Some rs → AreBuilt rs
-agreed_built [] now ss rs b e = subst AreBuilt (some_is ss rs e) b
-agreed_built (l ∷ ls) now ss rs b e =
+-- a declaration that agrees with those before it keeps the rest of the structures, and which of them are one
+pub agreed_kept : (ls : List Linked) (now : Linked) (ss rs : List PlainStructure) → StandsWell ss → agreed ls now ss ≡ Some rs → IsKept ss rs
+agreed_kept [] now ss rs w e = as_before ss rs w e
+agreed_kept (l ∷ ls) now ss rs w e =
     let next : (qs : List PlainStructure) × (agreed_with l now ss ≡ Some qs) × (agreed ls now qs ≡ Some rs) = some_then (agreed_with l now ss) (agreed ls now) rs e in
-    agreed_built ls now next.0 rs (with_built l now ss next.0 b next.1) next.2
+    let first : IsKept ss next.0 = with_kept l now ss next.0 w next.1 in
+    kept_on ss next.0 rs first (agreed_kept ls now next.0 rs first.stands next.2)
 
 -- structures are built after a declaration, whether or not it agrees
 pub turn_built : (agrees : Bool) (ls : List Linked) (now : Linked) (ss rs : List PlainStructure) → AreBuilt ss → given agrees rs ≡ agreed ls now ss → (agrees ≡ false → rs ≡ ss) → AreBuilt rs
-turn_built true ls now ss rs b e same = agreed_built ls now ss rs b (sym e)
+turn_built true ls now ss rs b e same = kept_built ss rs b (agreed_kept ls now ss rs (built_stands ss b) (sym e))
 turn_built false ls now ss rs b e same = subst AreBuilt (sym (same refl)) b
 
 -- parameters that aren't as many aren't made one
@@ -138,7 +146,7 @@ rows_append {A = A} all (n ∷ places) k = ap (with_row (slice_get all n)) (rows
     row_append None xs ys = refl
     row_append (Some x) xs ys = refl
 
-named_append : {A : Type 0} (of : A → Text) (name : Text) (xs : List A) (a : A) → named of name (xs ++ a ∷ []) ≡ named of name xs ++ named of name (a ∷ [])
+pub named_append : {A : Type 0} (of : A → Text) (name : Text) (xs : List A) (a : A) → named of name (xs ++ a ∷ []) ≡ named of name xs ++ named of name (a ∷ [])
 named_append of name [] a = refl
 named_append {A = A} of name (x ∷ xs) a = ap (λ rest. if bytes_eq (of x) name then x ∷ rest else rest) (named_append of name xs a) ∙ passed (bytes_eq (of x) name) (named of name xs) (named of name (a ∷ []))
   where
@@ -146,7 +154,7 @@ named_append {A = A} of name (x ∷ xs) a = ap (λ rest. if bytes_eq (of x) name
     passed true ys zs = refl
     passed false ys zs = refl
 
-after : (k : ℕ) → suc k ≡ k + 1
+pub after : (k : ℕ) → suc k ≡ k + 1
 after k = omega arith
 
 pub take_more : {A : Type 0} (all : List A) (k : ℕ) (a : A) → slice_get all k ≡ Some a → take (suc k) all ≡ take k all ++ a ∷ []
@@ -225,7 +233,7 @@ pub row_agreed : (o : Option Linked) (rest : List Linked) (now : Linked) (ss : L
 row_agreed None rest now ss = refl
 row_agreed (Some l) rest now ss = refl
 
-row_at : (before : List ℕ) (k : ℕ) → k < length before → drop k before ≡ slice_index_or before k 0 ∷ drop (k + 1) before
+pub row_at : (before : List ℕ) (k : ℕ) → k < length before → drop k before ≡ slice_index_or before k 0 ∷ drop (k + 1) before
 row_at before k h = drop_more before k (slice_index_or before k 0) (slice_get-get_or before k 0 h) ∙ ap (λ n. slice_index_or before k 0 ∷ drop n before) (after k)
 
 -- a declaration is taken with the next one of those before it
@@ -244,31 +252,10 @@ agreed_on before k all now ss rs agrees h e =
 
 -- ## Definitions
 
--- only definitions with the same name count
-named_defined : (fs : List Head) (f : Head) → is_defined_before (named (λ (f : Head). f.name) f.name fs) f ≡ is_defined_before fs f
-named_defined [] f = refl
-named_defined (g ∷ fs) f = by_name (named_defined fs f) (bytes_eq g.name f.name) refl
-  where
-    rest : List Head
-    rest = named (λ (f : Head). f.name) f.name fs
-
-    apart : Bool
-    apart = not (g.internal || f.internal) && (not (g.in_block || f.in_block) && not (nat_eq g.root f.root))
-
-    by_name : is_defined_before rest f ≡ is_defined_before fs f → (t : Bool) → bytes_eq g.name f.name ≡ t → is_defined_before (if bytes_eq g.name f.name then g ∷ rest else rest) f ≡ ((bytes_eq g.name f.name && apart) || is_defined_before fs f)
-    by_name same true e =
-        ap (λ t. is_defined_before (if t then g ∷ rest else rest) f) e
-        ∙ ap (λ b. (bytes_eq g.name f.name && apart) || b) same
-    by_name same false e =
-        ap (λ t. is_defined_before (if t then g ∷ rest else rest) f) e
-        ∙ same
-        ∙ sym (ap (λ t. (t && apart) || is_defined_before fs f) e)
-
 -- a definition is taken with those before it
-pub defined_turn : (all : List Head) (k : ℕ) (f : Head) (places : List ℕ) (twice : Bool) (h : Keep) (s : PlainStanding) (found : List Problem) → slice_get all k ≡ Some f →
-    rows_at places all ≡ named (λ (f : Head). f.name) f.name (take k all) → twice ≡ is_defined_before (rows_at places all) f →
+pub defined_turn : (all : List Head) (k : ℕ) (f : Head) (twice : Bool) (h : Keep) (s : PlainStanding) (found : List Problem) → slice_get all k ≡ Some f → twice ≡ is_defined_before (take k all) f →
     definitions_noted h (take k all) (drop k all) (record s { problems = found }) ≡ definitions_noted h (take (k + 1) all) (drop (k + 1) all) (record s { problems = noted_where h twice subset.DefinedTwice f.at found })
-defined_turn all k f places twice h s found there are e =
+defined_turn all k f twice h s found there e =
     ap (λ rest. definitions_noted h (take k all) rest (record s { problems = found })) (drop_more all k f there)
     ∙ (λ i. definitions_noted h (sym (take_more all k f there) i) (drop (suc k) all) (told i))
     ∙ ap (λ n. definitions_noted h (take n all) (drop n all) (record s { problems = noted_where h twice subset.DefinedTwice f.at found })) (after k)
@@ -278,9 +265,7 @@ defined_turn all k f places twice h s found there are e =
     by_test false = refl
 
     told : refusing h (is_defined_before (take k all) f) subset.DefinedTwice f.at (record s { problems = found }) ≡ record s { problems = noted_where h twice subset.DefinedTwice f.at found }
-    told =
-        ap (λ t. refusing h t subset.DefinedTwice f.at (record s { problems = found })) (sym (named_defined (take k all) f) ∙ ap (λ fs. is_defined_before fs f) (sym are) ∙ sym e)
-        ∙ by_test twice
+    told = ap (λ t. refusing h t subset.DefinedTwice f.at (record s { problems = found })) (sym e) ∙ by_test twice
 
 -- a definition is taken with one at a place, and then with the others
 pub row_defined : (o : Option Head) (rest : List Head) (f : Head) → is_defined_before (with_row o rest) f ≡ (is_defined_row o f || is_defined_before rest f)

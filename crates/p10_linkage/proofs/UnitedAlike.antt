@@ -15,7 +15,7 @@ use Rattle.p10_linkage.proofs.OneType.{some_is, none_is_not, some_if, some_then,
 
 -- ## Types where more structures are joined
 
-one_through : (ss ts : List PlainStructure) → IsJoined ss ts → (t : PlainType) → as_one ts (as_one ss t) ≡ as_one ts t
+pub one_through : (ss ts : List PlainStructure) → IsJoined ss ts → (t : PlainType) → as_one ts (as_one ss t) ≡ as_one ts t
 one_through ss ts j (void c) = refl
 one_through ss ts j (integer c i) = refl
 one_through ss ts j (pointer c t) = ap (pointer c) (one_through ss ts j t)
@@ -105,13 +105,13 @@ abbrev KeepsTypesAlike : (PlainType → PlainType → List PlainStructure → Op
 KeepsTypesAlike unite =
     (t u : PlainType) (ss ts : List PlainStructure) → StandsWell ss → unite t u ss ≡ Some ts → StayAlike ss ts × (as_one ts t ≡ as_one ts u)
 
-same_marks : (c d : Bool) → beq c d ≡ true → c ≡ d
+pub same_marks : (c d : Bool) → beq c d ≡ true → c ≡ d
 same_marks true true e = refl
 same_marks false false e = refl
 same_marks true false e = absurd cc
 same_marks false true e = absurd cc
 
-first_true : (a b : Bool) → (a && b) ≡ true → a ≡ true
+pub first_true : (a b : Bool) → (a && b) ≡ true → a ≡ true
 first_true true b e = refl
 first_true false b e = absurd cc
 

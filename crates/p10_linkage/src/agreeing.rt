@@ -158,7 +158,10 @@ fn agree_with_all(
 }
 
 /// The declaration at a place.
-fn row_at<'a, 's>(linked: &'a [LinkedName<'s>], place: usize) -> Option<&'a LinkedName<'s>>
+pub(crate) fn row_at<'a, 's>(
+    linked: &'a [LinkedName<'s>],
+    place: usize,
+) -> Option<&'a LinkedName<'s>>
     ensures { option_map linked_of_name (option_copied result) ≡ slice_get (map linked_of_name linked.now) place }
 {
     linked.get(place)

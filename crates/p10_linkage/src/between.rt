@@ -1,6 +1,6 @@
 //! Declarations with those of roots before them, and definitions with those of other roots, one after the other (C99 6.2.7, 6.9p5).
 
-ghost use Rattle.std.specs.Prelude.{◌≡◌, ◌||◌, ◌∷◌, [], map, length, if◌then◌else◌, IfOk, option_map, option_copied, slice_get};
+ghost use Rattle.std.specs.Prelude.{◌≡◌, ◌||◌, ◌&&◌, ◌∷◌, [], map, length, if◌then◌else◌, IfOk, option_map, option_copied, slice_get};
 ghost use Rattle.p10_base.specs.declared.codes.SubsetCode.TheVariants.{DefinedTwice};
 ghost use Rattle.p10_core.specs.Completing.{AreBuilt};
 ghost use Rattle.p10_core.specs.Representing.{represented};
@@ -11,11 +11,12 @@ ghost use Rattle.p10_heads.specs.HeadViews.{plain_head};
 ghost use Rattle.p10_linkage.specs.LinkedViews.{linked_of_name};
 ghost use Rattle.p10_linkage.specs.Between.{all_agreeing, is_defined_before, definitions_noted};
 ghost use Rattle.p10_linkage.specs.private.Grouping.{rows_at};
-ghost use Rattle.p10_linkage.specs.private.Agreeing.{stood, is_defined_row, noted_where};
+ghost use Rattle.p10_linkage.specs.private.Agreeing.{stood, is_defined_row, is_shared, noted_where};
 
-use crate::agreeing::agree;
 use crate::groups::Groups;
+use crate::known::{agree_with_known, none_known, note};
 use crate::linked::LinkedName;
+use crate::linked_names::note_where;
 use p10_base::{At, SubsetCode};
 use p10_core::Types;
 use p10_elabx::{Problem, joined};
@@ -36,13 +37,13 @@ pub fn agree_in_turn<'s>(
     ensures as_many { IfOk result (λ _. length stands.new.items ≡ length stands.old.items) }
     ensures built { IfOk result (λ _. AreBuilt (represented (plain_types types.now) stands.new.items)) }
 {
-    let mut groups = Groups::new(alloc);
+    let mut known = none_known(alloc);
     let mut found = problem;
     for place in 0..linked.len() {
         let now = &linked[place];
-        let agrees = agree(alloc, types, stands, linked, groups.of(now.name), now)?;
+        let agrees = agree_with_known(alloc, types, stands, linked, &known, now)?;
         found = with_problem_where(!agrees, found, now.at);
-        groups.add(alloc, now.name, place)?;
+        note(alloc, &mut known, stands.as_slice(), linked, place, now)?;
     }
     Ok(found)
 }
@@ -76,11 +77,25 @@ pub fn note_definitions<'s>(
     let mut found = problem;
     for place in 0..heads.len() {
         let head = &heads[place];
-        let twice = is_defined_among(heads, groups.of(head.name), head);
+        let twice = is_defined_before(heads, groups.of(head.name), head);
         found = with_problem_where(twice, found, head.at);
-        groups.add(alloc, head.name, place)?;
+        note_where(alloc, &mut groups, is_shared(head), head.name, place)?;
     }
     Ok(found)
+}
+
+/// Whether roots share a definition: it isn't internal to its root, nor in a block.
+fn is_shared(head: &Head<'_>) -> bool
+    ensures { result ≡ is_shared (plain_head head.now) }
+{
+    !(head.internal || head.in_block)
+}
+
+/// Whether a definition that roots share is one of a name that another root defines, at one of these places.
+fn is_defined_before(heads: &[Head<'_>], before: &[usize], head: &Head<'_>) -> bool
+    ensures { result ≡ (is_shared (plain_head head.now) && is_defined_before (rows_at before.now (map plain_head heads.now)) (plain_head head.now)) }
+{
+    is_shared(head) && is_defined_among(heads, before, head)
 }
 
 /// Whether a definition of another root, at one of these places, has the same name.

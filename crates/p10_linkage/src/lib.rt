@@ -7,9 +7,11 @@
 #![tactic(auto)]
 
 mod agreeing;
+mod alike;
 mod between;
 mod compatible;
 mod groups;
+mod known;
 pub mod laws;
 mod linkage;
 mod linked;

@@ -121,7 +121,7 @@ fn put_row<'s>(
 }
 
 /// Notes a place for a name, where that is asked for.
-fn note_where<'s>(
+pub(crate) fn note_where<'s>(
     alloc: Global,
     groups: &mut Groups<'s>,
     wanted: bool,

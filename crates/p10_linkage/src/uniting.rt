@@ -11,7 +11,7 @@ use crate::meeting::{Meeting, meeting_of};
 use p10_core::{Body, CType, Member, Types};
 
 /// The structure that stands for one, by its number.
-fn standing(stands: &[u32], number: u32) -> u32
+pub(crate) fn standing(stands: &[u32], number: u32) -> u32
     ensures { result ≡ slice_or stands.now number }
 {
     match stands.get(number as usize) {

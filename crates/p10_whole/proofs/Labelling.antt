@@ -1,8 +1,11 @@
 -- Labels that are whole.
 use Rattle.std.proofs.Common.{◌≡◌, ℕ, zero, suc, ◌+◌, ◌<◌, ◌≤◌, ℤ, Bool, true, false, not, ◌&&◌, ◌||◌, List, [], ◌∷◌, ◌++◌, length, take, drop, Some, None, get_or, refl, ap, sym, ◌∙◌, subst, arith, ◌⊎◌, inl, inr, drop-cons, add-one, slice_index_or}
-use Rattle.std.specs.List.{All, Contains}
+use Rattle.std.specs.List.{All, Contains, list_any}
 use Rattle.std.specs.Ordering.{int_eq}
+use Rattle.std.proofs.Math.Bool.{or_assoc, or-false}
 use Rattle.std.proofs.lemmas.Bool.Decides.{Decides-int_eq}
+use Rattle.p10_numbers.specs.Numbers.{with_number}
+use Rattle.p10_numbers.proofs.Numbering.{either_way, number_after}
 use Rattle.std.specs.Prelude.{IfSome}
 use Rattle.p10_int.specs.declared.types.IntType.{IntType}
 use Rattle.p10_int.specs.Types.{InRange, promoted}
@@ -112,8 +115,38 @@ not_on v (l ∷ rest) seen e h k = not_on v rest (l.value ∷ seen) (other (int_
 nothing_in : (v : ℤ) → Contains [] v → ⊥
 nothing_in v h = let below = h.1 in absurd (omega (arith, below))
 
-pub not_before : (v : ℤ) (xs : List Label) → has_value v xs ≡ false → Contains (values_on xs []) v → ⊥
+not_before : (v : ℤ) (xs : List Label) → has_value v xs ≡ false → Contains (values_on xs []) v → ⊥
 not_before v xs e = not_on v xs [] e (nothing_in v)
+
+-- ## Values that are noted
+
+-- a number that is new isn't there
+not_noted : (z : ℤ) (seen : List ℤ) → not (list_any (int_eq z) seen) ≡ true → list_any (int_eq z) seen ≡ false
+not_noted z seen e = by (list_any (int_eq z) seen) e
+  where
+    by : (b : Bool) → not b ≡ true → b ≡ false
+    by true e = absurd cc
+    by false e = refl
+
+has_value_after : (z : ℤ) (xs : List Label) (l : Label) → has_value z (xs ++ l ∷ []) ≡ (has_value z xs || int_eq l.value z)
+has_value_after z [] l = or-false (int_eq l.value z)
+has_value_after z (x ∷ xs) l = ap (λ b. int_eq x.value z || b) (has_value_after z xs l) ∙ sym (or_assoc (int_eq x.value z) (has_value z xs) (int_eq l.value z))
+
+-- the values of the labels up to one are noted
+pub noted_more : (cases : List Label) (i : ℕ) (d : Label) (seen after : List ℤ) → i < length cases → after ≡ with_number seen (get_or cases i d).value →
+    ((z : ℤ) → list_any (int_eq z) seen ≡ has_value z (take i cases)) → (z : ℤ) → list_any (int_eq z) after ≡ has_value z (take (i + 1) cases)
+noted_more cases i d seen after below is h z =
+    ap (list_any (int_eq z)) is
+    ∙ number_after z (get_or cases i d).value seen
+    ∙ (λ j. h z j || either_way z (get_or cases i d).value j)
+    ∙ sym (has_value_after z (take i cases) (get_or cases i d))
+    ∙ ap (has_value z) (sym (take_more cases i d below) ∙ ap (λ n. take n cases) (sym (add-one i)))
+
+-- the value of a case that is new isn't that of one before it
+pub case_apart : (cases : List Label) (i : ℕ) (d : Label) (seen : List ℤ) (new : Bool) → new ≡ not (list_any (int_eq (get_or cases i d).value) seen) → new ≡ true → ((z : ℤ) → list_any (int_eq z) seen ≡ has_value z (take i cases)) →
+    Contains (values_on (take i cases) []) (get_or cases i d).value → ⊥
+case_apart cases i d seen new is e noted =
+    not_before (get_or cases i d).value (take i cases) (sym (noted (get_or cases i d).value) ∙ not_noted (get_or cases i d).value seen (sym is ∙ e))
 
 -- a case that is whole, before the rest
 pub next_case : (kind : IntType) (count : ℕ) (cases : List Label) (i from : ℕ) (d : Label) → i < length cases → InRange kind (get_or cases i d).value × (from ≤ (get_or cases i d).place) × ((get_or cases i d).place < count) → (Contains (values_on (take i cases) []) (get_or cases i d).value → ⊥) →

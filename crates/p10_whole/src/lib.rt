@@ -3,7 +3,8 @@
 //! Entry point: `is_whole`, true only of a whole program (`IsWholeProgram` of `p10_core`): its types agree as the rows of the
 //! operators say, its numbers name what is there and in scope, its initialisers fit their objects, and its sizes are right.
 //! Each test is true only where the record that it is for holds, and each program that elaboration gives passes them all.
-//! Invariant: a test looks at each node of a tree once, and takes no memory except for the numbers of the variables in scope.
+//! Invariant: a test looks at each node of a tree once, and takes no memory except for the numbers of the variables in scope, and
+//! for the values of the labels of one `switch`.
 #![tactic(auto)]
 
 mod addresses;

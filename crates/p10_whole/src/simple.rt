@@ -13,8 +13,8 @@ use crate::context::Context;
 use crate::initializers::is_whole_initializer;
 use crate::switches::switches;
 use crate::values::is_whole_value;
-use p10_core::{Global, Initializer, Labels, Stmt, StmtForm, Value};
-use std::alloc::AllocError;
+use p10_core::{Global as StaticObject, Initializer, Labels, Stmt, StmtForm, Value};
+use std::alloc::{AllocError, Global};
 
 /// Whether a form of statement has no statements in it, declares no variable, and is whole.
 pub(crate) fn is_simple(context: &Context<'_, '_>, scope: &[u32], form: &StmtForm) -> bool
@@ -59,15 +59,16 @@ pub(crate) fn maybe_tests(context: &Context<'_, '_>, scope: &[u32], v: &Option<V
 
 /// Whether a `switch` is whole, its body's parts aside.
 pub(crate) fn selects(
+    alloc: Global,
     context: &Context<'_, '_>,
     scope: &[u32],
     value: &Value,
     labels: &Labels,
     body: &Stmt,
-) -> bool
-    ensures { Shows result (Switches (around (region_in context.now scope.now)) (plain_value value.now) (plain_labels labels.now) (plain_statement body.now)) }
+) -> Result<bool, AllocError>
+    ensures { IfOk result (λ b. Shows b (Switches (around (region_in context.now scope.now)) (plain_value value.now) (plain_labels labels.now) (plain_statement body.now))) }
 {
-    switches(&context.around(scope), value, labels, body)
+    switches(alloc, &context.around(scope), value, labels, body)
 }
 
 /// Whether the object of static lifetime with a number belongs to the function.
@@ -81,7 +82,7 @@ fn declares_static(context: &Context<'_, '_>, number: u32) -> bool
 }
 
 /// Whether an object belongs to the function with a number.
-fn has_owner(object: &Global<'_>, number: usize) -> bool
+fn has_owner(object: &StaticObject<'_>, number: usize) -> bool
     ensures { Shows result ((plain_object object.now).owner ≡ Some number) }
 {
     match object.owner {

@@ -158,7 +158,9 @@ fn is_whole_switch(
 ) -> Result<bool, AllocError>
     ensures { IfOk result (λ b. (span : Span) → Shows b (PassesForm context.now scope.old.items (switch span (plain_value value.now) (plain_labels labels.now) (plain_statement body.now)) scope.new.items)) }
 {
-    if !selects(context, scope.as_slice(), value, labels, body) {
+    let alloc = *scope.allocator();
+    let selected = selects(alloc, context, scope.as_slice(), value, labels, body)?;
+    if !selected {
         return Ok(false);
     }
     is_whole_part(&context.in_switch(), scope, body)

@@ -13,7 +13,8 @@ use p10_core::{Func, Program};
 use std::alloc::{AllocError, Global};
 
 /// Whether a program is whole, as all that reads it may rely on: true only where it is. Each program that elaboration
-/// gives is. It takes memory for the numbers of the variables in scope alone.
+/// gives is. It takes memory for the numbers of the variables in scope, and for the values
+/// of the labels of one `switch`, alone.
 pub fn is_whole(alloc: Global, program: &Program<'_>) -> Result<bool, AllocError>
     ensures { IfOk result (λ whole. whole ≡ true → IsWholeProgram (plain_program program.now)) }
 {

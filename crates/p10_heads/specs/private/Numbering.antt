@@ -1,5 +1,6 @@
 -- Numbers of what the roots define, as the code keeps them.
 use Rattle.std.specs.Prelude.{ℕ, zero, suc, ◌+◌, max, nat_eq, Bool, not, ◌&&◌, if◌then◌else◌, Option, Some, None, List, [], ◌∷◌, ◌++◌, length, map, slice_get}
+use Rattle.std.specs.List.{position_from}
 use Rattle.p10_base.specs.Words.{Text}
 use Rattle.p10_bindings.specs.Bound.{bound_in}
 use Rattle.p10_bindings.specs.Lookup.{last_bound}
@@ -67,3 +68,23 @@ shared_number k internal name = if internal then None else last_bound name k.sha
 -- the number of what a name of a root stands for
 abbrev pub number_from : PlainNumbers → ℕ → Bool → Text → ℕ
 number_from k root internal name = number_by (own_number k root name) (shared_number k internal name) k.count
+
+-- ## Objects in blocks
+
+-- whether a definition stands in a block, with its name at a first word
+abbrev pub stands_at : ℕ → Head → Bool
+stands_at first f = f.in_block && nat_eq f.at.first first
+
+-- the number of the first one that does
+abbrev pub block_place : ℕ → List Head → Option ℕ
+block_place first heads = position_from (stands_at first) 0 heads
+
+-- a number that was found, or else another one, where that is told
+abbrev pub or_at : Option ℕ → Bool → ℕ → Option ℕ
+or_at (Some n) here m = Some n
+or_at None here m = if here then Some m else None
+
+-- a number that was found, or else what is found then
+abbrev pub or_found : Option ℕ → Option ℕ → Option ℕ
+or_found (Some n) o = Some n
+or_found None o = o

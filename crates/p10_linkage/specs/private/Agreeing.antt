@@ -27,3 +27,7 @@ noted_where h holds code at rs = if holds then joined h rs (record { code = code
 abbrev pub is_defined_row : Option Head → Head → Bool
 is_defined_row None f = false
 is_defined_row (Some g) f = bytes_eq g.name f.name && (not (g.internal || f.internal) && (not (g.in_block || f.in_block) && not (nat_eq g.root f.root)))
+
+-- whether roots share a definition: it isn't internal to its root, nor in a block
+abbrev pub is_shared : Head → Bool
+is_shared f = not (f.internal || f.in_block)

@@ -10,7 +10,8 @@ use Rattle.p10_elabx.specs.First.{only_first}
 use Rattle.p10_elabx.proofs.TreeRows.{cut_specifiers, cut_parameters}
 use Rattle.p10_elabd.specs.Standing.{passed}
 use Rattle.p10_elabd.specs.Declaring.{members_passed}
-use Rattle.p10_elabd.specs.Views.{plain_standing, plain_named, plain_members, plain_declared, plain_placed, lists, told}
+use Rattle.p10_elabd.specs.Views.{plain_standing, plain_named, plain_declared, plain_placed, lists, told}
+use Rattle.p10_elabd.specs.private.NamedMembers.{named_members}
 use Rattle.p10_elabd.proofs.TreeRows.{cut_members, cut_fields}
 use Rattle.p10_elabd.proofs.Walks.{step_specifiers, step_members, step_fields, step_parameters}
 use Rattle.p10_elabd.proofs.Bodies.{without_members, with_members}
@@ -27,12 +28,12 @@ specifiers_passed-loop-spec-preserved t c =
 pub members_passed-loop-one-preserved : goal.members_passed-loop-one-preserved
 members_passed-loop-one-preserved t c =
     let cut = cut_members c.args.all.now c.loop-one.one-index c.one-item.result c.loop-one-test.true c.one-item.is in
-    sym (step_members (told (option_map plain_members c.loop-one.members) c.loop-one.standing) _ _ _ _ cut c.in_ok-members.ensures) ∙ c.loop-one.invariant
+    sym (step_members (told (option_map named_members c.loop-one.members) c.loop-one.standing) _ _ _ _ cut c.in_ok-members.ensures) ∙ c.loop-one.invariant
 
 pub fields_passed-loop-field-preserved : goal.fields_passed-loop-field-preserved
 fields_passed-loop-field-preserved t c =
     let cut = cut_fields c.args.fields.now c.loop-field.field-index c.field-item.result c.loop-field-test.true c.field-item.is in
-    sym (step_fields (option_map plain_type c.args.ty.now) (told (option_map plain_members c.loop-field.members) c.loop-field.standing) _ _ _ _ cut c.in_ok-members.ensures) ∙ c.loop-field.invariant
+    sym (step_fields (option_map plain_type c.args.ty.now) (told (option_map named_members c.loop-field.members) c.loop-field.standing) _ _ _ _ cut c.in_ok-members.ensures) ∙ c.loop-field.invariant
 
 pub parameters_passed-loop-one-preserved : goal.parameters_passed-loop-one-preserved
 parameters_passed-loop-one-preserved t c =

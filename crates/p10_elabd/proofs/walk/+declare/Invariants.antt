@@ -5,7 +5,8 @@ use Rattle.p10_core.specs.Types.{plain_type}
 use Rattle.p10_elabx.specs.First.{only_first}
 use Rattle.p10_elabd.specs.Standing.{passed}
 use Rattle.p10_elabd.specs.Declaring.{specifiers_passed, members_passed, fields_passed, none_listed, parameters_passed}
-use Rattle.p10_elabd.specs.Views.{plain_standing, plain_named, plain_members, lists, told}
+use Rattle.p10_elabd.specs.Views.{plain_standing, plain_named, lists, told}
+use Rattle.p10_elabd.specs.private.NamedMembers.{named_members}
 use Rattle.p10_elabd.proofs.walk.+declare.Given as goal
 
 abbrev pub invariant-specifiers_passed-loop-spec : goal.invariant-specifiers_passed-loop-spec
@@ -15,13 +16,13 @@ invariant-specifiers_passed-loop-spec l =
 
 abbrev pub invariant-members_passed-loop-one : goal.invariant-members_passed-loop-one
 invariant-members_passed-loop-one l =
-    members_passed only_first (told (option_map plain_members l.members) l.standing) (member_row (map member_of (drop l.one-index l.all)))
+    members_passed only_first (told (option_map named_members l.members) l.standing) (member_row (map member_of (drop l.one-index l.all)))
     ≡ members_passed only_first (passed [] (plain_standing l.initial.standing)) (member_row (map member_of l.all))
 
 abbrev pub invariant-fields_passed-loop-field : goal.invariant-fields_passed-loop-field
 invariant-fields_passed-loop-field l =
-    fields_passed only_first (option_map plain_type l.ty) (told (option_map plain_members l.members) l.standing) (field_row (map field_of (drop l.field-index l.fields)))
-    ≡ fields_passed only_first (option_map plain_type l.ty) (told (option_map plain_members l.initial.members) l.initial.standing) (field_row (map field_of l.fields))
+    fields_passed only_first (option_map plain_type l.ty) (told (option_map named_members l.members) l.standing) (field_row (map field_of (drop l.field-index l.fields)))
+    ≡ fields_passed only_first (option_map plain_type l.ty) (told (option_map named_members l.initial.members) l.initial.standing) (field_row (map field_of l.fields))
 
 abbrev pub invariant-parameters_passed-loop-one : goal.invariant-parameters_passed-loop-one
 invariant-parameters_passed-loop-one l =

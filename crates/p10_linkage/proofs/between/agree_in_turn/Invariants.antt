@@ -9,6 +9,7 @@ use Rattle.p10_linkage.specs.LinkedViews.{linked_of_name}
 use Rattle.p10_linkage.specs.Between.{all_agreeing}
 use Rattle.p10_linkage.specs.private.Grouping.{group_of}
 use Rattle.p10_linkage.specs.private.Agreeing.{stood}
+use Rattle.p10_linkage.specs.private.Covering.{NamesAreCovered}
 use Rattle.p10_linkage.proofs.Turns.{AreGrouped}
 use Rattle.p10_linkage.proofs.between.agree_in_turn.Given as goal
 
@@ -16,7 +17,8 @@ abbrev pub invariant-loop-place : goal.invariant-loop-place
 invariant-loop-place l = record {
   long : length l.stands.items ≡ length l.fn.stands.items;
   built : AreBuilt (represented (plain_types l.types) l.stands.items);
-  grouped : AreGrouped (λ (x : Linked). x.name) (map linked_of_name l.linked) l.place (group_of l.groups);
+  grouped : AreGrouped (λ (x : Linked). x.name) (map linked_of_name l.linked) l.place (group_of l.known.all);
+  covered : NamesAreCovered (represented (plain_types l.types) l.stands.items) (map linked_of_name l.linked) l.place (group_of l.known.kept);
   told : (s : PlainStanding) → all_agreeing only_first [] (map linked_of_name l.linked) (stood s (represented (plain_types l.types) l.fn.stands.items) (problems l.fn.problem))
       ≡ all_agreeing only_first (take l.place (map linked_of_name l.linked)) (drop l.place (map linked_of_name l.linked)) (stood s (represented (plain_types l.types) l.stands.items) (problems l.found));
 }

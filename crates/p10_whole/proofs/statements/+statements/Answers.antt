@@ -38,8 +38,8 @@ is_whole_statement-returns-in-Switch t c =
 
 pub is_whole_switch-returns : goal.is_whole_switch-returns
 is_whole_switch-returns t c =
-    let selected : c.selects.result ≡ true = search rules in
-    switch_ok _ _ _ _ _ _ _ _ _ c.as_slice.ensures.value (c.selects.ensures.shows selected) c.in_switch.ensures c.is_whole_part.ensures
+    let selected : c.in_ok-selected.selected ≡ true = search rules in
+    switch_ok _ _ _ _ _ _ _ _ _ c.as_slice.ensures.value (c.in_ok-selected.ensures.shows selected) c.in_switch.ensures c.is_whole_part.ensures
 
 pub is_whole_if-returns-in_ok-second-in-If : goal.is_whole_if-returns-in_ok-second-in-If
 is_whole_if-returns-in_ok-second-in-If t c =

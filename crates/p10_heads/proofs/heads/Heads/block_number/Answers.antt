@@ -1,8 +1,6 @@
-use Rattle.std.proofs.Common.{◌∙◌, ap, sym, length}
-use Rattle.p10_heads.specs.HeadViews.{plain_head}
-use Rattle.p10_heads.proofs.ListRows.{mapped_length}
+use Rattle.std.proofs.Common.{◌∙◌, None, ap}
+use Rattle.p10_heads.specs.Heads.{number_by}
 use Rattle.p10_heads.proofs.heads.Heads.block_number.Goals as goal
 
-pub number_at-requires : goal.number_at-requires
-number_at-requires c =
-    c.count.ensures ∙ ap (λ k. k.count) c.args.self.now.objects_numbered ∙ mapped_length plain_head c.args.self.now.objects.items ∙ ap length (sym c.deref.ensures.value)
+pub returns : goal.returns
+returns c = c.number_by.ensures ∙ (λ i. number_by (c.block_place.ensures i) None ((c.count.ensures ∙ ap (λ k. k.count) c.args.self.now.objects_numbered) i))
