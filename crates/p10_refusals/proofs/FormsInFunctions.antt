@@ -40,7 +40,7 @@ grows_no_initializer (Some i) s = grows_surplus s i
 pub grows_unknown : (name : Identifier At) (s : PlainStanding) → Grows s (unknown_in every name s)
 grows_unknown name s = grows_declaring name unknown_name s
 
-grows_typedef_of : (name : Identifier At) (o : Option DeclaredType) (s : PlainStanding) → Grows s (typedef_of every name o s)
+pub grows_typedef_of : (name : Identifier At) (o : Option DeclaredType) (s : PlainStanding) → Grows s (typedef_of every name o s)
 grows_typedef_of name None s = grows_unknown name s
 grows_typedef_of name (Some (of_type t)) s = grows_declaring name (named_type t) s
 grows_typedef_of name (Some (of_open_array t)) s = grows_unknown name s
@@ -70,7 +70,7 @@ grows_filled name brackets t i (Some n) s =
 pub grows_open_noted : (name_at : At) (d : Declarator At) (i : Option (Initializer At)) (s : PlainStanding) → Grows s (open_noted every name_at d i s)
 grows_open_noted name_at d i s = grows_refusing (declares_open_array d && not (is_written i)) subset.IncompleteType name_at s
 
-grows_object_type : (name : Identifier At) (brackets : At) (d : DeclaredType) (i : Option (Initializer At)) (s : PlainStanding) → Grows s (object_type every name brackets d i s).after
+pub grows_object_type : (name : Identifier At) (brackets : At) (d : DeclaredType) (i : Option (Initializer At)) (s : PlainStanding) → Grows s (object_type every name brackets d i s).after
 grows_object_type name brackets (of_type t) i s = either_way (is_complete s.scope.structures t) _ _ (as_before s) (grows_refusing true subset.IncompleteType name.place s)
 grows_object_type name brackets (of_open_array t) None s = as_before s
 grows_object_type name brackets (of_open_array t) (Some i) s = grows_filled name brackets t i (elements_given t i) s
@@ -89,7 +89,7 @@ grows_in_block name d (Some t) s =
 
 -- ## What is declared
 
-grows_variable : (f : Frame) (at : At) (name : Identifier At) (i : Option (Initializer At)) (o : Option PlainType) (l : Local) → Grows l.standing (variable_where every f at name i o l).after.standing
+pub grows_variable : (f : Frame) (at : At) (name : Identifier At) (i : Option (Initializer At)) (o : Option PlainType) (l : Local) → Grows l.standing (variable_where every f at name i o l).after.standing
 grows_variable f at name i None l = grows_unknown name l.standing
 grows_variable f at name i (Some t) l =
     grows_on (grows_declaring name (local l.count t (is_frame_variable f l.count t)) l.standing)
@@ -99,7 +99,7 @@ with_object_grows : (f : Frame) (n : ℕ) (name : Identifier At) (t : PlainType)
 with_object_grows f n name t sensor None l = as_before l.standing
 with_object_grows f n name t sensor (Some i) l = as_before l.standing
 
-grows_object : (f : Frame) (at : At) (name : Identifier At) (sensor : Bool) (i : Option (Initializer At)) (o : Option PlainType) (l : Local) → Grows l.standing (object_where every f at name sensor i o l).after.standing
+pub grows_object : (f : Frame) (at : At) (name : Identifier At) (sensor : Bool) (i : Option (Initializer At)) (o : Option PlainType) (l : Local) → Grows l.standing (object_where every f at name sensor i o l).after.standing
 grows_object f at name sensor i None l = grows_unknown name l.standing
 grows_object f at name sensor i (Some t) l =
     let n : ℕ = number_at f.heads.objects name.place in
@@ -158,23 +158,40 @@ grows_declarators law f at s sensor t p [] = as_before p.after.standing
 grows_declarators law f at s sensor t p (d ∷ rest) =
     grows_on (grows_named law f at s sensor t p.after d (name_in d.declarator)) (grows_declarators law f at s sensor t (with_declarator f at s sensor t p d) rest)
 
--- what is told of a declarator where the walk comes to it is told of them all
-told_where : FormRowsAreTold → (f : Frame) (at : At) (s : Storage) (sensor : Bool) (t : Option PlainType) (p : Declaring) (before : List (InitDeclarator At)) (one : InitDeclarator At)
+-- what is told of a declarator with its name, where the walk comes to it, is told of them all
+named_where : FormRowsAreTold → (f : Frame) (at : At) (s : Storage) (sensor : Bool) (t : Option PlainType) (p : Declaring) (before : List (InitDeclarator At)) (one : InitDeclarator At)
     (after : List (InitDeclarator At)) (name : Identifier At) (r : Problem) → name_in one.declarator ≡ Some name →
-    Among r (declarator_passed every name.place (based t (local_declarators every f at s sensor t p before).after.standing) one.declarator).after.problems →
+    Among r (local_named every f at s sensor t (local_declarators every f at s sensor t p before).after one (Some name)).after.standing.problems →
     Among r (local_declarators every f at s sensor t p (before ++ one ∷ after)).after.standing.problems
-told_where law f at s sensor t p [] one after name r e h =
-    let l : Local = p.after in
+named_where law f at s sensor t p [] one after name r e h =
     (grows_declarators law f at s sensor t (with_declarator f at s sensor t p one) after).among r
-    (subst (λ o. Among r (local_named every f at s sensor t l one o).after.standing.problems) (sym e) ((grows_declared f at s sensor t l one name).among r h))
-told_where law f at s sensor t p (d ∷ before) one after name r e h =
-    told_where law f at s sensor t (with_declarator f at s sensor t p d) before one after name r e h
+    (subst (λ o. Among r (local_named every f at s sensor t p.after one o).after.standing.problems) (sym e) h)
+named_where law f at s sensor t p (d ∷ before) one after name r e h =
+    named_where law f at s sensor t (with_declarator f at s sensor t p d) before one after name r e h
+
+-- what the body has where a declaration comes to a declarator after those before it
+abbrev pub at_declarator : Frame → Site → Local → Declaration At → List (InitDeclarator At) → Local
+at_declarator f site l d before =
+    let t : Passed PlainType = specified_in every false site l.standing d in
+    (local_declarators every f d.place (storage_of d.specifiers) (makes_sensors d) t.made (no_items (with_standing l t.after)) before).after
+
+-- and after it
+abbrev pub after_declarator : Frame → Site → Local → Declaration At → List (InitDeclarator At) → InitDeclarator At → Identifier At → Declaring
+after_declarator f site l d before one name =
+    local_named every f d.place (storage_of d.specifiers) (makes_sensors d) (specified_in every false site l.standing d).made (at_declarator f site l d before) one (Some name)
+
+pub named_in_function : FormRowsAreTold → (f : Frame) (site : Site) (l : Local) (d : Declaration At) (before : List (InitDeclarator At)) (one : InitDeclarator At) (name : Identifier At)
+    (r : Problem) → DeclaredAfter d before one name → Among r (after_declarator f site l d before one name).after.standing.problems → Among r (declared_locally every f site l d).after.standing.problems
+unfolding declared_locally
+named_in_function law f site l d before one name r is h =
+    let t : Passed PlainType = specified_in every false site l.standing d in
+    subst (λ ds. Among r (local_declarators every f d.place (storage_of d.specifiers) (makes_sensors d) t.made (no_items (with_standing l t.after)) ds).after.standing.problems) (sym is.declarators)
+    (named_where law f d.place (storage_of d.specifiers) (makes_sensors d) t.made (no_items (with_standing l t.after)) before one is.after name r is.named h)
 
 pub told_in_function : FormRowsAreTold → (f : Frame) (site : Site) (l : Local) (d : Declaration At) (before : List (InitDeclarator At)) (one : InitDeclarator At) (name : Identifier At)
     (r : Problem) → DeclaredAfter d before one name →
     Among r (declarator_passed every name.place (reached_in_function f site l d before) one.declarator).after.problems → Among r (declared_locally every f site l d).after.standing.problems
-unfolding declared_locally
 told_in_function law f site l d before one name r is h =
-    let t : Passed PlainType = specified_in every false site l.standing d in
-    subst (λ ds. Among r (local_declarators every f d.place (storage_of d.specifiers) (makes_sensors d) t.made (no_items (with_standing l t.after)) ds).after.standing.problems) (sym is.declarators)
-    (told_where law f d.place (storage_of d.specifiers) (makes_sensors d) t.made (no_items (with_standing l t.after)) before one is.after name r is.named h)
+    let t : Option PlainType = (specified_in every false site l.standing d).made in
+    named_in_function law f site l d before one name r is
+    ((grows_declared f d.place (storage_of d.specifiers) (makes_sensors d) t (at_declarator f site l d before) one name).among r h)

@@ -38,6 +38,15 @@ either_known : {s : PlainStanding} (b : Bool) (k j : Known) → Grows s k.standi
 either_known true k j g h = g
 either_known false k j g h = h
 
+-- what is told on either side of a test that is known
+pub told_where_true : (b : Bool) (k j : Known) (r : Problem) → b ≡ true → Among r k.standing.problems → Among r (if b then k else j).standing.problems
+told_where_true true k j r e h = h
+told_where_true false k j r e h = absurd cc
+
+pub told_where_false : (b : Bool) (k j : Known) (r : Problem) → b ≡ false → Among r j.standing.problems → Among r (if b then k else j).standing.problems
+told_where_false true k j r e h = absurd cc
+told_where_false false k j r e h = h
+
 tentative_grows : (name : Identifier At) (t : PlainType) (s : Storage) (i : Option (Initializer At)) (k : Known) → Grows k.standing (with_tentative name t s i k).standing
 tentative_grows name t s i k = either_known (is_written i || is_extern s) _ _ (as_before k.standing) (as_before k.standing)
 
@@ -84,7 +93,7 @@ grows_open_outside name d before o s = either (gets_length before o) (as_before 
 
 -- ## Declarators
 
-grows_by_type : (heads : Heads) (s : Storage) (sensor : Bool) (name : Identifier At) (d : InitDeclarator At) (k : Known) (o : Option DeclaredType) →
+pub grows_by_type : (heads : Heads) (s : Storage) (sensor : Bool) (name : Identifier At) (d : InitDeclarator At) (k : Known) (o : Option DeclaredType) →
     Grows k.standing (object_by_type every heads s sensor name d k o).standing
 grows_by_type heads s sensor name d k None = grows_linked heads (linked_of k name unknown_object s (is_written d.initial) sensor) k
 grows_by_type heads s sensor name d k (Some t) =
@@ -130,23 +139,43 @@ grows_declarators law heads s sensor t k [] = as_before k.standing
 grows_declarators law heads s sensor t k (d ∷ rest) =
     grows_on (grows_named law heads s sensor t k d (name_in d.declarator)) (grows_declarators law heads s sensor t (outer_named every heads s sensor t k d (name_in d.declarator)) rest)
 
--- what is told of a declarator where the walk comes to it is told of them all
-told_where : FormRowsAreTold → (heads : Heads) (s : Storage) (sensor : Bool) (t : Option PlainType) (k : Known) (before : List (InitDeclarator At)) (one : InitDeclarator At)
+-- what is told of a declarator with its name, where the walk comes to it, is told of them all
+named_where : FormRowsAreTold → (heads : Heads) (s : Storage) (sensor : Bool) (t : Option PlainType) (k : Known) (before : List (InitDeclarator At)) (one : InitDeclarator At)
     (after : List (InitDeclarator At)) (name : Identifier At) (r : Problem) → name_in one.declarator ≡ Some name →
-    Among r (declarator_passed every name.place (based t (outer_declarators every heads s sensor t k before).standing) one.declarator).after.problems →
+    Among r (outer_named every heads s sensor t (outer_declarators every heads s sensor t k before) one (Some name)).standing.problems →
     Among r (outer_declarators every heads s sensor t k (before ++ one ∷ after)).standing.problems
-told_where law heads s sensor t k [] one after name r e h =
+named_where law heads s sensor t k [] one after name r e h =
     (grows_declarators law heads s sensor t (outer_named every heads s sensor t k one (name_in one.declarator)) after).among r
-    (subst (λ o. Among r (outer_named every heads s sensor t k one o).standing.problems) (sym e) ((grows_declared heads s sensor t k one name).among r h))
-told_where law heads s sensor t k (d ∷ before) one after name r e h =
-    told_where law heads s sensor t (outer_named every heads s sensor t k d (name_in d.declarator)) before one after name r e h
+    (subst (λ o. Among r (outer_named every heads s sensor t k one o).standing.problems) (sym e) h)
+named_where law heads s sensor t k (d ∷ before) one after name r e h =
+    named_where law heads s sensor t (outer_named every heads s sensor t k d (name_in d.declarator)) before one after name r e h
+
+-- where a declaration comes to its declarators
+abbrev pub at_declarators : Known → Declaration At → Known
+at_declarators k d = record k { standing = (specified_in every true site_is.Outside k.standing d).after; mains = k.mains ++ main_constants (constants_of d.specifiers) }
+
+-- the type that its specifiers name
+abbrev pub specified_type_of : Known → Declaration At → Option PlainType
+specified_type_of k d = (specified_in every true site_is.Outside k.standing d).made
+
+-- what is known after a declarator of a declaration, after those before it
+abbrev pub after_declarator : Heads → Known → Declaration At → List (InitDeclarator At) → InitDeclarator At → Identifier At → Known
+after_declarator heads k d before one name =
+    let t : Option PlainType = specified_type_of k d in
+    outer_named every heads (storage_of d.specifiers) (makes_sensors d) t (outer_declarators every heads (storage_of d.specifiers) (makes_sensors d) t (at_declarators k d) before) one (Some name)
+
+pub named_outside : FormRowsAreTold → (heads : Heads) (k : Known) (d : Declaration At) (before : List (InitDeclarator At)) (one : InitDeclarator At) (name : Identifier At) (r : Problem) →
+    DeclaredAfter d before one name → Among r (after_declarator heads k d before one name).standing.problems → Among r (declared_outside every heads k d).standing.problems
+unfolding declared_outside
+named_outside law heads k d before one name r is h =
+    let t : Option PlainType = specified_type_of k d in
+    subst (λ ds. Among r (outer_declarators every heads (storage_of d.specifiers) (makes_sensors d) t (at_declarators k d) ds).standing.problems) (sym is.declarators)
+    (named_where law heads (storage_of d.specifiers) (makes_sensors d) t (at_declarators k d) before one is.after name r is.named h)
 
 pub told_outside : FormRowsAreTold → (heads : Heads) (k : Known) (d : Declaration At) (before : List (InitDeclarator At)) (one : InitDeclarator At) (name : Identifier At) (r : Problem) →
     DeclaredAfter d before one name →
     Among r (declarator_passed every name.place (reached_outside heads k d before) one.declarator).after.problems → Among r (declared_outside every heads k d).standing.problems
-unfolding declared_outside
 told_outside law heads k d before one name r is h =
-    let t : Passed PlainType = specified_in every true site_is.Outside k.standing d in
-    let j : Known = record k { standing = t.after; mains = k.mains ++ main_constants (constants_of d.specifiers) } in
-    subst (λ ds. Among r (outer_declarators every heads (storage_of d.specifiers) (makes_sensors d) t.made j ds).standing.problems) (sym is.declarators)
-    (told_where law heads (storage_of d.specifiers) (makes_sensors d) t.made j before one is.after name r is.named h)
+    let t : Option PlainType = specified_type_of k d in
+    named_outside law heads k d before one name r is
+    ((grows_declared heads (storage_of d.specifiers) (makes_sensors d) t (outer_declarators every heads (storage_of d.specifiers) (makes_sensors d) t (at_declarators k d) before) one name).among r h)

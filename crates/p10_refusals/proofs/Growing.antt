@@ -1,5 +1,5 @@
 -- Problems that are noted stay noted, whatever follows them in a declaration: values and initialisers.
-use Rattle.std.specs.Prelude.{ℕ, ◌+◌, nat_le, Bool, true, false, if◌then◌else◌, List, [], ◌∷◌, ◌++◌, length, Option, Some, None, Ok, Err}
+use Rattle.std.specs.Prelude.{◌≡◌, refl, ℕ, ◌+◌, nat_le, Bool, true, false, if◌then◌else◌, List, [], ◌∷◌, ◌++◌, length, Option, Some, None, Ok, Err}
 use Rattle.std.proofs.Common.{inl, inr}
 use Rattle.p10_base.specs.Words.{Text}
 use Rattle.p10_base.specs.declared.at.At.{At}
@@ -31,10 +31,19 @@ as_before s = record { among = λ r h. h }
 pub grows_on : {s t u : PlainStanding} → Grows s t → Grows t u → Grows s u
 grows_on a b = record { among = λ r h. b.among r (a.among r h) }
 
-among_first : (rs qs : List Problem) (r : Problem) → Among r rs → Among r (rs ++ qs)
+pub among_first : (rs qs : List Problem) (r : Problem) → Among r rs → Among r (rs ++ qs)
 among_first [] qs r h = absurd h
 among_first (q ∷ rs) qs r (inl e) = inl e
 among_first (q ∷ rs) qs r (inr h) = inr (among_first rs qs r h)
+
+pub among_after : (rs qs : List Problem) (r : Problem) → Among r qs → Among r (rs ++ qs)
+among_after [] qs r h = h
+among_after (q ∷ rs) qs r h = inr (among_after rs qs r h)
+
+-- a row that holds is noted
+pub refusing_told : (b : Bool) (code : SubsetCode) (at : At) (s : PlainStanding) → b ≡ true → Among (record { code = code; at = at }) (refusing every b code at s).problems
+refusing_told true code at s h = among_after s.problems (record { code = code; at = at } ∷ []) (record { code = code; at = at }) (inl refl)
+refusing_told false code at s h = absurd cc
 
 pub grows_refusing : (b : Bool) (code : SubsetCode) (at : At) (s : PlainStanding) → Grows s (refusing every b code at s)
 grows_refusing true code at s = record { among = among_first s.problems (record { code = code; at = at } ∷ []) }

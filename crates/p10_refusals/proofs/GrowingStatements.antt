@@ -26,7 +26,7 @@ use Rattle.p10_elabs.specs.declared.kind.Kind.TheVariants as item
 use Rattle.p10_elabs.specs.Marks.{mark_of, marks_noted, may_precede, no_more}
 use Rattle.p10_elabs.specs.Statements.{inside, inside_loop, inside_switch, among_labels, jump, returned, return_done, with_loop, kind_of, Block', no_items_yet, with_declared, with_statement, pragma_done, Labelled, is_labelled, case_noted, case_value, case_done, default_done, labels_noted, Switched, nothing_switched, with_labels, start_done, labelled, constant_done, part_ended, done, items_done, switched_done}
 use Rattle.p10_refusals.proofs.Growing.{Grows, as_before, grows_on, grows_refusing, grows_noted, grows_value}
-use Rattle.p10_refusals.proofs.GrowingTrees.{grows_specifiers, grows_type_specified}
+use Rattle.p10_elabd.proofs.Growing.{grows_specifiers, grows_type_specified}
 use Rattle.p10_refusals.proofs.FormsInFunctions.{grows_declarators}
 use Rattle.p10_refusals.proofs.InsideDeclarations.{grows_volatile}
 
@@ -63,14 +63,14 @@ grows_clause : (l : Local) (e : Expression At) → Grows l.standing (clause_done
 grows_clause l (expression at zero (Comma all)) = grows_pieces (record { made = Some []; after = l }) all
 grows_clause l e = grows_statement l (place_of e) e
 
-grows_optional_clause : (l : Local) (o : Optional At) → Grows l.standing (optional_clause every l o).after.standing
+pub grows_optional_clause : (l : Local) (o : Optional At) → Grows l.standing (optional_clause every l o).after.standing
 grows_optional_clause l Absent = as_before l.standing
 grows_optional_clause l (Present e) = grows_clause l e
 
-grows_test : (l : Local) (e : Expression At) → Grows l.standing (test_done every l e).after.standing
+pub grows_test : (l : Local) (e : Expression At) → Grows l.standing (test_done every l e).after.standing
 grows_test l e = grows_value l.standing e tested
 
-grows_optional_test : (l : Local) (o : Optional At) → Grows l.standing (optional_test every l o).after.standing
+pub grows_optional_test : (l : Local) (o : Optional At) → Grows l.standing (optional_test every l o).after.standing
 grows_optional_test l Absent = as_before l.standing
 grows_optional_test l (Present e) = grows_test l e
 
@@ -90,7 +90,7 @@ grows_return : (f : Frame) (at keyword : At) (e : Optional At) (l : Local) → G
 grows_return f at keyword Absent l = either_done (is_void f.result) _ _ (as_before l.standing) (grows_refusing true subset.TypesDiffer at l.standing)
 grows_return f at keyword (Present e) l = grows_value l.standing e (returned at f.result)
 
-grows_labelled : (r : Round) (at : At) (d : Done PlainStatement) → Grows d.after.standing (labelled every r at d).after.standing
+pub grows_labelled : (r : Round) (at : At) (d : Done PlainStatement) → Grows d.after.standing (labelled every r at d).after.standing
 grows_labelled r at d = either_done r.at_labels _ _ (as_before d.after.standing) (grows_refusing true subset.BadJump at d.after.standing)
 
 either_local : {s : PlainStanding} (b : Bool) (l m : Local) → Grows s l.standing → Grows s m.standing → Grows s (if b then l else m).standing
@@ -129,7 +129,7 @@ grows_default : (at : At) (n : ℕ) (cases : Option (List CaseLabel)) (o : Optio
 grows_default at n cases None l = as_before l.standing
 grows_default at n cases (Some m) l = grows_refusing true subset.BadJump at l.standing
 
-grows_labels : (n : ℕ) (on' : Option PlainValue) (k : Labelled) (s : Statement At) → Grows k.after.standing (labels_noted every n on' k s).after.standing
+pub grows_labels : (n : ℕ) (on' : Option PlainValue) (k : Labelled) (s : Statement At) → Grows k.after.standing (labels_noted every n on' k s).after.standing
 grows_labels n on' k (Case at e s) = grows_on (grows_case at n on' k e) (grows_labels n on' (case_done every at n on' k e) s)
 grows_labels n on' k (Default at s) = grows_on (grows_default at n k.cases k.otherwise k.after) (grows_labels n on' (default_done every at n k) s)
 grows_labels n on' k s = as_before k.after.standing
@@ -137,7 +137,7 @@ grows_labels n on' k s = as_before k.after.standing
 -- ## The trees
 
 mutual
-  grows_done : FormRowsAreTold → (f : Frame) (r : Round) (l : Local) (s : Statement At) → Grows l.standing (done every f r l s).after.standing
+  pub grows_done : FormRowsAreTold → (f : Frame) (r : Round) (l : Local) (s : Statement At) → Grows l.standing (done every f r l s).after.standing
   grows_done law f r l (Empty at) = as_before l.standing
   grows_done law f r l (Evaluate at e) = grows_statement l at e
   grows_done law f r l (Block at ss) = closing l (items_done every f false (inside r) (no_items_yet (opened l)) ss).after (grows_items law f false (inside r) (no_items_yet (opened l)) ss)
@@ -202,7 +202,7 @@ mutual
   grows_items law f in_main r b (MoreStatements s rest) =
       grows_on (grows_done law f r b.after s) (grows_items law f in_main r (with_statement b (kind_of every b.after s) (done every f r b.after s)) rest)
 
-  grows_switched : FormRowsAreTold → (f : Frame) (r : Round) (on' : Option PlainValue) (w : Switched) (ss : Statements At) →
+  pub grows_switched : FormRowsAreTold → (f : Frame) (r : Round) (on' : Option PlainValue) (w : Switched) (ss : Statements At) →
       Grows w.items.after.standing (switched_done every f r on' w ss).items.after.standing
   grows_switched law f r on' w NoStatements = as_before w.items.after.standing
   grows_switched law f r on' w (MoreStatements s rest) =

@@ -1,5 +1,5 @@
 -- What is told of a declaration or a function is told of all roots.
-use Rattle.std.specs.Prelude.{List, [], ◌∷◌, ◌++◌, Option, Some, None, true, false}
+use Rattle.std.specs.Prelude.{◌≡◌, List, [], ◌∷◌, ◌++◌, Option, Some, None, true, false}
 use Rattle.std.proofs.Common.{sym, subst}
 use Rattle.p10_base.specs.declared.at.At.{At}
 use Rattle.p10_base.specs.declared.codes.SubsetCode.TheVariants as subset
@@ -21,10 +21,10 @@ use Rattle.p10_linkage.specs.Between.{agreed, agreed_noted, agreeing, all_agreei
 use Rattle.p10_elab.specs.Knowledge.{Known, Tentative, with_standing}
 use Rattle.p10_elab.specs.Outer.{main_constants, declared_outside, allowed_at_definition, function_named, defined_outside}
 use Rattle.p10_elab.specs.RootEnds.{nothing_known, known_after, known_after_all, root_begun, lacks_size_at_end, sizes_noted, root_ended, root_passed, roots_passed}
-use Rattle.p10_elab.specs.Programs.{known_of}
+use Rattle.p10_elab.specs.Programs.{known_of, standing_of}
 use Rattle.p10_refusals.specs.InRoots.{DeclarationsAreTold}
 use Rattle.p10_refusals.proofs.Growing.{Grows, as_before, grows_on, grows_refusing}
-use Rattle.p10_refusals.proofs.GrowingTrees.{grows_specifiers, grows_type_specified}
+use Rattle.p10_elabd.proofs.Growing.{grows_specifiers, grows_type_specified}
 use Rattle.p10_refusals.proofs.GrowingStatements.{grows_specified}
 use Rattle.p10_refusals.proofs.FormsOutside.{grows_declarators}
 use Rattle.p10_refusals.proofs.Bodies.{grows_by_type}
@@ -61,17 +61,17 @@ grows_external : FormRowsAreTold → (heads : Heads) (k : Known) (e : External A
 grows_external law heads k (Outer p d) = grows_declaration law heads k d
 grows_external law heads k (Defines d) = grows_definition law heads k d
 
-grows_externals : FormRowsAreTold → (heads : Heads) (k : Known) (all : List (External At)) → Grows k.standing (known_after_all every heads k all).standing
+pub grows_externals : FormRowsAreTold → (heads : Heads) (k : Known) (all : List (External At)) → Grows k.standing (known_after_all every heads k all).standing
 grows_externals law heads k [] = as_before k.standing
 grows_externals law heads k (e ∷ rest) = grows_on (grows_external law heads k e) (grows_externals law heads (known_after every heads k e) rest)
 
-grows_sizes : (all : List Tentative) (s : PlainStanding) → Grows s (sizes_noted every all s)
+pub grows_sizes : (all : List Tentative) (s : PlainStanding) → Grows s (sizes_noted every all s)
 grows_sizes [] s = as_before s
 grows_sizes (d ∷ rest) s =
     grows_on (grows_refusing (lacks_size_at_end s.scope d.type) subset.IncompleteType d.name.place s)
     (grows_sizes rest (refusing every (lacks_size_at_end s.scope d.type) subset.IncompleteType d.name.place s))
 
-grows_ended : (k : Known) → Grows k.standing (root_ended every k).standing
+pub grows_ended : (k : Known) → Grows k.standing (root_ended every k).standing
 grows_ended k = grows_sizes k.tentative k.standing
 
 grows_root : FormRowsAreTold → (heads : Heads) (k : Known) (root : List (External At)) → Grows k.standing (root_passed every heads k root).standing
@@ -88,12 +88,12 @@ grows_agreed : (l : Linked) (s : PlainStanding) (o : Option (List PlainStructure
 grows_agreed l s None = grows_refusing true subset.DefinedTwice l.at s
 grows_agreed l s (Some structures) = record { among = λ r h. h }
 
-grows_agreeing : (before all : List Linked) (s : PlainStanding) → Grows s (all_agreeing every before all s)
+pub grows_agreeing : (before all : List Linked) (s : PlainStanding) → Grows s (all_agreeing every before all s)
 grows_agreeing before [] s = as_before s
 grows_agreeing before (l ∷ rest) s =
     grows_on (grows_agreed l s (agreed before l s.scope.structures)) (grows_agreeing (before ++ l ∷ []) rest (agreeing every before l s))
 
-grows_definitions : (before all : List Head) (s : PlainStanding) → Grows s (definitions_noted every before all s)
+pub grows_definitions : (before all : List Head) (s : PlainStanding) → Grows s (definitions_noted every before all s)
 grows_definitions before [] s = as_before s
 grows_definitions before (f ∷ rest) s =
     grows_on (grows_refusing (is_defined_before before f) subset.DefinedTwice f.at s)
@@ -118,13 +118,17 @@ in_roots : FormRowsAreTold → (heads : Heads) (k : Known) (before : List (List 
 in_roots law heads k [] root after r h = (grows_roots law heads (root_passed every heads k root) after).among r h
 in_roots law heads k (x ∷ before) root after r h = in_roots law heads (root_passed every heads k x) before root after r h
 
-pub declarations_told : FormRowsAreTold → DeclarationsAreTold
+pub root_told : FormRowsAreTold → (roots before : List (List (External At))) (root : List (External At)) (after : List (List (External At))) (r : Problem) → roots ≡ before ++ root ∷ after →
+    Among r (root_passed every (heads_of_roots 0 roots) (roots_passed every (heads_of_roots 0 roots) nothing_known before) root).standing.problems → Among r (standing_of every roots).problems
 unfolding known_of
+root_told law roots before root after r parts h =
+    let heads : Heads = heads_of_roots 0 roots in
+    (grows_together heads (known_of every roots).linked (known_of every roots).standing).among r
+    (subst (λ rs. Among r (roots_passed every heads nothing_known rs).standing.problems) (sym parts) (in_roots law heads nothing_known before root after r h))
+
+pub declarations_told : FormRowsAreTold → DeclarationsAreTold
 declarations_told law roots before earlier one r s h =
     let heads : Heads = heads_of_roots 0 roots in
     let k : Known = root_begun (roots_passed every heads nothing_known before) in
     let root : List (External At) = earlier ++ one ∷ s.later in
-    (grows_together heads (known_of every roots).linked (known_of every roots).standing).among r
-    (subst (λ rs. Among r (roots_passed every heads nothing_known rs).standing.problems) (sym s.parts)
-    (in_roots law heads nothing_known before root s.after r
-    ((grows_ended (known_after_all every heads k root)).among r (in_root law heads k earlier one s.later r h))))
+    root_told law roots before root s.after r s.parts ((grows_ended (known_after_all every heads k root)).among r (in_root law heads k earlier one s.later r h))

@@ -21,7 +21,7 @@ use Rattle.p10_elab.specs.Outer.{main_constants, declared_outside}
 use Rattle.p10_refusals.specs.Inside.{IsInSpecifiers, PartsOfDeclarationsAreTold}
 use Rattle.p10_refusals.specs.Forms.{reached_outside, reached_in_function}
 use Rattle.p10_refusals.proofs.Growing.{Grows, as_before, grows_on, grows_refusing}
-use Rattle.p10_refusals.proofs.GrowingTrees.{grows_type_specified}
+use Rattle.p10_elabd.proofs.Growing.{grows_type_specified}
 use Rattle.p10_refusals.proofs.FormsInFunctions.{told_in_function, grows_declarators as grows_local_declarators}
 use Rattle.p10_refusals.proofs.FormsOutside.{told_outside, grows_declarators}
 use Rattle.p10_refusals.proofs.Inside.{specifiers_told, inside_told}
