@@ -74,7 +74,7 @@ module _ (h : Keep) (heads : Heads) where
   declarators_kept s sensor t k [] = refl
   declarators_kept s sensor t k (d ∷ ds) = declarators_kept s sensor t (outer_named h heads s sensor t k d (name_in d.declarator)) ds ∙ named_kept s sensor t k d (name_in d.declarator)
 
-  declaration_kept : (k : Known) (d : Declaration At) → (declared_outside h heads k d).functions ≡ k.functions
+  pub declaration_kept : (k : Known) (d : Declaration At) → (declared_outside h heads k d).functions ≡ k.functions
   unfolding declared_outside
   declaration_kept k d =
       let t : Passed PlainType = specified_in h true site_is.Outside k.standing d in

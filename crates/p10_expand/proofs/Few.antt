@@ -498,7 +498,7 @@ module _ (g : Gathered) where
 
   -- ## Roots
 
-  abbrev AnswerFew : Result Expansion Limit → Type 0
+  abbrev pub AnswerFew : Result Expansion Limit → Type 0
   AnswerFew (Ok expansion) = together expansion.roots ≤ 1023 * 1048576
   AnswerFew (Err limit) = Unit {0}
 
@@ -513,7 +513,8 @@ module _ (g : Gathered) where
   not_built_in : {P : Type 0} → false ≡ true → P
   not_built_in e = absurd (true-false (sym e))
 
-  roots_few : {numbers : List ℕ} {roots : List (List PlainWord)} {obeyed : List PlainObeyed} {left : ℕ} {answer : Result Expansion Limit} → RootsEnd g numbers roots obeyed left answer →
+  -- the roots of an expansion have few words together
+  pub roots_few : {numbers : List ℕ} {roots : List (List PlainWord)} {obeyed : List PlainObeyed} {left : ℕ} {answer : Result Expansion Limit} → RootsEnd g numbers roots obeyed left answer →
       together roots + 1023 * left ≤ 1023 * 1048576 → AnswerFew answer
   roots_few no_roots r = omega (arith, r)
   roots_few (root_finished {roots = roots} {left = left} {s = s} file others) r =

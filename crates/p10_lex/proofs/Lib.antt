@@ -20,5 +20,6 @@ pub mod FirstRefusal
 pub mod Answering
 pub mod Stepping
 pub mod Uniqueness
+pub mod FileWords
 pub mod SliceLaws
 pub mod Codes

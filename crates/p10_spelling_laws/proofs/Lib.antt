@@ -5,6 +5,7 @@ pub mod Second
 pub mod Following
 pub mod Aligning
 pub mod Lexemes
+pub mod Lexed
 pub mod NoHash
 pub mod Symbols
 pub mod Parting

@@ -1,7 +1,9 @@
 -- Where two programs have the same words, their trees are the same but for places: one tree, each part of which has its place in both.
-use Rattle.std.specs.Prelude.{◌≡◌, ◌≤◌, ℕ, List, map, length, slice_get}
+use Rattle.std.specs.Prelude.{◌≡◌, ◌≤◌, ℕ, List, map, length, slice_get, Ok}
 use Rattle.p10_base.specs.declared.at.At.{At}
+use Rattle.p10_base.specs.Gathered.{Gathered}
 use Rattle.p10_base.specs.Words.{PlainWord}
+use Rattle.p10_expand.specs.Expands.{Expansion, ExpandsTo}
 use Rattle.p10_digests.specs.Lines.{all_words, roots_outside}
 use Rattle.p10_digests.specs.Digests.{body_places}
 use Rattle.p10_syn.specs.Trees.{Bare, Expression, Declaration, Statements, External}
@@ -50,3 +52,7 @@ SameWordsSameTrees =
     (roots others : List (List PlainWord)) (trees those : List (External At)) → Spells roots trees → Spells others those → AreSound roots → AreSound others
     → length (all_words roots) ≤ 4294967295 → length (all_words others) ≤ 4294967295
     → roots_outside (body_places trees) 0 roots ≡ roots_outside (body_places those) 0 others → HaveCounterparts roots others trees those
+
+-- all words of an expansion are marks and lexemes, and their numbers fit 32 bits
+abbrev pub ExpandedAreSound : Type 0
+ExpandedAreSound = (g : Gathered) (e : Expansion) → ExpandsTo g (Ok e) → AreSound e.roots × (length (all_words e.roots) ≤ 4294967295)

@@ -1,6 +1,6 @@
 //! The laws: each function does nothing, and its contract is the law.
 
-ghost use Rattle.p10_spelling_laws.specs.Laws.{ExpressionsStandInBoth, DeclarationsStandInBoth, StatementsStandInBoth, RunsTellTrees, SameWordsSameTrees, WordsTellFunction};
+ghost use Rattle.p10_spelling_laws.specs.Laws.{ExpressionsStandInBoth, DeclarationsStandInBoth, StatementsStandInBoth, ExpandedAreSound, RunsTellTrees, SameWordsSameTrees, WordsTellFunction};
 
 /// An expression among the words of two roots is one tree with two places.
 pub fn expressions_stand_in_both()
@@ -31,4 +31,9 @@ pub fn words_tell_function()
 /// lines.
 pub fn same_words_same_trees()
     ensures { SameWordsSameTrees }
+{}
+
+/// All words of an expansion are marks and lexemes, which end no line, and their numbers fit 32 bits.
+pub fn expanded_are_sound()
+    ensures { ExpandedAreSound }
 {}
