@@ -1,15 +1,15 @@
 -- Pairings with more structures.
-use Rattle.std.proofs.Common.{lt-ltb, le-leb, eq-eqb, ne_eqb, ltb-true, leb-true, eqb-true, ◌≡◌, ◌∙◌, ℕ, ◌+◌, ◌-◌, ◌<◌, ◌≤◌, Bool, true, false, ◌&&◌, ◌||◌, nat_eq, nat_lt, nat_le, List, length, inl, inr, ◌⊎◌, ⊎_elim, refl, sym, ap, subst, arith}
+use Rattle.std.proofs.Common.{lt-ltb, le-leb, eq-eqb, ne_eqb, ltb-true, leb-true, eqb-true, ◌≡◌, ◌∙◌, ℕ, ◌+◌, ◌-◌, ◌<◌, ◌≤◌, Bool, true, false, ◌&&◌, ◌||◌, nat_eq, nat_lt, nat_le, List, length, Option, inl, inr, ◌⊎◌, ⊎_elim, refl, sym, ap, subst, arith}
 use Rattle.std.proofs.lemmas.Bool.{and_parts}
-use Rattle.p10_core.specs.Types.{PlainStructure}
-use Rattle.p10_linkage.specs.Linkage.{LinkedType, Linked}
+use Rattle.p10_core.specs.Types.{PlainType, PlainStructure}
+use Rattle.p10_linkage.specs.Linkage.{PartType, LinkedType, Linked}
 use Rattle.p10_elab.specs.Knowledge.{Known}
-use Rattle.p10_renaming.specs.Renaming.{Pairing}
+use Rattle.p10_renaming.specs.Renaming.{Pairing, SameType}
 use Rattle.p10_expression_renaming.specs.Knowing.{IsOneToOne}
 use Rattle.p10_pairing_laws.specs.Laws.{IsWithin, IsNewPast}
 use Rattle.p10_pairing_laws.proofs.Trees.{type_stays}
-use Rattle.p10_pairing_laws.proofs.Scopes.{types_stay, scopes_stay_same}
-use Rattle.p10_root_renaming.specs.Roots.{SameLinkedType, same_a_function, same_an_object, same_a_part_function, same_unknown_object, SameLinkeds, same_no_linked, same_more_linked, SameKnown}
+use Rattle.p10_pairing_laws.proofs.Scopes.{both_stays, types_stay, scopes_stay_same}
+use Rattle.p10_root_renaming.specs.Roots.{SameKnownTypes, same_none_known, same_more_known, SamePart, SameLinkedType, same_a_function, same_an_object, same_a_part_function, same_unknown_object, SameLinkeds, same_no_linked, same_more_linked, SameKnown}
 use Rattle.p10_touched_renaming.proofs.Touched.{there_too}
 use Rattle.p10_counterpart_renaming.specs.Runs.{structures_in, extended, SameSoFar}
 
@@ -79,16 +79,23 @@ one_extended R one from other count low high n m i j e d =
 
 -- ## What is known
 
+known_types_stay : (R Q : Pairing) → IsWithin R Q → {ts us : List (Option PlainType)} → SameKnownTypes R ts us → SameKnownTypes Q ts us
+known_types_stay R Q more same_none_known = same_none_known
+known_types_stay R Q more (same_more_known {t = t} {u = u} h rest) = same_more_known (both_stays (SameType R) (SameType Q) (λ a b k. type_stays R Q more k) t u h) (known_types_stay R Q more rest)
+
+part_stays : (R Q : Pairing) → IsWithin R Q → (p q : PartType) → SamePart R p q → SamePart Q p q
+part_stays R Q more p q h = record { parameters = known_types_stay R Q more h.parameters; list = h.list; result = both_stays (SameType R) (SameType Q) (λ a b k. type_stays R Q more k) p.result q.result h.result }
+
 type_linked : (R Q : Pairing) → IsWithin R Q → {t u : LinkedType} → SameLinkedType R t u → SameLinkedType Q t u
 type_linked R Q more (same_a_function ts h) = same_a_function (types_stay R Q more ts) (type_stays R Q more h)
 type_linked R Q more (same_an_object h) = same_an_object (type_stays R Q more h)
-type_linked R Q more same_a_part_function = same_a_part_function
+type_linked R Q more (same_a_part_function {p = p} {q = q} h) = same_a_part_function (part_stays R Q more p q h)
 type_linked R Q more same_unknown_object = same_unknown_object
 
 linkeds_stay : (R Q : Pairing) → IsWithin R Q → {ls ms : List Linked} → SameLinkeds R ls ms → SameLinkeds Q ls ms
 linkeds_stay R Q more same_no_linked = same_no_linked
 linkeds_stay R Q more (same_more_linked h rest) =
-    same_more_linked (record { root = h.root; name = h.name; type = type_linked R Q more h.type; internal = h.internal; sensor = h.sensor }) (linkeds_stay R Q more rest)
+    same_more_linked (record { root = h.root; name = h.name; type = type_linked R Q more h.type; internal = h.internal; defines = h.defines; sensor = h.sensor }) (linkeds_stay R Q more rest)
 
 -- what is known with the next structures paired
 abbrev pub extended_by : Pairing → Known → Known → ℕ → Pairing

@@ -20,18 +20,18 @@ bodies_by R (Some x) None h = absurd h
 pub bodies_both : (R : Pairing) (these others : List PlainStructure) → SameTables R these others → (n m : ℕ) → R n m ≡ true → Both (λ b d. SameMembers R b.members d.members) (body_of these n) (body_of others m)
 bodies_both R these others know n m paired = bodies_by R (slice_get these n) (slice_get others m) (know.entries n m paired)
 
-standing_for : (R : Pairing) (n m : ℕ) → R n m ≡ true → (o p : Option PlainStructure) → Both (SameStructure R) o p → R (representative_in n o) (representative_in m p) ≡ true
-standing_for R n m paired None None h = paired
-standing_for R n m paired (Some x) (Some y) h = h.representatives
-standing_for R n m paired None (Some y) h = absurd h
-standing_for R n m paired (Some x) None h = absurd h
+pub representatives_by : (R : Pairing) (n m : ℕ) → R n m ≡ true → (o p : Option PlainStructure) → Both (SameStructure R) o p → R (representative_in n o) (representative_in m p) ≡ true
+representatives_by R n m paired None None h = paired
+representatives_by R n m paired (Some x) (Some y) h = h.representatives
+representatives_by R n m paired None (Some y) h = absurd h
+representatives_by R n m paired (Some x) None h = absurd h
 
 pub bare_both : (R : Pairing) (these others : List PlainStructure) → SameTables R these others → {t u : PlainType} → SameType R t u → SameType R (bare these t) (bare others u)
 bare_both R these others know same_void = same_void
 bare_both R these others know same_integer = same_integer
 bare_both R these others know (same_pointer h) = same_pointer (bare_both R these others know h)
 bare_both R these others know (same_array h) = same_array (bare_both R these others know h)
-bare_both R these others know (same_structure {n = n} {m = m} paired) = same_structure (standing_for R n m paired (slice_get these n) (slice_get others m) (know.entries n m paired))
+bare_both R these others know (same_structure {n = n} {m = m} paired) = same_structure (representatives_by R n m paired (slice_get these n) (slice_get others m) (know.entries n m paired))
 
 -- ## Layouts
 

@@ -35,7 +35,7 @@ member_by R last h name_at name_to s t know (same_of_type {t = u} {u = v} k) =
     (λ e d. ends_passed R last (SameType R) u v s t k know)
 member_by R last h name_at name_to s t know (same_of_open_array k) = ends_nothing R last (SameType R) s t know
 member_by R last h name_at name_to s t know (same_of_function k) = ends_nothing R last (SameType R) s t know
-member_by R last h name_at name_to s t know same_of_part_function = ends_nothing R last (SameType R) s t know
+member_by R last h name_at name_to s t know (same_of_part_function k) = ends_nothing R last (SameType R) s t know
 
 member_ends : (R : Pairing) (last : ℕ) (h : Keep) (name_at name_to : At) (m n : Option DeclaredType) → Both (SameDeclared R) m n → (s t : PlainStanding) → SameStanding R last s t
     → Ends R last (SameType R) (member_declared h name_at m s) (member_declared h name_to n t)

@@ -118,19 +118,19 @@ next_after R n m k j i e d h =
     let other : suc i + m ≡ i + j = omega (arith, d) in
     subst (λ x. R x (i + j) ≡ true) one (subst (λ y. R (suc i + n) y ≡ true) other h)
 
-pub structure_more_same : (R : Pairing) → IsOneToOne R → (last : ℕ) (s t : PlainScope) → SameWholeScope R last s t → length s.structures < last → (tag other : Option Text)
-    → SameWholeScope R last (record s { structures = with_structure s.structures tag }) (record t { structures = with_structure t.structures other })
-structure_more_same R one last s t know low tag other = record {
-  tables = tables_more R one s.structures t.structures know.tables (next_now R last s t know low) tag other;
+pub structure_more_same : (R : Pairing) → IsOneToOne R → (last : ℕ) (s t : PlainScope) → SameWholeScope R last s t → length s.structures < last → (tag : Option Text)
+    → SameWholeScope R last (record s { structures = with_structure s.structures tag }) (record t { structures = with_structure t.structures tag })
+structure_more_same R one last s t know low tag = record {
+  tables = tables_more R one s.structures t.structures know.tables (next_now R last s t know low) tag;
   names = know.names;
   tags = know.tags;
   floors = know.floors;
-  next = λ i below. next_after R (length s.structures) (length t.structures) _ _ i (count_more s.structures tag) (count_more t.structures other) (know.next (suc i) (omega (arith, below, count_more s.structures tag)));
+  next = λ i below. next_after R (length s.structures) (length t.structures) _ _ i (count_more s.structures tag) (count_more t.structures tag) (know.next (suc i) (omega (arith, below, count_more s.structures tag)));
 }
 
 pub with_tag_same : (R : Pairing) → IsOneToOne R → (last : ℕ) (s t : PlainScope) → SameWholeScope R last s t → length s.structures < last → (name : Text) → SameWholeScope R last (with_tag s name) (with_tag t name)
 with_tag_same R one last s t know low name =
-    declared_same R last (record s { structures = with_structure s.structures (Some name) }) (record t { structures = with_structure t.structures (Some name) }) (structure_more_same R one last s t know low (Some name) (Some name)) name
+    declared_same R last (record s { structures = with_structure s.structures (Some name) }) (record t { structures = with_structure t.structures (Some name) }) (structure_more_same R one last s t know low (Some name)) name
     (same_tagged_type (same_structure (next_now R last s t know low)))
 
 unknown_same : (R : Pairing) → IsOneToOne R → (last : ℕ) (s t : PlainScope) → SameWholeScope R last s t → (name : Text) {a b : Option Meaning} → SameNamed R a b → length (with_unknown a s name).structures ≤ last

@@ -37,7 +37,7 @@ pointed_ends R last h at name_at to name_to c d e s t know (same_of_type {t = u}
     (ends_passed R last (SameDeclared R) (of_type (pointer c u)) (of_type (pointer d v)) s t (same_of_type (marked_pointer R c d e k)) know)
 pointed_ends R last h at name_at to name_to c d e s t know (same_of_open_array k) = λ quiet. never_left last h subset.IncompleteType name_at s _ quiet
 pointed_ends R last h at name_at to name_to c d e s t know (same_of_function k) = ends_nothing R last (SameDeclared R) s t know
-pointed_ends R last h at name_at to name_to c d e s t know same_of_part_function = ends_nothing R last (SameDeclared R) s t know
+pointed_ends R last h at name_at to name_to c d e s t know (same_of_part_function k) = ends_nothing R last (SameDeclared R) s t know
 
 -- a word that isn't `const` is noted
 pointer_told : (h : Keep) (at name_at : At) (qualifiers : List (Qualifier At)) (r : At) → other_word qualifiers ≡ Some r → (m : Option DeclaredType) (s : PlainStanding) → (pointer_declared h at name_at qualifiers m s).after.problems ≡ [] → ⊥
@@ -79,7 +79,7 @@ element_ends R last h name_at name_to (Some x) (Some y) k s t know = by_declared
         (λ e d. ends_passed R last (SameType R) u v s t k know)
     by_declared (same_of_open_array k) = λ quiet. never_left last h subset.IncompleteType name_at s _ quiet
     by_declared (same_of_function k) = ends_nothing R last (SameType R) s t know
-    by_declared same_of_part_function = ends_nothing R last (SameType R) s t know
+    by_declared (same_of_part_function k) = ends_nothing R last (SameType R) s t know
 
 pub alike_element : {B : Type 0} (R : Pairing) (last : ℕ) (h : Keep) (name_at name_to : At) (m n : Option DeclaredType) (s t : PlainStanding) → (B → Both (SameDeclared R) m n) → Alike B R last s t
     → Alike (B × Both (SameType R) (element_declared h name_at m s).made (element_declared h name_to n t).made) R last (element_declared h name_at m s).after (element_declared h name_to n t).after
@@ -143,7 +143,7 @@ result_ends R last h at name_at to name_to s t know (same_of_type (same_array k)
 result_ends R last h at name_at to name_to s t know (same_of_type (same_structure paired)) = λ quiet. never_left last h subset.StructurePassed at s _ quiet
 result_ends R last h at name_at to name_to s t know (same_of_open_array k) = λ quiet. never_left last h subset.IncompleteType name_at s _ quiet
 result_ends R last h at name_at to name_to s t know (same_of_function k) = ends_nothing R last (SameType R) s t know
-result_ends R last h at name_at to name_to s t know same_of_part_function = ends_nothing R last (SameType R) s t know
+result_ends R last h at name_at to name_to s t know (same_of_part_function k) = ends_nothing R last (SameType R) s t know
 
 results_end : (R : Pairing) (last : ℕ) (h : Keep) (at name_at to name_to : At) (m n : Option DeclaredType) → Both (SameDeclared R) m n → (s t : PlainStanding) → SameStanding R last s t
     → Ends R last (SameType R) (result_declared h at name_at m s) (result_declared h to name_to n t)
@@ -175,17 +175,17 @@ known_both : (R : Pairing) {ps qs : List ListedParameter} → SameListed R ps qs
 known_both R same_none_listed = same_no_parameters
 known_both R (same_more_listed {p = p} {q = q} {ps = ps} {qs = qs} h rest) = before_known_both R p q h p.type q.type h.type (known_parameters ps) (known_parameters qs) (known_both R rest)
 
-function_of_both : (R : Pairing) (last : ℕ) (list : ParameterList) (m n : Option PlainType) → Both (SameType R) m n → (before after : List ListedParameter) (ps qs : Option (List PlainParameter)) → Both (SameParameters R) ps qs
+function_of_both : (R : Pairing) (last : ℕ) (list : ParameterList) (m n : Option PlainType) → Both (SameType R) m n → (before after : List ListedParameter) → SameListed R before after → (ps qs : Option (List PlainParameter)) → Both (SameParameters R) ps qs
     → (s t : PlainStanding) → SameStanding R last s t → SameDeclared R (function_of list m before ps s.scope) (function_of list n after qs t.scope)
-function_of_both R last list_is.Variadic m n k before after ps qs i s t know = same_of_part_function
-function_of_both R last list_is.Empty m n k before after ps qs i s t know = same_of_part_function
-function_of_both R last list_is.Fixed None None k before after ps qs i s t know = same_of_part_function
-function_of_both R last list_is.Fixed None (Some v) k before after ps qs i s t know = absurd k
-function_of_both R last list_is.Fixed (Some u) None k before after ps qs i s t know = absurd k
-function_of_both R last list_is.Fixed (Some u) (Some v) k before after None None i s t know = same_of_part_function
-function_of_both R last list_is.Fixed (Some u) (Some v) k before after None (Some qs) i s t know = absurd i
-function_of_both R last list_is.Fixed (Some u) (Some v) k before after (Some ps) None i s t know = absurd i
-function_of_both R last list_is.Fixed (Some u) (Some v) k before after (Some ps) (Some qs) i s t know =
+function_of_both R last list_is.Variadic m n k before after l ps qs i s t know = same_of_part_function (record { parameters = l; list = refl; result = k })
+function_of_both R last list_is.Empty m n k before after l ps qs i s t know = same_of_part_function (record { parameters = l; list = refl; result = k })
+function_of_both R last list_is.Fixed None None k before after l ps qs i s t know = same_of_part_function (record { parameters = l; list = refl; result = tt })
+function_of_both R last list_is.Fixed None (Some v) k before after l ps qs i s t know = absurd k
+function_of_both R last list_is.Fixed (Some u) None k before after l ps qs i s t know = absurd k
+function_of_both R last list_is.Fixed (Some u) (Some v) k before after l None None i s t know = same_of_part_function (record { parameters = l; list = refl; result = k })
+function_of_both R last list_is.Fixed (Some u) (Some v) k before after l None (Some qs) i s t know = absurd i
+function_of_both R last list_is.Fixed (Some u) (Some v) k before after l (Some ps) None i s t know = absurd i
+function_of_both R last list_is.Fixed (Some u) (Some v) k before after l (Some ps) (Some qs) i s t know =
     same_of_function (record { parameters = i; result = k; names = names_inside R last s.scope t.scope know; tags = tags_inside R last s.scope t.scope know })
 
 pub alike_function : {B : Type 0} (R : Pairing) (last : ℕ) (list other : ParameterList) → list ≡ other → (m n : Option PlainType) (before after : List ListedParameter) (s t : PlainStanding) → (B → Both (SameType R) m n) → (B → SameListed R before after) → Alike B R last s t
@@ -193,7 +193,7 @@ pub alike_function : {B : Type 0} (R : Pairing) (last : ℕ) (list other : Param
 alike_function {B = B} R last list other e m n before after s t k i a =
     subst (λ x. Alike (B × Both (SameDeclared R) (function_declared list m before s).made (function_declared x n after t).made) R last (function_declared list m before s).after (function_declared x n after t).after) e
     (alike_ends R last (SameDeclared R) s t (function_declared list m before s) (function_declared list n after t) (as_before s) (as_before t)
-    (λ b know q. (function_of_both R last list m n (k b) before after (known_parameters before) (known_parameters after) (known_both R (i b)) s t know, left_same R last s.scope t.scope know)) a)
+    (λ b know q. (function_of_both R last list m n (k b) before after (i b) (known_parameters before) (known_parameters after) (known_both R (i b)) s t know, left_same R last s.scope t.scope know)) a)
 
 -- ## Parameters
 
@@ -210,7 +210,7 @@ parameter_ends : (R : Pairing) (last : ℕ) (h : Keep) (at name_at to name_to : 
 parameter_ends R last h at name_at to name_to s t know (same_of_type k) = plain_parameter_ends R last h at name_at to name_to s t know k
 parameter_ends R last h at name_at to name_to s t know (same_of_open_array {t = u} {u = v} k) = ends_passed R last (SameType R) (pointer false u) (pointer false v) s t (same_pointer k) know
 parameter_ends R last h at name_at to name_to s t know (same_of_function k) = ends_nothing R last (SameType R) s t know
-parameter_ends R last h at name_at to name_to s t know same_of_part_function = ends_nothing R last (SameType R) s t know
+parameter_ends R last h at name_at to name_to s t know (same_of_part_function k) = ends_nothing R last (SameType R) s t know
 
 parameters_end : (R : Pairing) (last : ℕ) (h : Keep) (at name_at to name_to : At) (m n : Option DeclaredType) → Both (SameDeclared R) m n → (s t : PlainStanding) → SameStanding R last s t
     → Ends R last (SameType R) (parameter_declared h at name_at m s) (parameter_declared h to name_to n t)

@@ -101,22 +101,22 @@ to_left R one n m i j p q e = eqb-true n m (one n m i j p q ∙ eq-eqb i j e)
 at_end : (ss : List PlainStructure) (x : PlainStructure) (n : ℕ) → n ≡ length ss → slice_get (ss ++ x ∷ []) n ≡ Some x
 at_end ss x n e = ap (slice_get (ss ++ x ∷ [])) e ∙ last_at ss x
 
-pub tables_more : (R : Pairing) → IsOneToOne R → (these others : List PlainStructure) → SameTables R these others → R (length these) (length others) ≡ true → (tag other : Option Text)
-    → SameTables R (with_structure these tag) (with_structure others other)
-tables_more R one these others know new tag other = record {
+pub tables_more : (R : Pairing) → IsOneToOne R → (these others : List PlainStructure) → SameTables R these others → R (length these) (length others) ≡ true → (tag : Option Text)
+    → SameTables R (with_structure these tag) (with_structure others tag)
+tables_more R one these others know new tag = record {
   entries = λ n m paired. elim (cases_eq n (length these)) [
-    | inl e ↦ both_by (SameStructure R) (at_end these x n e) (at_end others y m (to_right R one n (length these) m (length others) paired new e)) (record { members = tt; representatives = new })
+    | inl e ↦ both_by (SameStructure R) (at_end these x n e) (at_end others y m (to_right R one n (length these) m (length others) paired new e)) (record { tags = refl; members = tt; representatives = new })
     | inr e ↦ both_by (SameStructure R) (other_at these x n e) (other_at others y m (λ d. e (to_left R one n (length these) m (length others) paired new d))) (know.entries n m paired)
   ];
   built = one_more_is_built these tag know.built;
-  other_built = one_more_is_built others other know.other_built;
+  other_built = one_more_is_built others tag know.other_built;
 }
   where
     x : PlainStructure
     x = incomplete_structure (length these) tag
 
     y : PlainStructure
-    y = incomplete_structure (length others) other
+    y = incomplete_structure (length others) tag
 
 -- ## One that is completed
 
@@ -142,7 +142,7 @@ at_completed ss n b k e = ap (slice_get (with_body ss n b)) e ∙ completed_at s
 
 given_both : (R : Pairing) (b d : PlainBody) → SameMembers R b.members d.members → (x y : PlainStructure) → SameStructure R x y → SameStructure R (given_body b x) (given_body d y)
 unfolding given_body
-given_both R b d h x y k = record { members = h; representatives = k.representatives }
+given_both R b d h x y k = record { tags = k.tags; members = h; representatives = k.representatives }
 
 pub tables_completed : (R : Pairing) → IsOneToOne R → (these others : List PlainStructure) → SameTables R these others → (n m : ℕ) → R n m ≡ true → (ms ks : List PlainMember) → SameMembers R ms ks
     → takes_members these n ms ≡ true → takes_members others m ks ≡ true → nat_le (member_layout these ms).bytes most_bytes ≡ true → nat_le (member_layout others ks).bytes most_bytes ≡ true

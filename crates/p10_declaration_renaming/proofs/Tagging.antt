@@ -127,10 +127,10 @@ alike_by_name R last h at to tag s t a =
 abbrev Begins : Pairing → ℕ → Begun → Begun → Type 0
 Begins R last b c = AreQuiet last b.standing c.standing → (R b.number c.number ≡ true) × SameStanding R last b.standing c.standing
 
-anew_begins : (R : Pairing) → IsOneToOne R → (last : ℕ) (tag other : Option Text) (s t : PlainStanding) → SameStanding R last s t → Begins R last (begun_anew tag s) (begun_anew other t)
-anew_begins R one last tag other s t know q =
+anew_begins : (R : Pairing) → IsOneToOne R → (last : ℕ) (tag : Option Text) (s t : PlainStanding) → SameStanding R last s t → Begins R last (begun_anew tag s) (begun_anew tag t)
+anew_begins R one last tag s t know q =
     let low : length s.scope.structures < last = omega (arith, count_more s.scope.structures tag, q.few) in
-    (next_now R last s.scope t.scope know low, structure_more_same R one last s.scope t.scope know low tag other)
+    (next_now R last s.scope t.scope know low, structure_more_same R one last s.scope t.scope know low tag)
 
 twice_left : (R : Pairing) (last : ℕ) (h : Keep) (tag : Identifier At) (s : PlainStanding) (c : Begun) → Begins R last (begun_twice h tag s) c
 twice_left R last h tag s c q =
@@ -159,7 +159,7 @@ by_tag_begins R one last h x s t know same_refused = twice_left R last h (mapped
 by_tag_begins R one last h x s t know same_no_tag = twice_left R last h (mapped_identifier left x) s _
 
 for_begins : (R : Pairing) → IsOneToOne R → (last : ℕ) (h : Keep) (tag : Option (Identifier (At × At))) (s t : PlainStanding) → SameStanding R last s t → Begins R last (begun_for h (left_name tag) s) (begun_for h (right_name tag) t)
-for_begins R one last h None s t know = anew_begins R one last None None s t know
+for_begins R one last h None s t know = anew_begins R one last None s t know
 for_begins R one last h (Some x) s t know = by_tag_begins R one last h x s t know (tag_of_name R (tagged_here_same R last s.scope t.scope know x.name))
 
 -- that its members are being declared is noted
@@ -169,7 +169,7 @@ opened_begins R last h tag s t go q = go (record { left = q.left; right = q.righ
 
 with_begins : (R : Pairing) → IsOneToOne R → (last : ℕ) (h : Keep) (word : Sign) (tag : Option (Identifier (At × At))) (s t : PlainStanding) → SameStanding R last s t
     → Begins R last (begun_with h word (left_name tag) s) (begun_with h word (right_name tag) t)
-with_begins R one last h sign.Union tag s t know = anew_begins R one last None None s t know
+with_begins R one last h sign.Union tag s t know = anew_begins R one last None s t know
 with_begins R one last h word tag s t know = opened_begins R last h tag s t (for_begins R one last h tag s t know)
 
 pub alike_begun : {B : Type 0} (R : Pairing) → IsOneToOne R → (last : ℕ) (h : Keep) (word : Sign) (tag : Option (Identifier (At × At))) (s t : PlainStanding) → Alike B R last s t

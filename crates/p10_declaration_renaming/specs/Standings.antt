@@ -20,8 +20,9 @@ Both P (Some a) None = ⊥
 
 -- ## Structures
 
--- two structures with the same members, or without any yet
+-- two structures with the same tag, and the same members or none yet
 pub record SameStructure (R : Pairing) (x y : PlainStructure) : Type 0 where
+  pub tags : x.tag ≡ y.tag
   pub members : Both (λ b d. SameMembers R b.members d.members) x.body y.body
   pub representatives : R x.representative y.representative ≡ true
 
@@ -88,9 +89,14 @@ pub data SameListed (R : Pairing) : List ListedParameter → List ListedParamete
   same_none_listed : SameListed R [] []
   same_more_listed : {p q : ListedParameter} {ps qs : List ListedParameter} → SameListedParameter R p q → SameListed R ps qs → SameListed R (p ∷ ps) (q ∷ qs)
 
--- of functions that are refused in part nothing more is said
+-- functions that are refused in part, as far as they are known
+pub record SamePartFunction (R : Pairing) (f g : PartFunction) : Type 0 where
+  pub parameters : SameListed R f.parameters g.parameters
+  pub list : f.list ≡ g.list
+  pub result : Both (SameType R) f.result g.result
+
 pub data SameDeclared (R : Pairing) : DeclaredType → DeclaredType → Type 0 where
   same_of_type : {t u : PlainType} → SameType R t u → SameDeclared R (of_type t) (of_type u)
   same_of_open_array : {t u : PlainType} → SameType R t u → SameDeclared R (of_open_array t) (of_open_array u)
   same_of_function : {f g : FunctionType} → SameFunctionType R f g → SameDeclared R (of_function f) (of_function g)
-  same_of_part_function : {f g : PartFunction} → SameDeclared R (of_part_function f) (of_part_function g)
+  same_of_part_function : {f g : PartFunction} → SamePartFunction R f g → SameDeclared R (of_part_function f) (of_part_function g)

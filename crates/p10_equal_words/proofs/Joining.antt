@@ -4,10 +4,8 @@ use Rattle.std.specs.Prelude.{flat_map, slice_get}
 use Rattle.p10_base.specs.declared.at.At.{At}
 use Rattle.p10_base.specs.Gathered.{Gathered}
 use Rattle.p10_syn.specs.Trees.{External}
-use Rattle.p10_core.specs.Types.{PlainStructure, body_of}
+use Rattle.p10_core.specs.Types.{PlainStructure}
 use Rattle.p10_core.specs.Typed.{PlainFunction, PlainObject, PlainSeen, PlainProgram}
-use Rattle.p10_core.specs.Completing.{AreBuilt}
-use Rattle.p10_core.specs.WholePrograms.{AreWholeStructures}
 use Rattle.p10_core.proofs.Completing.{none_are_built}
 use Rattle.p10_digests.specs.Lines.{all_words}
 use Rattle.p10_elabx.specs.First.{only_first}
@@ -15,7 +13,6 @@ use Rattle.p10_elabd.specs.Standing.{PlainStanding}
 use Rattle.p10_heads.specs.Heads.{Heads, heads_of_roots, number_in}
 use Rattle.p10_heads.specs.Roots.{roots_of}
 use Rattle.p10_linkage.specs.Between.{taken_together}
-use Rattle.p10_linkage.proofs.OneType.{built_stands}
 use Rattle.p10_elab.specs.Knowledge.{Known}
 use Rattle.p10_elab.specs.RootEnds.{roots_passed, nothing_known}
 use Rattle.p10_elab.specs.Programs.{program, elaborated, known_of, program_of, roots_elaborated, numbered_objects}
@@ -31,6 +28,9 @@ use Rattle.p10_renaming.proofs.Erasing.{renamed_have_one_view}
 use Rattle.p10_expression_renaming.specs.Knowing.{same_no_bindings}
 use Rattle.p10_declaration_renaming.specs.Standings.{SameTables}
 use Rattle.p10_root_renaming.specs.Roots.{same_no_linked, SameHeads, SameKnown}
+use Rattle.p10_linkage_renaming.proofs.Together.{Joins, joins_together}
+use Rattle.p10_linkage_renaming.proofs.Whole.{roots_are_taken_together_same}
+use Rattle.p10_spelling_laws.proofs.Lexed.{expanded_are_sound}
 use Rattle.p10_spelling_laws.specs.Counterparts.{Counterparts, in_first, in_second, HasSameBody, HaveCounterparts}
 use Rattle.p10_head_renaming.specs.Ascending.{Ascend, name_numbers}
 use Rattle.p10_head_renaming.specs.Laws.{AreRootsOf, main_of}
@@ -44,13 +44,12 @@ use Rattle.p10_counterpart_renaming.specs.Runs.{structures_in, RootsAreRegular, 
 use Rattle.p10_counterpart_renaming.specs.Laws.{CounterpartsAreSame}
 use Rattle.p10_counterpart_renaming.proofs.Counterparts.{at_moved}
 use Rattle.p10_counterpart_renaming.proofs.Roots.{roots_of_counterparts_renamed}
-use Rattle.p10_word_counterparts.specs.Laws.{IsTypedFrom, HasSoundWords}
+use Rattle.p10_word_counterparts.specs.Laws.{IsTypedFrom}
 use Rattle.p10_word_counterparts.proofs.Typing.{readings_are_typed, readings_have_counterparts}
 use Rattle.p10_word_views.specs.Words.{lines_of_function}
-use Rattle.p10_equal_words.specs.Comparable.{OthersDeclareNoTags, IncompleteStay, IsComparable}
+use Rattle.p10_equal_words.specs.Comparable.{EachIsMade, OthersDeclareNoTags}
 use Rattle.p10_equal_words.specs.Laws.{EqualWordsHaveEqualViews}
 use Rattle.p10_equal_words.proofs.Settled.{IsSettled, roots_settled}
-use Rattle.p10_equal_words.proofs.Together.{Joins, joins_together}
 use Rattle.p10_equal_words.proofs.Regular.{roots_regular}
 use Rattle.p10_equal_words.proofs.Tags.{roots_free}
 use Rattle.p10_equal_words.proofs.Widths.{widths_same}
@@ -85,29 +84,31 @@ nothing_same = record {
 abbrev known : List (List (External At)) → Known
 known roots = roots_passed only_first (heads_of_roots 0 roots) nothing_known roots
 
--- roots in which no row holds come to a program: its functions are those that are known, and its structures have the bodies that are known
+-- what stands after roots are taken together
+abbrev together : List (List (External At)) → PlainStanding
+together roots = taken_together only_first (heads_of_roots 0 roots) (known roots).linked (known roots).standing
+
+-- roots in which no row holds come to a program: its functions are those that are known, and its structures those that stand after the roots
 record IsOf (roots : List (List (External At))) (p : PlainProgram) : Type 0 where
   pub quiet : (known roots).standing.problems ≡ []
-  pub bodies : AreBuilt (known roots).standing.scope.structures → (n : ℕ) → body_of p.structures n ≡ body_of (known roots).standing.scope.structures n
+  pub settled : (together roots).problems ≡ []
   pub functions : p.functions ≡ (known roots).functions
-  pub structures : List PlainStructure
   pub objects : List PlainObject
   pub outside : List PlainSeen
-  pub is : p ≡ program_with structures objects (known roots).functions (main_of (known roots).functions) outside
+  pub is : p ≡ program_with (together roots).scope.structures objects (known roots).functions (main_of (known roots).functions) outside
 
 is_of : (all : List (External At)) (roots : List (List (External At))) (p : PlainProgram) → roots_elaborated only_first all roots ≡ program p → IsOf roots p
 unfolding known_of
 is_of all roots p e =
     let k : Known = known roots in
     let heads : Heads = heads_of_roots 0 roots in
-    let s : PlainStanding = taken_together only_first heads k.linked k.standing in
+    let s : PlainStanding = together roots in
     let j : Joins k.standing s = joins_together only_first heads k.linked k.standing in
     let x : IsSettled s (program_of (length heads.objects) s k) p = roots_settled only_first all roots p e in
     record {
       quiet = j.quiet x.quiet;
-      bodies = λ built n. ap (λ (z : PlainProgram). body_of z.structures n) x.is ∙ (j.kept (built_stands k.standing.scope.structures built)).joined.bodies n;
+      settled = x.quiet;
       functions = ap (λ (z : PlainProgram). z.functions) x.is;
-      structures = s.scope.structures;
       objects = objects_from 0 (length heads.objects) (k.block_objects ++ numbered_objects s.scope.structures k.visible k.objects);
       outside = k.outside;
       is = x.is;
@@ -116,16 +117,12 @@ is_of all roots p e =
 -- with what is asked of a reading besides
 record IsReady (roots : List (List (External At))) (p : PlainProgram) : Type 0 where
   pub of_roots : IsOf roots p
-  pub whole : AreWholeStructures p.structures
   pub many : length p.functions ≡ definitions_of roots
-  pub incomplete : IncompleteStay p
 
-ready : (r : PlainReading) (p : PlainProgram) → IsComparable r p → elaborated (trees_in r.units) ≡ program p → (roots : List (List (External At))) → roots_of (trees_in r.units) ≡ roots → IsReady roots p
-ready r p c is roots same = record {
+ready : (r : PlainReading) (p : PlainProgram) → EachIsMade r p → elaborated (trees_in r.units) ≡ program p → (roots : List (List (External At))) → roots_of (trees_in r.units) ≡ roots → IsReady roots p
+ready r p each is roots same = record {
   of_roots = is_of (trees_in r.units) roots p (subst (λ rs. roots_elaborated only_first (trees_in r.units) rs ≡ program p) same is);
-  whole = c.whole.structures;
-  many = c.each ∙ sym (definitions_counted (trees_in r.units)) ∙ ap definitions_of same;
-  incomplete = c.incomplete;
+  many = each ∙ sym (definitions_counted (trees_in r.units)) ∙ ap definitions_of same;
 }
 
 regular : (roots : List (List (External At))) (p : PlainProgram) → IsReady roots p → RootsAreRegular only_first (heads_of_roots 0 roots) nothing_known roots
@@ -151,23 +148,26 @@ views_same roots n body free same p q a b f g f_is g_is =
     (record { left = x.quiet; right = y.quiet; few = le_refl (structures_in k) }) in
     let R : Pairing = r.more.pairing in
     let know : SameKnown R (structures_in k) k j = r.more.same.known in
-    let tables : SameTables R k.standing.scope.structures j.standing.scope.structures = know.standing.tables in
     let here : slice_get k.functions n ≡ Some f = ap (λ fs. slice_get fs n) (sym x.functions) ∙ f_is in
     let there : slice_get j.functions n ≡ Some g = ap (λ fs. slice_get fs n) (sym y.functions) ∙ g_is in
     let function : SameFunction R f g = at_moved R (length nothing_known.functions + n) n (omega arith) k.functions j.functions r.function f g here there in
+    let these : List PlainStructure = (together firsts).scope.structures in
+    let others : List PlainStructure = (together seconds).scope.structures in
+    let tables : SameTables R these others =
+    roots_are_taken_together_same R r.more.same.one only_first (heads_of_roots 0 firsts) (heads_of_roots 0 seconds) k.linked j.linked know.linked k.standing j.standing know.standing.tables x.settled y.settled in
     let widths : HasWidths R p q =
-    widths_same R k.standing.scope.structures j.standing.scope.structures tables p q a.whole b.whole a.incomplete b.incomplete (x.bodies tables.built) (y.bodies tables.other_built) in
+    widths_same R p q (subst (λ (z : PlainProgram). SameTables R z.structures q.structures) (sym x.is) (subst (λ (z : PlainProgram). SameTables R these z.structures) (sym y.is) tables)) in
     let task : task_of p n ≡ task_of q n =
     ap (λ z. task_of z n) x.is
-    ∙ task_stays R x.structures y.structures x.objects y.objects k.functions j.functions x.outside y.outside know.functions n f g here there function
+    ∙ task_stays R these others x.objects y.objects k.functions j.functions x.outside y.outside know.functions n f g here there function
     ∙ ap (λ z. task_of z n) (sym y.is) in
     renamed_have_one_view R p q widths n f g function task
 
 -- ## Readings
 
 -- the names of what trees declare outside of functions stand one after the other
-ascending : (g : Gathered) (r : PlainReading) (p : PlainProgram) → IsTypedFrom g r p → HasSoundWords r → (trees : List (External At)) → trees_in r.units ≡ trees → Ascend 0 (name_numbers trees) (length (all_words r.expansion.roots))
-ascending g r p t words trees e = subst (λ ts. Ascend 0 (name_numbers ts) (length (all_words r.expansion.roots))) e (names_ascend r.expansion.roots (trees_in r.units) t.spells words.few)
+ascending : (g : Gathered) (r : PlainReading) (p : PlainProgram) → IsTypedFrom g r p → (trees : List (External At)) → trees_in r.units ≡ trees → Ascend 0 (name_numbers trees) (length (all_words r.expansion.roots))
+ascending g r p t trees e = subst (λ ts. Ascend 0 (name_numbers ts) (length (all_words r.expansion.roots))) e (names_ascend r.expansion.roots (trees_in r.units) t.spells (expanded_are_sound g r.expansion t.expands).1)
 
 lines_at : (r s : PlainReading) (n m : ℕ) → n ≡ m → lines_of_function r n ≡ lines_of_function s n → lines_of_function r m ≡ lines_of_function s m
 lines_at r s n m e same = subst (λ i. lines_of_function r i ≡ lines_of_function s i) e same
@@ -176,14 +176,14 @@ pub equal_words_have_equal_views : EqualWordsHaveEqualViews
 equal_words_have_equal_views g h r s p q reads other a b tags same n f k lines f_is k_is =
     let t : IsTypedFrom g r p = readings_are_typed g r p reads in
     let u : IsTypedFrom h s q = readings_are_typed h s q other in
-    let c : HaveCounterparts r.expansion.roots s.expansion.roots (trees_in r.units) (trees_in s.units) = readings_have_counterparts g h r s p q reads other a.words b.words same in
+    let c : HaveCounterparts r.expansion.roots s.expansion.roots (trees_in r.units) (trees_in s.units) = readings_have_counterparts g h r s p q reads other same in
     let by_roots : AreRootsOf c.all = roots_together c.all c.begin in
     let firsts : List (List (External At)) = map (map in_first) by_roots.roots in
     let seconds : List (List (External At)) = map (map in_second) by_roots.roots in
     let heads : SameHeads (heads_of_roots 0 firsts) (heads_of_roots 0 seconds) = record {
       functions = λ root internal name.
           ap (λ rs. number_in (heads_of_roots 0 rs).functions root internal name) (sym by_roots.first)
-          ∙ functions_keep_numbers c.all 0 (length (all_words r.expansion.roots)) 0 (length (all_words s.expansion.roots)) c.begin (ascending g r p t a.words (map in_first c.all) c.first) (ascending h s q u b.words (map in_second c.all) c.second) root internal name
+          ∙ functions_keep_numbers c.all 0 (length (all_words r.expansion.roots)) 0 (length (all_words s.expansion.roots)) c.begin (ascending g r p t (map in_first c.all) c.first) (ascending h s q u (map in_second c.all) c.second) root internal name
           ∙ ap (λ rs. number_in (heads_of_roots 0 rs).functions root internal name) by_roots.second;
     } in
     let first : roots_of (trees_in r.units) ≡ firsts = ap roots_of c.first ∙ by_roots.first in

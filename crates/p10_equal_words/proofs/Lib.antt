@@ -1,6 +1,5 @@
 -- Lemmas for this crate.
 pub mod Settled
-pub mod Together
 pub mod Regular
 pub mod Tags
 pub mod Widths

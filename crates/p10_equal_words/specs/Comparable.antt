@@ -1,10 +1,8 @@
 -- What files have to be, so that words tell what their functions are.
-use Rattle.std.specs.Prelude.{◌≡◌, ℕ, ◌+◌, ◌⊎◌, List, [], ◌∷◌, length, None}
+use Rattle.std.specs.Prelude.{◌≡◌, ℕ, ◌+◌, ◌⊎◌, List, [], ◌∷◌, length}
 use Rattle.p10_base.specs.declared.at.At.{At}
 use Rattle.p10_syn.specs.Trees.{External, Outer, Defines}
-use Rattle.p10_core.specs.Types.{body_of, representative_of}
 use Rattle.p10_core.specs.Typed.{PlainProgram}
-use Rattle.p10_core.specs.WholePrograms.{IsWholeProgram}
 use Rattle.p10_digests.specs.Digests.{function_places}
 use Rattle.p10_elabx.specs.First.{Keep, only_first}
 use Rattle.p10_heads.specs.Heads.{Heads, heads_of_roots}
@@ -14,8 +12,13 @@ use Rattle.p10_elab.specs.RootEnds.{known_after, root_begun, root_passed, nothin
 use Rattle.p10_front.specs.Readings.{PlainReading}
 use Rattle.p10_front.specs.Digests.{trees_in}
 use Rattle.p10_touched_renaming.specs.Touched.{head_passed, HasNoTags}
-use Rattle.p10_word_counterparts.specs.Laws.{HasSoundWords}
 use Rattle.p10_word_views.specs.Words.{lines_of_function}
+
+-- ## Functions
+
+-- each definition of a reading became a function of its program
+abbrev pub EachIsMade : PlainReading → PlainProgram → Type 0
+EachIsMade r p = length p.functions ≡ length (function_places (trees_in r.units))
 
 -- ## Tags among parameters
 
@@ -34,22 +37,6 @@ RootsDeclareNoTags kept h heads n k (root ∷ rest) =
 -- so it is in roots from the first one on
 abbrev pub OthersDeclareNoTags : (ℕ → Type 0) → List (List (External At)) → Type 0
 OthersDeclareNoTags kept roots = RootsDeclareNoTags kept only_first (heads_of_roots 0 roots) 0 nothing_known roots
-
--- ## Structures
-
--- no structure that isn't complete in its root has one of another root that stands for it and is complete
-abbrev pub IncompleteStay : PlainProgram → Type 0
-IncompleteStay p = (n : ℕ) → body_of p.structures n ≡ None → body_of p.structures (representative_of p.structures n) ≡ None
-
--- ## Both
-
--- a reading and its program: the words are lexemes, the program is whole, each definition became a function of it, and structures that aren't
--- complete stay so where roots are taken together
-pub record IsComparable (r : PlainReading) (p : PlainProgram) : Type 0 where
-  pub words : HasSoundWords r
-  pub whole : IsWholeProgram p
-  pub each : length p.functions ≡ length (function_places (trees_in r.units))
-  pub incomplete : IncompleteStay p
 
 -- of the definitions of a reading those that have other lines in another one declare no tag among their parameters
 abbrev pub EditedDeclareNoTags : PlainReading → PlainReading → Type 0

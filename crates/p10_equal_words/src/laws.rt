@@ -1,6 +1,8 @@
-//! The laws: each function does nothing, and its contract is the law.
+//! The laws: each function does nothing but to call on other laws, and its contract is the law.
 
-ghost use Rattle.p10_equal_words.specs.Laws.{EqualWordsHaveEqualViews, ComparableFilesRecheckAsWhole};
+ghost use Rattle.p10_equal_words.specs.Laws.{EqualWordsHaveEqualViews, ComparableFilesRecheckAsWhole, ComparableFilesRecheckBySections};
+
+use p10_section_rechecks::laws::sections_recheck_as_whole;
 
 /// In the same words outside of bodies and in a function two programs have one view of it.
 pub fn equal_words_give_equal_views()
@@ -11,3 +13,10 @@ pub fn equal_words_give_equal_views()
 pub fn comparable_files_recheck_as_whole()
     ensures { ComparableFilesRecheckAsWhole }
 {}
+
+/// So it is with the evidence of the certificates' own sections.
+pub fn comparable_files_recheck_by_sections()
+    ensures { ComparableFilesRecheckBySections }
+{
+    sections_recheck_as_whole();
+}

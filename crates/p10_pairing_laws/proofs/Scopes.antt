@@ -10,7 +10,7 @@ use Rattle.p10_declaration_renaming.proofs.Boths.{both_by}
 use Rattle.p10_pairing_laws.specs.Laws.{IsWithin, IsNewPast, ScopesStaySame}
 use Rattle.p10_pairing_laws.proofs.Trees.{type_stays}
 
-both_stays : {A : Type 0} (P Q : A → A → Type 0) → ((a b : A) → P a b → Q a b) → (m n : Option A) → Both P m n → Both Q m n
+pub both_stays : {A : Type 0} (P Q : A → A → Type 0) → ((a b : A) → P a b → Q a b) → (m n : Option A) → Both P m n → Both Q m n
 both_stays P Q each None None h = tt
 both_stays P Q each (Some a) (Some b) h = each a b h
 both_stays P Q each None (Some b) h = absurd h
@@ -44,6 +44,7 @@ members_stay R Q more (same_more_members h rest) = same_more_members (type_stays
 
 structure_stays : (R Q : Pairing) → IsWithin R Q → (x y : PlainStructure) → SameStructure R x y → SameStructure Q x y
 structure_stays R Q more x y h = record {
+  tags = h.tags;
   members = both_stays (λ b d. SameMembers R b.members d.members) (λ b d. SameMembers Q b.members d.members) (λ b d k. members_stay R Q more k) x.body y.body h.members;
   representatives = more x.representative y.representative h.representatives;
 }

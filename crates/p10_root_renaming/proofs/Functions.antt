@@ -43,11 +43,11 @@ use Rattle.p10_declaration_renaming.proofs.Declaring.{specifiers_renamed, declar
 use Rattle.p10_statement_renaming.specs.Bodies.{SameFrame, SameLocal}
 use Rattle.p10_statement_renaming.proofs.Declarations.{storage_same, named_at, refusing_same, unknown_same, frame_same}
 use Rattle.p10_statement_renaming.proofs.Bodies.{bodies_renamed}
-use Rattle.p10_root_renaming.specs.Roots.{SameLinked, same_a_part_function, SameHeads, function_names, SameKnown, SameFunctions, same_no_functions, same_more_functions}
+use Rattle.p10_root_renaming.specs.Roots.{SameLinked, SameHeads, function_names, SameKnown, SameFunctions, same_no_functions, same_more_functions}
 use Rattle.p10_root_renaming.specs.Laws.{AddsSameFunctions, DefinitionsRenamed}
 use Rattle.p10_root_renaming.proofs.Addresses.{addresses_same}
 use Rattle.p10_root_renaming.proofs.Linking.{linked_same, with_linked_same}
-use Rattle.p10_root_renaming.proofs.Outside.{known_at, function_type_same}
+use Rattle.p10_root_renaming.proofs.Outside.{known_at, function_type_same, part_type_same}
 use Rattle.p10_root_renaming.proofs.GrowingOutside.{grows_marks_where, grows_function, grows_function_named, grows_definition}
 
 -- ## Rows that change nothing but problems
@@ -252,19 +252,19 @@ by_type_same : (R : Pairing) → IsOneToOne R → (last : ℕ) (h : Keep) (heads
 by_type_same R one last h heads others same s d at to text k j know None None n = bodyless_same R last h (mapped_definition left d) (mapped_definition right d) at to text k j know
 by_type_same R one last h heads others same s d at to text k j know (Some x) (Some y) (same_of_type n) = bodyless_same R last h (mapped_definition left d) (mapped_definition right d) at to text k j know
 by_type_same R one last h heads others same s d at to text k j know (Some x) (Some y) (same_of_open_array n) = bodyless_same R last h (mapped_definition left d) (mapped_definition right d) at to text k j know
-by_type_same R one last h heads others same s d at to text k j know (Some x) (Some y) (same_of_part_function {f = f} {g = g}) = λ quiet.
+by_type_same R one last h heads others same s d at to text k j know (Some x) (Some y) (same_of_part_function {f = f} {g = g} n) = λ quiet.
     let v : PlainStanding = listed_names_noted h f.parameters k.standing in
     let w : PlainStanding = listed_names_noted h g.parameters j.standing in
     let l : Linked = linked_of k (named_at at text) (part_type f) s true false in
     let m : Linked = linked_of j (named_at to text) (part_type g) s true false in (
       adds_nothing R k.functions j.functions,
-      with_linked_same R last h heads others same l m (linked_same R last at to text s true true false same_a_part_function k j know) (with_standing k v) (with_standing j w)
+      with_linked_same R last h heads others same l m (linked_same R last at to text s true true false refl (part_type_same R n) k j know) (with_standing k v) (with_standing j w)
           (known_at R last k j v w know (listed_both R last h f.parameters g.parameters k.standing j.standing know.standing)),
     )
 by_type_same R one last h heads others same s d at to text k j know (Some x) (Some y) (same_of_function {f = f} {g = g} n) = λ quiet.
     let l : Linked = linked_of k (named_at at text) (function_type f) s true false in
     let m : Linked = linked_of j (named_at to text) (function_type g) s true false in
-    let linked : SameLinked R l m = linked_same R last at to text s true true false (function_type_same R n) k j know in
+    let linked : SameLinked R l m = linked_same R last at to text s true true false refl (function_type_same R n) k j know in
     let a : Known = with_linked h heads l k in
     let b : Known = with_linked h others m j in
     body_same R one last h heads others l m linked f g n d.body a b (with_linked_same R last h heads others same l m linked k j know) quiet

@@ -42,10 +42,10 @@ before_same R last k j know name =
 
 -- ## A declaration more
 
-is_function_same : (R : Pairing) {t u : LinkedType} → SameLinkedType R t u → is_function t ≡ is_function u
+pub is_function_same : (R : Pairing) {t u : LinkedType} → SameLinkedType R t u → is_function t ≡ is_function u
 is_function_same R (same_a_function hs h) = refl
 is_function_same R (same_an_object h) = refl
-is_function_same R same_a_part_function = refl
+is_function_same R (same_a_part_function h) = refl
 is_function_same R same_unknown_object = refl
 
 like_extern_same : (R : Pairing) (s : Storage) {t u : LinkedType} → SameLinkedType R t u → is_like_extern s t ≡ is_like_extern s u
@@ -60,17 +60,18 @@ internal_same R s h (Some l) (Some m) k = λ i. is_static s || (like_extern_same
 internal_same R s h None (Some m) k = absurd k
 internal_same R s h (Some l) None k = absurd k
 
-pub linked_same : (R : Pairing) (last : ℕ) (at to : At) (text : Text) (s : Storage) (defines other sensor : Bool) {t u : LinkedType} → SameLinkedType R t u → (k j : Known) → SameKnown R last k j
+pub linked_same : (R : Pairing) (last : ℕ) (at to : At) (text : Text) (s : Storage) (defines other sensor : Bool) → defines ≡ other → {t u : LinkedType} → SameLinkedType R t u → (k j : Known) → SameKnown R last k j
     → SameLinked R (linked_of k (named_at at text) t s defines sensor) (linked_of j (named_at to text) u s other sensor)
-linked_same R last at to text s defines other sensor h k j know = record {
+linked_same R last at to text s defines other sensor written h k j know = record {
   root = know.root;
   name = refl;
   type = h;
   internal = internal_same R s h (last_linked None k.root text k.linked) (last_linked None j.root text j.linked) (before_same R last k j know text);
+  defines = written;
   sensor = refl;
 }
 
-more_linked : (R : Pairing) {ls ms : List Linked} → SameLinkeds R ls ms → {l m : Linked} → SameLinked R l m → SameLinkeds R (ls ++ l ∷ []) (ms ++ m ∷ [])
+pub more_linked : (R : Pairing) {ls ms : List Linked} → SameLinkeds R ls ms → {l m : Linked} → SameLinked R l m → SameLinkeds R (ls ++ l ∷ []) (ms ++ m ∷ [])
 more_linked R same_no_linked h = same_more_linked h same_no_linked
 more_linked R (same_more_linked k rest) h = same_more_linked k (more_linked R rest h)
 
@@ -80,7 +81,7 @@ callable_same R n m e {ts = ts} {us = us} hs {t = t} {u = u} h = subst (λ i. Sa
 meaning_same : (R : Pairing) {t u : LinkedType} → SameLinkedType R t u → (n m : ℕ) → (is_function t ≡ true → n ≡ m) → (b c : Bool) → b ≡ c → SameMeaning R (meaning_by t n b) (meaning_by u m c)
 meaning_same R (same_a_function {ts = ts} {us = us} {t = t} {u = u} hs h) n m e b c d = callable_same R n m (e refl) hs h
 meaning_same R (same_an_object {t = t} {u = u} h) n m e b c d = subst (λ x. SameMeaning R (object n t b) (object m u x)) d (same_object h)
-meaning_same R same_a_part_function n m e b c d = same_unknown_name
+meaning_same R (same_a_part_function h) n m e b c d = same_unknown_name
 meaning_same R same_unknown_object n m e b c d = same_unknown_name
 
 number_where : (R : Pairing) (heads others : Heads) → SameHeads heads others → (l m : Linked) → SameLinked R l m → (b c : Bool) → b ≡ c → b ≡ true

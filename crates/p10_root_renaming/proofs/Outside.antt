@@ -1,5 +1,5 @@
 -- In the same words declarations outside of functions declare the same.
-use Rattle.std.proofs.Common.{ℕ, ◌&&◌, ◌||◌, not, Bool, true, false, List, [], ◌∷◌, ◌++◌, map, Option, Some, None, option_map, subst}
+use Rattle.std.proofs.Common.{◌≡◌, refl, ℕ, ◌&&◌, ◌||◌, not, Bool, true, false, List, [], ◌∷◌, ◌++◌, map, Option, Some, None, option_map, subst}
 use Rattle.std.specs.Prelude.{if◌then◌else◌}
 use Rattle.p10_base.specs.Words.{Text}
 use Rattle.p10_base.specs.declared.at.At.{At}
@@ -13,7 +13,7 @@ use Rattle.p10_elabd.specs.Standing.{PlainStanding, Passed, passed, refusing}
 use Rattle.p10_elabd.specs.Words.{storage_of, is_volatile}
 use Rattle.p10_elabd.specs.declared.site.Site.TheVariants as site_is
 use Rattle.p10_elabd.specs.declared.site.Storage.{Storage}
-use Rattle.p10_elabd.specs.Shapes.{PlainParameter, FunctionType, DeclaredType, of_type, of_open_array, name_in, declares_open_array}
+use Rattle.p10_elabd.specs.Shapes.{PlainParameter, FunctionType, ListedParameter, PartFunction, DeclaredType, of_type, of_open_array, name_in, declares_open_array}
 use Rattle.p10_elabd.specs.Declaring.{declarator_passed, based}
 use Rattle.p10_elabd.specs.Initializers.{elements_given}
 use Rattle.p10_elabd.specs.declared.lifetime.Lifetime.TheVariants as life_is
@@ -32,13 +32,14 @@ use Rattle.p10_expression_renaming.proofs.Finding.{by_same}
 use Rattle.p10_expression_renaming.proofs.Sameness.{SameName, same_no_name, same_name}
 use Rattle.p10_expression_renaming.proofs.Types.{one_same, unqualified_same}
 use Rattle.p10_expression_renaming.proofs.TypeNames.{left, right}
-use Rattle.p10_declaration_renaming.specs.Standings.{Both, SameStanding, AreQuiet, SameParameters, same_no_parameters, same_more_parameters, SameFunctionType, SameDeclared, same_of_type, same_of_open_array, same_of_function, same_of_part_function}
+use Rattle.p10_declaration_renaming.specs.Standings.{Both, SameStanding, AreQuiet, SameParameters, same_no_parameters, same_more_parameters, SameFunctionType, SameListed, same_none_listed, same_more_listed, SamePartFunction, SameDeclared, same_of_type, same_of_open_array, same_of_function, same_of_part_function}
+use Rattle.p10_declaration_renaming.proofs.Boths.{both_map}
 use Rattle.p10_declaration_renaming.proofs.Alike.{Ends, quiet_before, ends_nothing, ends_passed, ends_unless}
 use Rattle.p10_declaration_renaming.proofs.Naming.{name_in_same}
 use Rattle.p10_declaration_renaming.proofs.Declaring.{declarators_renamed}
 use Rattle.p10_declaration_renaming.proofs.Texts.{elements_same}
 use Rattle.p10_statement_renaming.proofs.Declarations.{storage_same, word_same, named_at, refusing_same, specified_both, initial_both, no_initial_same, filled_ends, typedef_done_same}
-use Rattle.p10_root_renaming.specs.Roots.{SameLinkedType, same_a_function, same_an_object, same_a_part_function, same_unknown_object, SameLinked, SameHeads, SameKnown}
+use Rattle.p10_root_renaming.specs.Roots.{SameKnownTypes, same_none_known, same_more_known, SameLinkedType, same_a_function, same_an_object, same_a_part_function, same_unknown_object, SameLinked, SameHeads, SameKnown}
 use Rattle.p10_root_renaming.specs.Laws.{DeclarationsRenamed}
 use Rattle.p10_root_renaming.proofs.Linking.{before_same, linked_same, with_linked_same}
 use Rattle.p10_root_renaming.proofs.GrowingOutside.{grows_defined, grows_object_outside, grows_after_type, grows_outer_named, grows_outside}
@@ -60,7 +61,7 @@ composite_either R one h (same_an_object same_integer) = tt
 composite_either R one h (same_an_object (same_pointer k)) = tt
 composite_either R one h (same_an_object (same_structure paired)) = tt
 composite_either R one h (same_a_function ks k) = tt
-composite_either R one h same_a_part_function = tt
+composite_either R one h (same_a_part_function p) = tt
 composite_either R one h same_unknown_object = tt
 
 composite_same : (R : Pairing) → IsOneToOne R → {t u : PlainType} → SameType R t u → (a b : Option Linked) → Both (SameLinked R) a b → Both (SameType R) (composite t a) (composite u b)
@@ -68,6 +69,11 @@ composite_same R one h None None k = tt
 composite_same R one h (Some l) (Some m) k = composite_either R one h k.type
 composite_same R one h None (Some m) k = absurd k
 composite_same R one h (Some l) None k = absurd k
+
+-- what has an initialiser at the one place has it at the other
+written_both : (i : Option (Initializer (At × At))) → is_written (option_map (mapped_initializer left) i) ≡ is_written (option_map (mapped_initializer right) i)
+written_both None = refl
+written_both (Some i) = refl
 
 array_ends : (R : Pairing) → IsOneToOne R → (last : ℕ) (h : Keep) (at to brackets others : At) (text : Text) (t u : PlainType) → SameType R t u → (i : Option (Initializer (At × At))) (o q : Option PlainType) → Both (SameType R) o q → (s v : PlainStanding) → SameStanding R last s v
     → Ends R last (SameType R) (array_outside h (named_at at text) brackets t (option_map (mapped_initializer left) i) o s) (array_outside h (named_at to text) others u (option_map (mapped_initializer right) i) q v)
@@ -88,7 +94,7 @@ outer_ends R one last h at to brackets others text w i a b before d e (same_of_t
 outer_ends R one last h at to brackets others text w i a b before d e (same_of_open_array {t = t} {u = u} k) s v know =
     array_ends R one last h at to brackets others text t u k i (composite t a) (composite u b) (composite_same R one k a b before) s v know
 outer_ends R one last h at to brackets others text w i a b before d e (same_of_function k) s v know = ends_nothing R last (SameType R) s v know
-outer_ends R one last h at to brackets others text w i a b before d e same_of_part_function s v know = ends_nothing R last (SameType R) s v know
+outer_ends R one last h at to brackets others text w i a b before d e (same_of_part_function p) s v know = ends_nothing R last (SameType R) s v know
 
 -- ## Objects
 
@@ -130,7 +136,7 @@ object_same R one last h heads others same at to text t u n s sensor i k j know 
     let b : Known = with_tentative (named_at to text) u s those (with_linked h others m j) in
     let inside : SameKnown R last a b =
     tentative_same R last (named_at at text) (named_at to text) t u s these those (with_linked h heads l k) (with_linked h others m j)
-    (with_linked_same R last h heads others same l m (linked_same R last at to text s (is_written these) (is_written those) sensor (same_an_object n) k j know) k j know) in
+    (with_linked_same R last h heads others same l m (linked_same R last at to text s (is_written these) (is_written those) sensor (written_both i) (same_an_object n) k j know) k j know) in
     let p : Passed PlainInitializer = initialized_by h life_is.Static t these a.standing in
     let q : Passed PlainInitializer = initialized_by h life_is.Static u those b.standing in
     let r = initial_both R one last h life_is.Static t u n i a.standing b.standing (λ x. inside.standing)
@@ -151,7 +157,7 @@ object_made R one last h heads others same at to text s sensor i k j know None N
     let those : Bool = is_written (option_map (mapped_initializer right) i) in
     let inside : SameKnown R last a b = known_at R last k j v w know stand in
     with_linked_same R last h heads others same (linked_of a (named_at at text) unknown_object s these sensor) (linked_of b (named_at to text) unknown_object s those sensor)
-    (linked_same R last at to text s these those sensor same_unknown_object a b inside) a b inside
+    (linked_same R last at to text s these those sensor (written_both i) same_unknown_object a b inside) a b inside
 object_made R one last h heads others same at to text s sensor i k j know None (Some u) n v w stand = absurd n
 object_made R one last h heads others same at to text s sensor i k j know (Some t) None n v w stand = absurd n
 
@@ -163,7 +169,7 @@ by_type_same R one last h heads others same s sensor at to text d k j know None 
     let these : Bool = is_written (option_map (mapped_initializer left) d.initial) in
     let those : Bool = is_written (option_map (mapped_initializer right) d.initial) in
     with_linked_same R last h heads others same (linked_of k (named_at at text) unknown_object s these sensor) (linked_of j (named_at to text) unknown_object s those sensor)
-    (linked_same R last at to text s these those sensor same_unknown_object k j know) k j know
+    (linked_same R last at to text s these those sensor (written_both d.initial) same_unknown_object k j know) k j know
 by_type_same R one last h heads others same s sensor at to text d k j know (Some x) (Some y) n = λ quiet.
     let these : Option (Initializer At) = option_map (mapped_initializer left) d.initial in
     let those : Option (Initializer At) = option_map (mapped_initializer right) d.initial in
@@ -203,6 +209,13 @@ parameter_types_same R (same_more_parameters h rest) = same_more_types (unqualif
 pub function_type_same : (R : Pairing) {f g : FunctionType} → SameFunctionType R f g → SameLinkedType R (function_type f) (function_type g)
 function_type_same R h = same_a_function (parameter_types_same R h.parameters) h.result
 
+listed_types_same : (R : Pairing) {ps qs : List ListedParameter} → SameListed R ps qs → SameKnownTypes R (map (λ p. option_map unqualified p.type) ps) (map (λ p. option_map unqualified p.type) qs)
+listed_types_same R same_none_listed = same_none_known
+listed_types_same R (same_more_listed {p = p} {q = q} h rest) = same_more_known (both_map (SameType R) (SameType R) unqualified unqualified (λ t u k. unqualified_same R k) p.type q.type h.type) (listed_types_same R rest)
+
+pub part_type_same : (R : Pairing) {f g : PartFunction} → SamePartFunction R f g → SameLinkedType R (part_type f) (part_type g)
+part_type_same R h = same_a_part_function (record { parameters = listed_types_same R h.parameters; list = h.list; result = h.result })
+
 prototype_same : (R : Pairing) → IsOneToOne R → (last : ℕ) (h : Keep) (heads others : Heads) → SameHeads heads others → (at to : At) (text : Text) (t u : LinkedType) → SameLinkedType R t u → (s : Storage) (i : Option (Initializer (At × At))) (k j : Known) → SameKnown R last k j
     → Agree R last (prototype_declared h heads (named_at at text) t s (option_map (mapped_initializer left) i) k) (prototype_declared h others (named_at to text) u s (option_map (mapped_initializer right) i) j)
 prototype_same R one last h heads others same at to text t u n s i k j know quiet =
@@ -210,7 +223,7 @@ prototype_same R one last h heads others same at to text t u n s i k j know quie
     let m : Linked = linked_of j (named_at to text) u s false false in
     let a : Known = with_linked h heads l k in
     let b : Known = with_linked h others m j in
-    let inside : SameKnown R last a b = with_linked_same R last h heads others same l m (linked_same R last at to text s false false false n k j know) k j know in
+    let inside : SameKnown R last a b = with_linked_same R last h heads others same l m (linked_same R last at to text s false false false refl n k j know) k j know in
     known_at R last a b (no_initializer h (option_map (mapped_initializer left) i) a.standing) (no_initializer h (option_map (mapped_initializer right) i) b.standing) inside (no_initial_same R one last h i a.standing b.standing inside.standing quiet)
 
 declared_same : (R : Pairing) → IsOneToOne R → (last : ℕ) (h : Keep) (heads others : Heads) → SameHeads heads others → (s : Storage) (sensor : Bool) (at to : At) (text : Text) (d : InitDeclarator (At × At)) (k j : Known) → SameKnown R last k j
@@ -222,8 +235,8 @@ declared_same R one last h heads others same s sensor at to text d k j know (Som
     by_form_same R one last h heads others same s sensor at to text d k j know (Some (of_open_array t)) (Some (of_open_array u)) (same_of_open_array n)
 declared_same R one last h heads others same s sensor at to text d k j know (Some x) (Some y) (same_of_function {f = f} {g = g} n) =
     prototype_same R one last h heads others same at to text (function_type f) (function_type g) (function_type_same R n) s d.initial k j know
-declared_same R one last h heads others same s sensor at to text d k j know (Some x) (Some y) (same_of_part_function {f = f} {g = g}) =
-    prototype_same R one last h heads others same at to text (part_type f) (part_type g) same_a_part_function s d.initial k j know
+declared_same R one last h heads others same s sensor at to text d k j know (Some x) (Some y) (same_of_part_function {f = f} {g = g} n) =
+    prototype_same R one last h heads others same at to text (part_type f) (part_type g) (part_type_same R n) s d.initial k j know
 declared_same R one last h heads others same s sensor at to text d k j know None (Some y) n = absurd n
 declared_same R one last h heads others same s sensor at to text d k j know (Some x) None n = absurd n
 

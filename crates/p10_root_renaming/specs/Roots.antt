@@ -1,5 +1,5 @@
 -- What is known of the roots of two programs that is the same but for places and for the numbers of objects, literals and structures.
-use Rattle.std.specs.Prelude.{◌≡◌, ℕ, Bool, List, [], ◌∷◌, map}
+use Rattle.std.specs.Prelude.{◌≡◌, ℕ, Bool, List, [], ◌∷◌, map, Option}
 use Rattle.p10_base.specs.Words.{Text}
 use Rattle.p10_core.specs.Types.{PlainType}
 use Rattle.p10_core.specs.Typed.{PlainFunction}
@@ -8,15 +8,25 @@ use Rattle.p10_linkage.specs.Linkage.{PartType, LinkedType, a_function, an_objec
 use Rattle.p10_elab.specs.Knowledge.{Known}
 use Rattle.p10_renaming.specs.Renaming.{Pairing, SameType, SameFunction}
 use Rattle.p10_expression_renaming.specs.Knowing.{SameTypes}
-use Rattle.p10_declaration_renaming.specs.Standings.{SameStanding, AreQuiet}
+use Rattle.p10_declaration_renaming.specs.Standings.{Both, SameStanding, AreQuiet}
 
 -- ## Names with linkage
 
--- of a function that is refused in part nothing more is said
+-- types, as far as they are known
+pub data SameKnownTypes (R : Pairing) : List (Option PlainType) → List (Option PlainType) → Type 0 where
+  same_none_known : SameKnownTypes R [] []
+  same_more_known : {t u : Option PlainType} {ts us : List (Option PlainType)} → Both (SameType R) t u → SameKnownTypes R ts us → SameKnownTypes R (t ∷ ts) (u ∷ us)
+
+-- functions that are refused in part
+pub record SamePart (R : Pairing) (p q : PartType) : Type 0 where
+  pub parameters : SameKnownTypes R p.parameters q.parameters
+  pub list : p.list ≡ q.list
+  pub result : Both (SameType R) p.result q.result
+
 pub data SameLinkedType (R : Pairing) : LinkedType → LinkedType → Type 0 where
   same_a_function : {ts us : List PlainType} {t u : PlainType} → SameTypes R ts us → SameType R t u → SameLinkedType R (a_function ts t) (a_function us u)
   same_an_object : {t u : PlainType} → SameType R t u → SameLinkedType R (an_object t) (an_object u)
-  same_a_part_function : {p q : PartType} → SameLinkedType R (a_part_function p) (a_part_function q)
+  same_a_part_function : {p q : PartType} → SamePart R p q → SameLinkedType R (a_part_function p) (a_part_function q)
   same_unknown_object : SameLinkedType R unknown_object unknown_object
 
 pub record SameLinked (R : Pairing) (l m : Linked) : Type 0 where
@@ -24,6 +34,7 @@ pub record SameLinked (R : Pairing) (l m : Linked) : Type 0 where
   pub name : l.name ≡ m.name
   pub type : SameLinkedType R l.type m.type
   pub internal : l.internal ≡ m.internal
+  pub defines : l.defines ≡ m.defines
   pub sensor : l.sensor ≡ m.sensor
 
 pub data SameLinkeds (R : Pairing) : List Linked → List Linked → Type 0 where

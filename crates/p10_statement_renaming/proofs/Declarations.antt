@@ -153,7 +153,7 @@ typedef_same R last h at to text None None k s t know = unknown_same R last h at
 typedef_same R last h at to text (Some a) (Some b) (same_of_type k) s t know = declaring_same R last h at to text (same_named_type k) s t know
 typedef_same R last h at to text (Some a) (Some b) (same_of_open_array k) s t know = unknown_same R last h at to text s t know
 typedef_same R last h at to text (Some a) (Some b) (same_of_function k) s t know = unknown_same R last h at to text s t know
-typedef_same R last h at to text (Some a) (Some b) same_of_part_function s t know = unknown_same R last h at to text s t know
+typedef_same R last h at to text (Some a) (Some b) (same_of_part_function k) s t know = unknown_same R last h at to text s t know
 typedef_same R last h at to text None (Some b) k s t know = absurd k
 typedef_same R last h at to text (Some a) None k s t know = absurd k
 
@@ -202,7 +202,7 @@ object_ends R one last h at to brackets others text a b (same_of_open_array {t =
     subst (λ n. Ends R last (SameType R) (filled_array h (named_at at text) brackets t (mapped_initializer left i) (elements_given t (mapped_initializer left i)) s) (filled_array h (named_at to text) others u (mapped_initializer right i) n v))
     (elements_same R k i) (filled_ends R one last h at to brackets others text t u k i (elements_given t (mapped_initializer left i)) s v know)
 object_ends R one last h at to brackets others text a b (same_of_function k) i s v know = ends_nothing R last (SameType R) s v know
-object_ends R one last h at to brackets others text a b same_of_part_function i s v know = ends_nothing R last (SameType R) s v know
+object_ends R one last h at to brackets others text a b (same_of_part_function k) i s v know = ends_nothing R last (SameType R) s v know
 
 declared_ends : (R : Pairing) → IsOneToOne R → (last : ℕ) (h : Keep) (at to brackets others : At) (text : Text) (o q : Option DeclaredType) → Both (SameDeclared R) o q → (i : Option (Initializer (At × At))) (s v : PlainStanding) → SameStanding R last s v
     → Ends R last (SameType R) (declared_object h (named_at at text) brackets o (option_map (mapped_initializer left) i) s) (declared_object h (named_at to text) others q (option_map (mapped_initializer right) i) v)

@@ -133,11 +133,11 @@ by_type : (R : Pairing) (last later : ℕ) (h : Keep) (heads others : Heads) →
 by_type R last later h heads others same s d one other at to text k j know None None none n = λ made. not_more k.functions made
 by_type R last later h heads others same s d one other at to text k j know (Some x) (Some y) none (same_of_type n) = λ made. not_more k.functions made
 by_type R last later h heads others same s d one other at to text k j know (Some x) (Some y) none (same_of_open_array n) = λ made. not_more k.functions made
-by_type R last later h heads others same s d one other at to text k j know (Some x) (Some y) none same_of_part_function = λ made. not_more k.functions made
+by_type R last later h heads others same s d one other at to text k j know (Some x) (Some y) none (same_of_part_function p) = λ made. not_more k.functions made
 by_type R last later h heads others same s d one other at to text k j know (Some x) (Some y) none (same_of_function {f = f} {g = g} n) = λ made other_made built other_built skip.
     let l : Linked = linked_of k (named_at at text) (function_type f) s true false in
     let m : Linked = linked_of j (named_at to text) (function_type g) s true false in
-    let linked : SameLinked R l m = linked_same R last at to text s true true false (function_type_same R n) k j know in
+    let linked : SameLinked R l m = linked_same R last at to text s true true false refl (function_type_same R n) k j know in
     let a : Known = with_linked h heads l k in
     let b : Known = with_linked h others m j in
     bodies_skipped R last later (length k.standing.scope.structures) h heads others l m linked f g none (no_tags R n.tags none) one other a b

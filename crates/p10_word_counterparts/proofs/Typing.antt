@@ -14,6 +14,7 @@ use Rattle.p10_elab.specs.Programs.{elaborated, program}
 use Rattle.p10_front.specs.Readings.{PlainReading, refused_reading, untyped_reading, typed_reading, Elaborates, untyped, oversized, typed, Parses, unexpanded, nested_over, unspelled, spelled, Reads, expanded_over, expanded, AreReadAs}
 use Rattle.p10_front.specs.Digests.{trees_in}
 use Rattle.p10_front.proofs.Parsing.{same_reading, no_limit, reads_expand}
+use Rattle.p10_spelling_laws.proofs.Lexed.{expanded_are_sound}
 use Rattle.p10_spelling_laws.proofs.Telling.{same_words_same_trees}
 use Rattle.p10_word_counterparts.specs.Laws.{ReadingsAreTyped, ReadingsHaveCounterparts}
 
@@ -57,6 +58,9 @@ readings_are_typed g r p reads =
     record { expands = reads_expand g r reads.reads; spells = t.spells; is = t.is }
 
 pub readings_have_counterparts : ReadingsHaveCounterparts
-readings_have_counterparts g h r s p q reads other a b same =
-    same_words_same_trees r.expansion.roots s.expansion.roots (trees_in r.units) (trees_in s.units)
-    (readings_are_typed g r p reads).spells (readings_are_typed h s q other).spells a.sound b.sound a.few b.few same
+readings_have_counterparts g h r s p q reads other same =
+    let t = readings_are_typed g r p reads in
+    let u = readings_are_typed h s q other in
+    let a = expanded_are_sound g r.expansion t.expands in
+    let b = expanded_are_sound h s.expansion u.expands in
+    same_words_same_trees r.expansion.roots s.expansion.roots (trees_in r.units) (trees_in s.units) t.spells u.spells a.0 b.0 a.1 b.1 same
