@@ -18,3 +18,5 @@ pub mod StatementLaw
 pub mod Entering
 pub mod Running
 pub mod TaskRunning
+pub mod ConstantRunning
+pub mod Following

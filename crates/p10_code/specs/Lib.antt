@@ -6,5 +6,6 @@ pub mod ValueCode
 pub mod StatementCode
 pub mod ProgramCode
 pub mod TaskCode
+pub mod ConstantCode
 pub mod Law
 pub mod Examples

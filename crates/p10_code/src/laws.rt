@@ -1,7 +1,8 @@
 //! What holds of the code. Nothing runs here: each function stands for the laws that its contract states.
 
 ghost use Rattle.p10_code.specs.Examples.{CodeAgrees};
-ghost use Rattle.p10_code.specs.Law.{CodeIsExact};
+ghost use Rattle.p10_code.specs.ConstantCode.{ConstantIsExact};
+ghost use Rattle.p10_code.specs.Law.{CodeIsExact, RunsFollow};
 ghost use Rattle.p10_code.specs.TaskCode.{FirstPartIsExact, TurnIsExact};
 
 /// The code of small programs does what they mean, with enough steps and with too few.
@@ -19,4 +20,14 @@ pub fn code_is_exact()
 pub fn task_code_is_exact()
     ensures first { FirstPartIsExact }
     ensures turn { TurnIsExact }
+{}
+
+/// The code of a constant expression outside functions gives what the expression means, with each budget.
+pub fn constant_code_is_exact()
+    ensures { ConstantIsExact }
+{}
+
+/// What a run comes to comes after the state in which it begins: no output is taken back, and no step is given back.
+pub fn runs_follow()
+    ensures { RunsFollow }
 {}

@@ -1,7 +1,8 @@
 //! The compiler of a program to the operations of the machine.
 //!
-//! Entry points: [`compile`], the code of a program and the table of its functions, and [`compile_task`], the same of a program with
-//! a task loop. Operations lie in memory as [`Op`]s; `specs/Views.antt` says what each is in terms of `p10_code` (`plain_op`).
+//! Entry points: [`compile`], the code of a program and the table of its functions, [`compile_task`], the same of a program with a
+//! task loop, and [`compile_constant`], the code of a constant expression outside functions. Operations lie in memory as [`Op`]s;
+//! `specs/Views.antt` says what each is in terms of `p10_code` (`plain_op`).
 //! Invariant: each function here is equal to the one of `p10_code` of the same name, whatever the tree, so the code is that of the
 //! definitions, and what is proved of these holds of it. There is an error only where memory runs out, or a number that memory
 //! bounds is too large for its type; nothing else is left then.
@@ -28,6 +29,7 @@ mod functions;
 mod heights;
 mod needs;
 mod operations;
+mod outside;
 mod place_parts;
 mod programs;
 mod site;
@@ -42,5 +44,6 @@ mod values;
 mod widths;
 
 pub use operations::{Action, Class, Computation, Entry, Op, Operand};
+pub use outside::{ConstantCode, compile_constant};
 pub use programs::{Code, compile};
-pub use tasks::{TaskLoop, compile_task};
+pub use tasks::{TaskCode, TaskLoop, compile_task};

@@ -5,9 +5,9 @@ ghost use Rattle.std.specs.Option.{option_map};
 ghost use Rattle.p10_core.specs.Views.{plain_program, plain_function, plain_value, plain_statement, plain_statements};
 ghost use Rattle.p10_code.specs.Operations.{call, rest};
 ghost use Rattle.p10_code.specs.ValueCode.{op};
-ghost use Rattle.p10_code.specs.ProgramCode.{no_span};
+ghost use Rattle.p10_code.specs.ProgramCode.{no_span, code_of};
 ghost use Rattle.p10_code.specs.StatementCode.{statement_code};
-ghost use Rattle.p10_code.specs.TaskCode.{over_op, first_items, first_code, task_test_code, task_exits, turn_code, task_entry, task_code, whole_code, whole_entries};
+ghost use Rattle.p10_code.specs.TaskCode.{over_op, first_items, first_code, task_test_code, task_exits, turn_code, task_entry, task_code, whole_code, whole_entries, turn_place};
 ghost use Rattle.p10_compile.specs.Views.{plain_op, plain_entry, plain_exits, plain_site, plain_task};
 
 use crate::code::{branched, ended, joined, led, none, op, operation_count, past, past_branch};
@@ -31,23 +31,44 @@ pub struct TaskLoop<'p, 's> {
     pub body: &'p Stmt,
 }
 
+/// The code of a program with a task loop, and where `main` up to the loop and a turn begin.
+#[derive(Drop)]
+pub struct TaskCode<'p> {
+    pub code: Code<'p>,
+    pub first: usize,
+    pub turn: usize,
+}
+
+/// The code of a task loop, and where a turn begins.
+#[derive(Drop)]
+struct LoopCode<'p> {
+    ops: Vec<Op<'p>>,
+    turn: usize,
+}
+
 /// Compiles a program with a task loop: after its functions stand the part of `main` before the loop, and one turn. It fails only
 /// where memory runs out.
 pub fn compile_task<'p, 's>(
     alloc: Global,
     program: &'p Program<'s>,
     task: TaskLoop<'p, 's>,
-) -> Result<Code<'p>, AllocError>
-    ensures ops { IfOk result (λ code. map plain_op code.ops.items ≡ whole_code (plain_program program.now) (plain_function task.entry.function.now) task.entry.place (plain_task task.entry)) }
-    ensures entries { IfOk result (λ code. map plain_entry code.entries.items ≡ whole_entries (plain_program program.now) (plain_function task.entry.function.now) task.entry.place (plain_task task.entry)) }
+) -> Result<TaskCode<'p>, AllocError>
+    ensures ops { IfOk result (λ t. map plain_op t.code.ops.items ≡ whole_code (plain_program program.now) (plain_function task.entry.function.now) task.entry.place (plain_task task.entry)) }
+    ensures entries { IfOk result (λ t. map plain_entry t.code.entries.items ≡ whole_entries (plain_program program.now) (plain_function task.entry.function.now) task.entry.place (plain_task task.entry)) }
+    ensures first { IfOk result (λ t. t.first ≡ length (code_of (plain_program program.now))) }
+    ensures turn { IfOk result (λ t. t.turn ≡ turn_place (plain_program program.now) (plain_function task.entry.function.now) task.entry.place) }
 {
     let Code { ops, mut entries } = compile(alloc, program)?;
     let at = operation_count(ops.as_slice());
     entries.push(task_entry(task, place_after(at, 2)?)?)?;
-    let more = task_code(alloc, program, task, at)?;
-    Ok(Code {
-        ops: joined(ops, more)?,
-        entries,
+    let LoopCode { ops: more, turn } = task_code(alloc, program, task, at)?;
+    Ok(TaskCode {
+        code: Code {
+            ops: joined(ops, more)?,
+            entries,
+        },
+        first: at,
+        turn,
     })
 }
 
@@ -181,15 +202,19 @@ fn task_code<'p, 's>(
     program: &'p Program<'s>,
     task: TaskLoop<'p, 's>,
     at: usize,
-) -> Result<Vec<Op<'p>>, AllocError>
-    ensures { IfOk result (λ code. map plain_op code.items ≡ task_code (plain_program program.now) (plain_function task.entry.function.now) task.entry.place (plain_task task.entry) at) }
+) -> Result<LoopCode<'p>, AllocError>
+    ensures ops { IfOk result (λ l. map plain_op l.ops.items ≡ task_code (plain_program program.now) (plain_function task.entry.function.now) task.entry.place (plain_task task.entry) at) }
+    ensures turn { IfOk result (λ l. l.turn ≡ at + 2 + length (first_code (plain_program program.now) (plain_function task.entry.function.now) task.entry.place (at + 2)) + 2) }
 {
     let begins = place_after(at, 2)?;
     let first = first_code(alloc, program, task.function, task.place, begins)?;
     let next = past(begins, first.as_slice())?;
     let rest = joined(first, turn_code(alloc, program, task, next)?)?;
     let over = op(0, no_span(), Action::Return(0, Some(Operand::Slot(0))));
-    led(alloc, main_call(program)?, led(alloc, over, rest)?)
+    Ok(LoopCode {
+        ops: led(alloc, main_call(program)?, led(alloc, over, rest)?)?,
+        turn: place_after(next, 2)?,
+    })
 }
 
 /// The call of `main` by the entry after those of the functions.

@@ -1,0 +1,10 @@
+-- The cells of the elements so far were put.
+use Rattle.std.proofs.Common.{◌≡◌}
+use Rattle.p10_core.specs.Types.{plain_type, bare}
+use Rattle.p10_core.specs.Sizes.{repeated, scalars_of}
+use Rattle.p10_core.specs.Views.{plain_types}
+use Rattle.p10_meaning.specs.Scalars.{zero_cells}
+use Rattle.p10_machine.proofs.allocating.put_zeros.Given as goal
+
+abbrev pub invariant-loop-i : goal.invariant-loop-i
+invariant-loop-i l = l.cells.items ≡ zero_cells (repeated l.i (scalars_of (plain_types l.types) (bare (plain_types l.types) (plain_type l.t))))
