@@ -1,5 +1,5 @@
 -- Structures with the numbers of those that stand for them, as the code has them.
-use Rattle.std.proofs.Common.{◌≡◌, ℕ, zero, suc, ◌+◌, ◌<◌, nat_eq, Bool, true, false, ◌&&◌, if◌then◌else◌, List, [], ◌∷◌, map, length, Option, Some, None, option_map, slice_get, slice_index_or, slice_set, ◌-◌, is_some, bytes_eq, refl, sym, ◌∙◌, ap, arith, inl, inr}
+use Rattle.std.proofs.Common.{◌≡◌, ℕ, zero, suc, ◌+◌, ◌<◌, nat_eq, Bool, true, false, ◌&&◌, if◌then◌else◌, List, [], ◌∷◌, map, length, Option, Some, None, option_map, slice_get, ◌-◌, is_some, bytes_eq, refl, sym, ◌∙◌, ap, arith, inl, inr}
 use Rattle.std.proofs.lemmas.Bool.Decides.{eqb_tells}
 use Rattle.std.specs.Bool.{beq}
 use Rattle.std.specs.Option.{unwrap_or}
@@ -110,35 +110,6 @@ pub swapped_represented : (ss : List PlainStructure) (numbers : List ℕ) (old n
 swapped_represented [] numbers old new h = refl
 swapped_represented (s ∷ ss) [] old new h = absurd (omega (arith, h))
 swapped_represented (s ∷ ss) (m ∷ numbers) old new h = ap (λ rest. record s { representative = swapped old new m } ∷ rest) (swapped_represented ss numbers old new (omega (arith, h)))
-
--- ## Numbers that are swapped one after the other
-
--- the numbers, of which the first ones are swapped
-abbrev pub first_swapped : ℕ → ℕ → ℕ → List ℕ → List ℕ
-first_swapped old new zero numbers = numbers
-first_swapped old new (suc k) [] = []
-first_swapped old new (suc k) (m ∷ numbers) = swapped old new m ∷ first_swapped old new k numbers
-
-pub one_more_swapped : (old new k d : ℕ) (numbers : List ℕ) → k < length numbers →
-    slice_set (first_swapped old new k numbers) k (swapped old new (slice_index_or (first_swapped old new k numbers) k d)) ≡ first_swapped old new (k + 1) numbers
-one_more_swapped old new k d numbers h = sets k numbers h ∙ ap (λ n. first_swapped old new n numbers) (after k)
-  where
-    after : (k : ℕ) → suc k ≡ k + 1
-    after k = omega arith
-
-    sets : (k : ℕ) (numbers : List ℕ) → k < length numbers → slice_set (first_swapped old new k numbers) k (swapped old new (slice_index_or (first_swapped old new k numbers) k d)) ≡ first_swapped old new (suc k) numbers
-    sets k [] h = absurd (omega (arith, h))
-    sets zero (m ∷ numbers) h = refl
-    sets (suc k) (m ∷ numbers) h = ap (λ rest. swapped old new m ∷ rest) (sets k numbers (omega (arith, h)))
-
-pub all_swapped : (old new : ℕ) (numbers : List ℕ) → first_swapped old new (length numbers) numbers ≡ map (swapped old new) numbers
-all_swapped old new [] = refl
-all_swapped old new (m ∷ numbers) = ap (λ rest. swapped old new m ∷ rest) (all_swapped old new numbers)
-
-pub long_swapped : (old new k : ℕ) (numbers : List ℕ) → length (first_swapped old new k numbers) ≡ length numbers
-long_swapped old new zero numbers = refl
-long_swapped old new (suc k) [] = refl
-long_swapped old new (suc k) (m ∷ numbers) = ap suc (long_swapped old new k numbers)
 
 -- ## What the code finds
 

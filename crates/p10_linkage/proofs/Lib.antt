@@ -15,3 +15,4 @@ mod EachFound
 mod Sameness
 mod Covering
 mod SharedNames
+mod Reaching

@@ -5,3 +5,4 @@ pub mod Covering
 pub mod Grouping
 pub mod Lookups
 pub mod Meetings
+pub mod Reaching

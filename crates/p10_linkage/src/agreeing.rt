@@ -17,6 +17,7 @@ use crate::compatible::are_compatible;
 use crate::linkage::is_function;
 use crate::linked::{LinkedKind, LinkedName};
 use crate::listing::{count_of, is_none_listed, known_result, lists_agree, parameter_at};
+use crate::stands::Stands;
 use crate::uniting::unite_types;
 use p10_core::{CType, Types};
 use std::alloc::{AllocError, Global};
@@ -26,20 +27,20 @@ use std::alloc::{AllocError, Global};
 pub fn agree(
     alloc: Global,
     types: &Types<'_>,
-    stands: &mut Vec<u32>,
+    stands: &mut Stands,
     linked: &[LinkedName<'_>],
     before: &[usize],
     now: &LinkedName<'_>,
 ) -> Result<bool, AllocError>
-    requires as_many { length stands.old.items ≡ length (plain_types types.now) }
-    ensures agreed { IfOk result (λ agrees. given agrees (represented (plain_types types.now) stands.new.items) ≡ agreed (rows_at before.now (map linked_of_name linked.now)) (linked_of_name now.now) (represented (plain_types types.now) stands.old.items)) }
-    ensures kept { IfOk result (λ agrees. agrees ≡ false → stands.new.items ≡ stands.old.items) }
-    ensures as_many { length stands.new.items ≡ length stands.old.items }
+    requires as_many { length stands.old.numbers.items ≡ length (plain_types types.now) }
+    ensures agreed { IfOk result (λ agrees. given agrees (represented (plain_types types.now) stands.new.numbers.items) ≡ agreed (rows_at before.now (map linked_of_name linked.now)) (linked_of_name now.now) (represented (plain_types types.now) stands.old.numbers.items)) }
+    ensures kept { IfOk result (λ agrees. agrees ≡ false → stands.new.numbers.items ≡ stands.old.numbers.items) }
+    ensures as_many { length stands.new.numbers.items ≡ length stands.old.numbers.items }
 {
     if before.is_empty() {
         return Ok(true);
     }
-    let mut joined = copied(stands)?;
+    let mut joined = stands.copied()?;
     if unite_with_all(types, &mut joined, linked, before, now) {
         *stands = joined;
         return Ok(true);
@@ -51,17 +52,17 @@ pub fn agree(
 fn agree_or_not(
     alloc: Global,
     types: &Types<'_>,
-    stands: &mut Vec<u32>,
+    stands: &mut Stands,
     linked: &[LinkedName<'_>],
     before: &[usize],
     now: &LinkedName<'_>,
 ) -> Result<bool, AllocError>
-    requires as_many { length stands.old.items ≡ length (plain_types types.now) }
-    ensures agreed { IfOk result (λ agrees. given agrees (represented (plain_types types.now) stands.new.items) ≡ agreed (rows_at before.now (map linked_of_name linked.now)) (linked_of_name now.now) (represented (plain_types types.now) stands.old.items)) }
-    ensures kept { IfOk result (λ agrees. agrees ≡ false → stands.new.items ≡ stands.old.items) }
-    ensures as_many { length stands.new.items ≡ length stands.old.items }
+    requires as_many { length stands.old.numbers.items ≡ length (plain_types types.now) }
+    ensures agreed { IfOk result (λ agrees. given agrees (represented (plain_types types.now) stands.new.numbers.items) ≡ agreed (rows_at before.now (map linked_of_name linked.now)) (linked_of_name now.now) (represented (plain_types types.now) stands.old.numbers.items)) }
+    ensures kept { IfOk result (λ agrees. agrees ≡ false → stands.new.numbers.items ≡ stands.old.numbers.items) }
+    ensures as_many { length stands.new.numbers.items ≡ length stands.old.numbers.items }
 {
-    let mut joined = stands.clone()?;
+    let mut joined = stands.copied()?;
     let agrees = agree_with_all(alloc, types, &mut joined, linked, before, now)?;
     if agrees {
         *stands = joined;
@@ -71,16 +72,16 @@ fn agree_or_not(
 
 /// Makes a declaration one with those at places; where that can't be, what stands for structures then is of no use. Nothing is copied,
 /// as it is for types that may still be compatible.
-fn unite_with_all(
+pub(crate) fn unite_with_all(
     types: &Types<'_>,
-    stands: &mut Vec<u32>,
+    stands: &mut Stands,
     linked: &[LinkedName<'_>],
     before: &[usize],
     now: &LinkedName<'_>,
 ) -> bool
-    requires as_many { length stands.old.items ≡ length (plain_types types.now) }
-    ensures agreed { result ≡ true → agreed (rows_at before.now (map linked_of_name linked.now)) (linked_of_name now.now) (represented (plain_types types.now) stands.old.items) ≡ Some (represented (plain_types types.now) stands.new.items) }
-    ensures as_many { length stands.new.items ≡ length stands.old.items }
+    requires as_many { length stands.old.numbers.items ≡ length (plain_types types.now) }
+    ensures agreed { result ≡ true → agreed (rows_at before.now (map linked_of_name linked.now)) (linked_of_name now.now) (represented (plain_types types.now) stands.old.numbers.items) ≡ Some (represented (plain_types types.now) stands.new.numbers.items) }
+    ensures as_many { length stands.new.numbers.items ≡ length stands.old.numbers.items }
 {
     for place in before {
         if !unite_with_row(types, stands, row_at(linked, *place), now) {
@@ -93,13 +94,13 @@ fn unite_with_all(
 /// Makes a declaration one with another one, if there is one.
 fn unite_with_row(
     types: &Types<'_>,
-    stands: &mut Vec<u32>,
+    stands: &mut Stands,
     before: Option<&LinkedName<'_>>,
     now: &LinkedName<'_>,
 ) -> bool
-    requires as_many { length stands.old.items ≡ length (plain_types types.now) }
-    ensures agreed { result ≡ true → agreed_row (option_map linked_of_name (option_copied before.entry)) (linked_of_name now.now) (represented (plain_types types.now) stands.old.items) ≡ Some (represented (plain_types types.now) stands.new.items) }
-    ensures as_many { length stands.new.items ≡ length stands.old.items }
+    requires as_many { length stands.old.numbers.items ≡ length (plain_types types.now) }
+    ensures agreed { result ≡ true → agreed_row (option_map linked_of_name (option_copied before.entry)) (linked_of_name now.now) (represented (plain_types types.now) stands.old.numbers.items) ≡ Some (represented (plain_types types.now) stands.new.numbers.items) }
+    ensures as_many { length stands.new.numbers.items ≡ length stands.old.numbers.items }
 {
     match before {
         Some(before) => unite_with(types, stands, before, now),
@@ -110,13 +111,13 @@ fn unite_with_row(
 /// Makes a declaration one with another one.
 fn unite_with(
     types: &Types<'_>,
-    stands: &mut Vec<u32>,
+    stands: &mut Stands,
     before: &LinkedName<'_>,
     now: &LinkedName<'_>,
 ) -> bool
-    requires as_many { length stands.old.items ≡ length (plain_types types.now) }
-    ensures agreed { result ≡ true → agreed_with (linked_of_name before.now) (linked_of_name now.now) (represented (plain_types types.now) stands.old.items) ≡ Some (represented (plain_types types.now) stands.new.items) }
-    ensures as_many { length stands.new.items ≡ length stands.old.items }
+    requires as_many { length stands.old.numbers.items ≡ length (plain_types types.now) }
+    ensures agreed { result ≡ true → agreed_with (linked_of_name before.now) (linked_of_name now.now) (represented (plain_types types.now) stands.old.numbers.items) ≡ Some (represented (plain_types types.now) stands.new.numbers.items) }
+    ensures as_many { length stands.new.numbers.items ≡ length stands.old.numbers.items }
 {
     if !is_other(before, now) {
         return true;
@@ -139,14 +140,14 @@ fn are_marked_alike(before: &LinkedName<'_>, now: &LinkedName<'_>) -> bool
 fn agree_with_all(
     alloc: Global,
     types: &Types<'_>,
-    stands: &mut Vec<u32>,
+    stands: &mut Stands,
     linked: &[LinkedName<'_>],
     before: &[usize],
     now: &LinkedName<'_>,
 ) -> Result<bool, AllocError>
-    requires as_many { length stands.old.items ≡ length (plain_types types.now) }
-    ensures agreed { IfOk result (λ agrees. given agrees (represented (plain_types types.now) stands.new.items) ≡ agreed (rows_at before.now (map linked_of_name linked.now)) (linked_of_name now.now) (represented (plain_types types.now) stands.old.items)) }
-    ensures as_many { length stands.new.items ≡ length stands.old.items }
+    requires as_many { length stands.old.numbers.items ≡ length (plain_types types.now) }
+    ensures agreed { IfOk result (λ agrees. given agrees (represented (plain_types types.now) stands.new.numbers.items) ≡ agreed (rows_at before.now (map linked_of_name linked.now)) (linked_of_name now.now) (represented (plain_types types.now) stands.old.numbers.items)) }
+    ensures as_many { length stands.new.numbers.items ≡ length stands.old.numbers.items }
 {
     for place in before {
         let agrees = agree_with_row(alloc, types, stands, row_at(linked, *place), now)?;
@@ -171,13 +172,13 @@ pub(crate) fn row_at<'a, 's>(
 fn agree_with_row(
     alloc: Global,
     types: &Types<'_>,
-    stands: &mut Vec<u32>,
+    stands: &mut Stands,
     before: Option<&LinkedName<'_>>,
     now: &LinkedName<'_>,
 ) -> Result<bool, AllocError>
-    requires as_many { length stands.old.items ≡ length (plain_types types.now) }
-    ensures agreed { IfOk result (λ agrees. given agrees (represented (plain_types types.now) stands.new.items) ≡ agreed_row (option_map linked_of_name (option_copied before.entry)) (linked_of_name now.now) (represented (plain_types types.now) stands.old.items)) }
-    ensures as_many { length stands.new.items ≡ length stands.old.items }
+    requires as_many { length stands.old.numbers.items ≡ length (plain_types types.now) }
+    ensures agreed { IfOk result (λ agrees. given agrees (represented (plain_types types.now) stands.new.numbers.items) ≡ agreed_row (option_map linked_of_name (option_copied before.entry)) (linked_of_name now.now) (represented (plain_types types.now) stands.old.numbers.items)) }
+    ensures as_many { length stands.new.numbers.items ≡ length stands.old.numbers.items }
 {
     match before {
         Some(before) => agree_with(alloc, types, stands, before, now),
@@ -189,13 +190,13 @@ fn agree_with_row(
 fn agree_with(
     alloc: Global,
     types: &Types<'_>,
-    stands: &mut Vec<u32>,
+    stands: &mut Stands,
     before: &LinkedName<'_>,
     now: &LinkedName<'_>,
 ) -> Result<bool, AllocError>
-    requires as_many { length stands.old.items ≡ length (plain_types types.now) }
-    ensures agreed { IfOk result (λ agrees. given agrees (represented (plain_types types.now) stands.new.items) ≡ agreed_with (linked_of_name before.now) (linked_of_name now.now) (represented (plain_types types.now) stands.old.items)) }
-    ensures as_many { length stands.new.items ≡ length stands.old.items }
+    requires as_many { length stands.old.numbers.items ≡ length (plain_types types.now) }
+    ensures agreed { IfOk result (λ agrees. given agrees (represented (plain_types types.now) stands.new.numbers.items) ≡ agreed_with (linked_of_name before.now) (linked_of_name now.now) (represented (plain_types types.now) stands.old.numbers.items)) }
+    ensures as_many { length stands.new.numbers.items ≡ length stands.old.numbers.items }
 {
     if !is_other(before, now) {
         return Ok(true);
@@ -210,28 +211,21 @@ fn agree_with(
 fn unite_or_compare(
     alloc: Global,
     types: &Types<'_>,
-    stands: &mut Vec<u32>,
+    stands: &mut Stands,
     before: &LinkedName<'_>,
     now: &LinkedName<'_>,
 ) -> Result<bool, AllocError>
-    requires as_many { length stands.old.items ≡ length (plain_types types.now) }
-    ensures agreed { IfOk result (λ agrees. given agrees (represented (plain_types types.now) stands.new.items) ≡ unless_compatible (linked_of_name before.now) (linked_of_name now.now) (represented (plain_types types.now) stands.old.items) (linked_united (linked_of_name before.now) (linked_of_name now.now) (represented (plain_types types.now) stands.old.items))) }
-    ensures as_many { length stands.new.items ≡ length stands.old.items }
+    requires as_many { length stands.old.numbers.items ≡ length (plain_types types.now) }
+    ensures agreed { IfOk result (λ agrees. given agrees (represented (plain_types types.now) stands.new.numbers.items) ≡ unless_compatible (linked_of_name before.now) (linked_of_name now.now) (represented (plain_types types.now) stands.old.numbers.items) (linked_united (linked_of_name before.now) (linked_of_name now.now) (represented (plain_types types.now) stands.old.numbers.items))) }
+    ensures as_many { length stands.new.numbers.items ≡ length stands.old.numbers.items }
 {
-    let mut joined = copied(stands)?;
+    let mut joined = stands.copied()?;
     if unite_linked(types, &mut joined, before, now) {
         *stands = joined;
         return Ok(true);
     }
     let alike = are_compatible(alloc, types, before, now)?;
     Ok(alike)
-}
-
-/// What stands for structures, once more.
-fn copied(stands: &Vec<u32>) -> Result<Vec<u32>, AllocError>
-    ensures { IfOk result (λ copy. copy.items ≡ stands.now.items) }
-{
-    stands.clone()
 }
 
 /// Whether a declaration of another root names the same function or object.
@@ -244,13 +238,13 @@ fn is_other(before: &LinkedName<'_>, now: &LinkedName<'_>) -> bool
 /// What two declarations declare, as one.
 fn unite_linked(
     types: &Types<'_>,
-    stands: &mut Vec<u32>,
+    stands: &mut Stands,
     before: &LinkedName<'_>,
     now: &LinkedName<'_>,
 ) -> bool
-    requires as_many { length stands.old.items ≡ length (plain_types types.now) }
-    ensures united { given result (represented (plain_types types.now) stands.new.items) ≡ linked_united (linked_of_name before.now) (linked_of_name now.now) (represented (plain_types types.now) stands.old.items) }
-    ensures as_many { length stands.new.items ≡ length stands.old.items }
+    requires as_many { length stands.old.numbers.items ≡ length (plain_types types.now) }
+    ensures united { given result (represented (plain_types types.now) stands.new.numbers.items) ≡ linked_united (linked_of_name before.now) (linked_of_name now.now) (represented (plain_types types.now) stands.old.numbers.items) }
+    ensures as_many { length stands.new.numbers.items ≡ length stands.old.numbers.items }
 {
     let functions = is_function(&before.kind) && is_function(&now.kind);
     if functions {
@@ -263,13 +257,13 @@ fn unite_linked(
 /// Two declarations as one, of which one is of no function.
 fn unite_objects(
     types: &Types<'_>,
-    stands: &mut Vec<u32>,
+    stands: &mut Stands,
     one: &LinkedKind,
     other: &LinkedKind,
 ) -> bool
-    requires as_many { length stands.old.items ≡ length (plain_types types.now) }
-    ensures united { given result (represented (plain_types types.now) stands.new.items) ≡ objects_united (plain_kind one.now) (plain_kind other.now) (represented (plain_types types.now) stands.old.items) }
-    ensures as_many { length stands.new.items ≡ length stands.old.items }
+    requires as_many { length stands.old.numbers.items ≡ length (plain_types types.now) }
+    ensures united { given result (represented (plain_types types.now) stands.new.numbers.items) ≡ objects_united (plain_kind one.now) (plain_kind other.now) (represented (plain_types types.now) stands.old.numbers.items) }
+    ensures as_many { length stands.new.numbers.items ≡ length stands.old.numbers.items }
 {
     match (one, other) {
         (LinkedKind::Object(t), LinkedKind::Object(u)) => unite(types, stands, t, u),
@@ -280,13 +274,13 @@ fn unite_objects(
 /// Two declarations of a function as one.
 fn unite_functions(
     types: &Types<'_>,
-    stands: &mut Vec<u32>,
+    stands: &mut Stands,
     before: &LinkedName<'_>,
     now: &LinkedName<'_>,
 ) -> bool
-    requires as_many { length stands.old.items ≡ length (plain_types types.now) }
-    ensures united { given result (represented (plain_types types.now) stands.new.items) ≡ functions_united (linked_of_name before.now) (linked_of_name now.now) (represented (plain_types types.now) stands.old.items) }
-    ensures as_many { length stands.new.items ≡ length stands.old.items }
+    requires as_many { length stands.old.numbers.items ≡ length (plain_types types.now) }
+    ensures united { given result (represented (plain_types types.now) stands.new.numbers.items) ≡ functions_united (linked_of_name before.now) (linked_of_name now.now) (represented (plain_types types.now) stands.old.numbers.items) }
+    ensures as_many { length stands.new.numbers.items ≡ length stands.old.numbers.items }
 {
     let one = &before.kind;
     let other = &now.kind;
@@ -298,13 +292,13 @@ fn unite_functions(
 /// The parameters of two declarations of a function as one, unless one has `()`.
 fn unite_listed(
     types: &Types<'_>,
-    stands: &mut Vec<u32>,
+    stands: &mut Stands,
     one: &LinkedKind,
     other: &LinkedKind,
 ) -> bool
-    requires as_many { length stands.old.items ≡ length (plain_types types.now) }
-    ensures united { given result (represented (plain_types types.now) stands.new.items) ≡ listed_united (plain_kind one.now) (plain_kind other.now) (represented (plain_types types.now) stands.old.items) }
-    ensures as_many { length stands.new.items ≡ length stands.old.items }
+    requires as_many { length stands.old.numbers.items ≡ length (plain_types types.now) }
+    ensures united { given result (represented (plain_types types.now) stands.new.numbers.items) ≡ listed_united (plain_kind one.now) (plain_kind other.now) (represented (plain_types types.now) stands.old.numbers.items) }
+    ensures as_many { length stands.new.numbers.items ≡ length stands.old.numbers.items }
 {
     if is_none_listed(one, other) {
         return true;
@@ -315,13 +309,13 @@ fn unite_listed(
 /// Types of parameters as one, in order.
 fn unite_parameters(
     types: &Types<'_>,
-    stands: &mut Vec<u32>,
+    stands: &mut Stands,
     one: &LinkedKind,
     other: &LinkedKind,
 ) -> bool
-    requires as_many { length stands.old.items ≡ length (plain_types types.now) }
-    ensures united { given result (represented (plain_types types.now) stands.new.items) ≡ parameters_united (parameters_of (plain_kind one.now)) (parameters_of (plain_kind other.now)) (represented (plain_types types.now) stands.old.items) }
-    ensures as_many { length stands.new.items ≡ length stands.old.items }
+    requires as_many { length stands.old.numbers.items ≡ length (plain_types types.now) }
+    ensures united { given result (represented (plain_types types.now) stands.new.numbers.items) ≡ parameters_united (parameters_of (plain_kind one.now)) (parameters_of (plain_kind other.now)) (represented (plain_types types.now) stands.old.numbers.items) }
+    ensures as_many { length stands.new.numbers.items ≡ length stands.old.numbers.items }
 {
     let count = count_of(one);
     if count != count_of(other) {
@@ -340,13 +334,13 @@ fn unite_parameters(
 /// Two types as one, as far as both are known.
 fn unite_known(
     types: &Types<'_>,
-    stands: &mut Vec<u32>,
+    stands: &mut Stands,
     one: Option<&CType>,
     other: Option<&CType>,
 ) -> bool
-    requires as_many { length stands.old.items ≡ length (plain_types types.now) }
-    ensures united { given result (represented (plain_types types.now) stands.new.items) ≡ known_united (option_map plain_type (option_copied one.entry)) (option_map plain_type (option_copied other.entry)) (represented (plain_types types.now) stands.old.items) }
-    ensures as_many { length stands.new.items ≡ length stands.old.items }
+    requires as_many { length stands.old.numbers.items ≡ length (plain_types types.now) }
+    ensures united { given result (represented (plain_types types.now) stands.new.numbers.items) ≡ known_united (option_map plain_type (option_copied one.entry)) (option_map plain_type (option_copied other.entry)) (represented (plain_types types.now) stands.old.numbers.items) }
+    ensures as_many { length stands.new.numbers.items ≡ length stands.old.numbers.items }
 {
     match (one, other) {
         (Some(t), Some(u)) => unite(types, stands, t, u),
@@ -355,11 +349,11 @@ fn unite_known(
 }
 
 /// Two types as one.
-fn unite(types: &Types<'_>, stands: &mut Vec<u32>, t: &CType, u: &CType) -> bool
-    requires as_many { length stands.old.items ≡ length (plain_types types.now) }
-    ensures united { given result (represented (plain_types types.now) stands.new.items) ≡ united (plain_type t.now) (plain_type u.now) (represented (plain_types types.now) stands.old.items) }
-    ensures as_many { length stands.new.items ≡ length stands.old.items }
+fn unite(types: &Types<'_>, stands: &mut Stands, t: &CType, u: &CType) -> bool
+    requires as_many { length stands.old.numbers.items ≡ length (plain_types types.now) }
+    ensures united { given result (represented (plain_types types.now) stands.new.numbers.items) ≡ united (plain_type t.now) (plain_type u.now) (represented (plain_types types.now) stands.old.numbers.items) }
+    ensures as_many { length stands.new.numbers.items ≡ length stands.old.numbers.items }
 {
-    let pairs = stands.len();
+    let pairs = stands.numbers.len();
     unite_types(types, stands, pairs, t, u)
 }

@@ -1,10 +1,11 @@
 //! Declarations with those of roots before them, and definitions with those of other roots, one after the other (C99 6.2.7, 6.9p5).
 
-ghost use Rattle.std.specs.Prelude.{◌≡◌, ◌||◌, ◌&&◌, ◌∷◌, [], map, length, if◌then◌else◌, IfOk, option_map, option_copied, slice_get};
+ghost use Rattle.std.specs.Prelude.{◌≡◌, ◌||◌, ◌&&◌, List, ◌∷◌, [], true, map, length, if◌then◌else◌, IfOk, option_map, option_copied, slice_get};
 ghost use Rattle.p10_base.specs.declared.codes.SubsetCode.TheVariants.{DefinedTwice};
 ghost use Rattle.p10_core.specs.Completing.{AreBuilt};
 ghost use Rattle.p10_core.specs.Representing.{represented};
 ghost use Rattle.p10_core.specs.Views.{plain_types};
+ghost use Rattle.p10_elabx.specs.declared.problem.Problem.{Problem};
 ghost use Rattle.p10_elabx.specs.First.{only_first, joined, problems};
 ghost use Rattle.p10_elabd.specs.Standing.{PlainStanding};
 ghost use Rattle.p10_heads.specs.HeadViews.{plain_head};
@@ -14,28 +15,61 @@ ghost use Rattle.p10_linkage.specs.private.Grouping.{rows_at};
 ghost use Rattle.p10_linkage.specs.private.Agreeing.{stood, is_defined_row, is_shared, noted_where};
 
 use crate::groups::Groups;
-use crate::known::{agree_with_known, none_known, note};
+use crate::known::{agree_with_known, none_known, note, unite_with_known};
 use crate::linked::LinkedName;
 use crate::linked_names::note_where;
+use crate::stands::Stands;
 use p10_base::{At, SubsetCode};
 use p10_core::Types;
 use p10_elabx::{Problem, joined};
 use p10_heads::Head;
 use std::alloc::{AllocError, Global};
 
+/// Makes each declaration one with those before it: whether all can be one. Where they can't, what stands for structures then is of no
+/// use. Nothing is copied, as it is where some may only be compatible.
+pub fn unite_in_turn<'s>(
+    alloc: Global,
+    types: &Types<'s>,
+    stands: &mut Stands,
+    linked: &[LinkedName<'s>],
+) -> Result<bool, AllocError>
+    requires as_many { length stands.old.numbers.items ≡ length (plain_types types.now) }
+    requires built { AreBuilt (represented (plain_types types.now) stands.old.numbers.items) }
+    ensures told { IfOk result (λ all. all ≡ true → (s : PlainStanding) (found : List Problem) → all_agreeing only_first [] (map linked_of_name linked.now) (stood s (represented (plain_types types.now) stands.old.numbers.items) found) ≡ stood s (represented (plain_types types.now) stands.new.numbers.items) found) }
+    ensures as_many { IfOk result (λ _. length stands.new.numbers.items ≡ length stands.old.numbers.items) }
+    ensures built { IfOk result (λ all. all ≡ true → AreBuilt (represented (plain_types types.now) stands.new.numbers.items)) }
+{
+    let mut known = none_known(alloc);
+    for place in 0..linked.len() {
+        let now = &linked[place];
+        if !unite_with_known(types, stands, linked, &known, now) {
+            return Ok(false);
+        }
+        note(
+            alloc,
+            &mut known,
+            stands.numbers.as_slice(),
+            linked,
+            place,
+            now,
+        )?;
+    }
+    Ok(true)
+}
+
 /// Declarations with those before them: the first problem then.
 pub fn agree_in_turn<'s>(
     alloc: Global,
     types: &Types<'s>,
-    stands: &mut Vec<u32>,
+    stands: &mut Stands,
     linked: &[LinkedName<'s>],
     problem: Option<Problem>,
 ) -> Result<Option<Problem>, AllocError>
-    requires as_many { length stands.old.items ≡ length (plain_types types.now) }
-    requires built { AreBuilt (represented (plain_types types.now) stands.old.items) }
-    ensures told { IfOk result (λ found. (s : PlainStanding) → all_agreeing only_first [] (map linked_of_name linked.now) (stood s (represented (plain_types types.now) stands.old.items) (problems problem)) ≡ stood s (represented (plain_types types.now) stands.new.items) (problems found)) }
-    ensures as_many { IfOk result (λ _. length stands.new.items ≡ length stands.old.items) }
-    ensures built { IfOk result (λ _. AreBuilt (represented (plain_types types.now) stands.new.items)) }
+    requires as_many { length stands.old.numbers.items ≡ length (plain_types types.now) }
+    requires built { AreBuilt (represented (plain_types types.now) stands.old.numbers.items) }
+    ensures told { IfOk result (λ found. (s : PlainStanding) → all_agreeing only_first [] (map linked_of_name linked.now) (stood s (represented (plain_types types.now) stands.old.numbers.items) (problems problem)) ≡ stood s (represented (plain_types types.now) stands.new.numbers.items) (problems found)) }
+    ensures as_many { IfOk result (λ _. length stands.new.numbers.items ≡ length stands.old.numbers.items) }
+    ensures built { IfOk result (λ _. AreBuilt (represented (plain_types types.now) stands.new.numbers.items)) }
 {
     let mut known = none_known(alloc);
     let mut found = problem;
@@ -43,7 +77,14 @@ pub fn agree_in_turn<'s>(
         let now = &linked[place];
         let agrees = agree_with_known(alloc, types, stands, linked, &known, now)?;
         found = with_problem_where(!agrees, found, now.at);
-        note(alloc, &mut known, stands.as_slice(), linked, place, now)?;
+        note(
+            alloc,
+            &mut known,
+            stands.numbers.as_slice(),
+            linked,
+            place,
+            now,
+        )?;
     }
     Ok(found)
 }

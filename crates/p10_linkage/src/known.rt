@@ -1,6 +1,6 @@
 //! The declarations so far, by their places, and those of them with which it is enough to compare another one.
 
-ghost use Rattle.std.specs.Prelude.{◌≡◌, ◌++◌, ◌∷◌, [], ◌||◌, true, false, not, if◌then◌else◌, bytes_eq, map, length, IfOk, List, ℕ};
+ghost use Rattle.std.specs.Prelude.{◌≡◌, ◌++◌, ◌∷◌, [], ◌||◌, true, false, not, if◌then◌else◌, bytes_eq, map, length, Some, IfOk, List, ℕ};
 ghost use Rattle.p10_core.specs.Representing.{represented};
 ghost use Rattle.p10_core.specs.Views.{plain_types};
 ghost use Rattle.p10_linkage.specs.LinkedViews.{linked_of_name};
@@ -9,11 +9,12 @@ ghost use Rattle.p10_linkage.specs.private.Covering.{all_alike, has_alike, AreCo
 ghost use Rattle.p10_linkage.specs.private.Grouping.{group_of, grouped_after, rows_at};
 ghost use Rattle.p10_linkage.specs.private.Meetings.{given};
 
-use crate::agreeing::agree;
+use crate::agreeing::{agree, unite_with_all};
 use crate::alike::{all_alike, has_alike};
 use crate::groups::Groups;
 use crate::linked::LinkedName;
 use crate::linked_names::note_where;
+use crate::stands::Stands;
 use p10_core::Types;
 use std::alloc::{AllocError, Global};
 
@@ -54,24 +55,46 @@ fn says_no_more(
 pub fn agree_with_known(
     alloc: Global,
     types: &Types<'_>,
-    stands: &mut Vec<u32>,
+    stands: &mut Stands,
     linked: &[LinkedName<'_>],
     known: &Known<'_>,
     now: &LinkedName<'_>,
 ) -> Result<bool, AllocError>
-    requires as_many { length stands.old.items ≡ length (plain_types types.now) }
-    requires covered { AreCovered (represented (plain_types types.now) stands.old.items) (rows_at (group_of known.now.kept now.now.name.now) (map linked_of_name linked.now)) (rows_at (group_of known.now.all now.now.name.now) (map linked_of_name linked.now)) }
-    ensures agreed { IfOk result (λ agrees. given agrees (represented (plain_types types.now) stands.new.items) ≡ agreed (rows_at (group_of known.now.all now.now.name.now) (map linked_of_name linked.now)) (linked_of_name now.now) (represented (plain_types types.now) stands.old.items)) }
-    ensures kept { IfOk result (λ agrees. agrees ≡ false → stands.new.items ≡ stands.old.items) }
-    ensures as_many { length stands.new.items ≡ length stands.old.items }
+    requires as_many { length stands.old.numbers.items ≡ length (plain_types types.now) }
+    requires covered { AreCovered (represented (plain_types types.now) stands.old.numbers.items) (rows_at (group_of known.now.kept now.now.name.now) (map linked_of_name linked.now)) (rows_at (group_of known.now.all now.now.name.now) (map linked_of_name linked.now)) }
+    ensures agreed { IfOk result (λ agrees. given agrees (represented (plain_types types.now) stands.new.numbers.items) ≡ agreed (rows_at (group_of known.now.all now.now.name.now) (map linked_of_name linked.now)) (linked_of_name now.now) (represented (plain_types types.now) stands.old.numbers.items)) }
+    ensures kept { IfOk result (λ agrees. agrees ≡ false → stands.new.numbers.items ≡ stands.old.numbers.items) }
+    ensures as_many { length stands.new.numbers.items ≡ length stands.old.numbers.items }
 {
     let kept = known.kept.of(now.name);
-    if says_no_more(stands.as_slice(), linked, kept, now) {
+    if says_no_more(stands.numbers.as_slice(), linked, kept, now) {
         return Ok(true);
     }
     let all = known.all.of(now.name);
     let agrees = agree(alloc, types, stands, linked, all, now)?;
     Ok(agrees)
+}
+
+/// Makes a declaration one with those of roots before it, unless it says no more than these: whether it can be one with all of them.
+/// Where it can't, what stands for structures then is of no use.
+pub fn unite_with_known(
+    types: &Types<'_>,
+    stands: &mut Stands,
+    linked: &[LinkedName<'_>],
+    known: &Known<'_>,
+    now: &LinkedName<'_>,
+) -> bool
+    requires as_many { length stands.old.numbers.items ≡ length (plain_types types.now) }
+    requires covered { AreCovered (represented (plain_types types.now) stands.old.numbers.items) (rows_at (group_of known.now.kept now.now.name.now) (map linked_of_name linked.now)) (rows_at (group_of known.now.all now.now.name.now) (map linked_of_name linked.now)) }
+    ensures agreed { result ≡ true → agreed (rows_at (group_of known.now.all now.now.name.now) (map linked_of_name linked.now)) (linked_of_name now.now) (represented (plain_types types.now) stands.old.numbers.items) ≡ Some (represented (plain_types types.now) stands.new.numbers.items) }
+    ensures as_many { length stands.new.numbers.items ≡ length stands.old.numbers.items }
+{
+    let kept = known.kept.of(now.name);
+    if says_no_more(stands.numbers.as_slice(), linked, kept, now) {
+        return true;
+    }
+    let all = known.all.of(now.name);
+    unite_with_all(types, stands, linked, all, now)
 }
 
 /// Whether a declaration needn't be kept: it is internal to its root, or like one that is kept.

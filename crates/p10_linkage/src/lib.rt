@@ -18,6 +18,8 @@ mod linked;
 mod linked_names;
 mod listing;
 mod meeting;
+mod reaches;
+mod stands;
 mod together;
 mod uniting;
 

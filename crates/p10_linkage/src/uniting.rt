@@ -8,6 +8,7 @@ ghost use Rattle.p10_linkage.specs.Uniting.{same_tags, stands_for_both, types_un
 ghost use Rattle.p10_linkage.specs.private.Meetings.{met, given};
 
 use crate::meeting::{Meeting, meeting_of};
+use crate::stands::Stands;
 use p10_core::{Body, CType, Member, Types};
 
 /// The structure that stands for one, by its number.
@@ -21,22 +22,6 @@ pub(crate) fn standing(stands: &[u32], number: u32) -> u32
 }
 
 ghost use Rattle.p10_linkage.specs.private.Meetings.{slice_or, swapped};
-
-/// Where one structure stands for others, another one comes to stand.
-fn stand_for(stands: &mut [u32], old: u32, new: u32)
-    ensures { stands.new ≡ map (swapped old new) stands.old }
-{
-    for stand in stands.iter_mut() {
-        *stand = swapped(*stand, old, new);
-    }
-}
-
-/// The structure that stands where another one comes to stand for those for which an old one stands.
-fn swapped(number: u32, old: u32, new: u32) -> u32
-    ensures { result ≡ swapped old new number }
-{
-    if number == old { new } else { number }
-}
 
 /// Whether two tags are the same, or there is none.
 pub(crate) fn same_tags(one: Option<&[u8]>, other: Option<&[u8]>) -> bool
@@ -54,21 +39,21 @@ pub(crate) fn same_tags(one: Option<&[u8]>, other: Option<&[u8]>) -> bool
 #[cycle(unite)]
 pub fn unite_types(
     types: &Types<'_>,
-    stands: &mut Vec<u32>,
+    stands: &mut Stands,
     pairs: usize,
     t: &CType,
     u: &CType,
 ) -> bool
-    requires as_many { length stands.old.items ≡ length (plain_types types.now) }
-    ensures united { given result (represented (plain_types types.now) stands.new.items) ≡ types_united (united_within pairs) (plain_type t.now) (plain_type u.now) (represented (plain_types types.now) stands.old.items) }
-    ensures as_many { length stands.new.items ≡ length stands.old.items }
+    requires as_many { length stands.old.numbers.items ≡ length (plain_types types.now) }
+    ensures united { given result (represented (plain_types types.now) stands.new.numbers.items) ≡ types_united (united_within pairs) (plain_type t.now) (plain_type u.now) (represented (plain_types types.now) stands.old.numbers.items) }
+    ensures as_many { length stands.new.numbers.items ≡ length stands.old.numbers.items }
 {
     match meeting_of(t, u) {
         Meeting::Never => false,
         Meeting::Always => true,
         Meeting::Where(m, n) => {
-            let one = standing(stands, m);
-            let other = standing(stands, n);
+            let one = standing(&stands.numbers, m);
+            let other = standing(&stands.numbers, n);
             unite_structures(types, stands, pairs, one, other)
         }
     }
@@ -76,10 +61,10 @@ pub fn unite_types(
 
 /// Makes two structures one that stand for themselves.
 #[cycle(unite)]
-fn unite_structures(types: &Types<'_>, stands: &mut Vec<u32>, pairs: usize, m: u32, n: u32) -> bool
-    requires as_many { length stands.old.items ≡ length (plain_types types.now) }
-    ensures united { given result (represented (plain_types types.now) stands.new.items) ≡ united_within pairs m n (represented (plain_types types.now) stands.old.items) }
-    ensures as_many { length stands.new.items ≡ length stands.old.items }
+fn unite_structures(types: &Types<'_>, stands: &mut Stands, pairs: usize, m: u32, n: u32) -> bool
+    requires as_many { length stands.old.numbers.items ≡ length (plain_types types.now) }
+    ensures united { given result (represented (plain_types types.now) stands.new.numbers.items) ≡ united_within pairs m n (represented (plain_types types.now) stands.old.numbers.items) }
+    ensures as_many { length stands.new.numbers.items ≡ length stands.old.numbers.items }
 {
     if m == n {
         return true;
@@ -100,10 +85,10 @@ fn unite_structures(types: &Types<'_>, stands: &mut Vec<u32>, pairs: usize, m: u
 
 /// Makes two structures one that have the same tag, where their bodies allow it.
 #[cycle(unite)]
-fn unite_bodies(types: &Types<'_>, stands: &mut Vec<u32>, pairs: usize, m: u32, n: u32) -> bool
-    requires as_many { length stands.old.items ≡ length (plain_types types.now) }
-    ensures united { given result (represented (plain_types types.now) stands.new.items) ≡ bodies_united (types_united (united_within pairs)) (body_of (plain_types types.now) m) (body_of (plain_types types.now) n) (stands_for_both (represented (plain_types types.now) stands.old.items) m n) }
-    ensures as_many { length stands.new.items ≡ length stands.old.items }
+fn unite_bodies(types: &Types<'_>, stands: &mut Stands, pairs: usize, m: u32, n: u32) -> bool
+    requires as_many { length stands.old.numbers.items ≡ length (plain_types types.now) }
+    ensures united { given result (represented (plain_types types.now) stands.new.numbers.items) ≡ bodies_united (types_united (united_within pairs)) (body_of (plain_types types.now) m) (body_of (plain_types types.now) n) (stands_for_both (represented (plain_types types.now) stands.old.numbers.items) m n) }
+    ensures as_many { length stands.new.numbers.items ≡ length stands.old.numbers.items }
 {
     let one = types.body(m);
     let other = types.body(n);
@@ -123,13 +108,13 @@ fn unite_bodies(types: &Types<'_>, stands: &mut Vec<u32>, pairs: usize, m: u32, 
 }
 
 /// Lets one of two structures stand for both: the first, if it is complete.
-fn stand_for_both(stands: &mut [u32], complete: bool, m: u32, n: u32)
-    ensures { stands.new ≡ (if complete then map (swapped n m) stands.old else map (swapped m n) stands.old) }
+fn stand_for_both(stands: &mut Stands, complete: bool, m: u32, n: u32)
+    ensures { stands.new.numbers.items ≡ (if complete then map (swapped n m) stands.old.numbers.items else map (swapped m n) stands.old.numbers.items) }
 {
     if complete {
-        stand_for(stands, n, m);
+        stands.stand_for(n, m);
     } else {
-        stand_for(stands, m, n);
+        stands.stand_for(m, n);
     }
 }
 
@@ -137,14 +122,14 @@ fn stand_for_both(stands: &mut [u32], complete: bool, m: u32, n: u32)
 #[cycle(unite)]
 fn unite_members(
     types: &Types<'_>,
-    stands: &mut Vec<u32>,
+    stands: &mut Stands,
     pairs: usize,
     members: &[Member<'_>],
     others: &[Member<'_>],
 ) -> bool
-    requires as_many { length stands.old.items ≡ length (plain_types types.now) }
-    ensures united { given result (represented (plain_types types.now) stands.new.items) ≡ members_united (types_united (united_within pairs)) (map plain_member members.now) (map plain_member others.now) (represented (plain_types types.now) stands.old.items) }
-    ensures as_many { length stands.new.items ≡ length stands.old.items }
+    requires as_many { length stands.old.numbers.items ≡ length (plain_types types.now) }
+    ensures united { given result (represented (plain_types types.now) stands.new.numbers.items) ≡ members_united (types_united (united_within pairs)) (map plain_member members.now) (map plain_member others.now) (represented (plain_types types.now) stands.old.numbers.items) }
+    ensures as_many { length stands.new.numbers.items ≡ length stands.old.numbers.items }
 {
     if members.len() != others.len() {
         return false;

@@ -13,8 +13,8 @@ use Rattle.p10_linkage.proofs.agreeing.agree_with_all.Goals as goal
 pub returns-then-not-agrees-clause-agreed : goal.returns-then-not-agrees-clause-agreed
 returns-then-not-agrees-clause-agreed c =
     let all : List Linked = map linked_of_name c.args.linked.now in
-    let ss : List PlainStructure = represented (plain_types c.args.types.now) c.loop-place.stands.items in
-    let rs : List PlainStructure = represented (plain_types c.args.types.now) c.agree_with_row.new.stands.items in
+    let ss : List PlainStructure = represented (plain_types c.args.types.now) c.loop-place.stands.numbers.items in
+    let rs : List PlainStructure = represented (plain_types c.args.types.now) c.agree_with_row.new.stands.numbers.items in
     let next : List Linked = rows_at (drop (c.loop-place.place-index + 1) c.args.before.now) all in
     let row = c.in_ok-agrees.ensures.agreed ∙ ap (λ o. agreed_row o (linked_of_name c.args.now.now) ss) c.row_at.ensures in
     sym (ap (λ t. if t then agreed next (linked_of_name c.args.now.now) rs else None) c.if-not-agrees.true)
@@ -24,8 +24,8 @@ returns-then-not-agrees-clause-agreed c =
 pub loop-place-preserved : goal.loop-place-preserved
 loop-place-preserved c =
     let all : List Linked = map linked_of_name c.args.linked.now in
-    let ss : List PlainStructure = represented (plain_types c.args.types.now) c.loop-place.stands.items in
-    let rs : List PlainStructure = represented (plain_types c.args.types.now) c.agree_with_row.new.stands.items in
+    let ss : List PlainStructure = represented (plain_types c.args.types.now) c.loop-place.stands.numbers.items in
+    let rs : List PlainStructure = represented (plain_types c.args.types.now) c.agree_with_row.new.stands.numbers.items in
     let next : List Linked = rows_at (drop (c.loop-place.place-index + 1) c.args.before.now) all in
     let row = c.in_ok-agrees.ensures.agreed ∙ ap (λ o. agreed_row o (linked_of_name c.args.now.now) ss) c.row_at.ensures in
     record {

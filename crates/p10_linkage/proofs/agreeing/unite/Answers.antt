@@ -9,5 +9,5 @@ use Rattle.p10_linkage.proofs.agreeing.unite.Goals as goal
 pub returns-clause-united : goal.returns-clause-united
 returns-clause-united c =
     c.unite_types.ensures.united
-    ∙ ap (λ pairs. types_united (united_within pairs) (plain_type c.args.t.now) (plain_type c.args.u.now) (represented (plain_types c.args.types.now) c.args.stands.now.items))
-    (c.len-pairs.ensures ∙ c.args.stands.now.ok.0 ∙ c.requires.as_many ∙ sym (as_many_represented (plain_types c.args.types.now) c.args.stands.now.items))
+    ∙ ap (λ pairs. types_united (united_within pairs) (plain_type c.args.t.now) (plain_type c.args.u.now) (represented (plain_types c.args.types.now) c.args.stands.now.numbers.items))
+    (c.len-pairs.ensures ∙ c.args.stands.now.numbers.ok.0 ∙ c.requires.as_many ∙ sym (as_many_represented (plain_types c.args.types.now) c.args.stands.now.numbers.items))

@@ -8,7 +8,7 @@ use Rattle.p10_linkage.proofs.agreeing.unite_parameters.Given as goal
 
 abbrev pub invariant-loop-place : goal.invariant-loop-place
 invariant-loop-place l = record {
-  long : length l.stands.items ≡ length l.fn.stands.items;
-  same : parameters_united (drop l.place (parameters_of (plain_kind l.one))) (drop l.place (parameters_of (plain_kind l.other))) (represented (plain_types l.types) l.stands.items)
-      ≡ parameters_united (parameters_of (plain_kind l.one)) (parameters_of (plain_kind l.other)) (represented (plain_types l.types) l.fn.stands.items);
+  long : length l.stands.numbers.items ≡ length l.fn.stands.numbers.items;
+  same : parameters_united (drop l.place (parameters_of (plain_kind l.one))) (drop l.place (parameters_of (plain_kind l.other))) (represented (plain_types l.types) l.stands.numbers.items)
+      ≡ parameters_united (parameters_of (plain_kind l.one)) (parameters_of (plain_kind l.other)) (represented (plain_types l.types) l.fn.stands.numbers.items);
 }

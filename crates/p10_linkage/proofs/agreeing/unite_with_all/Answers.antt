@@ -14,8 +14,8 @@ pub loop-place-preserved : goal.loop-place-preserved
 loop-place-preserved c =
     let all : List Linked = map linked_of_name c.args.linked.now in
     let k = c.loop-place.place-index in
-    let ss : List PlainStructure = represented (plain_types c.args.types.now) c.loop-place.stands.items in
-    let rs : List PlainStructure = represented (plain_types c.args.types.now) c.unite_with_row.new.stands.items in
+    let ss : List PlainStructure = represented (plain_types c.args.types.now) c.loop-place.stands.numbers.items in
+    let rs : List PlainStructure = represented (plain_types c.args.types.now) c.unite_with_row.new.stands.numbers.items in
     let row : agreed_row (slice_get all (slice_index_or c.args.before.now k 0)) (linked_of_name c.args.now.now) ss ≡ Some rs =
     ap (λ o. agreed_row o (linked_of_name c.args.now.now) ss) (sym c.row_at.ensures) ∙ c.unite_with_row.ensures.agreed c.if-not-unite_with_row.false in
     record {
@@ -26,6 +26,6 @@ loop-place-preserved c =
 pub returns-clause-agreed : goal.returns-clause-agreed
 returns-clause-agreed c holds =
     let all : List Linked = map linked_of_name c.args.linked.now in
-    let ss : List PlainStructure = represented (plain_types c.args.types.now) c.loop-place.stands.items in
+    let ss : List PlainStructure = represented (plain_types c.args.types.now) c.loop-place.stands.numbers.items in
     sym c.loop-place.invariant.same
     ∙ ap (λ places. agreed (rows_at places all) (linked_of_name c.args.now.now) ss) (drop_all c.args.before.now c.loop-place.place-index (omega (arith, c.loop-place-test.false)))

@@ -8,7 +8,7 @@ use Rattle.p10_linkage.proofs.agreeing.unite_with_all.Given as goal
 
 abbrev pub invariant-loop-place : goal.invariant-loop-place
 invariant-loop-place l = record {
-  long : length l.stands.items ≡ length l.fn.stands.items;
-  same : agreed (rows_at (drop l.place-index l.before) (map linked_of_name l.linked)) (linked_of_name l.now) (represented (plain_types l.types) l.stands.items)
-      ≡ agreed (rows_at l.before (map linked_of_name l.linked)) (linked_of_name l.now) (represented (plain_types l.types) l.fn.stands.items);
+  long : length l.stands.numbers.items ≡ length l.fn.stands.numbers.items;
+  same : agreed (rows_at (drop l.place-index l.before) (map linked_of_name l.linked)) (linked_of_name l.now) (represented (plain_types l.types) l.stands.numbers.items)
+      ≡ agreed (rows_at l.before (map linked_of_name l.linked)) (linked_of_name l.now) (represented (plain_types l.types) l.fn.stands.numbers.items);
 }

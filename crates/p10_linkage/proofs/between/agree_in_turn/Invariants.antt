@@ -15,10 +15,10 @@ use Rattle.p10_linkage.proofs.between.agree_in_turn.Given as goal
 
 abbrev pub invariant-loop-place : goal.invariant-loop-place
 invariant-loop-place l = record {
-  long : length l.stands.items ≡ length l.fn.stands.items;
-  built : AreBuilt (represented (plain_types l.types) l.stands.items);
+  long : length l.stands.numbers.items ≡ length l.fn.stands.numbers.items;
+  built : AreBuilt (represented (plain_types l.types) l.stands.numbers.items);
   grouped : AreGrouped (λ (x : Linked). x.name) (map linked_of_name l.linked) l.place (group_of l.known.all);
-  covered : NamesAreCovered (represented (plain_types l.types) l.stands.items) (map linked_of_name l.linked) l.place (group_of l.known.kept);
-  told : (s : PlainStanding) → all_agreeing only_first [] (map linked_of_name l.linked) (stood s (represented (plain_types l.types) l.fn.stands.items) (problems l.fn.problem))
-      ≡ all_agreeing only_first (take l.place (map linked_of_name l.linked)) (drop l.place (map linked_of_name l.linked)) (stood s (represented (plain_types l.types) l.stands.items) (problems l.found));
+  covered : NamesAreCovered (represented (plain_types l.types) l.stands.numbers.items) (map linked_of_name l.linked) l.place (group_of l.known.kept);
+  told : (s : PlainStanding) → all_agreeing only_first [] (map linked_of_name l.linked) (stood s (represented (plain_types l.types) l.fn.stands.numbers.items) (problems l.fn.problem))
+      ≡ all_agreeing only_first (take l.place (map linked_of_name l.linked)) (drop l.place (map linked_of_name l.linked)) (stood s (represented (plain_types l.types) l.stands.numbers.items) (problems l.found));
 }

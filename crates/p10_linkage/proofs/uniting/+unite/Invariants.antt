@@ -20,7 +20,7 @@ decreases-unite_types l = l.pairs * 4 + 1
 
 abbrev pub invariant-unite_members-loop-place : goal.invariant-unite_members-loop-place
 invariant-unite_members-loop-place l = record {
-  long : length l.stands.items ≡ length l.fn.stands.items;
-  same : members_united (types_united (united_within l.pairs)) (map plain_member (drop l.place l.members)) (map plain_member (drop l.place l.others)) (represented (plain_types l.types) l.stands.items)
-      ≡ members_united (types_united (united_within l.pairs)) (map plain_member l.members) (map plain_member l.others) (represented (plain_types l.types) l.fn.stands.items);
+  long : length l.stands.numbers.items ≡ length l.fn.stands.numbers.items;
+  same : members_united (types_united (united_within l.pairs)) (map plain_member (drop l.place l.members)) (map plain_member (drop l.place l.others)) (represented (plain_types l.types) l.stands.numbers.items)
+      ≡ members_united (types_united (united_within l.pairs)) (map plain_member l.members) (map plain_member l.others) (represented (plain_types l.types) l.fn.stands.numbers.items);
 }

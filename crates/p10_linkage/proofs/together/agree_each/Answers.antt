@@ -11,14 +11,14 @@ use Rattle.p10_linkage.specs.LinkedViews.{linked_of_name}
 use Rattle.p10_linkage.specs.Between.{all_agreeing}
 use Rattle.p10_linkage.specs.private.Agreeing.{stood}
 use Rattle.p10_linkage.proofs.ByNumbers.{represented_own}
-use Rattle.p10_linkage.proofs.together.agree_all.Goals as goal
+use Rattle.p10_linkage.proofs.together.agree_each.Goals as goal
 
 pub agree_in_turn-requires : goal.agree_in_turn-requires
 agree_in_turn-requires c =
     let ss : List PlainStructure = plain_types c.args.standing.now.scope.types in
-    let own = ap (represented ss) c.in_ok-stands.ensures ∙ represented_own ss in
+    let own = ap (represented ss) (c.in_ok-stands.ensures ∙ c.in_ok-numbers.ensures) ∙ represented_own ss in
     record {
-      as_many = ap length c.in_ok-stands.ensures ∙ length-map ss (λ s. s.representative);
+      as_many = ap length (c.in_ok-stands.ensures ∙ c.in_ok-numbers.ensures) ∙ length-map ss (λ s. s.representative);
       built = subst AreBuilt (sym own) c.args.standing.now.scope.types.built;
     }
 
@@ -26,7 +26,7 @@ pub represent-requires : goal.represent-requires
 represent-requires c =
     let ss : List PlainStructure = plain_types c.args.standing.now.scope.types in
     record {
-      as_many = ap length c.as_slice.ensures.value ∙ c.in_ok-problem.ensures.as_many ∙ ap length c.in_ok-stands.ensures ∙ length-map ss (λ s. s.representative);
+      as_many = ap length c.as_slice.ensures.value ∙ c.in_ok-problem.ensures.as_many ∙ ap length (c.in_ok-stands.ensures ∙ c.in_ok-numbers.ensures) ∙ length-map ss (λ s. s.representative);
       built = subst (λ numbers. AreBuilt (represented ss numbers)) (sym c.as_slice.ensures.value) c.in_ok-problem.ensures.built;
     }
 
@@ -36,4 +36,4 @@ returns c =
     let s : PlainStanding = plain_standing c.args.standing.now in
     ap (λ ts. stood s ts (problems c.in_ok-problem.problem)) (c.represent.ensures ∙ ap (represented ss) c.as_slice.ensures.value)
     ∙ sym (c.in_ok-problem.ensures.told s)
-    ∙ ap (λ ts. all_agreeing only_first [] (map linked_of_name c.args.linked.now) (stood s ts (problems c.args.standing.now.problem))) (ap (represented ss) c.in_ok-stands.ensures ∙ represented_own ss)
+    ∙ ap (λ ts. all_agreeing only_first [] (map linked_of_name c.args.linked.now) (stood s ts (problems c.args.standing.now.problem))) (ap (represented ss) (c.in_ok-stands.ensures ∙ c.in_ok-numbers.ensures) ∙ represented_own ss)
