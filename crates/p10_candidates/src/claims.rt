@@ -5,15 +5,15 @@ ghost use Rattle.std.specs.Int.{int_max};
 ghost use Rattle.std.specs.Option.{option_map};
 ghost use Rattle.p10_core.specs.Views.{plain_variable};
 ghost use Rattle.p10_range.specs.Ranges.{interval_of};
-ghost use Rattle.p10_cert.specs.Claims.{var_of, loop_of};
+ghost use Rattle.p10_cert.specs.Claims.{loop_of};
 ghost use Rattle.p10_absx.specs.Abstract.{abstract_of};
 ghost use Rattle.p10_candidates.specs.Offering.{entry_by};
 ghost use Rattle.p10_candidates.specs.Trials.{is_whole_range as is_whole_of, line_for as line_of, lines_from, counted, turns_from as turns_of, claim_by as claim_of_head};
 
 use crate::entry::LoopEntry;
 use p10_absx::{Abs, Env, values};
-use p10_base::{Limit, ListBuf};
-use p10_cert::{LoopClaim, Rank, VarRange};
+use p10_base::Limit;
+use p10_cert::{LoopClaim, Rank, VarRange, VarRanges};
 use p10_core::{Variable, integer_of};
 use p10_int::IntType;
 use p10_range::Range;
@@ -29,35 +29,44 @@ fn is_whole_range(kind: IntType, r: Range) -> bool
 
 /// Puts a line for a variable, if it is known and its range isn't its type's.
 fn put_line(
+    alloc: Global,
     n: u32,
     kind: IntType,
     known: Option<Abs>,
-    lines: &mut Vec<VarRange>,
+    lines: &mut VarRanges,
 ) -> Result<(), AllocError>
-    ensures { OnOk result (map var_of lines.new.items ≡ map var_of lines.old.items ++ line_of n kind (option_map abstract_of known)) }
+    ensures { OnOk result (lines.new ≡ lines.old ++ line_of n kind (option_map abstract_of known)) }
 {
     if let Some(a) = known {
         if !is_whole_range(kind, a.range) {
-            lines.push(VarRange {
+            let line = VarRange {
                 var: n,
                 range: a.range,
-            })?;
+            };
+            lines.push(alloc, line)?;
         }
     }
     Ok(())
 }
 
 /// The lines for variables. More than 32 bits number never fit memory, and are answered as out of memory.
-fn lines(alloc: Global, variables: &[Variable<'_>], head: &Env) -> Result<Vec<VarRange>, AllocError>
-    ensures { IfOk result (λ lines. map var_of lines.items ≡ lines_from 0 (map plain_variable variables.now) head.now.values) }
+fn lines(alloc: Global, variables: &[Variable<'_>], head: &Env) -> Result<VarRanges, AllocError>
+    ensures { IfOk result (λ lines. lines ≡ lines_from 0 (map plain_variable variables.now) head.now.values) }
 {
     if variables.len() > u32::MAX as usize {
         return Err(AllocError);
     }
-    let mut lines = Vec::new(alloc);
+    let mut lines = VarRanges::new(alloc);
     for (n, v) in variables.iter().enumerate() {
-        put_line(n as u32, integer_of(&v.ty), head.get(n as u32), &mut lines)?;
+        put_line(
+            alloc,
+            n as u32,
+            integer_of(&v.ty),
+            head.get(n as u32),
+            &mut lines,
+        )?;
     }
+    lines.shrink_to_fit();
     Ok(lines)
 }
 
@@ -114,6 +123,6 @@ pub fn claim_by(
         depth,
         rank,
         turns,
-        inv: ListBuf::of(inv),
+        inv,
     })
 }

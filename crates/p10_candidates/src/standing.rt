@@ -15,8 +15,8 @@ use crate::guard::{Candidate, candidates};
 use crate::offers::Approach;
 use crate::rounds::Rounds;
 use p10_absx::Env;
-use p10_base::{ListBuf, Span};
-use p10_cert::{LoopClaim, Rank};
+use p10_base::Span;
+use p10_cert::{LoopClaim, Rank, VarRanges};
 use p10_pass::{enters_ranked, goes_back_ranked, head_under, ranges_hold};
 use std::alloc::{AllocError, Global};
 
@@ -167,7 +167,7 @@ pub fn unreached_found(alloc: Global, depth: u32, rank: Rank) -> LoopFound
             depth,
             rank,
             turns: 0,
-            inv: ListBuf::of(Vec::new(alloc)),
+            inv: VarRanges::new(alloc),
         },
         unbounded: None,
         approach: None,

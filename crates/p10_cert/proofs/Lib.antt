@@ -1,5 +1,6 @@
 -- Lemmas for this crate.
 pub mod Steps
+pub mod PackingLaws
 pub mod Numerals
 pub mod NumberLaws
 pub mod ValueLaws
@@ -26,6 +27,7 @@ pub mod VersionLaws
 pub mod TextLaws
 pub mod Written
 pub mod PieceTexts
+pub mod VarTexts
 pub mod Quarters
 pub mod SealedTexts
 pub mod Thirds

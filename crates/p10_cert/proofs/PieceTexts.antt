@@ -10,12 +10,11 @@ use Rattle.p10_world.specs.Sink.{TakesFront}
 use Rattle.p10_cert.specs.declared.claims.Cert.{Cert}
 use Rattle.p10_cert.specs.declared.claims.FuncClaim.{FuncClaim}
 use Rattle.p10_cert.specs.declared.claims.LoopClaim.{LoopClaim}
-use Rattle.p10_cert.specs.declared.claims.VarRange.{VarRange}
 use Rattle.p10_cert.specs.declared.claims.Rank.{Rank}
 use Rattle.p10_cert.specs.declared.claims.Rank.TheVariants as rank
 use Rattle.p10_cert.specs.declared.claims.ValueClaim.{ValueClaim}
 use Rattle.p10_cert.specs.declared.claims.ValueClaim.TheVariants.{Ints, Pointer, Void}
-use Rattle.p10_cert.specs.Claims.{Var, claims_of, func_of, loop_of, value_of, var_of}
+use Rattle.p10_cert.specs.Claims.{Var, claims_of, func_of, loop_of, value_of}
 use Rattle.p10_cert.specs.Certificate.{loop_head, loop_lines, func_head, func_lines, func_text, certificate_text}
 use Rattle.p10_cert.specs.Lines.{FuncHead, LoopHead, Line, FirstLine, FuncLine, ParamLine, ResultLine, LoopLine, VarLine, TotalLine, LastLine, flag_number, line_then, text_of}
 use Rattle.p10_cert.proofs.LineTexts.{text_of-append}
@@ -88,16 +87,8 @@ task_is h e = ap (λ r. text_of (head_with h r ∷ [])) (sym e)
 
 -- ---- several lines
 
-vars_text : (vars : List VarRange) → flat_map (λ v. text_of (VarLine (var_of v) ∷ [])) vars ≡ text_of (map VarLine (map var_of vars))
-unfolding text_of
-vars_text [] = none
-  where
-    none : [] ≡ text_of []
-    none = refl
-vars_text (v ∷ vars) = ap (λ t. text_of (VarLine (var_of v) ∷ []) ++ t) (vars_text vars) ∙ sym (text_of-append (VarLine (var_of v) ∷ []) (map VarLine (map var_of vars)))
-
-pub loop_text : (l : LoopClaim) → text_of (loop_lines (loop_of l)) ≡ text_of (LoopLine (loop_head (loop_of l)) ∷ []) ++ flat_map (λ v. text_of (VarLine (var_of v) ∷ [])) l.inv
-loop_text l = text_of-append (LoopLine (loop_head (loop_of l)) ∷ []) (map VarLine (map var_of l.inv)) ∙ ap (λ t. text_of (LoopLine (loop_head (loop_of l)) ∷ []) ++ t) (sym (vars_text l.inv))
+pub loop_text : (l : LoopClaim) → text_of (loop_lines (loop_of l)) ≡ text_of (LoopLine (loop_head (loop_of l)) ∷ []) ++ text_of (map VarLine l.inv)
+loop_text l = text_of-append (LoopLine (loop_head (loop_of l)) ∷ []) (map VarLine l.inv)
 
 pub params_text : (params : List ValueClaim) → flat_map (λ v. text_of (ParamLine (value_of v) ∷ [])) params ≡ text_of (map ParamLine (map value_of params))
 unfolding text_of

@@ -8,18 +8,13 @@ use Rattle.p10_cert.specs.declared.claims.LoopClaim.{LoopClaim}
 use Rattle.p10_cert.specs.declared.claims.Rank.{Rank}
 use Rattle.p10_cert.specs.declared.claims.ValueClaim.{ValueClaim}
 use Rattle.p10_cert.specs.declared.claims.ValueClaim.TheVariants.{Ints, Pointer, Void}
-use Rattle.p10_cert.specs.declared.claims.VarRange.{VarRange}
+pub use Rattle.p10_cert.specs.Vars.{Var, var_of}
 
 -- what is claimed of a parameter or a result: a number between two ends, a pointer, or that there is none
 pub data Value : Type 0 where
   Number : Interval → Value
   Address : Value
   Nothing : Value
-
--- the ends of a variable at the head of a loop
-pub record Var : Type 0 where
-  pub var : ℕ
-  pub ends : Interval
 
 -- a loop: its depth, its rank, its turns, or the steps of a turn of the task, and its variables
 pub record Loop : Type 0 where
@@ -52,11 +47,8 @@ value_of (Ints r) = Number (interval_of r)
 value_of Pointer = Address
 value_of Void = Nothing
 
-abbrev pub var_of : VarRange → Var
-var_of v = record { var = v.var; ends = interval_of v.range }
-
 abbrev pub loop_of : LoopClaim → Loop
-loop_of l = record { depth = l.depth; rank = l.rank; turns = l.turns; vars = map var_of l.inv }
+loop_of l = record { depth = l.depth; rank = l.rank; turns = l.turns; vars = l.inv }
 
 abbrev pub func_of : FuncClaim → Func
 func_of f = record {

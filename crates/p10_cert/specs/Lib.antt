@@ -1,4 +1,5 @@
 -- The definitions that the contracts of this crate cite.
+pub mod Vars
 pub mod Claims
 pub mod Lines
 pub mod Certificate

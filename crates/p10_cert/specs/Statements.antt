@@ -1,6 +1,6 @@
 -- What a certificate says, in either version, and its text: claims and, in version 2, the digests of the words that
 -- they speak of, and sections.
-use Rattle.std.specs.Prelude.{◌≡◌, ℕ, ◌≤◌, Bool, true, false, List, [], ◌∷◌, ◌++◌, map, flat_map, length, Option, Some, None}
+use Rattle.std.specs.Prelude.{◌≡◌, ℕ, ◌≤◌, bytes_eq, if◌then◌else◌, Bool, true, false, List, [], ◌∷◌, ◌++◌, map, flat_map, length, Option, Some, None}
 use Rattle.std.specs.List.{AllByRecursion}
 use Rattle.std.specs.Ordering.{nat_cmp, is_lt}
 use Rattle.std.specs.Cmp.Lexicographic.{slice_cmp}
@@ -18,6 +18,11 @@ pub record Entry : Type 0 where
 pub record Section : Type 0 where
   pub name : List ℕ
   pub lines : List (List ℕ)
+
+-- the lines of the section with a name, if there is one
+abbrev pub lines_named : List ℕ → List Section → Option (List (List ℕ))
+lines_named name [] = None
+lines_named name (s ∷ sections) = if bytes_eq s.name name then Some s.lines else lines_named name sections
 
 -- what stands after the functions: in version 2 the digest of the words outside bodies, the bounds, and in version 2
 -- sections

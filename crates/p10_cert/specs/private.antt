@@ -1,4 +1,5 @@
--- What only the contracts of private functions and the view of `Records` cite.
+-- What only the contracts of private functions and the views of `Records` and `VarRanges` cite.
+pub mod Packing
 pub mod Reading
 pub mod Plain
 pub mod States

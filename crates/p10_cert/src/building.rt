@@ -8,6 +8,7 @@ ghost use Rattle.p10_cert.specs.private.Plain.{plain_start};
 
 use crate::claims::{FuncClaim, LoopClaim, ValueClaim, VarRange};
 use crate::line::{Head, LoopStart, Row};
+use crate::var_ranges::VarRanges;
 use p10_base::{Digest, ListBuf};
 use std::alloc::{AllocError, Global};
 
@@ -70,7 +71,7 @@ impl<'c> Partial<'c> {
                 Ok(())
             }
             Row::Loop(start) => self.take_loop(alloc, start),
-            Row::Var(found) => self.take_var(found),
+            Row::Var(found) => self.take_var(alloc, found),
             _ => Ok(()),
         }
     }
@@ -81,17 +82,17 @@ impl<'c> Partial<'c> {
     {
         let last = std::mem::replace(&mut self.last, Some(bare(alloc, start)));
         match last {
-            Some(item) => self.loops.push(item),
+            Some(item) => self.loops.push(fitted(item)),
             None => Ok(()),
         }
     }
 
     /// Takes a variable of the last loop.
-    fn take_var(&mut self, found: VarRange) -> Result<(), AllocError>
+    fn take_var(&mut self, alloc: Global, found: VarRange) -> Result<(), AllocError>
         ensures { OnOk result (part_of self.new ≡ build (part_of self.old) (VarLine (var_of found))) }
     {
         match &mut self.last {
-            Some(item) => item.inv.push(found),
+            Some(item) => item.inv.push(alloc, found),
             None => Ok(()),
         }
     }
@@ -138,9 +139,18 @@ fn close(
     ensures { IfOk result (λ all. map loop_of all ≡ closed (map loop_of loops) (option_map loop_of last)) }
 {
     if let Some(item) = last {
-        loops.push(item)?;
+        loops.push(fitted(item))?;
     }
     Ok(loops)
+}
+
+/// A loop whose ranges take no more memory than they fill.
+fn fitted(claim: LoopClaim) -> LoopClaim
+    ensures { loop_of result ≡ loop_of claim }
+{
+    let mut claim = claim;
+    claim.inv.shrink_to_fit();
+    claim
 }
 
 /// A loop of which no variables were read.
@@ -151,6 +161,6 @@ fn bare(alloc: Global, start: LoopStart) -> LoopClaim
         depth: start.depth,
         rank: start.rank,
         turns: start.turns,
-        inv: ListBuf::of(Vec::new(alloc)),
+        inv: VarRanges::new(alloc),
     }
 }

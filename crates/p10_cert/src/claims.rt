@@ -1,5 +1,6 @@
 //! What a certificate claims.
 
+use crate::var_ranges::VarRanges;
 use p10_base::{Bounds, ListBuf};
 use p10_range::Range;
 
@@ -59,7 +60,7 @@ pub struct LoopClaim {
     /// The most turns of the loop, and for the task loop the most steps of a turn.
     pub turns: u64,
     /// The ranges of variables at the loop's head, the variables rising.
-    pub inv: ListBuf<VarRange>,
+    pub inv: VarRanges,
 }
 
 /// Why a loop ends: a number that falls with each turn and is at least 1 where the body is entered.

@@ -1,15 +1,16 @@
 //! The texts of what is claimed of one function.
 
-ghost use Rattle.std.specs.Prelude.{◌≤◌, [], ◌∷◌, OnErr, OnOk};
+ghost use Rattle.std.specs.Prelude.{◌≤◌, [], ◌∷◌, map, OnErr, OnOk};
 ghost use Rattle.std.specs.Io.KnownBytes.{Appends};
 ghost use Rattle.p10_world.specs.Faults.{Rose};
 ghost use Rattle.p10_world.specs.Sink.{TakesFront};
-ghost use Rattle.p10_cert.specs.Claims.{func_of, loop_of, value_of, var_of};
+ghost use Rattle.p10_cert.specs.Claims.{func_of, loop_of, value_of};
 ghost use Rattle.p10_cert.specs.Certificate.{func_head, loop_head};
-ghost use Rattle.p10_cert.specs.Lines.{FuncLine, LoopLine, ResultLine, text_of};
+ghost use Rattle.p10_cert.specs.Lines.{FuncLine, LoopLine, ResultLine, VarLine, text_of};
 
 use crate::claims::{FuncClaim, LoopClaim, Rank, ValueClaim, VarRange};
 use crate::pieces::Piece;
+use crate::var_ranges::VarRanges;
 use crate::writing::{Text, put_all};
 use p10_world::{Sink, SinkFault};
 
@@ -38,7 +39,7 @@ impl Text for LoopClaim {
 
     fn put<O: Sink>(&self, out: &mut O) -> Result<(), SinkFault> {
         put_start(out, self)?;
-        put_all(out, self.inv.as_slice())
+        put_vars(out, &self.inv)
     }
 }
 
@@ -140,6 +141,20 @@ pub(crate) fn put_result<O: Sink>(out: &mut O, value: &ValueClaim) -> Result<(),
         ValueClaim::Pointer => out.put(b"result *\n"),
         ValueClaim::Void => out.put(b"result void\n"),
     }
+}
+
+/// Writes the lines of variables.
+fn put_vars<O: Sink>(out: &mut O, ranges: &VarRanges) -> Result<(), SinkFault>
+    ensures ok { OnOk result (Appends (O.taken out.old) (O.taken out.new) (text_of (map VarLine ranges.now))) }
+    ensures front { OnErr result (TakesFront (O.taken out.old) (O.taken out.new) (text_of (map VarLine ranges.now))) }
+    ensures failed { OnErr result (Rose (O.faults out.old) (O.faults out.new)) }
+    ensures count { O.faults out.old ≤ O.faults out.new }
+{
+    let mut left = ranges.reader();
+    while let Some(line) = left.next() {
+        line.put(out)?;
+    }
+    Ok(())
 }
 
 /// Writes the first line of a loop.

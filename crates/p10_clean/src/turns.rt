@@ -24,8 +24,7 @@ use crate::statements::Walk;
 use crate::values::Look;
 use crate::ways::ways_of;
 use p10_absx::Env;
-use p10_base::ListBuf;
-use p10_cert::{LoopClaim, Rank};
+use p10_cert::{LoopClaim, Rank, VarRanges};
 use p10_core::{LoopHead, Stmt, Value, Variable};
 use p10_pass::{Left, head_under, pass_statement};
 use std::alloc::{AllocError, Global};
@@ -171,6 +170,6 @@ fn no_claim(alloc: Global) -> LoopClaim
         depth: 0,
         rank: Rank::One,
         turns: 0,
-        inv: ListBuf::of(Vec::new(alloc)),
+        inv: VarRanges::new(alloc),
     }
 }

@@ -1,6 +1,6 @@
 //! The claim on one loop.
 
-ghost use Rattle.std.specs.Prelude.{◌≡◌, ◌<◌, ◌^◌, OnOk, true, length, map};
+ghost use Rattle.std.specs.Prelude.{◌≡◌, ◌<◌, ◌^◌, OnOk, true, length};
 ghost use Rattle.std.specs.List.{list_all};
 ghost use Rattle.p10_core.specs.Views.{plain_function, plain_statements};
 ghost use Rattle.p10_cert.specs.Claims.{var_of, loop_of};
@@ -9,7 +9,7 @@ ghost use Rattle.p10_fit.specs.Fits.{counter_type, fits_rank, fits_variable, fit
 
 use crate::scope::Scope;
 use crate::values::{is_of_type, kind_of_integer};
-use p10_cert::{LoopClaim, Rank, VarRange};
+use p10_cert::{LoopClaim, Rank, VarRange, VarRanges};
 use p10_core::{Func, LoopHead, Stmt, StmtForm};
 use p10_int::IntType;
 use std::alloc::AllocError;
@@ -77,16 +77,15 @@ fn fits_var(function: &Func<'_>, scope: &Scope, claim: VarRange) -> bool
 }
 
 /// Whether ranges may be claimed of variables at a loop.
-fn fits_vars(function: &Func<'_>, scope: &Scope, claims: &[VarRange]) -> bool
+fn fits_vars(function: &Func<'_>, scope: &Scope, claims: &VarRanges) -> bool
     requires { length scope.now.counts.items ≡ length function.now.vars }
-    ensures { result ≡ list_all (fits_variable (plain_function function.now) scope.now.numbers.items) (map var_of claims.now) }
+    ensures { result ≡ list_all (fits_variable (plain_function function.now) scope.now.numbers.items) claims.now }
 {
-    let mut claims = claims;
-    while let [claim, others @ ..] = claims {
-        if !fits_var(function, scope, *claim) {
+    let mut left = claims.reader();
+    while let Some(claim) = left.next() {
+        if !fits_var(function, scope, claim) {
             return false;
         }
-        claims = others;
     }
     true
 }
@@ -106,5 +105,5 @@ pub(crate) fn fits_loop(
     let is_task = task == Some(opened.head.number);
     u64::from(claim.depth) == opened.depth
         && fits_rank(function, scope, is_task, claim.rank)
-        && fits_vars(function, scope, claim.inv.as_slice())
+        && fits_vars(function, scope, &claim.inv)
 }

@@ -57,18 +57,18 @@ held claim vs ranges env c = same_ranges (range_at ranges) (λ n v. range_claime
     at n v e = let p : zero + n ≡ n = omega arith in ap (λ m. range_at ranges m v) p ∙ (found claim vs ranges n v c e ∙ ap (λ m. range_claimed claim.vars m (integer_of v.type)) (sym p))
 
 -- what the code makes of these
-pub head_made : (claim : LoopClaim) (lines : List VarRange) (vs : List PlainVariable) (entry : Environment) (copy now : Branching) (ranges shown : List Range) → lines ≡ claim.inv →
+pub head_made : (claim : LoopClaim) (lines : List VarRange) (vs : List PlainVariable) (entry : Environment) (copy now : Branching) (ranges shown : List Range) → map var_of lines ≡ claim.inv →
     AreClaimed (map var_of lines) vs (map interval_of ranges) → copy ≡ unbranched entry → shown ≡ ranges →
     now ≡ with_values copy (changed_each (λ n v a. record { range = range_at (map interval_of shown) n v; offset = Some (own_offset n) }) 0 vs copy.values) → now ≡ unbranched (head_of (loop_of claim) vs entry)
 head_made claim lines vs entry copy now ranges shown same claimed copied looked made =
-    let c : AreClaimed (loop_of claim).vars vs (map interval_of shown) = subst (λ (rs : List Range). AreClaimed (loop_of claim).vars vs (map interval_of rs)) (sym looked) (subst (λ (ls : List VarRange). AreClaimed (map var_of ls) vs (map interval_of ranges)) same claimed) in
+    let c : AreClaimed (loop_of claim).vars vs (map interval_of shown) = subst (λ (rs : List Range). AreClaimed (loop_of claim).vars vs (map interval_of rs)) (sym looked) (subst (λ (ls : List Var). AreClaimed ls vs (map interval_of ranges)) same claimed) in
     made ∙ (ap (λ (b : Branching). with_values b (changed_each (λ n v a. record { range = range_at (map interval_of shown) n v; offset = Some (own_offset n) }) 0 vs b.values)) copied ∙
     ap unbranched (headed (loop_of claim) vs (map interval_of shown) entry c))
 
-pub held_made : (claim : LoopClaim) (lines : List VarRange) (vs : List PlainVariable) (env : Environment) (ranges shown : List Range) (b : Bool) → lines ≡ claim.inv →
+pub held_made : (claim : LoopClaim) (lines : List VarRange) (vs : List PlainVariable) (env : Environment) (ranges shown : List Range) (b : Bool) → map var_of lines ≡ claim.inv →
     AreClaimed (map var_of lines) vs (map interval_of ranges) → shown ≡ ranges → b ≡ entries_lie (range_at (map interval_of shown)) 0 vs env → b ≡ ranges_hold (loop_of claim) 0 vs env
 held_made claim lines vs env ranges shown b same claimed looked is =
-    let c : AreClaimed (loop_of claim).vars vs (map interval_of shown) = subst (λ (rs : List Range). AreClaimed (loop_of claim).vars vs (map interval_of rs)) (sym looked) (subst (λ (ls : List VarRange). AreClaimed (map var_of ls) vs (map interval_of ranges)) same claimed) in
+    let c : AreClaimed (loop_of claim).vars vs (map interval_of shown) = subst (λ (rs : List Range). AreClaimed (loop_of claim).vars vs (map interval_of rs)) (sym looked) (subst (λ (ls : List Var). AreClaimed ls vs (map interval_of ranges)) same claimed) in
     is ∙ held (loop_of claim) vs (map interval_of shown) env c
 
 pub lines_put : (lines : List VarRange) (vs : List PlainVariable) (before now : List Range) → AreClaimed [] vs (map interval_of before) → map interval_of now ≡ with_lines (map var_of lines) (map interval_of before) →

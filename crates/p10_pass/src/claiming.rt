@@ -72,7 +72,8 @@ pub fn head_under(
 ) -> Result<Env, AllocError>
     ensures { IfOk result (λ env. env ≡ unbranched (head_of (loop_of claim.now) (map plain_variable variables.now) entry.now.values)) }
 {
-    let ranges = claimed_ranges(alloc, claim.inv.as_slice(), variables)?;
+    let lines = claim.inv.list(alloc)?;
+    let ranges = claimed_ranges(alloc, lines.as_slice(), variables)?;
     let mut env = entry.copy(alloc)?;
     renew_each(&mut env, &Renewal::Headed(ranges.as_slice()), variables)?;
     Ok(env)
@@ -102,7 +103,8 @@ pub(crate) fn ranges_hold_in(
 ) -> Result<bool, AllocError>
     ensures { IfOk result (λ b. b ≡ ranges_hold (loop_of claim.now) 0 (map plain_variable variables.now) env.now.values) }
 {
-    let ranges = claimed_ranges(alloc, claim.inv.as_slice(), variables)?;
+    let lines = claim.inv.list(alloc)?;
+    let ranges = claimed_ranges(alloc, lines.as_slice(), variables)?;
     all_lie(env, ranges.as_slice(), variables)
 }
 

@@ -20,8 +20,8 @@ use crate::marks::assigned_marks;
 use crate::renewal::{Renewal, renew_each};
 use crate::rounds::Round;
 use p10_absx::Env;
-use p10_base::{ListBuf, Span};
-use p10_cert::{LoopClaim, Rank};
+use p10_base::Span;
+use p10_cert::{LoopClaim, Rank, VarRanges};
 use p10_core::{LoopHead, Stmt, Variable};
 use std::alloc::{AllocError, Global};
 
@@ -48,7 +48,7 @@ pub(crate) fn no_claim(alloc: Global) -> LoopClaim
         depth: 0,
         rank: Rank::One,
         turns: 0,
-        inv: ListBuf::of(Vec::new(alloc)),
+        inv: VarRanges::new(alloc),
     }
 }
 

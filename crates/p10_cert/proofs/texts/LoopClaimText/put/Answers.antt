@@ -1,8 +1,7 @@
-use Rattle.std.proofs.Common.{[], ◌∷◌, ◌++◌, ap, ◌∙◌, sym}
-use Rattle.std.specs.List.{flat_map}
-use Rattle.p10_cert.specs.Claims.{loop_of, var_of}
+use Rattle.std.proofs.Common.{[], ◌∷◌}
+use Rattle.p10_cert.specs.Claims.{loop_of}
 use Rattle.p10_cert.specs.Certificate.{loop_head}
-use Rattle.p10_cert.specs.Lines.{LoopLine, VarLine, text_of}
+use Rattle.p10_cert.specs.Lines.{LoopLine, text_of}
 use Rattle.p10_cert.proofs.PieceTexts.{loop_text}
 use Rattle.p10_cert.proofs.Written.{on_err, front_before, then_ok, then_front}
 use Rattle.p10_cert.proofs.texts.LoopClaimText.put.Goals as goal
@@ -13,12 +12,10 @@ returns-in_err-put_start-clause-front g c =
 
 pub returns-clause-ok : goal.returns-clause-ok
 returns-clause-ok g c =
-    let vars = ap (flat_map (λ v. text_of (VarLine (var_of v) ∷ []))) c.as_slice.ensures in
-    then_ok c.put_all.result (g.O.Sink.taken c.args.out.now) (g.O.Sink.taken c.put_start.new.out) (g.O.Sink.taken c.put_all.new.out) (text_of (LoopLine (loop_head (loop_of c.args.self.now)) ∷ [])) _ _
-    c.in_ok-put_start.ensures.ok (loop_text c.args.self.now ∙ ap (λ t. text_of (LoopLine (loop_head (loop_of c.args.self.now)) ∷ []) ++ t) (sym vars)) c.put_all.ensures.ok
+    then_ok c.put_vars.result (g.O.Sink.taken c.args.out.now) (g.O.Sink.taken c.put_start.new.out) (g.O.Sink.taken c.put_vars.new.out) (text_of (LoopLine (loop_head (loop_of c.args.self.now)) ∷ [])) _ _
+    c.in_ok-put_start.ensures.ok (loop_text c.args.self.now) c.put_vars.ensures.ok
 
 pub returns-clause-front : goal.returns-clause-front
 returns-clause-front g c =
-    let vars = ap (flat_map (λ v. text_of (VarLine (var_of v) ∷ []))) c.as_slice.ensures in
-    then_front c.put_all.result (g.O.Sink.taken c.args.out.now) (g.O.Sink.taken c.put_start.new.out) (g.O.Sink.taken c.put_all.new.out) (text_of (LoopLine (loop_head (loop_of c.args.self.now)) ∷ [])) _ _
-    c.in_ok-put_start.ensures.ok (loop_text c.args.self.now ∙ ap (λ t. text_of (LoopLine (loop_head (loop_of c.args.self.now)) ∷ []) ++ t) (sym vars)) c.put_all.ensures.front
+    then_front c.put_vars.result (g.O.Sink.taken c.args.out.now) (g.O.Sink.taken c.put_start.new.out) (g.O.Sink.taken c.put_vars.new.out) (text_of (LoopLine (loop_head (loop_of c.args.self.now)) ∷ [])) _ _
+    c.in_ok-put_start.ensures.ok (loop_text c.args.self.now) c.put_vars.ensures.front
