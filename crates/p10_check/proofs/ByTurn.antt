@@ -1,8 +1,9 @@
 -- The conditions that need no loops but the task loop's are the same under claims that are the same but for loops.
-use Rattle.std.proofs.Common.{◌≡◌, ◌∙◌, ℕ, not, ◌&&◌, ◌||◌, List, ◌++◌, map, Option, Some, None, option_map, sym, ap, refl, nat_lt, nat_le}
+use Rattle.std.proofs.Common.{◌≡◌, ◌∙◌, ℕ, Bool, not, ◌&&◌, ◌||◌, List, [], ◌++◌, map, append_assoc, Option, Some, None, option_map, sym, ap, refl, nat_lt, nat_le}
 use Rattle.std.specs.Prelude.{slice_get}
 use Rattle.std.specs.List.{filter}
 use Rattle.std.proofs.lemmas.Option.{slice_get-map}
+use Rattle.p10_base.specs.declared.span.Span.{Span}
 use Rattle.p10_core.specs.Typed.{PlainFunction, PlainProgram}
 use Rattle.p10_cert.specs.Claims.{Func, Claims}
 use Rattle.p10_calls.specs.declared.sites.CallSite.{CallSite}
@@ -14,10 +15,10 @@ use Rattle.p10_loopless.proofs.Faces.{AreAlike, same_parameters, same_steps, sam
 use Rattle.p10_loopless.proofs.Sums.{same_effects}
 use Rattle.p10_pass.specs.Passing.{Failing}
 use Rattle.p10_check.specs.Places.{place_if, all_places, name_at}
-use Rattle.p10_check.specs.Shapes.{rank_claimed, rising_calls, has_some, wrong_main, hidden_effects, late_names, main_turn}
+use Rattle.p10_check.specs.Shapes.{rank_claimed, goes_down, rising_calls, has_some, is_main_wrong, wrong_main, hidden_effects, late_names, main_turn, bounds_main}
 use Rattle.p10_check.specs.Conditions.{failing_at_each}
 use Rattle.p10_check.specs.private.Firsts.{AreAfterFitting}
-use Rattle.p10_check.specs.private.ShapesByTurn.{low_total_by, AreShapeFailuresBy}
+use Rattle.p10_check.specs.private.ShapesByTurn.{low_total_by, shape_failures_by, AreShapeFailuresBy}
 
 loopless_same : (these others : List Func) (n : ℕ) → AreAlike these others → option_map without_loops (slice_get these n) ≡ option_map without_loops (slice_get others n)
 loopless_same these others n alike = sym (slice_get-map without_loops these n) ∙ ap (λ fs. slice_get fs n) alike ∙ slice_get-map without_loops others n
@@ -63,3 +64,22 @@ shape_told p c d turn fails alike total turns found = record {
 -- the same of the claims themselves
 pub shape_by_turn : (p : PlainProgram) (c : Claims) (turn : ℕ) (fails : List Failing) → turn ≡ main_turn p c.funcs (slice_get p.functions p.main) → AreShapeFailuresBy p c turn fails → AreAfterFitting p c fails
 shape_by_turn p c turn fails turns found = shape_told p c c turn fails refl refl turns found
+
+-- they are put down one after the other
+pub shape_in_order : (p : PlainProgram) (c : Claims) (turn : ℕ) (late : List AnyCall) (sites : List CallSite) (functions : List Func) (calls : List AnyCall) (main : Span) (wrong bounds : Bool)
+    (none rising entered effects all : List Failing) → none ≡ [] → functions ≡ c.funcs → sites ≡ call_sites p
+    → rising ≡ none ++ failing_at_each 2 (map (λ s. s.call.name) (filter (λ s. not (goes_down functions s)) sites))
+    → wrong ≡ is_main_wrong p c.funcs → main ≡ name_at p p.main → entered ≡ rising ++ failing_at_each 4 (place_if wrong main)
+    → calls ≡ late → effects ≡ entered ++ failing_at_each 13 (hidden_effects p c.funcs calls)
+    → bounds ≡ bounds_main c.total (slice_get c.funcs p.main) turn → all ≡ effects ++ failing_at_each 14 (place_if (not bounds) main)
+    → all ≡ shape_failures_by p c turn late
+shape_in_order p c turn late sites functions calls main wrong bounds none rising entered effects all none_is functions_are sites_are rising_are wrong_is main_is entered_are calls_are effects_are bounds_is all_are =
+    let two : List Failing = failing_at_each 2 (rising_calls p c.funcs) in
+    let four : List Failing = failing_at_each 4 (wrong_main p c.funcs) in
+    let more : List Failing = failing_at_each 13 (hidden_effects p c.funcs late) in
+    let last : List Failing = failing_at_each 14 (low_total_by p c turn) in
+    let rising_is : rising ≡ two = rising_are ∙ (λ i. none_is i ++ failing_at_each 2 (map (λ (s : CallSite). s.call.name) (filter (λ (s : CallSite). not (goes_down (functions_are i) s)) (sites_are i)))) in
+    let entered_is : entered ≡ two ++ four = entered_are ∙ (λ i. rising_is i ++ failing_at_each 4 (place_if (wrong_is i) (main_is i))) in
+    let effects_is : effects ≡ (two ++ four) ++ more = effects_are ∙ (λ i. entered_is i ++ failing_at_each 13 (hidden_effects p c.funcs (calls_are i))) in
+    all_are ∙ (λ i. effects_is i ++ failing_at_each 14 (place_if (not (bounds_is i)) (main_is i)))
+    ∙ append_assoc (two ++ four) more last ∙ append_assoc two four (more ++ last)

@@ -37,6 +37,6 @@ mod verdict;
 pub use checking::check;
 pub use evidence::Evidence;
 pub use function::check_one;
-pub use shape::check_shape;
+pub use shape::{check_shape, check_shape_by_calls};
 pub use text::check_text;
 pub use verdict::{TextVerdict, Verdict};

@@ -13,8 +13,7 @@ ghost use Rattle.p10_check.specs.private.Ranked.{stands_for, unranked_by};
 use crate::claimed::{loop_at, loops_claimed};
 use crate::evidence::Evidence;
 use crate::failing::push_if;
-use p10_base::ListBuf;
-use p10_cert::{Cert, LoopClaim, Rank};
+use p10_cert::{Cert, LoopClaim, Rank, VarRanges};
 use p10_core::Program;
 use p10_pass::{Fail, Weak};
 use std::alloc::{AllocError, Global};
@@ -72,7 +71,7 @@ fn no_claim(alloc: Global) -> LoopClaim
         depth: 0,
         rank: Rank::One,
         turns: 0,
-        inv: ListBuf::of(Vec::new(alloc)),
+        inv: VarRanges::new(alloc),
     }
 }
 

@@ -1,7 +1,9 @@
 -- The calls after the mark, one after the other, and those that allocate.
-use Rattle.std.proofs.Common.{◌≡◌, ℕ, ◌+◌, ◌-◌, ◌<◌, List, [], ◌∷◌, ◌++◌, length, nat_lt, nat_eq, eq-eqb, Bool, true, ◌&&◌, sym, ◌∙◌, ap, arith, append_assoc}
-use Rattle.std.specs.List.{filter, slice_index}
+use Rattle.std.proofs.Common.{◌≡◌, ℕ, ◌+◌, ◌-◌, ◌<◌, List, [], ◌∷◌, ◌++◌, length, nat_lt, nat_eq, eq-eqb, Bool, true, false, ◌&&◌, sym, ◌∙◌, ap, arith, append_assoc}
+use Rattle.std.specs.List.{filter, list_any, slice_index}
+use Rattle.std.proofs.lemmas.Bool.Decides.{nat_tests}
 use Rattle.std.proofs.lemmas.Bool.{and_parts, ltb-true, lt-ltb, eqb-true}
+use Rattle.std.proofs.lemmas.Map.Keys.{any_passes_from_place}
 use Rattle.std.proofs.lemmas.List.Elements.{filter-append, filter_map-append}
 use Rattle.p10_core.specs.Typed.{PlainProgram, PlainStatements}
 use Rattle.p10_core.specs.Nodes.{PlainNode, nodes_of_statements}
@@ -10,7 +12,7 @@ use Rattle.p10_flowrules.specs.declared.calls.Called.{Called}
 use Rattle.p10_flowrules.specs.declared.calls.Called.TheVariants.{Function, Library}
 use Rattle.p10_flowrules.specs.AnyCalls.{call_made, calls_made}
 use Rattle.p10_flowrules.specs.Allocating.{IsAllocating, AreLateAllocations, late_statements}
-use Rattle.p10_flowrules.specs.private.MemoryGraphs.{TellsAllocating, has_memory_number}
+use Rattle.p10_flowrules.specs.private.MemoryGraphs.{TellsAllocating, TellsMemory, has_memory, has_memory_number}
 use Rattle.p10_flowrules.proofs.MemoryWalks.{allocating_within}
 
 -- the next node, and the calls among the nodes after it
@@ -43,10 +45,25 @@ module _ (p : PlainProgram) (numbers : List ℕ) (tells : TellsAllocating p numb
       ∙ eq-eqb (slice_index numbers u) (slice_index numbers (length numbers - 1)) ((tells.exact u low).1 a ∙ ap (slice_index numbers) (sym last_is))
   allocating_is (Library f) a = a
 
-  pub late_are : (slice : List ℕ) (body : PlainStatements) (found : List AnyCall) → slice ≡ numbers → body ≡ late_statements p → found ≡ filter (λ c. has_memory_number slice c.called) (calls_made (nodes_of_statements body)) → AreLateAllocations p found
-  late_are slice body found same is e = record {
-    test = λ c. has_memory_number numbers c.called;
-    exact = λ c held. (is_allocating c.called, allocating_is c.called);
-    are = e ∙ ap (λ (l : List ℕ). filter (λ (c : AnyCall). has_memory_number l c.called) (calls_made (nodes_of_statements body))) same
-        ∙ ap (λ (s : PlainStatements). filter (λ (c : AnyCall). has_memory_number numbers c.called) (calls_made (nodes_of_statements s))) is;
-  }
+  pub tells_memory : TellsMemory p numbers
+  tells_memory called = (is_allocating called, allocating_is called)
+
+-- without a function that allocates or frees itself, no numbers are needed
+pub tells_none : (p : PlainProgram) → list_any has_memory p.functions ≡ false → TellsMemory p []
+tells_none p none (Library f) = (λ e. e, λ a. a)
+tells_none p none (Function n) = (
+  (λ e. let above : nat_lt (n + 1) 0 ≡ false = grind (arith, nat_tests) in
+      let no : false ≡ true = sym (ap (λ (b : Bool). b && nat_eq (slice_index [] n) (slice_index [] (0 - 1))) above) ∙ e in absurd cc),
+  (λ a. let some : list_any has_memory p.functions ≡ true = any_passes_from_place has_memory p.functions a.last a.function a.there a.itself in
+      let no : true ≡ false = sym some ∙ none in absurd cc),
+)
+
+-- the calls after the mark, of which such numbers tell
+pub late_are : (p : PlainProgram) (numbers : List ℕ) → TellsMemory p numbers → (slice : List ℕ) (body : PlainStatements) (found : List AnyCall) → slice ≡ numbers → body ≡ late_statements p
+    → found ≡ filter (λ c. has_memory_number slice c.called) (calls_made (nodes_of_statements body)) → AreLateAllocations p found
+late_are p numbers tells slice body found same is e = record {
+  test = λ c. has_memory_number numbers c.called;
+  exact = λ c held. tells c.called;
+  are = e ∙ ap (λ (l : List ℕ). filter (λ (c : AnyCall). has_memory_number l c.called) (calls_made (nodes_of_statements body))) same
+      ∙ ap (λ (s : PlainStatements). filter (λ (c : AnyCall). has_memory_number numbers c.called) (calls_made (nodes_of_statements s))) is;
+}

@@ -11,7 +11,7 @@ ghost use Rattle.p10_flowrules.specs.private.MemoryGraphs.{has_memory_number};
 
 use crate::calls::{AnyCall, call_made};
 use crate::main_body::late_items;
-use crate::memory::{has_memory_number, memory_numbers};
+use crate::memory::{has_memory_number, numbers_told};
 use p10_core::{Node, Nodes, Program, Stmt};
 use std::alloc::{AllocError, Global};
 
@@ -20,7 +20,7 @@ use std::alloc::{AllocError, Global};
 pub fn late_allocations(alloc: Global, program: &Program<'_>) -> Result<Vec<AnyCall>, AllocError>
     ensures { IfOk result (λ calls. AreLateAllocations (plain_program program.now) calls.items) }
 {
-    let numbers = memory_numbers(alloc, program)?;
+    let numbers = numbers_told(alloc, program)?;
     calls_with_memory(alloc, late_items(program), numbers.as_slice())
 }
 

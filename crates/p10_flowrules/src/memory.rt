@@ -2,9 +2,9 @@
 //! graph of calls with one node more.
 
 ghost use Rattle.std.specs.Prelude.{◌≡◌, ◌+◌, ◌-◌, ◌<◌, ◌++◌, ◌&&◌, IfOk, OnOk, length, map, nat_eq, nat_lt, slice_index};
-ghost use Rattle.std.specs.List.{All};
+ghost use Rattle.std.specs.List.{All, list_any};
 ghost use Rattle.p10_core.specs.Views.{plain_function, plain_program};
-ghost use Rattle.p10_flowrules.specs.private.MemoryGraphs.{TellsAllocating, back_edges, edges_from, edges_to, has_memory_number, memory_edge, memory_edges};
+ghost use Rattle.p10_flowrules.specs.private.MemoryGraphs.{TellsAllocating, TellsMemory, back_edges, edges_from, edges_to, has_memory, has_memory_number, memory_edge, memory_edges};
 
 use crate::calls::{Called, has_memory_call};
 use p10_calls::call_graph;
@@ -12,8 +12,33 @@ use p10_core::{Func, Program, manages_memory};
 use p10_graph::{Graph, components};
 use std::alloc::{AllocError, Global};
 
+/// Numbers that tell which functions of a program allocate or free. Where none does so itself there are none: then there is nothing to reach.
+pub(crate) fn numbers_told(alloc: Global, program: &Program<'_>) -> Result<Vec<u32>, AllocError>
+    ensures { IfOk result (λ numbers. TellsMemory (plain_program program.now) numbers.items) }
+{
+    let some = some_has_memory(alloc, program.functions.as_slice())?;
+    if some {
+        return memory_numbers(alloc, program);
+    }
+    Ok(Vec::new(alloc))
+}
+
+/// Whether one of some functions allocates or frees itself.
+fn some_has_memory(alloc: Global, functions: &[Func<'_>]) -> Result<bool, AllocError>
+    ensures { IfOk result (λ some. some ≡ list_any has_memory (map plain_function functions.now)) }
+{
+    let mut functions = functions;
+    while let [function, others @ ..] = functions {
+        if has_memory_call(alloc, function.body.as_slice())? {
+            return Ok(true);
+        }
+        functions = others;
+    }
+    Ok(false)
+}
+
 /// Numbers of a program's functions, and after them that of the memory, which those that allocate or free have.
-pub(crate) fn memory_numbers(alloc: Global, program: &Program<'_>) -> Result<Vec<u32>, AllocError>
+fn memory_numbers(alloc: Global, program: &Program<'_>) -> Result<Vec<u32>, AllocError>
     ensures { IfOk result (λ numbers. TellsAllocating (plain_program program.now) numbers.items) }
 {
     let calls = call_graph(alloc, program)?;

@@ -1,21 +1,20 @@
 -- How the verdict after an edit is found: one function after the other, and then all together.
 use Rattle.std.proofs.Common.{◌≡◌, ◌∙◌, ℕ, ◌-◌, ◌≤◌, List, [], ◌∷◌, ◌++◌, length, take, drop, get_or, Option, Some, None, Result, Ok, Err, IfOk, sym, ap, subst, refl, arith, append_assoc}
 use Rattle.std.specs.Prelude.{slice_get, OnOk, OnErr}
-use Rattle.std.proofs.lemmas.List.{take_rest}
+use Rattle.std.proofs.lemmas.List.{append-nil, take_rest}
 use Rattle.p10_core.specs.Typed.{PlainProgram}
 use Rattle.p10_cert.specs.Claims.{Claims}
 use Rattle.p10_fit.specs.Fits.{unfit}
 use Rattle.p10_pass.specs.Passing.{Failing}
-use Rattle.p10_check.specs.declared.verdict.Verdict.TheVariants as plain
 use Rattle.p10_check.specs.declared.verdict.TextVerdict.{TextVerdict}
-use Rattle.p10_check.specs.declared.verdict.TextVerdict.TheVariants.{Refused}
-use Rattle.p10_check.specs.Places.{name_at}
 use Rattle.p10_check.specs.Passes.{Standing}
 use Rattle.p10_check.specs.Conditions.{after_fitting, shape_failures, AreShapeFailures, function_failures_at, verdict_by}
 use Rattle.p10_check.specs.Texts.{claims_in, first_stale, text_verdict}
 use Rattle.p10_incr.specs.Edits.{Edit, dirty}
 use Rattle.p10_incr.specs.Passing.{PassedUpTo, PassedFront}
 use Rattle.p10_incr.specs.Rechecking.{first_from, first_by_number, failures_among, JudgesAmong, RechecksBy, IsRecheckVerdict, passed_where, passed_for}
+use Rattle.p10_incr.specs.private.Misfits.{misfit_in}
+use Rattle.p10_incr.proofs.Misfits.{IsMisfit, fits, misfit_is}
 use Rattle.p10_incr.proofs.Suffice.{from_both}
 
 -- ## One function after the other
@@ -44,23 +43,41 @@ passed_one old mid new initial numbers rest number parts up more = record {
 -- ## The verdict on claims
 
 -- on claims that don't speak of the program
-pub unfit_judged : (stands : Standing) (p : PlainProgram) (c : Claims) (numbers : List ℕ) (shape : List Failing) (o : Option ℕ) (number : ℕ) (v : TextVerdict) → AreShapeFailures p c shape → o ≡ unfit p c → o ≡ Some number
-    → v ≡ Refused 1 (name_at p number) → JudgesAmong stands p c numbers v
-unfit_judged stands p c numbers shape o number v are told is v_is = (
-  plain.Refused 1 (name_at p number),
-  record {
-    first = Some (record { k = 1; at = name_at p number });
-    first_is = record { late = are.late; late_are = are.late_are; is = ap (λ x. first_by_number (after_fitting p x (shape_failures p c are.late ++ failures_among stands p c numbers))) (sym is ∙ told) };
-    is = refl;
-  },
-  v_is,
-)
+pub misfit_judged : (stands : Standing) (p : PlainProgram) (c : Claims) (numbers : List ℕ) (shape given : List Failing) (found : Option Failing) (e : Failing) (v : TextVerdict) → AreShapeFailures p c shape → given ≡ shape
+    → found ≡ misfit_in given → found ≡ Some e → v ≡ text_verdict (verdict_by c.total (Some e)) → JudgesAmong stands p c numbers v
+misfit_judged stands p c numbers shape given found e v are given_is told is v_is =
+    let m : IsMisfit p c e = misfit_is p c shape are e (sym (ap misfit_in given_is) ∙ sym told ∙ is) in (
+      verdict_by c.total (Some e),
+      record {
+        first = Some e;
+        first_is = record { late = are.late; late_are = are.late_are; is = ap Some m.is ∙ ap (λ x. first_by_number (after_fitting p x (shape_failures p c are.late ++ failures_among stands p c numbers))) (sym m.there) };
+        is = refl;
+      },
+      v_is,
+    )
+
+pub none_passed : (p : PlainProgram) (c : Claims) (numbers : List ℕ) (shape given : List Failing) (found : Option Failing) (e : Failing) → AreShapeFailures p c shape → given ≡ shape → found ≡ misfit_in given → found ≡ Some e
+    → passed_where None (unfit p c) numbers ≡ []
+none_passed p c numbers shape given found e are given_is told is =
+    ap (λ o. passed_where None o numbers) (misfit_is p c shape are e (sym (ap misfit_in given_is) ∙ sym told ∙ is)).there
+
+pub all_passed : (p : PlainProgram) (c : Claims) (numbers : List ℕ) (shape given : List Failing) (found : Option Failing) → AreShapeFailures p c shape → given ≡ shape → found ≡ misfit_in given → found ≡ None
+    → passed_where None (unfit p c) numbers ≡ numbers
+all_passed p c numbers shape given found are given_is told is = ap (λ o. passed_where None o numbers) (fits p c shape are (sym (ap misfit_in given_is) ∙ sym told ∙ is))
+
+pub on_err : {A E : Type 0} (r : Result A E) (X : Type 0) → X → OnErr r X
+on_err (Ok v) X x = tt
+on_err (Err fault) X x = x
+
+-- nothing was passed yet
+pub not_yet : (old wanted : List ℕ) → PassedFront old old wanted
+not_yet old wanted = record { left = wanted; passed = record { front = []; wanted_is = refl; after_is = sym (append-nil old) } }
 
 -- on others
-pub fit_judged : (stands : Standing) (p : PlainProgram) (c : Claims) (numbers asked : List ℕ) (shape given : List Failing) (o : Option ℕ) (start first : Option Failing) (v : TextVerdict) → AreShapeFailures p c shape → o ≡ unfit p c → o ≡ None
+pub fit_judged : (stands : Standing) (p : PlainProgram) (c : Claims) (numbers asked : List ℕ) (shape given : List Failing) (found start first : Option Failing) (v : TextVerdict) → AreShapeFailures p c shape → found ≡ misfit_in given → found ≡ None
     → given ≡ shape → start ≡ first_from None given → asked ≡ numbers → first ≡ first_from start (failures_among stands p c asked) → v ≡ text_verdict (verdict_by c.total first) → JudgesAmong stands p c numbers v
-fit_judged stands p c numbers asked shape given o start first v are told is given_is start_is asked_are first_is v_is =
-    let fits : None ≡ unfit p c = sym is ∙ told in
+fit_judged stands p c numbers asked shape given found start first v are told is given_is start_is asked_are first_is v_is =
+    let fit : None ≡ unfit p c = sym (fits p c shape are (sym (ap misfit_in given_is) ∙ sym told ∙ is)) in
     let fails : List Failing = failures_among stands p c numbers in (
       verdict_by c.total first,
       record {
@@ -70,9 +87,9 @@ fit_judged stands p c numbers asked shape given o start first v are told is give
           late_are = are.late_are;
           is = first_is
               ∙ ap (λ ns. first_from start (failures_among stands p c ns)) asked_are
-              ∙ ap (λ x. first_from x fails) (start_is ∙ ap (first_from None) (given_is ∙ are.are ∙ ap (λ x. after_fitting p x (shape_failures p c are.late)) (sym fits)))
+              ∙ ap (λ x. first_from x fails) (start_is ∙ ap (first_from None) (given_is ∙ are.are ∙ ap (λ x. after_fitting p x (shape_failures p c are.late)) (sym fit)))
               ∙ sym (from_both None (shape_failures p c are.late) fails)
-              ∙ ap (λ x. first_by_number (after_fitting p x (shape_failures p c are.late ++ fails))) fits;
+              ∙ ap (λ x. first_by_number (after_fitting p x (shape_failures p c are.late ++ fails))) fit;
         };
         is = refl;
       },

@@ -4,4 +4,5 @@ pub mod FirstFound
 pub mod Suffice
 pub mod Marks
 pub mod Entries
+pub mod Misfits
 pub mod Judged

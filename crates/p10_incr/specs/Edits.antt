@@ -1,12 +1,12 @@
 -- An edit of a program, and the functions that it touches: what a certificate from before it says of the others still holds.
-use Rattle.std.specs.Prelude.{ℕ, nat_eq, bytes_eq, Bool, true, false, not, ◌&&◌, ◌||◌, if◌then◌else◌, List, [], ◌∷◌, length, Option, Some, None, slice_get}
+use Rattle.std.specs.Prelude.{ℕ, nat_eq, bytes_eq, Bool, true, false, not, ◌&&◌, ◌||◌, List, [], ◌∷◌, length, Option, Some, None, slice_get}
 use Rattle.std.specs.List.{filter, list_any}
 use Rattle.p10_base.specs.declared.digest.Digests.{Digests}
 use Rattle.p10_core.specs.Typed.{PlainProgram}
 use Rattle.p10_core.specs.WholePrograms.{numbers_from}
 use Rattle.p10_cert.specs.declared.sealed.Cert2.{Cert2}
 use Rattle.p10_cert.specs.Sealed.{bytes_of, statement_of}
-use Rattle.p10_cert.specs.Statements.{Entry, Section, Statement}
+use Rattle.p10_cert.specs.Statements.{Entry, Section, lines_named, Statement}
 use Rattle.p10_calls.specs.declared.sites.CallSite.{CallSite}
 use Rattle.p10_calls.specs.CallSites.{call_sites}
 use Rattle.p10_check.specs.Texts.{digests_of}
@@ -30,11 +30,6 @@ edit_of found old new = record { digests = digests_of found; outside = bytes_of 
 abbrev pub same_digest : Option (List ℕ) → List ℕ → Bool
 same_digest None found = false
 same_digest (Some kept) found = bytes_eq kept found
-
--- the lines of the section with a name, if there is one
-abbrev pub lines_named : List ℕ → List Section → Option (List (List ℕ))
-lines_named name [] = None
-lines_named name (s ∷ sections) = if bytes_eq s.name name then Some s.lines else lines_named name sections
 
 -- whether two sections have the same lines, or both are lacking
 abbrev pub same_lines : Option (List (List ℕ)) → Option (List (List ℕ)) → Bool

@@ -5,7 +5,7 @@ ghost use Rattle.p10_range.specs.Ranges.{interval_of};
 ghost use Rattle.p10_cert.specs.Claims.{value_of, var_of, loop_of, func_of};
 ghost use Rattle.p10_incr.specs.Alike.{all_alike, same_interval, same_value, same_rank, same_var, same_loop, same_numbers, same_func};
 
-use p10_cert::{FuncClaim, LoopClaim, Rank, ValueClaim, VarRange};
+use p10_cert::{FuncClaim, LoopClaim, Rank, ValueClaim, VarRange, VarRanges};
 use p10_range::Range;
 
 /// Whether the same is claimed of two functions.
@@ -94,7 +94,7 @@ fn same_loop(l: &LoopClaim, m: &LoopClaim) -> bool
     ensures { result ≡ same_loop (loop_of l.now) (loop_of m.now) }
 {
     (l.depth == m.depth && same_rank(l.rank, m.rank))
-        && (l.turns == m.turns && same_vars(l.inv.as_slice(), m.inv.as_slice()))
+        && (l.turns == m.turns && same_vars(&l.inv, &m.inv))
 }
 
 /// Whether two ranks are the same.
@@ -122,24 +122,22 @@ fn same_rank(r: Rank, s: Rank) -> bool
 }
 
 /// Whether lines on variables are the same, one after the other.
-fn same_vars(these: &[VarRange], others: &[VarRange]) -> bool
-    ensures { result ≡ all_alike same_var (map var_of these.now) (map var_of others.now) }
+fn same_vars(these: &VarRanges, others: &VarRanges) -> bool
+    ensures { result ≡ all_alike same_var these.now others.now }
 {
-    let mut these = these;
-    let mut others = others;
-    while let [v, rest @ ..] = these {
-        match others {
-            [w, further @ ..] => {
-                if !same_var(*v, *w) {
+    let mut left = these.reader();
+    let mut further = others.reader();
+    while let Some(v) = left.next() {
+        match further.next() {
+            Some(w) => {
+                if !same_var(v, w) {
                     return false;
                 }
-                these = rest;
-                others = further;
             }
-            [] => return false,
+            None => return false,
         }
     }
-    others.is_empty()
+    further.next().is_none()
 }
 
 /// Whether two lines on variables are the same.

@@ -3,21 +3,24 @@
 ghost use Rattle.std.specs.Prelude.{◌≡◌, ◌≤◌, IfOk, true, length, map, slice_set};
 ghost use Rattle.p10_core.specs.Views.{plain_program};
 ghost use Rattle.p10_core.specs.WholePrograms.{numbers_from};
+ghost use Rattle.p10_calls.specs.CallSites.{call_sites};
 ghost use Rattle.p10_incr.specs.Edits.{touches_all, is_touched, dirty};
 ghost use Rattle.p10_incr.specs.private.Entries.{known_edit};
 ghost use Rattle.p10_incr.specs.private.Marks.{marked_or, with_callers, numbers_marked};
 
 use crate::edit::{Edit, is_touched, touches_all};
-use p10_calls::{CallSite, call_sites};
+use p10_calls::CallSite;
 use p10_core::Program;
 use std::alloc::{AllocError, Global};
 
-/// The numbers of the dirty functions, in program order. 2^32 functions count as want of memory.
+/// The numbers of the dirty functions of a program, of which the calls are given, in program order. 2^32 functions count as want of memory.
 pub(crate) fn dirty(
     alloc: Global,
     program: &Program<'_>,
     edit: Edit<'_>,
+    sites: &[CallSite],
 ) -> Result<Vec<u32>, AllocError>
+    requires { sites.now ≡ call_sites (plain_program program.now) }
     ensures { IfOk result (λ numbers. numbers.items ≡ dirty (plain_program program.now) (known_edit edit.entry)) }
 {
     let count = program.functions.as_slice().len();
@@ -26,8 +29,7 @@ pub(crate) fn dirty(
     }
     let all = touches_all(edit);
     let touched = all_touched(alloc, all, edit, count)?;
-    let sites = call_sites(alloc, program)?;
-    let marks = with_callers(alloc, all, edit, touched.as_slice(), sites.as_slice())?;
+    let marks = with_callers(alloc, all, edit, touched.as_slice(), sites)?;
     numbers_marked(alloc, marks.as_slice())
 }
 

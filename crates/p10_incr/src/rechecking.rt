@@ -8,13 +8,14 @@ ghost use Rattle.p10_cert.specs.Sealed.{HasDigests};
 ghost use Rattle.p10_fit.specs.Fits.{unfit};
 ghost use Rattle.p10_pass.specs.Leaving.{failing_of};
 ghost use Rattle.p10_check.specs.Conditions.{verdict_by};
+ghost use Rattle.p10_check.specs.Fails.{failures_of};
 ghost use Rattle.p10_check.specs.Places.{name_at};
 ghost use Rattle.p10_check.specs.Texts.{TellsStale, text_verdict};
-ghost use Rattle.p10_check.specs.declared.verdict.TextVerdict.TheVariants.{Refused};
 ghost use Rattle.p10_incr.specs.Edits.{edit_of, dirty};
 ghost use Rattle.p10_incr.specs.Passing.{PassedFront};
 ghost use Rattle.p10_incr.specs.Rechecking.{first_from, failures_among, JudgesAmong, IsRecheckVerdict, passed_where, passed_for};
 ghost use Rattle.p10_incr.specs.private.Entries.{stale_of, known_edit};
+ghost use Rattle.p10_incr.specs.private.Misfits.{misfit_in};
 
 use crate::dirty::dirty;
 use crate::edit::Edit;
@@ -22,10 +23,10 @@ use crate::first::first_from;
 use crate::passer::Passer;
 use crate::stale::{Stale, first_stale};
 use p10_base::{Bounds, Digests, Span};
+use p10_calls::call_sites;
 use p10_cert::{Cert, Cert2};
-use p10_check::{Evidence, TextVerdict, check_shape};
+use p10_check::{Evidence, TextVerdict, check_shape_by_calls};
 use p10_core::Program;
-use p10_fit::unfit;
 use p10_pass::Fail;
 use std::alloc::{AllocError, Global};
 
@@ -85,11 +86,13 @@ fn verdict_on_claims<E: Evidence, P: Passer>(
     ensures front { OnErr result (PassedFront (P.passed passer.old) (P.passed passer.new) (passed_where None (unfit (plain_program program.now) (claims_of edit.entry.new.now.base)) (dirty (plain_program program.now) (known_edit edit.entry)))) }
 {
     let certificate = &edit.new.base;
-    let shape = check_shape(alloc, program, certificate)?;
-    match unfit(alloc, program, certificate)? {
-        Some(number) => Ok(unfit_verdict(program, number)),
+    // both K2 and the dirty functions ask for the calls
+    let sites = call_sites(alloc, program)?;
+    let shape = check_shape_by_calls(alloc, program, certificate, sites.as_slice())?;
+    match misfit_in(shape.as_slice()) {
+        Some(misfit) => Ok(verdict_by(certificate.total, Some(misfit))),
         None => {
-            let numbers = dirty(alloc, program, edit)?;
+            let numbers = dirty(alloc, program, edit, sites.as_slice())?;
             let judged = Judged {
                 program,
                 certificate,
@@ -136,13 +139,13 @@ fn stale_verdict(program: &Program<'_>, stale: Stale) -> TextVerdict
     }
 }
 
-/// The verdict on a certificate that doesn't speak of the program, at the function with a number.
-fn unfit_verdict(program: &Program<'_>, number: usize) -> TextVerdict
-    ensures { result ≡ Refused 1 (name_at (plain_program program.now) number) }
+/// The failing K1 among those that speak of no values and sums: where it fails it stands alone.
+fn misfit_in(fails: &[Fail]) -> Option<Fail>
+    ensures { option_map failing_of result ≡ misfit_in (failures_of fails.now) }
 {
-    TextVerdict::Refused {
-        k: 1,
-        at: name_at(program, number),
+    match fails {
+        [fail, ..] => { if fail.k == 1 { Some(*fail) } else { None } }
+        [] => None,
     }
 }
 

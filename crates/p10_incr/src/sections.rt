@@ -2,8 +2,9 @@
 
 ghost use Rattle.std.specs.Prelude.{◌≡◌, map, option_map, option_copied, bytes_eq};
 ghost use Rattle.p10_cert.specs.Sealed.{section_of};
+ghost use Rattle.p10_cert.specs.Statements.{lines_named};
 ghost use Rattle.p10_incr.specs.Alike.{all_alike};
-ghost use Rattle.p10_incr.specs.Edits.{lines_named, same_lines, same_evidence, evidence_name};
+ghost use Rattle.p10_incr.specs.Edits.{same_lines, same_evidence, evidence_name};
 ghost use Rattle.p10_incr.specs.private.Entries.{lines_in};
 
 use p10_base::ListBuf;

@@ -1,13 +1,13 @@
 -- The graph of calls with one node more, for the memory: an edge leads to it from each function that allocates or frees itself, and
 -- edges lead back from it to all. So a function allocates or frees, itself or in what it calls, exactly where it is in the
 -- component of that node.
-use Rattle.std.specs.Prelude.{◌≡◌, ◌↔◌, ℕ, zero, suc, ◌+◌, ◌-◌, ◌<◌, Bool, List, [], ◌∷◌, ◌++◌, map, length, slice_index, if◌then◌else◌, nat_lt, nat_eq, ◌&&◌}
+use Rattle.std.specs.Prelude.{◌≡◌, ◌↔◌, ℕ, zero, suc, ◌+◌, ◌-◌, ◌<◌, Bool, true, List, [], ◌∷◌, ◌++◌, map, length, slice_index, if◌then◌else◌, nat_lt, nat_eq, ◌&&◌}
 use Rattle.p10_core.specs.Typed.{PlainFunction, PlainProgram}
 use Rattle.p10_core.specs.Nodes.{nodes_of_statements}
 use Rattle.p10_core.specs.Uses.{manages_memory}
 use Rattle.p10_flowrules.specs.declared.calls.Called.{Called}
 use Rattle.p10_flowrules.specs.declared.calls.Called.TheVariants.{Function, Library}
-use Rattle.p10_flowrules.specs.Allocating.{AllocatesOrFrees, has_memory_call}
+use Rattle.p10_flowrules.specs.Allocating.{AllocatesOrFrees, IsAllocating, has_memory_call}
 
 -- the edges from a node to nodes
 abbrev pub edges_to : ℕ → List ℕ → List (ℕ × ℕ)
@@ -41,3 +41,11 @@ pub record TellsAllocating (p : PlainProgram) (numbers : List ℕ) : Type 0 wher
 abbrev pub has_memory_number : List ℕ → Called → Bool
 has_memory_number numbers (Function n) = nat_lt (n + 1) (length numbers) && nat_eq (slice_index numbers n) (slice_index numbers (length numbers - 1))
 has_memory_number numbers (Library f) = manages_memory f
+
+-- whether a function allocates or frees itself
+abbrev pub has_memory : PlainFunction → Bool
+has_memory f = has_memory_call (nodes_of_statements f.body)
+
+-- numbers that say of all that is called whether it allocates or frees
+abbrev pub TellsMemory : PlainProgram → List ℕ → Type 0
+TellsMemory p numbers = (called : Called) → (has_memory_number numbers called ≡ true) ↔ IsAllocating p called

@@ -4,7 +4,7 @@ use Rattle.p10_cert.specs.Claims.{func_of}
 use Rattle.p10_check.specs.Shapes.{goes_down}
 use Rattle.p10_check.specs.Conditions.{failing_at_each}
 use Rattle.p10_check.specs.Fails.{failures_of}
-use Rattle.p10_check.proofs.ranks.push_among.Given as goal
+use Rattle.p10_check.proofs.ranks.push_rising.Given as goal
 
 abbrev pub invariant-loop-sites : goal.invariant-loop-sites
 invariant-loop-sites l =
