@@ -1,5 +1,5 @@
 -- Updates: what is read of the place, and the rows of the operator.
-use Rattle.std.proofs.Common.{◌≡◌, ℕ, Bool, true, false, refl, ap, sym, ◌∙◌, Option, Some, None, ℤ, option_map, Result, Bor}
+use Rattle.std.proofs.Common.{◌≡◌, ℕ, Bool, true, false, refl, ap, sym, ◌∙◌, Option, Some, None, option_map, Result, Bor}
 use Rattle.std.specs.Prelude.{if◌then◌else◌, IfOk}
 use Rattle.std.specs.declared.alloc.AllocError.{AllocError}
 use Rattle.std.proofs.lemmas.Result.{IfOk-weaker}
@@ -18,18 +18,19 @@ use Rattle.p10_absx.specs.Environments.{Environment, known}
 use Rattle.p10_absx.specs.Assessing.{as_side, value_found, variable_read}
 use Rattle.p10_absx.specs.Trails.{Branching}
 use Rattle.p10_diff.specs.declared.known.Diff.{Diff}
+use Rattle.p10_diff.specs.declared.ends.Ends.{Ends}
 use Rattle.p10_diff.specs.declared.operands.Operands.{Operands as CodeOperands}
 use Rattle.p10_diff.specs.declared.sources.Source.TheVariants.{Updated}
-use Rattle.p10_diff.specs.Bounds.{least, kept}
 use Rattle.p10_diff.specs.Differences.{Name, Pair, Differences, named_by, named, range_of}
 use Rattle.p10_diff.specs.Domain.{is_unconverted, read_of, updated_up, updated_low, assigned, assigned_to}
-use Rattle.p10_diff.specs.Expressions.{is_exact, value_range, part, range_up, range_low, named_up, named_low, operator_up, operator_low, up, low}
+use Rattle.p10_diff.specs.Expressions.{is_exact, value_range, part, operator_up, operator_low, up, low}
 use Rattle.p10_diff.specs.Halves.{part_by}
 use Rattle.p10_diff.specs.Knowing.{differences_of}
-use Rattle.p10_diff.specs.private.Operands.{Operands, operands_of, operands_up, operands_low, operands_by}
-use Rattle.p10_diff.specs.private.Assigning.{update_up, update_low, source_up, source_low}
+use Rattle.p10_diff.specs.private.Ends.{met_ends, named_ends, value_ends}
+use Rattle.p10_diff.specs.private.Operands.{Operands, operands_of, operands_ends, operands_by}
+use Rattle.p10_diff.specs.private.Assigning.{update_ends, source_up, source_low, source_ends}
 use Rattle.p10_diff.specs.private.Executing.{update_operands, variable_if, range_or}
-use Rattle.p10_diff.proofs.Operators.{by_operator_up, by_operator_low}
+use Rattle.p10_diff.proofs.Operators.{by_operator}
 
 -- ## What is read
 
@@ -64,41 +65,24 @@ update_told p t q v o r s u is exact part_is same second again named_so first =
       second = (second ∙ ap (λ (x : Branching). value_range x.values v) same) i;
     })) ∙ ap (λ b. if b then Some (operands_of p r.values t (read_of q) v) else None) is
 
--- ## Rows above
+-- ## Rows
 
 -- the row of an update by what counts of its operands
-abbrev row_up : Pair → Differences → BinOp → Name → Option ℤ → Operands → Option ℤ
-row_up p e op w right o = operands_up p e op o w (kept (least (named_up p e o.variable w) (range_up p e.ranges o.first w))) right
+abbrev row_by : Pair → Differences → BinOp → Name → Ends → Operands → Ends
+row_by p e op w right o = operands_ends p e op o w (met_ends p e.ranges o.first w (named_ends p e o.variable w)) right
 
-up_if : (p : Pair) (e : Differences) (op : BinOp) (t : PlainType) (q : PlainPlace) (v : PlainValue) (w : Name) (right : Option ℤ) (b : Bool) (o : Option CodeOperands) →
-    option_map operands_by o ≡ (if b then Some (operands_of p e.ranges t (read_of q) v) else None) → update_up p op o e w right ≡ (if b then operator_up p e op t (read_of q) v w (up p (read_of q) e w) right else None)
-up_if p e op t q v w right true None is = absurd cc
-up_if p e op t q v w right true (Some o) is = let same : operands_by o ≡ operands_of p e.ranges t (read_of q) v = cc in ap (row_up p e op w right) same ∙ by_operator_up p e op t (read_of q) v w (up p (read_of q) e w) right
-up_if p e op t q v w right false None is = refl
-up_if p e op t q v w right false (Some o) is = absurd cc
-
--- the rows of an update, as those of what is assigned
-source_updated_up : (p : Pair) (e : Differences) (op : BinOp) (t : PlainType) (q : PlainPlace) (v : Bor Value) (o : Option CodeOperands) → option_map operands_by o ≡ update_operands p e.ranges t q (plain_value v.now) →
-    source_up p (Updated op o v) e ≡ updated_up p e op t q (plain_value v.now)
-source_updated_up p e op t q v o is = λ i w. up_if p e op t q (plain_value v.now) w (up p (plain_value v.now) e w) (is_unconverted (integer_of t) (integer_of (place_type q))) o is i
-
--- ## Rows below
-
--- the row of an update by what counts of its operands
-abbrev row_low : Pair → Differences → BinOp → Name → Option ℤ → Operands → Option ℤ
-row_low p e op w right o = operands_low p e op o w (kept (least (named_low p e o.variable w) (range_low p e.ranges o.first w))) right
-
-low_if : (p : Pair) (e : Differences) (op : BinOp) (t : PlainType) (q : PlainPlace) (v : PlainValue) (w : Name) (right : Option ℤ) (b : Bool) (o : Option CodeOperands) →
-    option_map operands_by o ≡ (if b then Some (operands_of p e.ranges t (read_of q) v) else None) → update_low p op o e w right ≡ (if b then operator_low p e op t (read_of q) v w (low p (read_of q) e w) right else None)
-low_if p e op t q v w right true None is = absurd cc
-low_if p e op t q v w right true (Some o) is = let same : operands_by o ≡ operands_of p e.ranges t (read_of q) v = cc in ap (row_low p e op w right) same ∙ by_operator_low p e op t (read_of q) v w (low p (read_of q) e w) right
-low_if p e op t q v w right false None is = refl
-low_if p e op t q v w right false (Some o) is = absurd cc
+row_if : (p : Pair) (e : Differences) (op : BinOp) (t : PlainType) (q : PlainPlace) (v : PlainValue) (w : Name) (right : Ends) (b : Bool) (o : Option CodeOperands) →
+    option_map operands_by o ≡ (if b then Some (operands_of p e.ranges t (read_of q) v) else None) →
+    update_ends p op o e w right ≡ record { above = if b then operator_up p e op t (read_of q) v w (up p (read_of q) e w) right.above else None; below = if b then operator_low p e op t (read_of q) v w (low p (read_of q) e w) right.below else None }
+row_if p e op t q v w right true None is = absurd cc
+row_if p e op t q v w right true (Some o) is = let same : operands_by o ≡ operands_of p e.ranges t (read_of q) v = cc in ap (row_by p e op w right) same ∙ by_operator p e op t (read_of q) v w (value_ends p (read_of q) e w) right
+row_if p e op t q v w right false None is = refl
+row_if p e op t q v w right false (Some o) is = absurd cc
 
 -- the rows of an update, as those of what is assigned
-source_updated_low : (p : Pair) (e : Differences) (op : BinOp) (t : PlainType) (q : PlainPlace) (v : Bor Value) (o : Option CodeOperands) → option_map operands_by o ≡ update_operands p e.ranges t q (plain_value v.now) →
-    source_low p (Updated op o v) e ≡ updated_low p e op t q (plain_value v.now)
-source_updated_low p e op t q v o is = λ i w. low_if p e op t q (plain_value v.now) w (low p (plain_value v.now) e w) (is_unconverted (integer_of t) (integer_of (place_type q))) o is i
+source_updated : (p : Pair) (e : Differences) (op : BinOp) (t : PlainType) (q : PlainPlace) (v : Bor Value) (o : Option CodeOperands) → option_map operands_by o ≡ update_operands p e.ranges t q (plain_value v.now) →
+    (w : Name) → source_ends p (Updated op o v) e w ≡ record { above = updated_up p e op t q (plain_value v.now) w; below = updated_low p e op t q (plain_value v.now) w }
+source_updated p e op t q v o is w = row_if p e op t q (plain_value v.now) w (value_ends p (plain_value v.now) e w) (is_unconverted (integer_of t) (integer_of (place_type q))) o is
 
 -- ## The code
 
@@ -108,7 +92,7 @@ by_rows : (p : Pair) (op : BinOp) (t u : PlainType) (at : At) (form : PlaceForm)
     r ≡ assigned p n (source_up p (Updated op o v) (differences_of (record e { ranges = ranges }))) (source_low p (Updated op o v) (differences_of (record e { ranges = ranges }))) (differences_of (record e { ranges = ranges })) after →
     r ≡ assigned_to p (place at u (plain_place_form form)) (updated_up p (differences_of e) op t (place at u (plain_place_form form)) (plain_value v.now)) (updated_low p (differences_of e) op t (place at u (plain_place_form form)) (plain_value v.now)) (differences_of e) after
 by_rows p op t u at form n v o e ranges after r is same operands told =
-    told ∙ (ap (λ (b : Branching). by_source (record e { ranges = b })) same ∙ ((λ i. assigned p n (source_updated_up p d op t q v o operands i) (source_updated_low p d op t q v o operands i) d after) ∙
+    told ∙ (ap (λ (b : Branching). by_source (record e { ranges = b })) same ∙ ((λ i. assigned p n (λ w. (source_updated p d op t q v o operands w i).above) (λ w. (source_updated p d op t q v o operands w i).below) d after) ∙
     ap (λ f. assigned_to p (place at u (plain_place_form f)) (updated_up p d op t q (plain_value v.now)) (updated_low p d op t q (plain_value v.now)) d after) (sym is)))
   where
     d : Differences

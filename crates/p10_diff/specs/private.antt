@@ -1,4 +1,5 @@
 -- The definitions that private contracts of this crate cite.
+pub mod Ends
 pub mod Operands
 pub mod Conditions
 pub mod Hulls

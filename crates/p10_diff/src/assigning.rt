@@ -6,15 +6,13 @@ ghost use Rattle.p10_diff.specs.Domain.{only, assigned_bounds, assigned};
 ghost use Rattle.p10_diff.specs.Knowing.{pair_by, differences_of};
 ghost use Rattle.p10_diff.specs.declared.listed.Name.TheVariants.{Was};
 ghost use Rattle.p10_diff.specs.Listed.{name_of, bounds_listed};
-ghost use Rattle.p10_diff.specs.private.Assigning.{source_up, source_low, IsSource, above_put, below_put, with_pair, with_names, with_all};
+ghost use Rattle.p10_diff.specs.private.Assigning.{source_up, source_low, IsSource, put_ends, with_pair, with_names, with_all};
 
+use crate::ends::{Ends, met_ends};
 use crate::known::{Diff, Pair, range_of};
-use crate::limits::{kept, least};
 use crate::listed::{Name, same_name};
-use crate::lower::range_low;
-use crate::sources::{Source, source_low, source_up};
+use crate::sources::{Source, source_ends};
 use crate::tables::{Table, put, without_variable};
-use crate::upper::range_up;
 use p10_absx::Env;
 use std::alloc::{AllocError, Global};
 
@@ -26,38 +24,21 @@ pub struct Assignment<'a> {
     pub after: &'a Env,
 }
 
-/// The bound that is put of the assigned variable less a name.
-fn above_put(
+/// The bounds that are put of the assigned variable and a name.
+fn put_ends(
     alloc: Global,
     p: &Pair<'_, '_>,
     e: &mut Diff,
     a: &Assignment<'_>,
     w: Name,
-) -> Result<Option<i128>, AllocError>
+) -> Result<Ends, AllocError>
     requires { IsSource a.now.source }
     ensures same { OnOk result (e.new ≡ e.old) }
-    ensures is { IfOk result (λ c. c ≡ above_put (pair_by p.now) a.now (differences_of e.old) (name_of w)) }
+    ensures are { IfOk result (λ c. c ≡ put_ends (pair_by p.now) a.now (differences_of e.old) (name_of w)) }
 {
-    let above = source_up(alloc, p, e, a.source, w)?;
+    let row = source_ends(alloc, p, e, a.source, w)?;
     let r = range_of(a.after.get(a.to));
-    Ok(kept(least(above, range_up(p, a.after, r, w))))
-}
-
-/// That of a name less the variable.
-fn below_put(
-    alloc: Global,
-    p: &Pair<'_, '_>,
-    e: &mut Diff,
-    a: &Assignment<'_>,
-    w: Name,
-) -> Result<Option<i128>, AllocError>
-    requires { IsSource a.now.source }
-    ensures same { OnOk result (e.new ≡ e.old) }
-    ensures is { IfOk result (λ c. c ≡ below_put (pair_by p.now) a.now (differences_of e.old) (name_of w)) }
-{
-    let below = source_low(alloc, p, e, a.source, w)?;
-    let r = range_of(a.after.get(a.to));
-    Ok(kept(least(below, range_low(p, a.after, r, w))))
+    Ok(met_ends(p, a.after, r, w, row))
 }
 
 /// Puts both bounds of the assigned variable and a name.
@@ -77,10 +58,9 @@ fn put_pair(
     if same_name(to, w) {
         return Ok(());
     }
-    let above = above_put(alloc, p, e, a, w)?;
-    let below = below_put(alloc, p, e, a, w)?;
-    put(alloc, bounds, to, w, above)?;
-    put(alloc, bounds, w, to, below)
+    let ends = put_ends(alloc, p, e, a, w)?;
+    put(alloc, bounds, to, w, ends.above)?;
+    put(alloc, bounds, w, to, ends.below)
 }
 
 /// The same for what a variable held at the head, if it is one of the two.

@@ -8,13 +8,14 @@ ghost use Rattle.p10_core.specs.Types.{plain_type};
 ghost use Rattle.p10_core.specs.Views.{plain_value};
 ghost use Rattle.p10_diff.specs.Bounds.{lowest, highest};
 ghost use Rattle.p10_diff.specs.Differences.{named_by, named};
-ghost use Rattle.p10_diff.specs.Expressions.{value_range, is_exact, is_constant, at_least_two, only_divisor, divisor, distance_of, distance, part_of, part, midpoint_between, midpoint_of, midpoint_up, midpoint_low};
+ghost use Rattle.p10_diff.specs.Expressions.{value_range, is_exact, is_constant, at_least_two, only_divisor, divisor, distance_of, distance, part_of, part, midpoint_between, midpoint_of};
 ghost use Rattle.p10_diff.specs.Listed.{name_of};
 ghost use Rattle.p10_diff.specs.Knowing.{pair_by, differences_of};
 ghost use Rattle.p10_diff.specs.Halves.{distance_by, part_by, midpoint_by, IsPart, IsMidpoint};
+ghost use Rattle.p10_diff.specs.private.Ends.{midpoint_ends};
 
+use crate::ends::{Ends, least_ends, plus_ends, variable_ends};
 use crate::known::{Diff, Pair, range_of};
-use crate::limits::{least, plus};
 use crate::listed::Name;
 use p10_absx::Env;
 use p10_core::{CType, Value, ValueForm, integer_of};
@@ -325,26 +326,16 @@ fn quotient(d: i128, by: i128) -> i128
     d.div_euclid(by)
 }
 
-/// By how much a midpoint is above a name, at most.
-pub(crate) fn midpoint_up(p: &Pair<'_, '_>, e: &Diff, m: Midpoint, w: Name) -> Option<i128>
+/// By how much a midpoint is above a name, and below it, at most.
+pub(crate) fn midpoint_ends(p: &Pair<'_, '_>, e: &Diff, m: Midpoint, w: Name) -> Ends
     requires { IsMidpoint m }
-    ensures { result ≡ midpoint_up (pair_by p.now) (differences_of e.now) (midpoint_by m) (name_of w) }
+    ensures { result ≡ midpoint_ends (pair_by p.now) (differences_of e.now) (midpoint_by m) (name_of w) }
 {
-    let part = quotient(m.at_most, m.by);
-    let rest = quotient(m.at_least, m.by) - m.at_least;
-    let from_below = plus(p.bound(e, Name::Now(m.way.below), w), Some(part));
-    let from_above = plus(p.bound(e, Name::Now(m.way.above), w), Some(rest));
-    least(from_below, from_above)
-}
-
-/// By how much it is below a name, at most.
-pub(crate) fn midpoint_low(p: &Pair<'_, '_>, e: &Diff, m: Midpoint, w: Name) -> Option<i128>
-    requires { IsMidpoint m }
-    ensures { result ≡ midpoint_low (pair_by p.now) (differences_of e.now) (midpoint_by m) (name_of w) }
-{
-    let part = 0 - quotient(m.at_least, m.by);
-    let rest = m.at_most - quotient(m.at_most, m.by);
-    let from_below = plus(p.bound(e, w, Name::Now(m.way.below)), Some(part));
-    let from_above = plus(p.bound(e, w, Name::Now(m.way.above)), Some(rest));
-    least(from_below, from_above)
+    let less = quotient(m.at_least, m.by);
+    let more = quotient(m.at_most, m.by);
+    let x = variable_ends(p, e, m.way.below, w);
+    let y = variable_ends(p, e, m.way.above, w);
+    let from_below = plus_ends(x, Some(more), Some(0 - less));
+    let from_above = plus_ends(y, Some(less - m.at_least), Some(m.at_most - more));
+    least_ends(from_below, from_above)
 }

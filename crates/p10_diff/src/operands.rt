@@ -7,6 +7,7 @@ ghost use Rattle.p10_diff.specs.Halves.{IsPart};
 ghost use Rattle.p10_diff.specs.Knowing.{pair_by};
 ghost use Rattle.p10_diff.specs.private.Operands.{operands_of, operands_by};
 
+use crate::ends::Ends;
 use crate::halving::{Part, is_exact, named, part_in, value_range};
 use crate::known::Pair;
 use p10_absx::Env;
@@ -25,11 +26,11 @@ pub struct Operands {
     pub second: Option<Range>,
 }
 
-/// By how much the operands of an operator are above a name, or below it.
+/// The bounds of the operands of an operator and a name.
 #[derive(Clone, Copy)]
 pub(crate) struct Sides {
-    pub(crate) left: Option<i128>,
-    pub(crate) right: Option<i128>,
+    pub(crate) left: Ends,
+    pub(crate) right: Ends,
 }
 
 /// The operands of an operator at a type.

@@ -3,11 +3,11 @@ use Rattle.std.specs.Prelude.{◌≡◌, ℕ, ◌<◌, ◌^◌, List, [], ◌∷
 use Rattle.std.specs.List.{AllByRecursion}
 use Rattle.p10_core.specs.Typed.{PlainProgram}
 use Rattle.p10_core.specs.WholePrograms.{IsWholeProgram}
-use Rattle.p10_cert.specs.Statements.{AreSections, Statement, IsStatement, statement_text}
+use Rattle.p10_cert.specs.Statements.{lines_named, AreSections, Statement, IsStatement, statement_text}
 use Rattle.p10_turns.specs.Laws.{IsLawful}
 use Rattle.p10_diff.specs.Evidence.{Rank}
 use Rattle.p10_diff_evidence.specs.Sections.{section_lines, IsRank, AreRising, IsSection, IsFirstOther}
-use Rattle.p10_diff_evidence.specs.Standing.{lines_named, AreRanks, standing_by}
+use Rattle.p10_diff_evidence.specs.Standing.{AreRanks, standing_by}
 use Rattle.p10_diff_evidence.specs.Placing.{IsBad, IsRanked, rank_sections, if_any}
 
 -- lines are those of one list of ranks at most

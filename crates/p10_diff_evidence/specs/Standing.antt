@@ -1,17 +1,12 @@
 -- What stands for the loops of a program by what a certificate says: ranges, or also the ranks of its section.
-use Rattle.std.specs.Prelude.{ℕ, List, bytes_eq, codes, if◌then◌else◌, Bool, [], ◌∷◌, Option, Some, None}
+use Rattle.std.specs.Prelude.{ℕ, Bool, List, codes, Option, Some, None}
 use Rattle.p10_core.specs.Typed.{PlainProgram}
 use Rattle.p10_cert.specs.Claims.{Loop}
-use Rattle.p10_cert.specs.Statements.{Section, Statement}
+use Rattle.p10_cert.specs.Statements.{lines_named, Statement}
 use Rattle.p10_absx.specs.Environments.{Environment}
 use Rattle.p10_turns.specs.Evidence.{stands_by_ranges}
 use Rattle.p10_diff.specs.Evidence.{Rank, stands_by_differences}
 use Rattle.p10_diff_evidence.specs.Sections.{IsSection}
-
--- the lines of the section with a name, if it is there
-abbrev pub lines_named : List ℕ → List Section → Option (List (List ℕ))
-lines_named name [] = None
-lines_named name (s ∷ sections) = if bytes_eq s.name name then Some s.lines else lines_named name sections
 
 -- the lines of a certificate's section of ranks and facts, if it has one
 abbrev pub diff_lines : Statement → Option (List (List ℕ))

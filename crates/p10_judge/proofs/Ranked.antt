@@ -7,7 +7,7 @@ use Rattle.std.proofs.lemmas.List.{length-map, length-drop, take_all}
 use Rattle.std.proofs.lemmas.Option.{same_Some, none-some}
 use Rattle.p10_cert.specs.Lines.{Line, BodyLine, LastLine, TotalLine}
 use Rattle.p10_cert.specs.Records.{Progress, statement_from}
-use Rattle.p10_cert.specs.Statements.{Ending, Section, Statement, IsStatement, is_there, MayHave, first_line, entry_lines, outside_lines, section_lines, statement_lines, statement_text}
+use Rattle.p10_cert.specs.Statements.{Ending, Section, lines_named, Statement, IsStatement, is_there, MayHave, first_line, entry_lines, outside_lines, section_lines, statement_lines, statement_text}
 use Rattle.p10_cert.specs.declared.sealed.Section.{Section as CodeSection}
 use Rattle.p10_cert.specs.Sealed.{section_of}
 use Rattle.p10_cert.specs.Reading.{version_of}
@@ -20,7 +20,7 @@ use Rattle.p10_diff_evidence.specs.declared.fault.DiffFault.TheVariants.{Line as
 use Rattle.p10_diff_evidence.specs.Reading.{ranks_in, ReadsSection}
 use Rattle.p10_diff_evidence.specs.Sections.{IsSection, IsFirstOther}
 use Rattle.p10_diff_evidence.specs.Placing.{lines_to, lines_before, IsBad, no_rank}
-use Rattle.p10_diff_evidence.specs.Standing.{lines_named, diff_lines, AreRanks}
+use Rattle.p10_diff_evidence.specs.Standing.{diff_lines, AreRanks}
 use Rattle.p10_judge.specs.private.Ranks.{line_count, lines_of_sections, lines_from, place_of_diff, IsOver, HasSectionAt}
 use Rattle.p10_judge.specs.Ranks.{HasSections, SayRanks}
 use Rattle.p10_judge.proofs.LineCounts.{statement_counts}

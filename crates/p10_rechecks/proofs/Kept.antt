@@ -3,11 +3,11 @@ use Rattle.std.proofs.Common.{◌≡◌, ◌∙◌, ℕ, ◌&&◌, ◌||◌, not
 use Rattle.std.specs.Prelude.{bytes_eq, slice_get}
 use Rattle.std.proofs.lemmas.Option.{slice_get-map}
 use Rattle.std.proofs.lemmas.Slice.Eq.{bytes_eq-Decides}
-use Rattle.p10_cert.specs.Statements.{Entry, Statement}
+use Rattle.p10_cert.specs.Statements.{Entry, lines_named, Statement}
 use Rattle.p10_check.specs.Texts.{claims_in}
 use Rattle.p10_views.specs.Views.{SayTheSame}
 use Rattle.p10_incr.specs.Alike.{same_func}
-use Rattle.p10_incr.specs.Edits.{Edit, same_digest, touches_all, is_kept, is_touched, evidence_name, lines_named, same_lines, same_evidence}
+use Rattle.p10_incr.specs.Edits.{Edit, same_digest, touches_all, is_kept, is_touched, evidence_name, same_lines, same_evidence}
 use Rattle.p10_incr.proofs.Deciding.{all_decide, same_func_decides}
 
 -- both parts of a test that holds, and of one that doesn't

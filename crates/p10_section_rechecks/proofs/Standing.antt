@@ -1,15 +1,13 @@
 -- Evidence by a section says the same of a function that keeps its view, where both certificates have the same section.
-use Rattle.std.proofs.Common.{◌≡◌, ◌∙◌, ℕ, false, List, [], ◌∷◌, Option, Some, None, refl, sym, ap, subst}
-use Rattle.std.specs.Prelude.{slice_get, bytes_eq, codes, if◌then◌else◌}
+use Rattle.std.proofs.Common.{◌≡◌, ◌∙◌, ℕ, List, Option, Some, None, ap, subst}
+use Rattle.std.specs.Prelude.{slice_get}
 use Rattle.p10_core.specs.Typed.{PlainFunction, PlainProgram}
-use Rattle.p10_cert.specs.Statements.{Section}
 use Rattle.p10_diff.specs.Evidence.{Rank}
 use Rattle.p10_diff_evidence.specs.Laws.{OneListOfRanks}
-use Rattle.p10_diff_evidence.specs.Standing.{lines_named, diff_lines, AreRanks, standing_by}
+use Rattle.p10_diff_evidence.specs.Standing.{diff_lines, AreRanks, standing_by}
 use Rattle.p10_views.specs.Views.{view_of}
 use Rattle.p10_evidence_views.proofs.Ranges.{ranges_stand_by_view}
 use Rattle.p10_difference_views.proofs.Stands.{differences_stand_by_view}
-use Rattle.p10_incr.specs.Edits.{Edit, touches_all, lines_named as section_named}
 use Rattle.p10_rechecks.proofs.Kept.{evidence_kept}
 use Rattle.p10_rechecks.proofs.Wholly.{rechecks_as_whole}
 use Rattle.p10_section_rechecks.specs.Laws.{SectionsRecheckAsWhole}
@@ -19,19 +17,10 @@ ranks_stay : (ranks : Option (List Rank)) (p q : PlainProgram) (n : ℕ) (f g : 
 ranks_stay None p q n f g here there view = ranges_stand_by_view p q n f g here there view
 ranks_stay (Some ranks) p q n f g here there view = differences_stand_by_view ranks p q n f g here there view
 
--- the lines of a section by its name, as edits and as evidence have them
-same_named : (name : List ℕ) (sections : List Section) → section_named name sections ≡ lines_named name sections
-same_named name [] = refl
-same_named name (s ∷ sections) = ap (λ rest. if bytes_eq s.name name then Some s.lines else rest) (same_named name sections)
-
--- the lines of ranks stay where an edit doesn't touch all
-ranks_kept : (e : Edit) → touches_all e ≡ false → diff_lines e.old ≡ diff_lines e.new
-ranks_kept e none = sym (same_named (codes "diff") e.old.ending.sections) ∙ (evidence_kept e none ∙ same_named (codes "diff") e.new.ending.sections)
-
 pub sections_recheck_as_whole : OneListOfRanks → SectionsRecheckAsWhole
 sections_recheck_as_whole one q p digests outside e before after verdict were are was views is =
     rechecks_as_whole (standing_by q before) (standing_by p after) q p digests outside e verdict was views
     (λ none n f g here there view.
     ranks_stay before q p n f g here there view
-    ∙ ap (λ ranks. standing_by p ranks n) (one (diff_lines e.new) before after (subst (λ lines. AreRanks lines before) (ranks_kept e none) were) are))
+    ∙ ap (λ ranks. standing_by p ranks n) (one (diff_lines e.new) before after (subst (λ lines. AreRanks lines before) (evidence_kept e none) were) are))
     is

@@ -8,6 +8,7 @@ use Rattle.p10_absx.specs.Environments.{known}
 use Rattle.p10_diff.specs.declared.listed.Name.{Name as CodeName}
 use Rattle.p10_diff.specs.declared.listed.Name.TheVariants.{Now, Was}
 use Rattle.p10_diff.specs.declared.assigning.Assignment.{Assignment as CodeAssignment}
+use Rattle.p10_diff.specs.declared.ends.Ends.{Ends}
 use Rattle.p10_diff.specs.declared.operands.Operands.{Operands as CodeOperands}
 use Rattle.p10_diff.specs.declared.sources.Source.{Source}
 use Rattle.p10_diff.specs.declared.sources.Source.TheVariants.{Kept, Updated}
@@ -29,6 +30,9 @@ abbrev pub update_low : Pair → BinOp → Option CodeOperands → Differences �
 update_low p op None e w right = None
 update_low p op (Some o) e w right = operands_low p e op (operands_by o) w (kept (least (named_low p e o.variable w) (range_low p e.ranges (option_map interval_of o.first) w))) right
 
+abbrev pub update_ends : Pair → BinOp → Option CodeOperands → Differences → Name → Ends → Ends
+update_ends p op o e w right = record { above = update_up p op o e w right.above; below = update_low p op o e w right.below }
+
 -- the same of a value that is assigned, or of an update
 abbrev pub source_up : Pair → Source → Differences → Name → Option ℤ
 source_up p (Kept v) e = up p (plain_value v.now) e
@@ -37,6 +41,9 @@ source_up p (Updated op operands v) e = λ w. update_up p op operands e w (up p 
 abbrev pub source_low : Pair → Source → Differences → Name → Option ℤ
 source_low p (Kept v) e = low p (plain_value v.now) e
 source_low p (Updated op operands v) e = λ w. update_low p op operands e w (low p (plain_value v.now) e w)
+
+abbrev pub source_ends : Pair → Source → Differences → Name → Ends
+source_ends p s e w = record { above = source_up p s e w; below = source_low p s e w }
 
 -- an update divides by no less than 2
 abbrev pub IsSource : Source → Type 0
@@ -49,6 +56,9 @@ above_put p a e w = kept (least (source_up p a.source e w) (range_up p a.after.n
 
 abbrev pub below_put : Pair → CodeAssignment → Differences → Name → Option ℤ
 below_put p a e w = kept (least (source_low p a.source e w) (range_low p a.after.now.values (range_of (known a.after.now.values a.to)) w))
+
+abbrev pub put_ends : Pair → CodeAssignment → Differences → Name → Ends
+put_ends p a e w = record { above = above_put p a e w; below = below_put p a e w }
 
 -- ## What is put
 

@@ -7,6 +7,7 @@ use Rattle.p10_range.specs.Ranges.{Interval, interval_of}
 use Rattle.p10_core.specs.Types.{PlainType}
 use Rattle.p10_core.specs.Typed.{PlainValue}
 use Rattle.p10_absx.specs.Environments.{Environment}
+use Rattle.p10_diff.specs.declared.ends.Ends.{Ends}
 use Rattle.p10_diff.specs.declared.operands.Operands.{Operands as CodeOperands}
 use Rattle.p10_diff.specs.Bounds.{least, plus}
 use Rattle.p10_diff.specs.Differences.{Name, Pair, Differences, top, bottom, named}
@@ -37,6 +38,10 @@ operands_low p e Add o w left right =
     if o.exact then sum_low p e (midpoint_of p e o.variable o.part) w (least (plus left (bottom o.second)) (plus right (bottom o.first))) else None
 operands_low p e Sub o w left right = if o.exact then plus left (top o.second) else None
 operands_low p e op o w left right = None
+
+-- both
+abbrev pub operands_ends : Pair → Differences → BinOp → Operands → Name → Ends → Ends → Ends
+operands_ends p e op o w left right = record { above = operands_up p e op o w left.above right.above; below = operands_low p e op o w left.below right.below }
 
 -- the code's operands
 abbrev pub operands_by : CodeOperands → Operands
