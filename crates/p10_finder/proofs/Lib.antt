@@ -4,6 +4,7 @@ pub mod Alone
 pub mod SmallAnswers
 pub mod LoopForms
 pub mod BlockForms
+pub mod WithoutLoops
 pub mod Judging
 pub mod Lacking
 pub mod Called

@@ -1,5 +1,5 @@
 -- What is claimed of functions before their sums are counted.
-use Rattle.std.proofs.Common.{◌≡◌, ℕ, zero, suc, ◌+◌, ◌<◌, false, List, [], ◌∷◌, ◌++◌, length, map, get_or, Some, refl, sym, ap, ◌∙◌, subst, arith, inl, inr}
+use Rattle.std.proofs.Common.{◌≡◌, ℕ, zero, suc, ◌+◌, ◌<◌, false, List, [], ◌∷◌, ◌++◌, length, map, get_or, Option, Some, refl, sym, ap, ◌∙◌, subst, arith, inl, inr}
 use Rattle.std.specs.Prelude.{slice_get}
 use Rattle.std.specs.List.{slice_index}
 use Rattle.std.proofs.lemmas.Bool.{cases_lt}
@@ -15,10 +15,10 @@ use Rattle.p10_calls.specs.Ranks.{AreRanks}
 use Rattle.p10_calls.proofs.Uniqueness.{no_ranks_on_cycles}
 use Rattle.p10_cert.specs.declared.claims.FuncClaim.{FuncClaim}
 use Rattle.p10_cert.specs.Claims.{Func, func_of, Claims}
-use Rattle.p10_absx.proofs.Entries.{get_map}
-use Rattle.p10_finder.specs.Functions.{any_value}
+use Rattle.p10_absx.proofs.Entries.{get_map, get_below}
+use Rattle.p10_finder.specs.Functions.{any_value, result_of}
 use Rattle.p10_finder.specs.Answers.{HaveResults}
-use Rattle.p10_finder.specs.private.Counting.{unsummed, AreUnsummed}
+use Rattle.p10_finder.specs.private.Counting.{result_in, unsummed, AreUnsummed}
 use Rattle.p10_finder.proofs.Called.{all_called}
 use Rattle.p10_finder.proofs.SameValues.{Same}
 use Rattle.p10_finder.proofs.SameLoops.{loops_of_same, result_same}
@@ -53,6 +53,21 @@ unsummed_more o p r ranks fs n f old new put inside is made pushed size so-far k
           let same : plain_function f ≡ g = let theirs : slice_get (map plain_function fs) n ≡ Some g = subst (λ m. slice_get (map plain_function fs) m ≡ Some g) here got in cc in
           let last : slice_get (map func_of old ++ func_of put ∷ []) k ≡ Some (func_of put) = got_last (map func_of old) (func_of put) k (length-map old func_of ∙ (size ∙ sym here)) in
           last ∙ ap Some (made ∙ (ap (unsummed o p r n (slice_index ranks n)) same ∙ ap (λ m. unsummed o p r m (slice_index ranks m) g) (sym here)))
+    ]
+
+-- ## The results
+
+-- what claims with the results say of the result of a function
+pub result_there : (o : Offers) (p : PlainProgram) (results : Claims) (ranks : List ℕ) (fs : List CodeFunc) (n : ℕ) (f : CodeFunc) → AreRanks (call_graph p) ranks → HaveResults o p results → p.functions ≡ map plain_function fs → n < length fs
+    → f ≡ get_or fs n f → result_in (slice_get results.funcs n) (plain_function f) ≡ result_of o p results n (plain_function f)
+result_there o p results ranks fs n f are have all inside is =
+    let there : slice_get p.functions n ≡ Some (plain_function f) =
+    ap (λ (gs : List PlainFunction). slice_get gs n) all ∙ get_map plain_function fs n f (slice_get-get_or fs n f inside ∙ ap Some (sym is)) in
+    let low : n < length p.functions = get_below p.functions n (plain_function f) there in
+    let each : length results.funcs ≡ length p.functions = have.each in
+    elim (slice_get_cases results.funcs n).1 [
+      | inr (past, none) ↦ absurd (omega (arith, past, low, each))
+      | inl (a, inside2, is2, got) ↦ ap (λ (claim : Option Func). result_in claim (plain_function f)) is2 ∙ (have.results n (plain_function f) a there is2).other (λ on. no_ranks_on_cycles (call_graph p) ranks are n on)
     ]
 
 -- ## The claims themselves

@@ -11,6 +11,7 @@ ghost use Rattle.p10_finder.specs.Finding.{loops_by};
 ghost use Rattle.p10_finder.specs.Functions.{any_value as any_value_of, loops_of as loops_of_function, result_by as result_of_range, result_of as result_of_function, search_in as search_of};
 ghost use Rattle.p10_finder.specs.private.Looking.{search_by, returned_after};
 
+use crate::looping::have_loop;
 use crate::search::{LoopsFound, Search};
 use crate::walk::loops_in_all;
 use p10_absx::{Env, values};
@@ -84,7 +85,7 @@ fn search_in<'a, 's>(
 }
 
 /// The loops of the function with a number.
-fn loops_of(
+pub(crate) fn loops_of(
     alloc: Global,
     program: &Program<'_>,
     claims: &Cert,
@@ -94,13 +95,16 @@ fn loops_of(
 ) -> Result<LoopsFound, AllocError>
     ensures { IfOk result (λ found. loops_by found ≡ loops_of_function (offers_if approaching) (plain_program program.now) (claims_of claims.now) number (plain_function function.now)) }
 {
-    let start = Some(Env::start(alloc, function)?);
-    let search = search_in(program, claims, number, function, approaching);
     let mut found = LoopsFound {
         claims: Vec::new(alloc),
         unbounded: Vec::new(alloc),
         approaches: Vec::new(alloc),
     };
+    if !have_loop(function.body.as_slice()) {
+        return Ok(found);
+    }
+    let start = Some(Env::start(alloc, function)?);
+    let search = search_in(program, claims, number, function, approaching);
     loops_in_all(alloc, &search, function.body.as_slice(), &start, &mut found)?;
     Ok(found)
 }

@@ -31,6 +31,7 @@ mod found;
 mod functions;
 pub mod laws;
 mod limits;
+mod looping;
 mod results;
 mod search;
 mod summed;

@@ -71,13 +71,13 @@ fn push_with_turn(
 ) -> Result<(), AllocError>
     ensures { OnOk result (map loop_of loops.new.items ≡ map loop_of loops.old.items ++ with_turn_steps steps (loop_of claim.now) ∷ []) }
 {
-    let inv = Vec::from_slice(alloc, claim.inv.as_slice())?;
+    let inv = claim.inv.copy(alloc)?;
     let turns = turns_with(claim.rank, claim.turns, steps);
     loops.push(LoopClaim {
         depth: claim.depth,
         rank: claim.rank,
         turns,
-        inv: ListBuf::of(inv),
+        inv,
     })?;
     Ok(())
 }

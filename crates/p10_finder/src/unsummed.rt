@@ -1,15 +1,19 @@
 //! What is claimed of functions before their sums are counted.
 
-ghost use Rattle.std.specs.Prelude.{◌≡◌, map, length, IfOk};
+ghost use Rattle.std.specs.Prelude.{◌≡◌, map, length, slice_get, IfOk};
 ghost use Rattle.p10_core.specs.Views.{plain_function, plain_program};
 ghost use Rattle.p10_core.specs.WholePrograms.{parameter_types};
 ghost use Rattle.p10_cert.specs.Claims.{value_of, func_of, claims_of};
+ghost use Rattle.p10_calls.specs.CallGraphs.{call_graph};
+ghost use Rattle.p10_calls.specs.Ranks.{AreRanks};
 ghost use Rattle.p10_approach.specs.Offers.{offers_if};
+ghost use Rattle.p10_finder.specs.Answers.{HaveResults};
 ghost use Rattle.p10_finder.specs.Finding.{loops_by};
 ghost use Rattle.p10_finder.specs.Functions.{any_value as any_value_of};
-ghost use Rattle.p10_finder.specs.private.Counting.{unsummed_by, AreUnsummed};
+ghost use Rattle.p10_finder.specs.private.Counting.{result_in, unsummed_by, AreUnsummed};
 
-use crate::functions::{FunctionFound, any_value, function_found};
+use crate::functions::{any_value, loops_of};
+use crate::search::LoopsFound;
 use p10_base::{Bounds, ListBuf};
 use p10_cert::{Cert, FuncClaim, ValueClaim};
 use p10_core::{Func, Program};
@@ -24,17 +28,21 @@ pub(crate) fn unsummed_claims(
     ranks: &[u32],
     approaching: bool,
 ) -> Result<Cert, AllocError>
-    requires { length ranks.now ≡ length program.now.functions }
+    requires each { length ranks.now ≡ length program.now.functions }
+    requires right { HaveResults (offers_if approaching) (plain_program program.now) (claims_of results.now) }
+    requires ranks { AreRanks (call_graph (plain_program program.now)) ranks.now }
     ensures { IfOk result (λ claims. AreUnsummed (offers_if approaching) (plain_program program.now) (claims_of results.now) ranks.now (claims_of claims).funcs) }
 {
     let functions = program.functions.as_slice();
     if functions.len() > u32::MAX as usize {
         return Err(AllocError);
     }
+    let settled = results.funcs.as_slice();
     let mut funcs = Vec::with_capacity(alloc, functions.len())?;
     for (n, function) in functions.iter().enumerate() {
-        let found = function_found(alloc, program, results, n as u32, function, approaching)?;
-        funcs.push(unsummed_claim(alloc, ranks[n], function, found)?)?;
+        let found = loops_of(alloc, program, results, n as u32, function, approaching)?;
+        let returned = result_at(settled, n, function);
+        funcs.push(unsummed_claim(alloc, ranks[n], function, found, returned)?)?;
     }
     Ok(Cert {
         funcs: ListBuf::of(funcs),
@@ -47,14 +55,26 @@ pub(crate) fn unsummed_claims(
     })
 }
 
-/// The claim on a function with a rank, by what is found of it.
+/// The result that is claimed of the function with a number, or any value of its type where nothing is claimed.
+#[tactic(auto, using(p10_absx::proofs::Entries::got_mapped))]
+fn result_at(claims: &[FuncClaim], n: usize, function: &Func<'_>) -> ValueClaim
+    ensures { value_of result ≡ result_in (slice_get (map func_of claims.now) n) (plain_function function.now) }
+{
+    match claims.get(n) {
+        Some(claim) => claim.result,
+        None => any_value(&function.result),
+    }
+}
+
+/// The claim on a function with a rank, by its loops and its result.
 fn unsummed_claim(
     alloc: Global,
     rank: u32,
     function: &Func<'_>,
-    found: FunctionFound,
+    found: LoopsFound,
+    returned: ValueClaim,
 ) -> Result<FuncClaim, AllocError>
-    ensures { IfOk result (λ claim. func_of claim ≡ unsummed_by (loops_by found.loops).claims (value_of found.result) rank (plain_function function.now)) }
+    ensures { IfOk result (λ claim. func_of claim ≡ unsummed_by (loops_by found).claims (value_of returned) rank (plain_function function.now)) }
 {
     let name = Vec::from_slice(alloc, function.name)?;
     let params = any_parameters(alloc, function)?;
@@ -66,8 +86,8 @@ fn unsummed_claim(
         bytes: 0,
         alloc: false,
         params: ListBuf::of(params),
-        result: found.result,
-        loops: ListBuf::of(found.loops.claims),
+        result: returned,
+        loops: ListBuf::of(found.claims),
     })
 }
 

@@ -13,7 +13,7 @@ ghost use Rattle.p10_finder.specs.Ranking.{rank_for_loop, ranks_by, ranks_of};
 ghost use Rattle.p10_finder.specs.private.Judging.{lacking_from, unbounded_at};
 
 use crate::calls::Calls;
-use crate::functions::function_found;
+use crate::functions::loops_of;
 use crate::search::LoopsFound;
 use p10_approach::rank_of;
 use p10_base::{Span, Sub, Violation};
@@ -125,9 +125,9 @@ fn looked_through(
     let mut spans = Vec::new(alloc);
     let mut ranks = Vec::new(alloc);
     for (n, function) in functions.iter().enumerate() {
-        let found = function_found(alloc, program, claims, n as u32, function, approaching)?;
-        put_lacking(&found.loops, &mut spans)?;
-        put_ranks(alloc, n as u32, &found.loops, &mut ranks)?;
+        let found = loops_of(alloc, program, claims, n as u32, function, approaching)?;
+        put_lacking(&found, &mut spans)?;
+        put_ranks(alloc, n as u32, &found, &mut ranks)?;
     }
     Ok(Looked { spans, ranks })
 }

@@ -10,6 +10,7 @@ ghost use Rattle.p10_finder.specs.Loops.{known_after_statement as after_statemen
 ghost use Rattle.p10_finder.specs.private.Looking.{search_by, loops_in_if as loops_of_if, loops_in_loop as loops_of_loop, loops_in_chosen as loops_of_switch};
 
 use crate::entering::enter_loop;
+use crate::looping::has_loop;
 use crate::search::{
     LoopsFound, Search, known_after_statement, known_after_value, known_where_value,
 };
@@ -29,6 +30,9 @@ pub fn loops_in(
 ) -> Result<(), AllocError>
     ensures { OnOk result (loops_by found.new ≡ loops_of_statement (search_by s.now) s.now.depth (plain_statement x.now) (values_in env.now) (loops_by found.old)) }
 {
+    if !has_loop(x) {
+        return Ok(());
+    }
     match &x.form {
         StmtForm::Block(items) => loops_in_all(alloc, s, items.as_slice(), env, found),
         StmtForm::If(_, _, None) => loops_in_if(alloc, s, x, env, found),

@@ -1,5 +1,5 @@
 -- Claims whose sums are counted, each after those of the functions that are called.
-use Rattle.std.specs.Prelude.{◌≡◌, ℕ, ◌+◌, ◌<◌, ◌≤◌, false, List, [], ◌∷◌, map, length, slice_get, slice_set, slice_index, Some}
+use Rattle.std.specs.Prelude.{◌≡◌, ℕ, ◌+◌, ◌<◌, ◌≤◌, false, List, [], ◌∷◌, map, length, slice_get, slice_set, slice_index, Option, Some, None}
 use Rattle.p10_base.specs.declared.report.TheConstants.Limit.{MOST_SUM}
 use Rattle.p10_core.specs.Typed.{PlainFunction, PlainProgram}
 use Rattle.p10_core.specs.Views.{plain_program}
@@ -17,6 +17,11 @@ use Rattle.p10_finder.specs.private.Visiting.{AreCalls}
 use Rattle.p10_approach.specs.Offers.{Offers, offers_if}
 
 -- ## Before the sums are counted
+
+-- the result that is claimed of a function, or any value of its type where nothing is claimed
+abbrev pub result_in : Option Func → PlainFunction → Value
+result_in None f = any_value f.result
+result_in (Some claim) f = claim.result
 
 -- what is claimed of a function with a rank before its sums are counted, by its loops and its result
 abbrev pub unsummed_by : List Loop → Value → ℕ → PlainFunction → Func

@@ -1,27 +1,36 @@
-use Rattle.std.proofs.Common.{◌≡◌, ◌+◌, ◌<◌, ◌≤◌, ◌++◌, ◌∷◌, [], List, length, map, ◌∙◌, ap, arith, length-append}
+use Rattle.std.proofs.Common.{◌≡◌, ◌+◌, ◌<◌, ◌≤◌, ◌++◌, ◌∷◌, [], List, length, map, sym, ◌∙◌, ap, arith, length-append}
 use Rattle.std.specs.Prelude.{slice_get, slice_index}
 use Rattle.std.proofs.lemmas.List.{length-map}
 use Rattle.p10_core.specs.declared.program.Func.{Func as CodeFunc}
 use Rattle.p10_core.specs.Views.{plain_function, plain_program}
 use Rattle.p10_cert.specs.declared.claims.FuncClaim.{FuncClaim}
-use Rattle.p10_cert.specs.Claims.{func_of, claims_of}
+use Rattle.p10_cert.specs.Claims.{value_of, func_of, claims_of}
 use Rattle.p10_absx.proofs.Entries.{get_below}
-use Rattle.p10_finder.proofs.UnsummedClaims.{unsummed_more}
+use Rattle.p10_finder.proofs.UnsummedClaims.{result_there, unsummed_more}
 use Rattle.p10_approach.specs.Offers.{offers_if}
-use Rattle.p10_finder.specs.private.Counting.{unsummed_by}
+use Rattle.p10_finder.specs.Functions.{result_of}
+use Rattle.p10_finder.specs.private.Counting.{result_in, unsummed_by}
 use Rattle.p10_finder.proofs.unsummed.unsummed_claims.Goals as goal
 
 pub loop-n-preserved : goal.loop-n-preserved
-loop-n-preserved c = record {
-  each =
-      let put : c.push.new.self.items ≡ c.loop-n.funcs.items ++ c.in_ok-unsummed_claim.field-0 ∷ [] = c.in_ok-push.ensures.items in
-      let size : length c.loop-n.funcs.items ≡ c.loop-n.n = c.loop-n.invariant.each in
-      let more : length (c.loop-n.funcs.items ++ c.in_ok-unsummed_claim.field-0 ∷ []) ≡ length c.loop-n.funcs.items + 1 = length-append c.loop-n.funcs.items (c.in_ok-unsummed_claim.field-0 ∷ []) in
-      ap (λ (l : List FuncClaim). length l) put ∙ omega (arith, size, more);
-  claims = λ k f low got. unsummed_more (offers_if c.args.approaching) (plain_program c.args.program.now) (claims_of c.args.results.now) c.args.ranks.now c.as_slice-functions.result.now c.loop-n.n c.index-functions-n.result c.loop-n.funcs.items c.push.new.self.items
-      c.in_ok-unsummed_claim.field-0 c.loop-n-test.true c.index-functions-n.is (c.in_ok-unsummed_claim.ensures ∙ (λ i. unsummed_by (c.in_ok-found.ensures.loops i).claims (c.in_ok-found.ensures.result i) (slice_index c.args.ranks.now c.loop-n.n) (plain_function c.index-functions-n.result)))
-      c.in_ok-push.ensures.items c.loop-n.invariant.each (λ m g below at. c.loop-n.invariant.claims m g below at) k f low got;
-}
+loop-n-preserved c =
+    let o = offers_if c.args.approaching in
+    let p = plain_program c.args.program.now in
+    let results = claims_of c.args.results.now in
+    let f = plain_function c.index-functions-n.result in
+    let returned : value_of c.result_at-returned.result ≡ result_of o p results c.loop-n.n f =
+    c.result_at-returned.ensures ∙ (ap (λ (claims : List FuncClaim). result_in (slice_get (map func_of claims) c.loop-n.n) f) c.as_slice-settled.ensures
+    ∙ result_there o p results c.args.ranks.now c.as_slice-functions.result.now c.loop-n.n c.index-functions-n.result c.requires.ranks c.requires.right (ap (map plain_function) (sym c.as_slice-functions.ensures)) c.loop-n-test.true c.index-functions-n.is) in
+    record {
+      each =
+          let put : c.push.new.self.items ≡ c.loop-n.funcs.items ++ c.in_ok-unsummed_claim.field-0 ∷ [] = c.in_ok-push.ensures.items in
+          let size : length c.loop-n.funcs.items ≡ c.loop-n.n = c.loop-n.invariant.each in
+          let more : length (c.loop-n.funcs.items ++ c.in_ok-unsummed_claim.field-0 ∷ []) ≡ length c.loop-n.funcs.items + 1 = length-append c.loop-n.funcs.items (c.in_ok-unsummed_claim.field-0 ∷ []) in
+          ap (λ (l : List FuncClaim). length l) put ∙ omega (arith, size, more);
+      claims = λ k f low got. unsummed_more (offers_if c.args.approaching) (plain_program c.args.program.now) (claims_of c.args.results.now) c.args.ranks.now c.as_slice-functions.result.now c.loop-n.n c.index-functions-n.result c.loop-n.funcs.items c.push.new.self.items
+          c.in_ok-unsummed_claim.field-0 c.loop-n-test.true c.index-functions-n.is (c.in_ok-unsummed_claim.ensures ∙ (λ i. unsummed_by (c.in_ok-found.ensures i).claims (returned i) (slice_index c.args.ranks.now c.loop-n.n) (plain_function c.index-functions-n.result)))
+          c.in_ok-push.ensures.items c.loop-n.invariant.each (λ m g below at. c.loop-n.invariant.claims m g below at) k f low got;
+    }
 
 pub returns : goal.returns
 returns c =

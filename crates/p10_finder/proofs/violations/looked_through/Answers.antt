@@ -20,7 +20,7 @@ loop-n-preserved c =
     let ranks = map rank_by c.loop-n.ranks.items in
     record {
       spans = lacking_more o p claims functions c.loop-n.n c.index-functions-n.result spans c.put_lacking.new.spans.items (lacking_from o p claims 0 (map plain_function functions)) c.loop-n-test.true c.index-functions-n.is
-          (c.in_ok-put_lacking.ensures ∙ ap (λ (l : LoopsFound). spans ++ l.unbounded) c.in_ok-found.ensures.loops) c.loop-n.invariant.spans;
+          (c.in_ok-put_lacking.ensures ∙ ap (λ (l : LoopsFound). spans ++ l.unbounded) c.in_ok-found.ensures) c.loop-n.invariant.spans;
       ranks = ranks_more o p claims functions c.loop-n.n c.index-functions-n.result ranks (map rank_by c.put_ranks.new.ranks.items) (ranks_from o p claims 0 (map plain_function functions)) c.loop-n-test.true c.index-functions-n.is
-          (c.in_ok-put_ranks.ensures ∙ ap (λ (l : LoopsFound). ranks ++ ranks_by c.loop-n.n 0 l.approaches) c.in_ok-found.ensures.loops) c.loop-n.invariant.ranks;
+          (c.in_ok-put_ranks.ensures ∙ ap (λ (l : LoopsFound). ranks ++ ranks_by c.loop-n.n 0 l.approaches) c.in_ok-found.ensures) c.loop-n.invariant.ranks;
     }
