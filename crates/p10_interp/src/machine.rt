@@ -14,7 +14,7 @@ use crate::engine::Engine;
 use crate::opening::opened;
 use crate::place::Place;
 use crate::queue::Queue;
-use crate::room::most_room;
+use crate::room::{frames_bytes, most_room};
 use crate::stacks::Stacks;
 use p10_base::Bounds;
 use p10_core::Program;
@@ -71,7 +71,9 @@ impl<'p> Machine<'p> {
         self.engine.outside.sensors = Queue::of(values);
     }
 
-    /// Makes room on the stacks and among the objects for a turn that stays within bounds. The machine is as before except for room.
+    /// Makes room on the stacks and among the objects for a turn that stays within bounds, and for no more than the program can use where
+    /// no function calls itself, as bounds may be loose: then one call of each function is open at once at most. The machine is as
+    /// before except for room.
     ///
     /// # Errors
     ///
@@ -79,8 +81,10 @@ impl<'p> Machine<'p> {
     pub fn reserve_for(&mut self, b: &Bounds) -> Result<(), AllocError>
         ensures { resting_of self.new ≡ resting_of self.old }
     {
-        let room = most_room(self.p.functions.as_slice());
-        self.engine.reserve(b.calls, b.bytes, room)
+        let functions = self.p.functions.as_slice();
+        let calls = b.calls.min(functions.len() as u64);
+        let bytes = b.bytes.min(frames_bytes(functions));
+        self.engine.reserve(calls, bytes, most_room(functions))
     }
 
     /// Whether a turn of the task loop comes next.

@@ -17,6 +17,24 @@ pub fn most_room(functions: &[Func<'_>]) -> u64 {
     most
 }
 
+/// The bytes of one frame of each function together.
+pub fn frames_bytes(functions: &[Func<'_>]) -> u64 {
+    let mut all: u64 = 0;
+    for function in functions {
+        all = all.saturating_add(frame_bytes(function));
+    }
+    all
+}
+
+/// The bytes of a function's frame.
+fn frame_bytes(function: &Func<'_>) -> u64 {
+    let mut all: u64 = 0;
+    for variable in function.vars.as_slice() {
+        all = all.saturating_add(variable.bytes);
+    }
+    all
+}
+
 /// Statements in order.
 #[cycle(statements)]
 fn statements_room(statements: &[Stmt]) -> u64 {
