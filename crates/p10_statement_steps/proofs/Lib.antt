@@ -1,0 +1,4 @@
+pub mod Typing
+pub mod Declaring
+pub mod Each
+pub mod Doing
