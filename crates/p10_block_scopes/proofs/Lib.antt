@@ -1,4 +1,2 @@
 pub mod Extending
-pub mod ExtendingInitializers
-pub mod ExtendingDeclarations
 pub mod ExtendingStatements

@@ -1,20 +1,14 @@
 -- Steps of declarations that leave the structures before those of their block.
-use Rattle.std.proofs.Common.{◌≡◌, ◌∙◌, refl, sym, ap, subst, arith, ℕ, zero, suc, ◌+◌, ◌<◌, ◌≤◌, Bool, true, false, List, [], ◌∷◌, ◌++◌, length, drop, slice_get, Option, Some, None, Ok, Err}
+use Rattle.std.proofs.Common.{◌≡◌, ◌∙◌, refl, sym, ap, subst, arith, ℕ, zero, suc, ◌+◌, ◌<◌, ◌≤◌, Bool, true, false, List, [], ◌∷◌, ◌++◌, length, drop, slice_get, Option, Some, None}
 use Rattle.std.specs.Prelude.{if◌then◌else◌, bytes_eq}
 use Rattle.std.proofs.lemmas.List.{length-append}
 use Rattle.p10_base.specs.Words.{Text}
-use Rattle.p10_base.specs.declared.at.At.{At}
-use Rattle.p10_base.specs.declared.codes.SubsetCode.{SubsetCode}
-use Rattle.p10_syn.specs.Trees.{Expression}
 use Rattle.p10_core.specs.Types.{structure, PlainBody, PlainStructure}
 use Rattle.p10_core.specs.Completing.{incomplete_structure, with_structure, with_body}
-use Rattle.p10_elabx.specs.First.{Keep, Found}
-use Rattle.p10_elabx.specs.Scopes.{Meaning, Binding, last_named, is_tag, PlainScope, tagged_type, tagged, last_floor, entered, left}
+use Rattle.p10_elabx.specs.Scopes.{Meaning, Binding, last_named, PlainScope, tagged_type, last_floor, entered, left}
 use Rattle.p10_elabx.specs.Innermost.{tagged_here}
-use Rattle.p10_elabd.specs.Standing.{PlainStanding, refusing, noted}
-use Rattle.p10_elabd.specs.Expressions.{for_expression}
-use Rattle.p10_elabd.specs.Tags.{tags_in, with_tag, with_unknown, with_tags}
-use Rattle.p10_elabd.specs.Blocks.{with_name}
+use Rattle.p10_elabd.specs.Standing.{PlainStanding}
+use Rattle.p10_elabd.specs.Tags.{with_tag}
 use Rattle.p10_elabd.specs.Tagged.{Begun}
 use Rattle.p10_declaration_renaming.proofs.Growing.{count_more, count_kept}
 use Rattle.p10_block_scopes.specs.Laws.{ExtendsScope, IsAgain}
@@ -131,34 +125,6 @@ completed_inside old start table s n b low p = record {
   enough = omega (arith, p.enough, count_kept s.structures n b);
   kept = λ k below. completed_below s.structures n b k (omega (arith, below, low)) ∙ p.kept k below;
 }
-
--- a name that is no tag
-untagged : (b : Bool) (s x y : PlainScope) → b ≡ false → KeepsScope s y → KeepsScope s (if b then x else y)
-untagged true s x y e k = absurd cc
-untagged false s x y e k = k
-
-pub keeps_named : (name : Text) (what : Meaning) → is_tag what ≡ false → (s : PlainStanding) → Keeps s (with_name s name what)
-keeps_named name what e s = untagged (is_tag what) s.scope _ _ e (one_name_more s.scope (record { name = name; what = what }))
-
-pub keeps_refusing : (h : Keep) (b : Bool) (code : SubsetCode) (at : At) (s : PlainStanding) → Keeps s (refusing h b code at s)
-keeps_refusing h true code at s = as_before s
-keeps_refusing h false code at s = as_before s
-
-pub keeps_noted : {A : Type 0} (h : Keep) (f : Found A) (s : PlainStanding) → Keeps s (noted h f s).after
-keeps_noted h (Ok x) s = as_before s
-keeps_noted h (Err rs) s = as_before s
-
--- the structures that an expression is the first to name
-keeps_unknown : (found : Option Meaning) (s : PlainScope) (name : Text) → KeepsScope s (with_unknown found s name)
-keeps_unknown None s name = with_tag_more s name
-keeps_unknown (Some what) s name = λ old start table p. p
-
-keeps_tags : (s : PlainScope) (names : List Text) → KeepsScope s (with_tags s names)
-keeps_tags s [] old start table p = p
-keeps_tags s (name ∷ rest) old start table p = keeps_tags (with_unknown (tagged s name) s name) rest old start table (keeps_unknown (tagged s name) s name old start table p)
-
-pub keeps_expression : (s : PlainStanding) (e : Expression At) → Keeps s (for_expression s e)
-keeps_expression s e = keeps_tags s.scope (tags_in e)
 
 -- ## Blocks
 

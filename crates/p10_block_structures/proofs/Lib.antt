@@ -1,5 +1,3 @@
 pub mod Inside
 pub mod Keeping
-pub mod KeepingInitializers
-pub mod KeepingDeclarations
 pub mod KeepingStatements

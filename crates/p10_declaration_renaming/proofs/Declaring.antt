@@ -26,7 +26,9 @@ use Rattle.p10_expression_renaming.proofs.TypeNames.{left, right}
 use Rattle.p10_declaration_renaming.specs.Standings.{Both, SameListed, same_none_listed, same_more_listed, SameListedParameter, SameDeclared, same_of_type}
 use Rattle.p10_declaration_renaming.specs.Laws.{SpecifiersRenamed, DeclaratorsRenamed}
 use Rattle.p10_declaration_renaming.proofs.Boths.{both_map}
-use Rattle.p10_declaration_renaming.proofs.Growing.{Grows, as_before, grows_on, grows_declarator, grows_declared_parameter}
+use Rattle.p10_declaration_steps.proofs.Declaring.{over_declarator}
+use Rattle.p10_declaration_steps.proofs.Shaping.{over_declared_parameter}
+use Rattle.p10_declaration_renaming.proofs.Growing.{Grows, as_before, grows_on, grown}
 use Rattle.p10_declaration_renaming.proofs.Alike.{Alike, alike_map, forget, alike_refusing, never_left, quiet_before, leads_by}
 use Rattle.p10_declaration_renaming.proofs.Tagging.{left_name, right_name, alike_tag_passed, alike_begun, alike_ended, alike_structure_made, alike_unless_union}
 use Rattle.p10_declaration_renaming.proofs.Naming.{name_in_same, same_letters}
@@ -249,8 +251,8 @@ mutual
       (alike_specifiers R one last h site_is.OfParameter none_allowed none_allowed false false false (passed None s) (passed None t) specifiers (alike_map (λ b. (b, same_no_type)) a)) in
       let shaped = alike_declarator R one last h (place_or at.0 (name_in these)) (place_or at.1 (name_in others)) (based x.made x.after) (based y.made y.after) d (alike_map (λ z. (z.0, based_both R x.made y.made z.1)) typed) in
       listing_where R last (is_no_parameter these x.made) (is_no_parameter others y.made) (none_listed x.after) p (none_listed y.after) q x.after y.after (as_before x.after)
-      (grows_on (grows_declarator h (place_or at.0 (name_in these)) (based x.made x.after) these) (grows_declared_parameter h 0 [] at.0 these i)) (as_before y.after)
-      (grows_on (grows_declarator h (place_or at.1 (name_in others)) (based y.made y.after) others) (grows_declared_parameter h 0 [] at.1 others j)) (λ z. no_parameter_same R d x.made y.made z.1) typed
+      (grows_on (grown (over_declarator h (place_or at.0 (name_in these)) (based x.made x.after) these)) (grown (over_declared_parameter h 0 [] at.0 these i))) (as_before y.after)
+      (grows_on (grown (over_declarator h (place_or at.1 (name_in others)) (based y.made y.after) others)) (grown (over_declared_parameter h 0 [] at.1 others j))) (λ z. no_parameter_same R d x.made y.made z.1) typed
       (alike_map (λ z. (z.0, same_none_listed)) typed) (alike_declared_parameter R last h 0 [] [] at.0 at.1 d i j (λ b. same_none_listed) shaped)
 
   alike_parameters : {B : Type 0} (R : Pairing) → IsOneToOne R → (last : ℕ) (h : Keep) (i : ℕ) (p q : Listing) (all : Parameters (At × At)) → AlikeListing B R last p q

@@ -19,7 +19,8 @@ use Rattle.p10_expression_renaming.proofs.Operands.{as_value_both}
 use Rattle.p10_expression_renaming.proofs.TypeNames.{left, right}
 use Rattle.p10_expression_renaming.proofs.Judging.{expressions_renamed}
 use Rattle.p10_declaration_renaming.specs.Standings.{Both, SameWholeScope, SameStanding}
-use Rattle.p10_declaration_renaming.proofs.Growing.{grows_expression, grows_noted}
+use Rattle.p10_declaration_steps.proofs.Steps.{over_noted}
+use Rattle.p10_declaration_renaming.proofs.Growing.{grows_expression, grown}
 use Rattle.p10_declaration_renaming.proofs.TreeTags.{tags_same}
 use Rattle.p10_declaration_renaming.proofs.Scopes.{scope_same, expression_tags_same}
 use Rattle.p10_declaration_renaming.proofs.Alike.{Alike, alike_on, alike_ends, ends_noted}
@@ -52,7 +53,7 @@ alike_value R one last h P e go went s t each a =
     let others : Expression At = mapped_expression right e in
     let x : PlainStanding = for_expression s these in
     let y : PlainStanding = for_expression t others in
-    alike_ends R last P x y (value_by h s these go) (value_by h t others went) (grows_noted h (on (value_found h s these) go) x) (grows_noted h (on (value_found h t others) went) y)
+    alike_ends R last P x y (value_by h s these go) (value_by h t others went) (grown (over_noted h (on (value_found h s these) go) x)) (grown (over_noted h (on (value_found h t others) went) y))
     (λ b know. ends_noted R last P h (on (value_found h s these) go) (on (value_found h t others) went) x y
     (on_both (SameValue R) P (value_found h s these) (value_found h t others) go went (value_found_both R one last h e s t know) (each b)) know)
     (alike_expression R one last e s t a)

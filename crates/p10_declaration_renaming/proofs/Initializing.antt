@@ -25,8 +25,9 @@ use Rattle.p10_expression_renaming.proofs.TypeNames.{left, right}
 use Rattle.p10_declaration_renaming.specs.Standings.{Both, SameStanding, Leads}
 use Rattle.p10_declaration_renaming.specs.Laws.{InitializersRenamed}
 use Rattle.p10_declaration_renaming.proofs.Boths.{both_map, both_are}
-use Rattle.p10_declaration_renaming.proofs.Growing.{Grows, as_before, grows_on}
-use Rattle.p10_declaration_renaming.proofs.GrowingInitializers.{grows_text, grows_differing, grows_surplus, grows_braced_scalar, grows_by_string, grows_braced_string, grows_unbraced, grows_item, grows_items}
+use Rattle.p10_declaration_renaming.proofs.Growing.{Grows, as_before, grows_on, grown}
+use Rattle.p10_declaration_steps.specs.Steps.{Steps}
+use Rattle.p10_declaration_steps.proofs.Initializing.{over_text, over_differing, over_surplus, over_braced_scalar, over_by_string, over_braced_string, over_unbraced, over_item, over_items}
 use Rattle.p10_declaration_renaming.proofs.Alike.{Alike, Ends, alike_map, forget, alike_ends, ends_nothing, ends_passed, ends_left, ends_unless, quiet_before, leads_by}
 use Rattle.p10_declaration_renaming.proofs.Expressions.{alike_value}
 use Rattle.p10_declaration_renaming.proofs.Texts.{SameText, character_same, string_alone_same, string_for_same, zero_list_same}
@@ -68,7 +69,7 @@ text_ends R last h k l n m e s t know (at, bytes) (to, others) d =
 
 alike_text : {B : Type 0} (R : Pairing) (last : ℕ) (h : Keep) (k l n m : ℕ) (s t : PlainStanding) (x y : At × Text) → (B → n ≡ m) → (B → x.1 ≡ y.1) → Alike B R last s t → AlikePassed B R last (SameItem R) (text_item h k n s x) (text_item h l m t y)
 alike_text R last h k l n m s t x y e d a =
-    alike_ends R last (SameItem R) s t (text_item h k n s x) (text_item h l m t y) (grows_text h k n s x) (grows_text h l m t y) (λ b know. text_ends R last h k l n m (e b) s t know x y (d b)) a
+    alike_ends R last (SameItem R) s t (text_item h k n s x) (text_item h l m t y) (grown (over_text h k n s x)) (grown (over_text h l m t y)) (λ b know. text_ends R last h k l n m (e b) s t know x y (d b)) a
 
 -- ## What is left over
 
@@ -103,7 +104,7 @@ pub alike_surplus : {B : Type 0} (R : Pairing) → IsOneToOne R → (last : ℕ)
 alike_surplus R one last h i s t a =
     let x : Passed At = unplaced h s (mapped_initializer left i) in
     let y : Passed At = unplaced h t (mapped_initializer right i) in
-    forget (alike_ends R last (SameItem R) x.after y.after (differing_at h x.made x.after) (differing_at h y.made y.after) (grows_differing h x.made x.after) (grows_differing h y.made y.after)
+    forget (alike_ends R last (SameItem R) x.after y.after (differing_at h x.made x.after) (differing_at h y.made y.after) (grown (over_differing h x.made x.after)) (grown (over_differing h y.made y.after))
     (λ b know. differing_ends R last h x.made y.made b.1 x.after y.after know) (alike_unplaced R one last h i s t a))
 
 alike_no_surplus : {B : Type 0} (R : Pairing) → IsOneToOne R → (last : ℕ) (h : Keep) (items : Initializers (At × At)) (p q : Passed (List PlainItem)) → AlikePassed B R last (SameItems R) p q
@@ -141,25 +142,25 @@ alike_by_string : {B : Type 0} (R : Pairing) → IsOneToOne R → (last : ℕ) (
 alike_by_string R one last h life t u n m e None None v w k d i a = alike_expression_item R one last h life t u n m e v w k d a
 alike_by_string R one last h life t u n m e (Some x) (Some y) v w k d i a = alike_text R last h (length_of t) (length_of u) n m v w x y d i a
 alike_by_string R one last h life t u n m e None (Some y) v w k d i a = λ quiet.
-    absurd (i (a (quiet_before last v w _ _ (grows_by_string h life t n v (mapped_expression left e) None) (grows_by_string h life u m w (mapped_expression right e) (Some y)) quiet)).0)
+    absurd (i (a (quiet_before last v w _ _ (grown (over_by_string h life t n v (mapped_expression left e) None)) (grown (over_by_string h life u m w (mapped_expression right e) (Some y))) quiet)).0)
 alike_by_string R one last h life t u n m e (Some x) None v w k d i a = λ quiet.
-    absurd (i (a (quiet_before last v w _ _ (grows_by_string h life t n v (mapped_expression left e) (Some x)) (grows_by_string h life u m w (mapped_expression right e) None) quiet)).0)
+    absurd (i (a (quiet_before last v w _ _ (grown (over_by_string h life t n v (mapped_expression left e) (Some x))) (grown (over_by_string h life u m w (mapped_expression right e) None)) quiet)).0)
 
-alike_braced_string : {B : Type 0} (R : Pairing) (last : ℕ) (h : Keep) (t u : PlainType) (n m : ℕ) (p q x y : Passed (List PlainItem)) (o r : Option (At × Text)) → Grows p.after x.after → Grows q.after y.after → (B → n ≡ m) → (B → SameText o r)
+alike_braced_string : {B : Type 0} (R : Pairing) (last : ℕ) (h : Keep) (t u : PlainType) (n m : ℕ) (p q x y : Passed (List PlainItem)) (o r : Option (At × Text)) → Steps h p.after x.after → Steps h q.after y.after → (B → n ≡ m) → (B → SameText o r)
     → AlikePassed B R last (SameItems R) p q → AlikePassed B R last (SameItems R) x y → AlikePassed B R last (SameItems R) (braced_string h t n p o x) (braced_string h u m q r y)
 alike_braced_string R last h t u n m p q x y None None g l d i a b = b
 alike_braced_string R last h t u n m p q x y (Some v) (Some w) g l d i a b =
     alike_with_item R last p q (text_item h (length_of t) n p.after v) (text_item h (length_of u) m q.after w) (alike_text R last h (length_of t) (length_of u) n m p.after q.after v w (λ z. d z.0) (λ z. i z.0) a)
 alike_braced_string R last h t u n m p q x y None (Some w) g l d i a b = λ quiet.
-    absurd (i (a (quiet_before last p.after q.after _ _ (grows_braced_string h t n p None x g) (grows_braced_string h u m q (Some w) y l) quiet)).0.0)
+    absurd (i (a (quiet_before last p.after q.after _ _ (grown (over_braced_string h t n p None x g)) (grown (over_braced_string h u m q (Some w) y l)) quiet)).0.0)
 alike_braced_string R last h t u n m p q x y (Some v) None g l d i a b = λ quiet.
-    absurd (i (a (quiet_before last p.after q.after _ _ (grows_braced_string h t n p (Some v) x g) (grows_braced_string h u m q None y l) quiet)).0.0)
+    absurd (i (a (quiet_before last p.after q.after _ _ (grown (over_braced_string h t n p (Some v) x g)) (grown (over_braced_string h u m q None y l)) quiet)).0.0)
 
 alike_zero : {B : Type 0} (R : Pairing) → IsOneToOne R → (last : ℕ) (at to : At) (t u : PlainType) (n m : ℕ) (v w : PlainStanding) → (B → SameType R t u) → (B → n ≡ m) → Alike B R last v w
     → Alike (B × Both (SameItem R) (zero_item at n (slice_get (scalars_of v.scope.structures t) 0)) (zero_item to m (slice_get (scalars_of w.scope.structures u) 0))) R last v w
 alike_zero R one last at to t u n m v w k d a = learn R last v w (λ b know. zero_both R one v.scope.structures w.scope.structures know.tables at to n m (d b) t u (k b)) a
 
-alike_list : {B : Type 0} (R : Pairing) → IsOneToOne R → (last : ℕ) (h : Keep) (life : Lifetime) (t u : PlainType) (n m : ℕ) (p q x y : Passed (List PlainItem)) (at to : At) (items : Initializers (At × At)) → Grows p.after x.after → Grows q.after y.after
+alike_list : {B : Type 0} (R : Pairing) → IsOneToOne R → (last : ℕ) (h : Keep) (life : Lifetime) (t u : PlainType) (n m : ℕ) (p q x y : Passed (List PlainItem)) (at to : At) (items : Initializers (At × At)) → Steps h p.after x.after → Steps h q.after y.after
     → (B → SameType R t u) → (B → n ≡ m) → AlikePassed B R last (SameItems R) p q → AlikePassed B R last (SameItems R) x y
     → AlikePassed B R last (SameItems R) (list_passed h life t n p at (mapped_initializers left items) x) (list_passed h life u m q to (mapped_initializers right items) y)
 alike_list {B = B} R one last h life t u n m p q x y at to items g l k d a b =
@@ -171,9 +172,9 @@ alike_list {B = B} R one last h life t u n m p q x y at to items g l k d a b =
     let w : Passed PlainItem = record { made = zero_item to m (slice_get (scalars_of q.after.scope.structures u) 0); after = q.after } in
     let i : Passed (List PlainItem) = if is_zero_list these then with_item p v else braced_string h t n p o x in
     let j : Passed (List PlainItem) = if is_zero_list others then with_item q w else braced_string h u m q r y in
-    passed_where R last (SameItems R) (is_scalar t) (is_scalar u) (braced_scalar h life t n p these) i (braced_scalar h life u m q others) j p.after q.after (grows_braced_scalar h life t n p these)
-    (grows_either (is_zero_list these) p.after (with_item p v) (braced_string h t n p o x) (as_before p.after) (grows_braced_string h t n p o x g)) (grows_braced_scalar h life u m q others)
-    (grows_either (is_zero_list others) q.after (with_item q w) (braced_string h u m q r y) (as_before q.after) (grows_braced_string h u m q r y l)) (λ z. is_scalar_same R (k z.0)) a
+    passed_where R last (SameItems R) (is_scalar t) (is_scalar u) (braced_scalar h life t n p these) i (braced_scalar h life u m q others) j p.after q.after (grown (over_braced_scalar h life t n p these))
+    (grows_either (is_zero_list these) p.after (with_item p v) (braced_string h t n p o x) (as_before p.after) (grown (over_braced_string h t n p o x g))) (grown (over_braced_scalar h life u m q others))
+    (grows_either (is_zero_list others) q.after (with_item q w) (braced_string h u m q r y) (as_before q.after) (grown (over_braced_string h u m q r y l))) (λ z. is_scalar_same R (k z.0)) a
     (alike_braced_scalar R one last h life t u n m p q items k d a)
     (by_same (λ (c e : Passed (List PlainItem)). AlikePassed B R last (SameItems R) c e) (is_zero_list these) (is_zero_list others) (zero_list_same items) (with_item p v) (braced_string h t n p o x) (with_item q w) (braced_string h u m q r y)
     (alike_with_item R last p q v w (alike_zero R one last at to t u n m p.after q.after (λ z. k z.0) (λ z. d z.0) a))
@@ -198,7 +199,7 @@ mutual
       let y : Slots = slots_of q.after.scope.structures u in
       let known = alike_map (λ z. ((z.0.0, z.1), z.0.1)) (learn R last p.after q.after (λ b know. slots_same R p.after.scope.structures q.after.scope.structures know.tables (k b.0)) a) in
       alike_list R one last h life t u n m p q (items_passed h life x n p (mapped_initializers left items)) (items_passed h life y m q (mapped_initializers right items)) at.0 at.1 items
-      (grows_items h life x n p (mapped_initializers left items)) (grows_items h life y m q (mapped_initializers right items)) k d a
+      (over_items h life x n p (mapped_initializers left items)) (over_items h life y m q (mapped_initializers right items)) k d a
       (forget (alike_items R one last h life x y n m p q items (λ b. b.1) (λ b. d b.0) known))
 
   alike_items : {B : Type 0} (R : Pairing) → IsOneToOne R → (last : ℕ) (h : Keep) (life : Lifetime) (x y : Slots) (n m : ℕ) (p q : Passed (List PlainItem)) (items : Initializers (At × At)) → (B → SameSlots R x y) → (B → n ≡ m)
@@ -214,8 +215,8 @@ mutual
       let known = alike_map (λ z. ((z.0.0, z.1), z.0.1)) (learn R last p.after q.after
       (λ b know. added (d b.0) (scalar_count_same R p.after.scope.structures q.after.scope.structures know.tables (slot_type_same R (k b.0)))) a) in
       passed_where R last (SameItems R) (has_slot x) (has_slot y) (items_passed h life (after_slot x) c v (mapped_initializers left rest)) (no_surplus h p these) (items_passed h life (after_slot y) e w (mapped_initializers right rest)) (no_surplus h q others)
-      p.after q.after (grows_on (grows_item h life (slot_type x) n p (mapped_initializer left i)) (grows_items h life (after_slot x) c v (mapped_initializers left rest))) (grows_surplus h p.after (mapped_initializer left i))
-      (grows_on (grows_item h life (slot_type y) m q (mapped_initializer right i)) (grows_items h life (after_slot y) e w (mapped_initializers right rest))) (grows_surplus h q.after (mapped_initializer right i))
+      p.after q.after (grows_on (grown (over_item h life (slot_type x) n p (mapped_initializer left i))) (grown (over_items h life (after_slot x) c v (mapped_initializers left rest)))) (grown (over_surplus h p.after (mapped_initializer left i)))
+      (grows_on (grown (over_item h life (slot_type y) m q (mapped_initializer right i))) (grown (over_items h life (after_slot y) e w (mapped_initializers right rest)))) (grown (over_surplus h q.after (mapped_initializer right i)))
       (λ z. has_slot_same R (k z.0)) a
       (forget (alike_items R one last h life (after_slot x) (after_slot y) c e v w rest (λ b. after_slot_same R (k b.0)) (λ b. b.1)
       (alike_item R one last h life (slot_type x) (slot_type y) n m p q i (λ b. slot_type_same R (k b.0)) (λ b. d b.0) known)))
@@ -238,9 +239,9 @@ alike_unbraced R one last h life t u e (Some (at, bytes)) (Some (to, others)) v 
     alike_listed R last at to (with_item (passed [] v) x) (with_item (passed [] w) y)
     (alike_with_item R last (passed [] v) (passed [] w) x y (alike_text R last h (length_of t) (length_of u) 0 0 v w (at, bytes) (to, others) (λ b. refl) (λ b. i b.0) (alike_map (λ b. (b, same_no_items)) a)))
 alike_unbraced R one last h life t u e None (Some y) v w k i a = λ quiet.
-    absurd (i (a (quiet_before last v w _ _ (grows_unbraced h life t v (mapped_expression left e) None) (grows_unbraced h life u w (mapped_expression right e) (Some y)) quiet)).0)
+    absurd (i (a (quiet_before last v w _ _ (grown (over_unbraced h life t v (mapped_expression left e) None)) (grown (over_unbraced h life u w (mapped_expression right e) (Some y))) quiet)).0)
 alike_unbraced R one last h life t u e (Some x) None v w k i a = λ quiet.
-    absurd (i (a (quiet_before last v w _ _ (grows_unbraced h life t v (mapped_expression left e) (Some x)) (grows_unbraced h life u w (mapped_expression right e) None) quiet)).0)
+    absurd (i (a (quiet_before last v w _ _ (grown (over_unbraced h life t v (mapped_expression left e) (Some x))) (grown (over_unbraced h life u w (mapped_expression right e) None)) quiet)).0)
 
 pub alike_initialized : {B : Type 0} (R : Pairing) → IsOneToOne R → (last : ℕ) (h : Keep) (life : Lifetime) (t u : PlainType) (i : Initializer (At × At)) (v w : PlainStanding) → (B → SameType R t u) → Alike B R last v w
     → AlikePassed B R last (SameInitializer R) (initialized h life t v (mapped_initializer left i)) (initialized h life u w (mapped_initializer right i))
@@ -251,8 +252,8 @@ alike_initialized R one last h life t u (Braced at items comma) v w k a =
     let i : Initializer (At × At) = Braced at items comma in
     let p : Passed (List PlainItem) = item_passed h life t 0 (passed [] v) (mapped_initializer left i) in
     let q : Passed (List PlainItem) = item_passed h life u 0 (passed [] w) (mapped_initializer right i) in
-    let g = grows_item h life t 0 (passed [] v) (mapped_initializer left i) in
-    let l = grows_item h life u 0 (passed [] w) (mapped_initializer right i) in
+    let g = grown (over_item h life t 0 (passed [] v) (mapped_initializer left i)) in
+    let l = grown (over_item h life u 0 (passed [] w) (mapped_initializer right i)) in
     let made = alike_item R one last h life t u 0 0 (passed [] v) (passed [] w) i k (λ b. refl) (alike_map (λ b. (b, same_no_items)) a) in
     passed_where R last (SameInitializer R) (is_scalar t) (is_scalar u) (as_single p) (as_listed at.0 p) (as_single q) (as_listed at.1 q) v w g g l l (λ b. is_scalar_same R (k b)) a (alike_single R last p q made) (alike_listed R last at.0 at.1 p q made)
 

@@ -1,5 +1,4 @@
 pub mod Growing
-pub mod GrowingInitializers
 pub mod Boths
 pub mod Lying
 pub mod Tables

@@ -21,10 +21,12 @@ use Rattle.p10_expression_renaming.specs.Knowing.{SameMeaning, same_number, same
 use Rattle.p10_expression_renaming.proofs.Sameness.{SameName, same_no_name, same_name}
 use Rattle.p10_expression_renaming.proofs.TypeNames.{left, right}
 use Rattle.p10_declaration_renaming.specs.Standings.{Both, SameStanding, SameDeclared, same_of_type, same_of_open_array, same_of_function, same_of_part_function}
-use Rattle.p10_declaration_renaming.proofs.Growing.{grows_member, grows_value, grows_int}
+use Rattle.p10_declaration_steps.proofs.Members.{over_member, over_int}
+use Rattle.p10_declaration_steps.proofs.Steps.{over_value}
 use Rattle.p10_declaration_renaming.proofs.Expressions.{alike_value, SameNumber, constant_number_both}
 use Rattle.p10_declaration_renaming.proofs.Naming.{alike_declaring}
 use Rattle.p10_declaration_renaming.proofs.Alike.{Alike, Ends, alike_map, forget, alike_ends, alike_refusing, ends_nothing, ends_passed, ends_unless, quiet_before, never_left}
+use Rattle.p10_declaration_renaming.proofs.Growing.{grown}
 
 -- ## Members
 
@@ -47,7 +49,7 @@ member_ends R last h name_at name_to (Some x) None k s t know = absurd k
 pub alike_member : {B : Type 0} (R : Pairing) (last : ℕ) (h : Keep) (name_at name_to : At) (m n : Option DeclaredType) (s t : PlainStanding) → (B → Both (SameDeclared R) m n) → Alike B R last s t
     → Alike (B × Both (SameType R) (member_declared h name_at m s).made (member_declared h name_to n t).made) R last (member_declared h name_at m s).after (member_declared h name_to n t).after
 alike_member R last h name_at name_to m n s t k a =
-    alike_ends R last (SameType R) s t (member_declared h name_at m s) (member_declared h name_to n t) (grows_member h name_at m s) (grows_member h name_to n t) (λ b know. member_ends R last h name_at name_to m n (k b) s t know) a
+    alike_ends R last (SameType R) s t (member_declared h name_at m s) (member_declared h name_to n t) (grown (over_member h name_at m s)) (grown (over_member h name_to n t)) (λ b know. member_ends R last h name_at name_to m n (k b) s t know) a
 
 -- a bit-field is refused
 pub alike_width : {B : Type 0} (R : Pairing) (last : ℕ) (h : Keep) (at to : At) (width : Optional (At × At)) (s t : PlainStanding) → Alike B R last s t → Alike B R last (with_width h at (mapped_optional left width) s) (with_width h to (mapped_optional right width) t)
@@ -55,7 +57,7 @@ alike_width R last h at to Absent s t a = a
 alike_width R last h at to (Present e) s t a = λ q.
     let r : PlainStanding = refusing h true subset.UnionOrBitField at s in
     let p : PlainStanding = refusing h true subset.UnionOrBitField to t in
-    never_left last h subset.UnionOrBitField at s p (quiet_before last r p _ _ (grows_value h r (mapped_expression left e) constant_number) (grows_value h p (mapped_expression right e) constant_number) q)
+    never_left last h subset.UnionOrBitField at s p (quiet_before last r p _ _ (grown (over_value h r (mapped_expression left e) constant_number)) (grown (over_value h p (mapped_expression right e) constant_number)) q)
 
 one_more_member : (R : Pairing) {ms ks : List PlainMember} → SameMembers R ms ks → (name : Text) {u v : PlainType} → SameType R u v → SameMembers R (ms ++ record { name = name; type = u } ∷ []) (ks ++ record { name = name; type = v } ∷ [])
 one_more_member R same_no_members name h = same_more_members h same_no_members
@@ -113,7 +115,7 @@ alike_enumerator R one last h o p x value s t k a =
     let w : Passed ℤ = enumerator_value h p (mapped_optional right value) t in
     let f : Passed ℤ = int_value h x.place.0 v.made v.after in
     let g : Passed ℤ = int_value h x.place.1 w.made w.after in
-    let found = forget (alike_ends R last SameNumber v.after w.after f g (grows_int h x.place.0 v.made v.after) (grows_int h x.place.1 w.made w.after)
+    let found = forget (alike_ends R last SameNumber v.after w.after f g (grown (over_int h x.place.0 v.made v.after)) (grown (over_int h x.place.1 w.made w.after))
     (λ b know. int_ends R last h x.place.0 x.place.1 v.made w.made b.1 v.after w.after know) (alike_enumerator_value R one last h o p value s t k a)) in
     alike_map (λ z. (z.0, next_both f.made g.made z.1))
     (alike_declaring R last h x.name x.place.0 x.place.1 (enumerator_meaning f.made) (enumerator_meaning g.made) f.after g.after (λ z. meaning_both R f.made g.made z.1) found)

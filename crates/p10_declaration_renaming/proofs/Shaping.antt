@@ -22,7 +22,8 @@ use Rattle.p10_expression_renaming.proofs.Sameness.{SameName, same_no_name, same
 use Rattle.p10_expression_renaming.proofs.TypeNames.{left, right, has_const_same, marked_pointer, SameLength, length_found_both, sized_array_both}
 use Rattle.p10_declaration_renaming.specs.Standings.{Both, SameStanding, AreQuiet, SameParameters, same_no_parameters, same_more_parameters, SameListedParameter, SameListed, same_none_listed, same_more_listed, SameDeclared, same_of_type, same_of_open_array, same_of_function, same_of_part_function}
 use Rattle.p10_declaration_renaming.proofs.Boths.{both_map}
-use Rattle.p10_declaration_renaming.proofs.Growing.{as_before, grows_pointed, grows_pointer, grows_element, grows_array_with, grows_result, grows_parameter, grows_with_parameter, never_joined}
+use Rattle.p10_declaration_steps.proofs.Shaping.{over_pointed, over_pointer, over_element, over_array_with, over_result, over_parameter, over_with_parameter}
+use Rattle.p10_declaration_renaming.proofs.Growing.{as_before, never_joined, grown}
 use Rattle.p10_declaration_renaming.proofs.Scopes.{names_inside, tags_inside, entered_same, left_same}
 use Rattle.p10_declaration_renaming.proofs.Expressions.{alike_value}
 use Rattle.p10_declaration_renaming.proofs.Naming.{declaring_same}
@@ -43,7 +44,7 @@ pointed_ends R last h at name_at to name_to c d e s t know (same_of_part_functio
 pointer_told : (h : Keep) (at name_at : At) (qualifiers : List (Qualifier At)) (r : At) → other_word qualifiers ≡ Some r → (m : Option DeclaredType) (s : PlainStanding) → (pointer_declared h at name_at qualifiers m s).after.problems ≡ [] → ⊥
 pointer_told h at name_at qualifiers r e None s = rw e (λ none. never_joined h s.problems (record { code = subset.BadSpecifier; at = r }) [] none)
 pointer_told h at name_at qualifiers r e (Some d) s =
-    rw e (λ none. never_joined h s.problems (record { code = subset.BadSpecifier; at = r }) [] ((grows_pointed h at name_at (has_const_word qualifiers) d (refusing h true subset.BadSpecifier r s)).quiet none))
+    rw e (λ none. never_joined h s.problems (record { code = subset.BadSpecifier; at = r }) [] ((grown (over_pointed h at name_at (has_const_word qualifiers) d (refusing h true subset.BadSpecifier r s))).quiet none))
 
 pointer_by_ends : (R : Pairing) (last : ℕ) (h : Keep) (at name_at to name_to : At) (these others : List (Qualifier At)) → has_const_word these ≡ has_const_word others → (o q : Option At) → other_word these ≡ o → other_word others ≡ q
     → (m n : Option DeclaredType) → Both (SameDeclared R) m n → (s t : PlainStanding) → SameStanding R last s t → Ends R last (SameDeclared R) (pointer_declared h at name_at these m s) (pointer_declared h to name_to others n t)
@@ -61,7 +62,7 @@ pub alike_pointer : {B : Type 0} (R : Pairing) (last : ℕ) (h : Keep) (at name_
 alike_pointer R last h at name_at to name_to all m n s t k a =
     let these : List (Qualifier At) = map (mapped_qualifier left) all in
     let others : List (Qualifier At) = map (mapped_qualifier right) all in
-    alike_ends R last (SameDeclared R) s t (pointer_declared h at name_at these m s) (pointer_declared h to name_to others n t) (grows_pointer h at name_at these m s) (grows_pointer h to name_to others n t)
+    alike_ends R last (SameDeclared R) s t (pointer_declared h at name_at these m s) (pointer_declared h to name_to others n t) (grown (over_pointer h at name_at these m s)) (grown (over_pointer h to name_to others n t))
     (λ b know. pointer_by_ends R last h at name_at to name_to these others (has_const_same all) (other_word these) (other_word others) refl refl m n (k b) s t know) a
 
 -- ## Arrays
@@ -84,7 +85,7 @@ element_ends R last h name_at name_to (Some x) (Some y) k s t know = by_declared
 pub alike_element : {B : Type 0} (R : Pairing) (last : ℕ) (h : Keep) (name_at name_to : At) (m n : Option DeclaredType) (s t : PlainStanding) → (B → Both (SameDeclared R) m n) → Alike B R last s t
     → Alike (B × Both (SameType R) (element_declared h name_at m s).made (element_declared h name_to n t).made) R last (element_declared h name_at m s).after (element_declared h name_to n t).after
 alike_element R last h name_at name_to m n s t k a =
-    alike_ends R last (SameType R) s t (element_declared h name_at m s) (element_declared h name_to n t) (grows_element h name_at m s) (grows_element h name_to n t)
+    alike_ends R last (SameType R) s t (element_declared h name_at m s) (element_declared h name_to n t) (grown (over_element h name_at m s)) (grown (over_element h name_to n t))
     (λ b know. element_ends R last h name_at name_to m n (k b) s t know) a
 
 array_with_ends : (R : Pairing) (last : ℕ) (h : Keep) (m n : Option PlainType) → Both (SameType R) m n → (k l : Option Length) → Both SameLength k l → (s t : PlainStanding) → SameStanding R last s t
@@ -107,7 +108,7 @@ alike_array R one last h e p q k a =
     let m : Passed Length = value_by h p.after (mapped_expression left e) length_found in
     let n : Passed Length = value_by h q.after (mapped_expression right e) length_found in
     λ quiet.
-    let x = alike_ends R last (SameDeclared R) m.after n.after (array_with h p.made m.made m.after) (array_with h q.made n.made n.after) (grows_array_with h p.made m.made m.after) (grows_array_with h q.made n.made n.after)
+    let x = alike_ends R last (SameDeclared R) m.after n.after (array_with h p.made m.made m.after) (array_with h q.made n.made n.after) (grown (over_array_with h p.made m.made m.after)) (grown (over_array_with h q.made n.made n.after))
     (λ b know. array_with_ends R last h p.made q.made (k b.0) m.made n.made b.1 m.after n.after know) (alike_value R one last h SameLength e length_found length_found p.after q.after (λ b v w j. length_found_both R v w j) a) quiet in
     ((x.0.0.0, x.0.1), x.1)
 
@@ -155,7 +156,7 @@ results_end R last h at name_at to name_to (Some x) None k s t know = absurd k
 pub alike_result : {B : Type 0} (R : Pairing) (last : ℕ) (h : Keep) (at name_at to name_to : At) (m n : Option DeclaredType) (s t : PlainStanding) → (B → Both (SameDeclared R) m n) → Alike B R last s t
     → Alike (B × Both (SameType R) (result_declared h at name_at m s).made (result_declared h to name_to n t).made) R last (result_declared h at name_at m s).after (result_declared h to name_to n t).after
 alike_result R last h at name_at to name_to m n s t k a =
-    alike_ends R last (SameType R) s t (result_declared h at name_at m s) (result_declared h to name_to n t) (grows_result h at name_at m s) (grows_result h to name_to n t)
+    alike_ends R last (SameType R) s t (result_declared h at name_at m s) (result_declared h to name_to n t) (grown (over_result h at name_at m s)) (grown (over_result h to name_to n t))
     (λ b know. results_end R last h at name_at to name_to m n (k b) s t know) a
 
 pub alike_among : {B : Type 0} (R : Pairing) (last : ℕ) (s t : PlainStanding) → Alike B R last s t → Alike B R last (among_parameters s) (among_parameters t)
@@ -222,7 +223,7 @@ parameters_end R last h at name_at to name_to (Some x) None k s t know = absurd 
 pub alike_parameter : {B : Type 0} (R : Pairing) (last : ℕ) (h : Keep) (at name_at to name_to : At) (m n : Option DeclaredType) (s t : PlainStanding) → (B → Both (SameDeclared R) m n) → Alike B R last s t
     → Alike (B × Both (SameType R) (parameter_declared h at name_at m s).made (parameter_declared h to name_to n t).made) R last (parameter_declared h at name_at m s).after (parameter_declared h to name_to n t).after
 alike_parameter R last h at name_at to name_to m n s t k a =
-    alike_ends R last (SameType R) s t (parameter_declared h at name_at m s) (parameter_declared h to name_to n t) (grows_parameter h at name_at m s) (grows_parameter h to name_to n t)
+    alike_ends R last (SameType R) s t (parameter_declared h at name_at m s) (parameter_declared h to name_to n t) (grown (over_parameter h at name_at m s)) (grown (over_parameter h to name_to n t))
     (λ b know. parameters_end R last h at name_at to name_to m n (k b) s t know) a
 
 with_parameter_same : (R : Pairing) (last : ℕ) (h : Keep) (i : ℕ) {a b : Option (Identifier At)} → SameName a b → (m n : Option PlainType) → Both (SameType R) m n → (s t : PlainStanding) → SameStanding R last s t
@@ -237,4 +238,4 @@ with_parameter_same R last h i same_name (Some u) None k s t know q = absurd k
 pub alike_with_parameter : {B : Type 0} (R : Pairing) (last : ℕ) (h : Keep) (i : ℕ) (a b : Option (Identifier At)) → SameName a b → (m n : Option PlainType) (s t : PlainStanding) → (B → Both (SameType R) m n) → Alike B R last s t
     → Alike B R last (with_parameter h i a m s) (with_parameter h i b n t)
 alike_with_parameter R last h i a b same m n s t k alike =
-    alike_on R last s t (with_parameter h i a m s) (with_parameter h i b n t) (grows_with_parameter h i a m s) (grows_with_parameter h i b n t) (λ c know q. with_parameter_same R last h i same m n (k c) s t know q) alike
+    alike_on R last s t (with_parameter h i a m s) (with_parameter h i b n t) (grown (over_with_parameter h i a m s)) (grown (over_with_parameter h i b n t)) (λ c know q. with_parameter_same R last h i same m n (k c) s t know q) alike

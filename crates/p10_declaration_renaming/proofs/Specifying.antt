@@ -27,12 +27,13 @@ use Rattle.p10_expression_renaming.proofs.TypeNames.{left, right, typedef_both, 
 use Rattle.p10_expression_renaming.proofs.Types.{qualified_same}
 use Rattle.p10_declaration_renaming.specs.Standings.{Both}
 use Rattle.p10_declaration_renaming.proofs.Boths.{both_by, both_map}
-use Rattle.p10_declaration_renaming.proofs.Growing.{grows_noted}
+use Rattle.p10_declaration_steps.proofs.Steps.{over_noted}
 use Rattle.p10_declaration_renaming.proofs.Scopes.{named_same}
 use Rattle.p10_declaration_renaming.proofs.Alike.{Alike, alike_map, forget, alike_ends, alike_refusing, ends_noted, never_left, never_right}
 use Rattle.p10_declaration_renaming.proofs.Expressions.{SameNumber}
 use Rattle.p10_declaration_renaming.proofs.Tagging.{left_name, right_name, alike_by_name, alike_with_enumeration, alike_enumeration_begun}
 use Rattle.p10_declaration_renaming.proofs.Members.{alike_enumerator}
+use Rattle.p10_declaration_renaming.proofs.Growing.{grown}
 
 -- ## One specifier
 
@@ -54,7 +55,7 @@ pub alike_typedef : {B : Type 0} (R : Pairing) (last : ℕ) (h : Keep) (x : Iden
     (noted h (lift (typedef_rule x.place.0 (named s.scope x.name))) s).after (noted h (lift (typedef_rule x.place.1 (named t.scope x.name))) t).after
 alike_typedef R last h x s t a =
     alike_ends R last (SameMaybeType R) s t (noted h (lift (typedef_rule x.place.0 (named s.scope x.name))) s) (noted h (lift (typedef_rule x.place.1 (named t.scope x.name))) t)
-    (grows_noted h (lift (typedef_rule x.place.0 (named s.scope x.name))) s) (grows_noted h (lift (typedef_rule x.place.1 (named t.scope x.name))) t)
+    (grown (over_noted h (lift (typedef_rule x.place.0 (named s.scope x.name))) s)) (grown (over_noted h (lift (typedef_rule x.place.1 (named t.scope x.name))) t))
     (λ b know. ends_noted R last (SameMaybeType R) h (lift (typedef_rule x.place.0 (named s.scope x.name))) (lift (typedef_rule x.place.1 (named t.scope x.name))) s t
     (typedef_both R x.place.0 x.place.1 (named s.scope x.name) (named t.scope x.name) (named_same R last s.scope t.scope know x.name)) know) a
 

@@ -25,7 +25,10 @@ use Rattle.p10_expression_renaming.specs.Knowing.{SameMeaning, same_local, same_
 use Rattle.p10_expression_renaming.proofs.Sameness.{SameNamed, same_nothing_named, same_one_named}
 use Rattle.p10_expression_renaming.proofs.TypeNames.{left, right}
 use Rattle.p10_declaration_renaming.specs.Standings.{Both, SameWholeScope, SameStanding, AreQuiet}
-use Rattle.p10_declaration_renaming.proofs.Growing.{as_before, grows_tag_passed, grows_by_name, grows_begun, grows_made, count_more, count_kept}
+use Rattle.p10_declaration_steps.proofs.Declaring.{over_tag_passed}
+use Rattle.p10_declaration_steps.proofs.Members.{over_by_name}
+use Rattle.p10_declaration_steps.proofs.Tagging.{over_begun}
+use Rattle.p10_declaration_renaming.proofs.Growing.{as_before, grows_made, count_more, count_kept, grown}
 use Rattle.p10_declaration_renaming.proofs.Tables.{takes_same, tables_completed}
 use Rattle.p10_declaration_renaming.proofs.Scopes.{tagged_same, tagged_here_same, declared_same, hidden_same, next_now, structure_more_same, with_tag_same}
 use Rattle.p10_declaration_renaming.proofs.Alike.{Alike, Ends, alike_on, alike_ends, quiet_before, never_left, never_right, alike_refusing, ends_nothing, ends_passed, ends_where, ends_unless}
@@ -97,8 +100,8 @@ pub alike_tag_passed : {B : Type 0} (R : Pairing) → IsOneToOne R → (last : �
     → Alike (B × Both (SameType R) (tag_passed h alone at word (left_name tag) s).made (tag_passed h alone to word (right_name tag) t).made) R last
     (tag_passed h alone at word (left_name tag) s).after (tag_passed h alone to word (right_name tag) t).after
 alike_tag_passed R one last h alone at to word tag s t a =
-    alike_ends R last (SameType R) s t (tag_passed h alone at word (left_name tag) s) (tag_passed h alone to word (right_name tag) t) (grows_tag_passed h alone at word (left_name tag) s)
-    (grows_tag_passed h alone to word (right_name tag) t) (λ b know. tag_passed_ends R one last h alone at to word tag s t know) a
+    alike_ends R last (SameType R) s t (tag_passed h alone at word (left_name tag) s) (tag_passed h alone to word (right_name tag) t) (grown (over_tag_passed h alone at word (left_name tag) s))
+    (grown (over_tag_passed h alone to word (right_name tag) t)) (λ b know. tag_passed_ends R one last h alone at to word tag s t know) a
 
 enumeration_by_tag_ends : (R : Pairing) (last : ℕ) (h : Keep) (at to : At) (x : Identifier (At × At)) (s t : PlainStanding) → SameStanding R last s t → {k l : KnownTag} → SameTag R k l
     → Ends R last (SameType R) (enumeration_by_tag h at k (mapped_identifier left x) s) (enumeration_by_tag h to l (mapped_identifier right x) t)
@@ -118,7 +121,7 @@ pub alike_by_name : {B : Type 0} (R : Pairing) (last : ℕ) (h : Keep) (at to : 
     → Alike (B × Both (SameType R) (enumeration_by_name h at (left_name tag) s).made (enumeration_by_name h to (right_name tag) t).made) R last
     (enumeration_by_name h at (left_name tag) s).after (enumeration_by_name h to (right_name tag) t).after
 alike_by_name R last h at to tag s t a =
-    alike_ends R last (SameType R) s t (enumeration_by_name h at (left_name tag) s) (enumeration_by_name h to (right_name tag) t) (grows_by_name h at (left_name tag) s) (grows_by_name h to (right_name tag) t)
+    alike_ends R last (SameType R) s t (enumeration_by_name h at (left_name tag) s) (enumeration_by_name h to (right_name tag) t) (grown (over_by_name h at (left_name tag) s)) (grown (over_by_name h to (right_name tag) t))
     (λ b know. by_name_ends R last h at to tag s t know) a
 
 -- ## A structure with a body
@@ -176,7 +179,7 @@ pub alike_begun : {B : Type 0} (R : Pairing) → IsOneToOne R → (last : ℕ) (
     → Alike (B × (R (begun_with h word (left_name tag) s).number (begun_with h word (right_name tag) t).number ≡ true)) R last
     (begun_with h word (left_name tag) s).standing (begun_with h word (right_name tag) t).standing
 alike_begun R one last h word tag s t a q =
-    let x = a (quiet_before last s t _ _ (grows_begun h word (left_name tag) s) (grows_begun h word (right_name tag) t) q) in
+    let x = a (quiet_before last s t _ _ (grown (over_begun h word (left_name tag) s)) (grown (over_begun h word (right_name tag) t)) q) in
     let y = with_begins R one last h word tag s t x.1 q in
     ((x.0, y.0), y.1)
 

@@ -14,7 +14,8 @@ use Rattle.p10_linkage.specs.Uniting.{and_then}
 use Rattle.p10_linkage.specs.Between.{known_united, parameters_united, listed_united, functions_united, objects_united, linked_united, unless_compatible, is_other, agreed_with, agreed, agreed_noted, agreeing, all_agreeing, is_defined_before, definitions_noted, taken_together}
 use Rattle.p10_linkage.proofs.Joining.{StandsWell, IsKept, kept_itself, kept_on}
 use Rattle.p10_linkage.proofs.OneType.{some_is, none_is_not, some_if, some_then, united_kept}
-use Rattle.p10_declaration_renaming.proofs.Growing.{grows_refusing}
+use Rattle.p10_declaration_steps.proofs.Steps.{over_refusing}
+use Rattle.p10_declaration_renaming.proofs.Growing.{grown}
 
 -- ## Declarations that agree
 
@@ -114,7 +115,7 @@ structures_as_before h false code at s = refl
 
 joins_refusing : (h : Keep) (b : Bool) (code : SubsetCode) (at : At) (s : PlainStanding) → Joins s (refusing h b code at s)
 joins_refusing h b code at s = record {
-  quiet = (grows_refusing h b code at s).quiet;
+  quiet = (grown (over_refusing h b code at s)).quiet;
   kept = λ w. subst (λ c. IsKept s.scope.structures c.structures) (sym (structures_as_before h b code at s)) (kept_itself s.scope.structures w);
 }
 

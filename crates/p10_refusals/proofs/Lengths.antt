@@ -24,17 +24,17 @@ length_told law name_at p (Array at d brackets (Present e)) r (inr inside) = len
 length_told law name_at p (Function at d parentheses all more) r h = length_told law name_at (function_made_of name_at at p d parentheses all more) d r h
 
 pub declarators_told : FormRowsAreTold → DeclaratorsAreTold
-declarators_told law = record { outside = told_outside law; in_function = told_in_function law }
+declarators_told law = record { outside = told_outside; in_function = told_in_function }
 
 pub forms_told : FormRowsAreTold → FormRowsOfDeclarationsAreTold
 forms_told law = record {
-  outside = λ heads k d before one name r is h. told_outside law heads k d before one name r is (law.told name.place (reached_outside heads k d before) one.declarator r h);
-  in_function = λ f site l d before one name r is h. told_in_function law f site l d before one name r is (law.told name.place (reached_in_function f site l d before) one.declarator r h);
+  outside = λ heads k d before one name r is h. told_outside heads k d before one name r is (law.told name.place (reached_outside heads k d before) one.declarator r h);
+  in_function = λ f site l d before one name r is h. told_in_function f site l d before one name r is (law.told name.place (reached_in_function f site l d before) one.declarator r h);
 }
 
 pub lengths_told : LengthsAreTold → FormRowsAreTold → LengthsOfDeclarationsAreTold
 lengths_told lengths law = record {
   declarator = length_told lengths;
-  outside = λ heads k d before one name r is h. told_outside law heads k d before one name r is (length_told lengths name.place (reached_outside heads k d before) one.declarator r h);
-  in_function = λ f site l d before one name r is h. told_in_function law f site l d before one name r is (length_told lengths name.place (reached_in_function f site l d before) one.declarator r h);
+  outside = λ heads k d before one name r is h. told_outside heads k d before one name r is (length_told lengths name.place (reached_outside heads k d before) one.declarator r h);
+  in_function = λ f site l d before one name r is h. told_in_function f site l d before one name r is (length_told lengths name.place (reached_in_function f site l d before) one.declarator r h);
 }

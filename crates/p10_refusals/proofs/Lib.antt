@@ -6,7 +6,6 @@ pub mod Forms
 pub mod FormsInFunctions
 pub mod FormsOutside
 pub mod Growing
-pub mod GrowingStatements
 pub mod Initializing
 pub mod InBodies
 pub mod InRoots

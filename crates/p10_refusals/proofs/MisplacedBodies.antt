@@ -21,17 +21,17 @@ use Rattle.p10_elab.specs.Knowledge.{Known, with_standing}
 use Rattle.p10_elab.specs.Outer.{main_constants, bodyless, function_by_type, allowed_at_definition, function_named, defined_outside}
 use Rattle.p10_refusals.specs.InRoots.{reached_in_roots}
 use Rattle.p10_refusals.specs.MisplacedBodies.{without_parameters_at, MisplacedBodiesAreTold}
-use Rattle.p10_refusals.proofs.Growing.{among_first, among_after, refusing_told}
-use Rattle.p10_refusals.proofs.FormsInFunctions.{grows_unknown}
+use Rattle.p10_refusals.proofs.Growing.{among_first, among_after, refusing_told, grown}
 use Rattle.p10_refusals.proofs.Bodies.{definition_row_told}
 use Rattle.p10_refusals.proofs.InRoots.{declarations_told}
 use Rattle.p10_refusals.proofs.NoFunctions.{IsNoFunction, based_none, none_made}
+use Rattle.p10_statement_steps.proofs.Typing.{over_unknown}
 
 -- ## Bodies
 
 bodyless_told : (d : Definition At) (name : Identifier At) (k : Known) → has_parameters d.declarator ≡ false → Among (without_parameters_at d.declarator) (bodyless every d name k).standing.problems
 bodyless_told d name k h =
-    (grows_unknown name (refusing every (not (has_parameters d.declarator)) subset.NoPrototype (declarator_place d.declarator) k.standing)).among (without_parameters_at d.declarator)
+    (grown (over_unknown every name (refusing every (not (has_parameters d.declarator)) subset.NoPrototype (declarator_place d.declarator) k.standing))).among (without_parameters_at d.declarator)
     (refusing_told (not (has_parameters d.declarator)) subset.NoPrototype (declarator_place d.declarator) k.standing (ap not h))
 
 body_told : (heads : Heads) (s : Storage) (d : Definition At) (name : Identifier At) (k : Known) (o : Option DeclaredType) → has_parameters d.declarator ≡ false → IsNoFunction o →

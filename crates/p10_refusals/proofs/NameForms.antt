@@ -26,34 +26,36 @@ use Rattle.p10_elab.specs.Outer.{declared_outside}
 use Rattle.p10_refusals.specs.Forms.{reached_in_function, DeclaredAfter}
 use Rattle.p10_refusals.specs.NameForms.{function_at, declares_object, NameFormsAreTold}
 use Rattle.p10_refusals.specs.Sizes.{known_outside}
-use Rattle.p10_refusals.proofs.Growing.{grows_refusing, refusing_told}
-use Rattle.p10_refusals.proofs.FormsInFunctions.{grows_no_initializer, grows_unknown, grows_typedef_of, grows_object_type, grows_variable, grows_object, at_declarator, named_in_function}
+use Rattle.p10_refusals.proofs.Growing.{grows_refusing, refusing_told, grown, grown_in_block}
+use Rattle.p10_refusals.proofs.FormsInFunctions.{at_declarator, named_in_function}
 use Rattle.p10_refusals.proofs.FormsOutside.{told_where_true, specified_type_of, named_outside}
 use Rattle.p10_refusals.proofs.Tests.{second_false}
+use Rattle.p10_statement_steps.proofs.Typing.{over_no_initializer, over_unknown, over_object_type}
+use Rattle.p10_statement_steps.proofs.Declaring.{over_typedef_of, over_variable_where, over_object_where}
 
 -- ## Typedefs
 
 typedef_function : (name : Identifier At) (d : Declarator At) (o : Option DeclaredType) (s : PlainStanding) → declares_function d ≡ true → Among (function_at d) (typedef_passed every name d o s).problems
 typedef_function name d o s h =
     let t : PlainStanding = refusing every (declares_function d) subset.BadSpecifier (declarator_place d) s in
-    (grows_typedef_of name o (refusing every (declares_open_array d) subset.IncompleteType name.place t)).among (function_at d)
+    (grown_in_block (over_typedef_of every name o (refusing every (declares_open_array d) subset.IncompleteType name.place t))).among (function_at d)
     ((grows_refusing (declares_open_array d) subset.IncompleteType name.place t).among (function_at d) (refusing_told (declares_function d) subset.BadSpecifier (declarator_place d) s h))
 
 typedef_open : (name : Identifier At) (d : Declarator At) (o : Option DeclaredType) (s : PlainStanding) → declares_open_array d ≡ true → Among (incomplete_at name.place) (typedef_passed every name d o s).problems
 typedef_open name d o s h =
     let t : PlainStanding = refusing every (declares_function d) subset.BadSpecifier (declarator_place d) s in
-    (grows_typedef_of name o (refusing every (declares_open_array d) subset.IncompleteType name.place t)).among (incomplete_at name.place)
+    (grown_in_block (over_typedef_of every name o (refusing every (declares_open_array d) subset.IncompleteType name.place t))).among (incomplete_at name.place)
     (refusing_told (declares_open_array d) subset.IncompleteType name.place t h)
 
 -- what is told of a typedef outside of functions
-typedef_told : FormRowsAreTold → (heads : Heads) (k : Known) (d : Declaration At) (before : List (InitDeclarator At)) (one : InitDeclarator At) (name : Identifier At) (r : Problem) → DeclaredAfter d before one name →
+typedef_told : (heads : Heads) (k : Known) (d : Declaration At) (before : List (InitDeclarator At)) (one : InitDeclarator At) (name : Identifier At) (r : Problem) → DeclaredAfter d before one name →
     is_typedef (storage_of d.specifiers) ≡ true → ((o : Option DeclaredType) (s : PlainStanding) → Among r (typedef_passed every name one.declarator o s).problems) →
     Among r (declared_outside every heads k d).standing.problems
-typedef_told law heads k d before one name r is e told =
+typedef_told heads k d before one name r is e told =
     let j : Passed DeclaredType = declarator_passed every name.place (based (specified_type_of k d) (known_outside heads k d before).standing) one.declarator in
-    named_outside law heads k d before one name r is
+    named_outside heads k d before one name r is
     (told_where_true (is_typedef (storage_of d.specifiers)) _ _ r e
-    ((grows_no_initializer one.initial (typedef_passed every name one.declarator j.made j.after)).among r (told j.made j.after)))
+    ((grown (over_no_initializer every one.initial (typedef_passed every name one.declarator j.made j.after))).among r (told j.made j.after)))
 
 -- ## Blocks
 
@@ -64,8 +66,8 @@ unless_prototype false p q r e h = h
 prototype_told : (name : Identifier At) (d : InitDeclarator At) (l : Local) → Among (function_at d.declarator) (prototype_passed every name d l).after.standing.problems
 prototype_told name d l =
     let t : PlainStanding = refusing every true subset.BadSpecifier (declarator_place d.declarator) l.standing in
-    (grows_no_initializer d.initial (unknown_in every name t)).among (function_at d.declarator)
-    ((grows_unknown name t).among (function_at d.declarator) (refusing_told true subset.BadSpecifier (declarator_place d.declarator) l.standing refl))
+    (grown (over_no_initializer every d.initial (unknown_in every name t))).among (function_at d.declarator)
+    ((grown (over_unknown every name t)).among (function_at d.declarator) (refusing_told true subset.BadSpecifier (declarator_place d.declarator) l.standing refl))
 
 never : (x : Bool) → x ≡ true → (x && true) ≡ false → ⊥
 never true h e = absurd cc
@@ -75,7 +77,7 @@ never false h e = absurd cc
 stored_function : (f : Frame) (at : At) (s : Storage) (sensor : Bool) (name : Identifier At) (d : InitDeclarator At) (l : Local) (o : Option DeclaredType) → declares_function d.declarator ≡ true →
     is_prototype s d.declarator ≡ false → Among (function_at d.declarator) (by_storage every f at s sensor name d l o).after.standing.problems
 stored_function f at storage_is.Typedef sensor name d l o h e =
-    (grows_no_initializer d.initial (typedef_passed every name d.declarator o l.standing)).among (function_at d.declarator) (typedef_function name d.declarator o l.standing h)
+    (grown (over_no_initializer every d.initial (typedef_passed every name d.declarator o l.standing))).among (function_at d.declarator) (typedef_function name d.declarator o l.standing h)
 stored_function f at storage_is.Static sensor name d l o h e = absurd (never (declares_function d.declarator) h e)
 stored_function f at storage_is.Unnamed sensor name d l o h e = absurd (never (declares_function d.declarator) h e)
 stored_function f at storage_is.Extern sensor name d l o h e = absurd (never (declares_function d.declarator) h e)
@@ -89,7 +91,7 @@ open_typedef : (f : Frame) (at : At) (s : Storage) (sensor : Bool) (name : Ident
     Among (incomplete_at name.place) (if is_prototype s d.declarator then prototype_passed every name d l else by_storage every f at s sensor name d l o).after.standing.problems
 open_typedef f at storage_is.Typedef sensor name d l o e h =
     unless_prototype (is_prototype storage_is.Typedef d.declarator) _ _ (incomplete_at name.place) (second_false (declares_function d.declarator) false refl)
-    ((grows_no_initializer d.initial (typedef_passed every name d.declarator o l.standing)).among (incomplete_at name.place) (typedef_open name d.declarator o l.standing h))
+    ((grown (over_no_initializer every d.initial (typedef_passed every name d.declarator o l.standing))).among (incomplete_at name.place) (typedef_open name d.declarator o l.standing h))
 open_typedef f at storage_is.Static sensor name d l o e h = absurd cc
 open_typedef f at storage_is.Unnamed sensor name d l o e h = absurd cc
 open_typedef f at storage_is.Extern sensor name d l o e h = absurd cc
@@ -114,52 +116,52 @@ open_in_block : (name : Identifier At) (d : InitDeclarator At) (o : Option Decla
     Among (incomplete_at name.place) (object_in_block every name d o s).after.problems
 open_in_block name d None s h bare = open_there name d s h bare
 open_in_block name d (Some t) s h bare =
-    (grows_object_type name (brackets_of d.declarator) t d.initial (open_noted every name.place d.declarator d.initial s)).among (incomplete_at name.place) (open_there name d s h bare)
+    (grown (over_object_type every name (brackets_of d.declarator) t d.initial (open_noted every name.place d.declarator d.initial s))).among (incomplete_at name.place) (open_there name d s h bare)
 
 open_object : (f : Frame) (at : At) (s : Storage) (sensor : Bool) (name : Identifier At) (d : InitDeclarator At) (l : Local) (o : Option DeclaredType) → declares_object s ≡ true → declares_open_array d.declarator ≡ true →
     d.initial ≡ None → Among (incomplete_at name.place) (by_storage every f at s sensor name d l o).after.standing.problems
 open_object f at storage_is.Static sensor name d l o e h bare =
     let p : Passed PlainType = object_in_block every name d o l.standing in
-    (grows_object f at name sensor d.initial p.made (with_standing l p.after)).among (incomplete_at name.place) (open_in_block name d o l.standing h bare)
+    (grown (over_object_where every f at name sensor d.initial p.made (with_standing l p.after))).among (incomplete_at name.place) (open_in_block name d o l.standing h bare)
 open_object f at storage_is.Unnamed sensor name d l o e h bare =
     let p : Passed PlainType = object_in_block every name d o l.standing in
-    (grows_variable f at name d.initial p.made (with_standing l p.after)).among (incomplete_at name.place) (open_in_block name d o l.standing h bare)
+    (grown (over_variable_where every f at name d.initial p.made (with_standing l p.after))).among (incomplete_at name.place) (open_in_block name d o l.standing h bare)
 open_object f at storage_is.Extern sensor name d l o e h bare = absurd cc
 open_object f at storage_is.Typedef sensor name d l o e h bare = absurd cc
 
 -- ## Declarations in blocks
 
-local_function : FormRowsAreTold → (f : Frame) (site : Site) (l : Local) (d : Declaration At) (before : List (InitDeclarator At)) (one : InitDeclarator At) (name : Identifier At) → DeclaredAfter d before one name →
+local_function : (f : Frame) (site : Site) (l : Local) (d : Declaration At) (before : List (InitDeclarator At)) (one : InitDeclarator At) (name : Identifier At) → DeclaredAfter d before one name →
     declares_function one.declarator ≡ true → Among (function_at one.declarator) (declared_locally every f site l d).after.standing.problems
-local_function law f site l d before one name is h =
+local_function f site l d before one name is h =
     let s : Storage = storage_of d.specifiers in
     let j : Passed DeclaredType = declarator_passed every name.place (reached_in_function f site l d before) one.declarator in
-    named_in_function law f site l d before one name (function_at one.declarator) is
+    named_in_function f site l d before one name (function_at one.declarator) is
     (function_by f d.place s (makes_sensors d) name one (with_standing (at_declarator f site l d before) j.after) j.made (is_prototype s one.declarator) h refl)
 
-local_typedef : FormRowsAreTold → (f : Frame) (site : Site) (l : Local) (d : Declaration At) (before : List (InitDeclarator At)) (one : InitDeclarator At) (name : Identifier At) → DeclaredAfter d before one name →
+local_typedef : (f : Frame) (site : Site) (l : Local) (d : Declaration At) (before : List (InitDeclarator At)) (one : InitDeclarator At) (name : Identifier At) → DeclaredAfter d before one name →
     is_typedef (storage_of d.specifiers) ≡ true → declares_open_array one.declarator ≡ true → Among (incomplete_at name.place) (declared_locally every f site l d).after.standing.problems
-local_typedef law f site l d before one name is e h =
+local_typedef f site l d before one name is e h =
     let j : Passed DeclaredType = declarator_passed every name.place (reached_in_function f site l d before) one.declarator in
-    named_in_function law f site l d before one name (incomplete_at name.place) is
+    named_in_function f site l d before one name (incomplete_at name.place) is
     (open_typedef f d.place (storage_of d.specifiers) (makes_sensors d) name one (with_standing (at_declarator f site l d before) j.after) j.made e h)
 
-local_open : FormRowsAreTold → (f : Frame) (site : Site) (l : Local) (d : Declaration At) (before : List (InitDeclarator At)) (one : InitDeclarator At) (name : Identifier At) → DeclaredAfter d before one name →
+local_open : (f : Frame) (site : Site) (l : Local) (d : Declaration At) (before : List (InitDeclarator At)) (one : InitDeclarator At) (name : Identifier At) → DeclaredAfter d before one name →
     declares_object (storage_of d.specifiers) ≡ true → declares_open_array one.declarator ≡ true → one.initial ≡ None →
     Among (incomplete_at name.place) (declared_locally every f site l d).after.standing.problems
-local_open law f site l d before one name is e h bare =
+local_open f site l d before one name is e h bare =
     let s : Storage = storage_of d.specifiers in
     let j : Passed DeclaredType = declarator_passed every name.place (reached_in_function f site l d before) one.declarator in
-    named_in_function law f site l d before one name (incomplete_at name.place) is
+    named_in_function f site l d before one name (incomplete_at name.place) is
     (unless_prototype (is_prototype s one.declarator) _ _ (incomplete_at name.place)
     (ap (λ b. b && not (is_typedef s)) (open_no_function false around.Nothing one.declarator h (λ x. refl)))
     (open_object f d.place s (makes_sensors d) name one (with_standing (at_declarator f site l d before) j.after) j.made e h bare))
 
 pub name_forms_told : FormRowsAreTold → NameFormsAreTold
 name_forms_told law = record {
-  typedef_of_function = λ heads k d before one name is e h. typedef_told law heads k d before one name (function_at one.declarator) is e (λ o s. typedef_function name one.declarator o s h);
-  typedef_of_open = λ heads k d before one name is e h. typedef_told law heads k d before one name (incomplete_at name.place) is e (λ o s. typedef_open name one.declarator o s h);
-  local_function = local_function law;
-  local_typedef_of_open = local_typedef law;
-  local_open = local_open law;
+  typedef_of_function = λ heads k d before one name is e h. typedef_told heads k d before one name (function_at one.declarator) is e (λ o s. typedef_function name one.declarator o s h);
+  typedef_of_open = λ heads k d before one name is e h. typedef_told heads k d before one name (incomplete_at name.place) is e (λ o s. typedef_open name one.declarator o s h);
+  local_function = local_function;
+  local_typedef_of_open = local_typedef;
+  local_open = local_open;
 }

@@ -33,13 +33,13 @@ use Rattle.p10_refusals.specs.Forms.{reached_outside, DeclaredAfter}
 use Rattle.p10_refusals.specs.InRoots.{reached_in_roots}
 use Rattle.p10_refusals.specs.Redeclarations.{WrittenList, list_in, linked_by, HasList, are_apart, are_as_many, lists_differ, declared_twice_at, IsKnownWith, IsDeclaredAgain, IsRedeclared, IsRedefined, RedeclarationsAreTold}
 use Rattle.p10_refusals.specs.Sizes.{known_outside, declared_by}
-use Rattle.p10_refusals.proofs.Growing.{grows_on, refusing_told}
-use Rattle.p10_refusals.proofs.FormsInFunctions.{grows_no_initializer}
+use Rattle.p10_refusals.proofs.Growing.{grows_on, refusing_told, grown, grown_outside}
 use Rattle.p10_refusals.proofs.FormsOutside.{told_where_false, named_outside, specified_type_of, at_declarators}
-use Rattle.p10_refusals.proofs.Bodies.{grows_body}
 use Rattle.p10_refusals.proofs.InRoots.{grows_agreeing, grows_definitions, declarations_told}
 use Rattle.p10_refusals.proofs.Lists.{list_told}
 use Rattle.p10_refusals.proofs.Tests.{first_true, second_false, both_true}
+use Rattle.p10_statement_steps.proofs.Typing.{over_no_initializer}
+use Rattle.p10_root_steps.proofs.Passing.{over_body}
 
 -- ## Lists that don't go together
 
@@ -126,7 +126,7 @@ prototype_told : (heads : Heads) (name : Identifier At) (t : LinkedType) (s : St
     same_linked earlier (linked_of k name t s false false) ≡ false → Among (declared_twice_at name.place) (prototype_declared every heads name t s i k).standing.problems
 prototype_told heads name t s i k earlier e h =
     let l : Linked = linked_of k name t s false false in
-    (grows_no_initializer i (with_linked every heads l k).standing).among (declared_twice_at name.place) (linked_told heads l k earlier e h)
+    (grown (over_no_initializer every i (with_linked every heads l k).standing)).among (declared_twice_at name.place) (linked_told heads l k earlier e h)
 
 outside_told : (heads : Heads) (s : Storage) (sensor : Bool) (name : Identifier At) (d : InitDeclarator At) (k : Known) (earlier : Linked) (o : Option DeclaredType) → before_in k name ≡ Some earlier →
     IsApart k name s false earlier (linked_by o) → Among (declared_twice_at name.place) (by_type_outside every heads s sensor name d k o).standing.problems
@@ -136,22 +136,22 @@ outside_told heads s sensor name d k earlier (Some (of_type t)) e h = absurd h
 outside_told heads s sensor name d k earlier (Some (of_open_array t)) e h = absurd h
 outside_told heads s sensor name d k earlier None e h = absurd h
 
-redeclared_told : FormRowsAreTold → (heads : Heads) (k : Known) (d : Declaration At) (before : List (InitDeclarator At)) (one : InitDeclarator At) (name : Identifier At) → IsRedeclared heads k d before one name →
+redeclared_told : (heads : Heads) (k : Known) (d : Declaration At) (before : List (InitDeclarator At)) (one : InitDeclarator At) (name : Identifier At) → IsRedeclared heads k d before one name →
     Among (declared_twice_at name.place) (declared_outside every heads k d).standing.problems
-redeclared_told law heads k d before one name is =
+redeclared_told heads k d before one name is =
     let s : Storage = storage_of d.specifiers in
     let j : Known = known_outside heads k d before in
     let p : Passed DeclaredType = declarator_passed every name.place (based (specified_type_of k d) j.standing) one.declarator in
-    named_outside law heads k d before one name (declared_twice_at name.place) is.declared
+    named_outside heads k d before one name (declared_twice_at name.place) is.declared
     (told_where_false (is_typedef s) _ _ (declared_twice_at name.place) is.plain
     (outside_told heads s (makes_sensors d) name one (with_standing j p.after) is.earlier p.made is.known (subst (IsApart j name s false is.earlier) (sym is.made) is.differs)))
 
-apart_told : FormRowsAreTold → (heads : Heads) (k : Known) (d : Declaration At) (before : List (InitDeclarator At)) (one : InitDeclarator At) (name : Identifier At) (w : WrittenList) (earlier : Linked) →
+apart_told : (heads : Heads) (k : Known) (d : Declaration At) (before : List (InitDeclarator At)) (one : InitDeclarator At) (name : Identifier At) (w : WrittenList) (earlier : Linked) →
     DeclaredAfter d before one name → is_typedef (storage_of d.specifiers) ≡ false → list_in one.declarator ≡ Some w → before_in (known_outside heads k d before) name ≡ Some earlier →
     is_function earlier.type ≡ true → are_apart (list_form earlier.type) w.form ≡ true → Among (declared_twice_at name.place) (declared_outside every heads k d).standing.problems
-apart_told law heads k d before one name w earlier is plain written known f h =
+apart_told heads k d before one name w earlier is plain written known f h =
     let l : HasList w (declared_by heads k d before one name).made = list_told name.place (reached_outside heads k d before) one.declarator w written in
-    redeclared_told law heads k d before one name (record {
+    redeclared_told heads k d before one name (record {
       declared = is;
       plain = plain;
       type = l.linked;
@@ -225,36 +225,36 @@ known_after heads k d before one name w named plain written =
       count = λ n c. ap (λ t. length (parameters_of t)) a.type ∙ h.count n c;
     }
 
-again_told : FormRowsAreTold → (heads : Heads) (k : Known) (d e : Declaration At) (name again : Identifier At) (w v : WrittenList) → IsDeclaredAgain d e name again w v → are_apart w.form v.form ≡ true →
+again_told : (heads : Heads) (k : Known) (d e : Declaration At) (name again : Identifier At) (w v : WrittenList) → IsDeclaredAgain d e name again w v → are_apart w.form v.form ≡ true →
     Among (declared_twice_at again.place) (declared_outside every heads (declared_outside every heads k d) e).standing.problems
 unfolding declared_outside
-again_told law heads k d e name again w v is h =
+again_told heads k d e name again w v is h =
     let j : Known = known_outside heads k d d.declarators in
     let a : IsKnownWith j name w = subst (λ ds. IsKnownWith (known_outside heads k d ds) name w) (sym is.last) (known_after heads k d is.before is.one name w is.named is.plain is.written) in
-    apart_told law heads j e [] is.other again v a.earlier is.first is.also_plain is.also_written (subst (λ x. last_linked None j.root x j.linked ≡ Some a.earlier) is.same a.known) a.function
+    apart_told heads j e [] is.other again v a.earlier is.first is.also_plain is.also_written (subst (λ x. last_linked None j.root x j.linked ≡ Some a.earlier) is.same a.known) a.function
     (ap (λ l. are_apart l v.form) a.form ∙ h)
 
 -- ## Functions with a body
 
-function_told : FormRowsAreTold → (heads : Heads) (s : Storage) (d : Definition At) (name : Identifier At) (k : Known) (earlier : Linked) (o : Option DeclaredType) → before_in k name ≡ Some earlier →
+function_told : (heads : Heads) (s : Storage) (d : Definition At) (name : Identifier At) (k : Known) (earlier : Linked) (o : Option DeclaredType) → before_in k name ≡ Some earlier →
     IsApart k name s true earlier (linked_by o) → Among (declared_twice_at name.place) (function_by_type every heads s d name k o).standing.problems
-function_told law heads s d name k earlier (Some (of_function f)) e h =
+function_told heads s d name k earlier (Some (of_function f)) e h =
     let l : Linked = linked_of k name (function_type f) s true false in
-    (grows_body law heads l f d.body (with_linked every heads l k)).among (declared_twice_at name.place) (linked_told heads l k earlier e h)
-function_told law heads s d name k earlier (Some (of_part_function f)) e h =
+    (grown_outside (over_body every heads l f d.body (with_linked every heads l k))).among (declared_twice_at name.place) (linked_told heads l k earlier e h)
+function_told heads s d name k earlier (Some (of_part_function f)) e h =
     linked_told heads (linked_of k name (part_type f) s true false) (with_standing k (listed_names_noted every f.parameters k.standing)) earlier e h
-function_told law heads s d name k earlier (Some (of_type t)) e h = absurd h
-function_told law heads s d name k earlier (Some (of_open_array t)) e h = absurd h
-function_told law heads s d name k earlier None e h = absurd h
+function_told heads s d name k earlier (Some (of_type t)) e h = absurd h
+function_told heads s d name k earlier (Some (of_open_array t)) e h = absurd h
+function_told heads s d name k earlier None e h = absurd h
 
-redefined_told : FormRowsAreTold → (heads : Heads) (k : Known) (d : Definition At) (name : Identifier At) → IsRedefined heads k d name → Among (declared_twice_at name.place) (defined_outside every heads k d).standing.problems
+redefined_told : (heads : Heads) (k : Known) (d : Definition At) (name : Identifier At) → IsRedefined heads k d name → Among (declared_twice_at name.place) (defined_outside every heads k d).standing.problems
 unfolding defined_outside
-redefined_told law heads k d name is =
+redefined_told heads k d name is =
     let t : Passed PlainType = specified every site_is.OfDefinition (allowed_at_definition d) false k.standing d.specifiers in
     let j : Known = record k { standing = t.after; mains = k.mains ++ main_constants (constants_of d.specifiers) } in
     let p : Passed DeclaredType = declarator_passed every name.place (based t.made t.after) d.declarator in
     subst (λ o. Among (declared_twice_at name.place) (function_named every heads d j t.made o).standing.problems) (sym is.named)
-    (function_told law heads (storage_of d.specifiers) d name (with_standing j p.after) is.earlier p.made is.known (subst (IsApart k name (storage_of d.specifiers) true is.earlier) (sym is.made) is.differs))
+    (function_told heads (storage_of d.specifiers) d name (with_standing j p.after) is.earlier p.made is.known (subst (IsApart k name (storage_of d.specifiers) true is.earlier) (sym is.made) is.differs))
 
 -- ## Several roots
 
@@ -325,17 +325,17 @@ pub redeclarations_told : FormRowsAreTold → RedeclarationsAreTold
 redeclarations_told law = record {
   lists = list_told;
   by_form = by_form;
-  apart = apart_told law;
+  apart = apart_told;
   known_after = known_after;
-  declared_again = again_told law;
-  outside = redeclared_told law;
-  at_definition = redefined_told law;
+  declared_again = again_told;
+  outside = redeclared_told;
+  at_definition = redefined_told;
   outside_in_roots = λ roots others earlier p d before one name stands is.
       declarations_told law roots others earlier (Outer p d) (declared_twice_at name.place) stands
-      (redeclared_told law (heads_of_roots 0 roots) (reached_in_roots (heads_of_roots 0 roots) others earlier) d before one name is);
+      (redeclared_told (heads_of_roots 0 roots) (reached_in_roots (heads_of_roots 0 roots) others earlier) d before one name is);
   definition_in_roots = λ roots others earlier d name stands is.
       declarations_told law roots others earlier (Defines d) (declared_twice_at name.place) stands
-      (redefined_told law (heads_of_roots 0 roots) (reached_in_roots (heads_of_roots 0 roots) others earlier) d name is);
+      (redefined_told (heads_of_roots 0 roots) (reached_in_roots (heads_of_roots 0 roots) others earlier) d name is);
   between_roots = λ roots first between rest before now e other f g h.
       between_told roots first between rest before now e (record { other = other; functions = both_true (is_function before.type) (is_function now.type) f g; lists = h });
 }

@@ -29,11 +29,13 @@ use Rattle.p10_elab.specs.Outer.{is_site, with_defined, is_extern, with_tentativ
 use Rattle.p10_elab.specs.RootEnds.{nothing_known, known_after, known_after_all, root_begun, lacks_size_at_end, sizes_noted, root_ended, root_passed, roots_passed}
 use Rattle.p10_refusals.specs.Forms.{reached_outside, DeclaredAfter}
 use Rattle.p10_refusals.specs.Sizes.{known_outside, declared_by, needs_size, may_define, IsTentative, scope_at_end, SizesAreTold}
-use Rattle.p10_refusals.proofs.Growing.{Grows, refusing_told}
-use Rattle.p10_refusals.proofs.FormsOutside.{told_where_false, grows_linked, grows_by_type, grows_declarators, at_declarators, specified_type_of, named_outside}
-use Rattle.p10_refusals.proofs.InRoots.{grows_externals, grows_sizes, grows_ended, root_told}
+use Rattle.p10_refusals.proofs.Growing.{Grows, refusing_told, grown, grown_outside}
+use Rattle.p10_refusals.proofs.FormsOutside.{told_where_false, at_declarators, specified_type_of, named_outside}
+use Rattle.p10_refusals.proofs.InRoots.{root_told}
 use Rattle.p10_refusals.proofs.NoFunctions.{IsNoFunction, open_made}
 use Rattle.p10_refusals.proofs.Tests.{neither}
+use Rattle.p10_root_steps.proofs.Parts.{over_linked, over_by_type, over_sizes}
+use Rattle.p10_root_steps.proofs.Passing.{over_outer_declarators, over_all}
 
 -- ## Tentative definitions stay known
 
@@ -174,7 +176,7 @@ object_told : (heads : Heads) (name : Identifier At) (s : Storage) (sensor : Boo
 object_told heads name s sensor i k t z true h = absurd cc
 object_told heads name s sensor i k t z false h =
     let j : Known = with_standing k (refusing every true subset.IncompleteType name.place z) in
-    (grows_linked heads (linked_of j name unknown_object s (is_written i) sensor) j).among (incomplete_at name.place) (refusing_told true subset.IncompleteType name.place z refl)
+    (grown (over_linked every heads (linked_of j name unknown_object s (is_written i) sensor) j)).among (incomplete_at name.place) (refusing_told true subset.IncompleteType name.place z refl)
 
 object_there : (heads : Heads) (name : Identifier At) (s : Storage) (sensor : Bool) (k : Known) (t : PlainType) (z : PlainStanding) (b : Bool) → may_define s ≡ true →
     ToldOrListed name t (object_outside every heads name s sensor None k (sized_or_told b name t z))
@@ -209,34 +211,34 @@ named_there heads storage_is.Static sensor base k d name t may bare e =
 named_there heads storage_is.Extern sensor base k d name t may bare e = absurd cc
 named_there heads storage_is.Typedef sensor base k d name t may bare e = absurd cc
 
-declarators_there : FormRowsAreTold → (heads : Heads) (s : Storage) (sensor : Bool) (base : Option PlainType) (k : Known) (before : List (InitDeclarator At)) (one : InitDeclarator At)
+declarators_there : (heads : Heads) (s : Storage) (sensor : Bool) (base : Option PlainType) (k : Known) (before : List (InitDeclarator At)) (one : InitDeclarator At)
     (after : List (InitDeclarator At)) (name : Identifier At) (t : PlainType) → name_in one.declarator ≡ Some name →
     ToldOrListed name t (outer_named every heads s sensor base (outer_declarators every heads s sensor base k before) one (Some name)) →
     ToldOrListed name t (outer_declarators every heads s sensor base k (before ++ one ∷ after))
-declarators_there law heads s sensor base k [] one after name t e h =
+declarators_there heads s sensor base k [] one after name t e h =
     let j : Known = outer_named every heads s sensor base k one (name_in one.declarator) in
-    carried name t j (outer_declarators every heads s sensor base j after) (grows_declarators law heads s sensor base j after) (declarators_listed heads s sensor base j after)
+    carried name t j (outer_declarators every heads s sensor base j after) (grown_outside (over_outer_declarators every heads s sensor base j after)) (declarators_listed heads s sensor base j after)
     (subst (λ o. ToldOrListed name t (outer_named every heads s sensor base k one o)) (sym e) h)
-declarators_there law heads s sensor base k (d ∷ before) one after name t e h =
-    declarators_there law heads s sensor base (outer_named every heads s sensor base k d (name_in d.declarator)) before one after name t e h
+declarators_there heads s sensor base k (d ∷ before) one after name t e h =
+    declarators_there heads s sensor base (outer_named every heads s sensor base k d (name_in d.declarator)) before one after name t e h
 
-declaration_there : FormRowsAreTold → (heads : Heads) (k : Known) (d : Declaration At) (before : List (InitDeclarator At)) (one : InitDeclarator At) (name : Identifier At) (t : PlainType) →
+declaration_there : (heads : Heads) (k : Known) (d : Declaration At) (before : List (InitDeclarator At)) (one : InitDeclarator At) (name : Identifier At) (t : PlainType) →
     IsTentative heads k d before one name t → ToldOrListed name t (declared_outside every heads k d)
 unfolding declared_outside
-declaration_there law heads k d before one name t is =
+declaration_there heads k d before one name t is =
     let s : Storage = storage_of d.specifiers in
     let base : Option PlainType = specified_type_of k d in
     let j : Known = at_declarators k d in
     subst (λ ds. ToldOrListed name t (outer_declarators every heads s (makes_sensors d) base j ds)) (sym is.declared.declarators)
-    (declarators_there law heads s (makes_sensors d) base j before one is.declared.after name t is.declared.named
+    (declarators_there heads s (makes_sensors d) base j before one is.declared.after name t is.declared.named
     (named_there heads s (makes_sensors d) base (outer_declarators every heads s (makes_sensors d) base j before) one name t is.storage is.bare is.type))
 
-externals_there : FormRowsAreTold → (heads : Heads) (k : Known) (earlier later : List (External At)) (p : At) (d : Declaration At) (name : Identifier At) (t : PlainType) →
+externals_there : (heads : Heads) (k : Known) (earlier later : List (External At)) (p : At) (d : Declaration At) (name : Identifier At) (t : PlainType) →
     ToldOrListed name t (declared_outside every heads (known_after_all every heads k earlier) d) → ToldOrListed name t (known_after_all every heads k (earlier ++ Outer p d ∷ later))
-externals_there law heads k [] later p d name t h =
+externals_there heads k [] later p d name t h =
     let j : Known = declared_outside every heads k d in
-    carried name t j (known_after_all every heads j later) (grows_externals law heads j later) (externals_listed heads j later) h
-externals_there law heads k (e ∷ earlier) later p d name t h = externals_there law heads (known_after every heads k e) earlier later p d name t h
+    carried name t j (known_after_all every heads j later) (grown_outside (over_all every heads j later)) (externals_listed heads j later) h
+externals_there heads k (e ∷ earlier) later p d name t h = externals_there heads (known_after every heads k e) earlier later p d name t h
 
 -- ## The end of a root
 
@@ -248,7 +250,7 @@ size_told : (all : List Tentative) (s : PlainStanding) (one : Tentative) → IsL
 size_told [] s one l h = absurd l
 size_told (d ∷ rest) s one (inl e) h =
     let b : Bool = lacks_size_at_end s.scope d.type in
-    (grows_sizes rest (refusing every b subset.IncompleteType d.name.place s)).among (incomplete_at one.name.place)
+    (grown (over_sizes every rest (refusing every b subset.IncompleteType d.name.place s))).among (incomplete_at one.name.place)
     (subst (λ (x : Tentative). Among (incomplete_at x.name.place) (refusing every b subset.IncompleteType d.name.place s).problems) (sym e)
     (refusing_told b subset.IncompleteType d.name.place s (subst (λ (x : Tentative). lacks_size_at_end s.scope x.type ≡ true) e h)))
 size_told (d ∷ rest) s one (inr l) h =
@@ -257,15 +259,15 @@ size_told (d ∷ rest) s one (inr l) h =
     (ap (λ c. lacks_size_at_end c one.type) (refusing_scope b subset.IncompleteType d.name.place s) ∙ h)
 
 end_told : (k : Known) (name : Identifier At) (t : PlainType) → ToldOrListed name t k → lacks_size_at_end k.standing.scope t ≡ true → Among (incomplete_at name.place) (root_ended every k).standing.problems
-end_told k name t (inl h) lacking = (grows_ended k).among (incomplete_at name.place) h
+end_told k name t (inl h) lacking = (grown (over_sizes every k.tentative k.standing)).among (incomplete_at name.place) h
 end_told k name t (inr h) lacking = size_told k.tentative k.standing (record { name = name; type = t }) h lacking
 
-at_end : FormRowsAreTold → (heads : Heads) (k : Known) (earlier later : List (External At)) (p : At) (d : Declaration At) (before : List (InitDeclarator At)) (one : InitDeclarator At) (name : Identifier At) (t : PlainType) →
+at_end : (heads : Heads) (k : Known) (earlier later : List (External At)) (p : At) (d : Declaration At) (before : List (InitDeclarator At)) (one : InitDeclarator At) (name : Identifier At) (t : PlainType) →
     IsTentative heads (known_after_all every heads (root_begun k) earlier) d before one name t → lacks_size_at_end (scope_at_end heads k (earlier ++ Outer p d ∷ later)) t ≡ true →
     Among (incomplete_at name.place) (root_passed every heads k (earlier ++ Outer p d ∷ later)).standing.problems
-at_end law heads k earlier later p d before one name t is lacking =
+at_end heads k earlier later p d before one name t is lacking =
     end_told (known_after_all every heads (root_begun k) (earlier ++ Outer p d ∷ later)) name t
-    (externals_there law heads (root_begun k) earlier later p d name t (declaration_there law heads (known_after_all every heads (root_begun k) earlier) d before one name t is)) lacking
+    (externals_there heads (root_begun k) earlier later p d name t (declaration_there heads (known_after_all every heads (root_begun k) earlier) d before one name t is)) lacking
 
 -- ## At the declaration
 
@@ -294,13 +296,13 @@ named_told heads s sensor base k d name t plain e needs lacking =
     (subst (λ o. Among (incomplete_at name.place) (by_type_outside every heads s sensor name d (with_standing k j.after) o).standing.problems) (sym e)
     (form_told heads s sensor name d (with_standing k j.after) t needs lacking))
 
-at_once : FormRowsAreTold → (heads : Heads) (k : Known) (d : Declaration At) (before : List (InitDeclarator At)) (one : InitDeclarator At) (name : Identifier At) (t : PlainType) → DeclaredAfter d before one name →
+at_once : (heads : Heads) (k : Known) (d : Declaration At) (before : List (InitDeclarator At)) (one : InitDeclarator At) (name : Identifier At) (t : PlainType) → DeclaredAfter d before one name →
     is_typedef (storage_of d.specifiers) ≡ false → (declared_by heads k d before one name).made ≡ Some (of_type t) → needs_size (storage_of d.specifiers) one t ≡ true →
     is_complete (declared_by heads k d before one name).after.scope.structures t ≡ false → Among (incomplete_at name.place) (declared_outside every heads k d).standing.problems
-at_once law heads k d before one name t is plain e needs lacking =
+at_once heads k d before one name t is plain e needs lacking =
     let s : Storage = storage_of d.specifiers in
     let base : Option PlainType = specified_type_of k d in
-    named_outside law heads k d before one name (incomplete_at name.place) is
+    named_outside heads k d before one name (incomplete_at name.place) is
     (named_told heads s (makes_sensors d) base (outer_declarators every heads s (makes_sensors d) base (at_declarators k d) before) one name t plain e needs lacking)
 
 -- ## Arrays without a length
@@ -333,7 +335,7 @@ open_noted_there false d name s e h bare =
 open_form_told : (heads : Heads) (s : Storage) (sensor : Bool) (name : Identifier At) (d : InitDeclarator At) (k : Known) (o : Option DeclaredType) → declares_open_array d.declarator ≡ true → d.initial ≡ None →
     is_array_before (before_in k name) ≡ false → Among (incomplete_at name.place) (object_by_form every heads s sensor name d k o).standing.problems
 open_form_told heads s sensor name d k o h bare none =
-    (grows_by_type heads s sensor name d (with_standing k (open_outside every name d (before_in k name) o k.standing)) o).among (incomplete_at name.place)
+    (grown (over_by_type every heads s sensor name d (with_standing k (open_outside every name d (before_in k name) o k.standing)) o)).among (incomplete_at name.place)
     (open_noted_there (gets_length (before_in k name) o) d name k.standing (gets_none (before_in k name) o none) h bare)
 
 open_outside_told : (heads : Heads) (s : Storage) (sensor : Bool) (name : Identifier At) (d : InitDeclarator At) (k : Known) (o : Option DeclaredType) → IsNoFunction o → declares_open_array d.declarator ≡ true →
@@ -344,23 +346,23 @@ open_outside_told heads s sensor name d k (Some (of_type t)) n h bare none = ope
 open_outside_told heads s sensor name d k (Some (of_open_array t)) n h bare none = open_form_told heads s sensor name d k (Some (of_open_array t)) h bare none
 open_outside_told heads s sensor name d k None n h bare none = open_form_told heads s sensor name d k None h bare none
 
-open_told : FormRowsAreTold → (heads : Heads) (k : Known) (d : Declaration At) (before : List (InitDeclarator At)) (one : InitDeclarator At) (name : Identifier At) → DeclaredAfter d before one name →
+open_told : (heads : Heads) (k : Known) (d : Declaration At) (before : List (InitDeclarator At)) (one : InitDeclarator At) (name : Identifier At) → DeclaredAfter d before one name →
     is_typedef (storage_of d.specifiers) ≡ false → declares_open_array one.declarator ≡ true → one.initial ≡ None → is_array_before (before_in (known_outside heads k d before) name) ≡ false →
     Among (incomplete_at name.place) (declared_outside every heads k d).standing.problems
-open_told law heads k d before one name is plain h bare none =
+open_told heads k d before one name is plain h bare none =
     let s : Storage = storage_of d.specifiers in
     let p : Passed DeclaredType = declared_by heads k d before one name in
-    named_outside law heads k d before one name (incomplete_at name.place) is
+    named_outside heads k d before one name (incomplete_at name.place) is
     (told_where_false (is_typedef s) _ _ (incomplete_at name.place) plain
     (open_outside_told heads s (makes_sensors d) name one (with_standing (known_outside heads k d before) p.after) p.made
     (open_made name.place (reached_outside heads k d before) one.declarator h) h bare none))
 
 pub sizes_told : FormRowsAreTold → SizesAreTold
 sizes_told law = record {
-  at_once = at_once law;
-  without_length = open_told law;
-  at_end = at_end law;
+  at_once = at_once;
+  without_length = open_told;
+  at_end = at_end;
   in_roots = λ roots others after earlier later p d before one name t parts is lacking.
-      root_told law roots others (earlier ++ Outer p d ∷ later) after (incomplete_at name.place) parts
-      (at_end law (heads_of_roots 0 roots) (roots_passed every (heads_of_roots 0 roots) nothing_known others) earlier later p d before one name t is lacking);
+      root_told roots others (earlier ++ Outer p d ∷ later) after (incomplete_at name.place) parts
+      (at_end (heads_of_roots 0 roots) (roots_passed every (heads_of_roots 0 roots) nothing_known others) earlier later p d before one name t is lacking);
 }

@@ -48,7 +48,10 @@ use Rattle.p10_root_renaming.specs.Laws.{AddsSameFunctions, DefinitionsRenamed}
 use Rattle.p10_root_renaming.proofs.Addresses.{addresses_same}
 use Rattle.p10_root_renaming.proofs.Linking.{linked_same, with_linked_same}
 use Rattle.p10_root_renaming.proofs.Outside.{known_at, function_type_same, part_type_same}
-use Rattle.p10_root_renaming.proofs.GrowingOutside.{grows_marks_where, grows_function, grows_function_named, grows_definition}
+use Rattle.p10_root_steps.proofs.Parts.{over_marks_where}
+use Rattle.p10_root_steps.proofs.Passing.{over_function, over_function_named, over_definition}
+use Rattle.p10_declaration_renaming.proofs.Growing.{grown}
+use Rattle.p10_root_renaming.proofs.GrowingOutside.{grown_outside}
 
 -- ## Rows that change nothing but problems
 
@@ -218,7 +221,7 @@ body_same R one last h heads others l m linked t u n body k j know quiet =
     let d : Block' = items_done h g (is_main_name l.name) in_nothing (no_items_yet y) those in
     let ended : AreQuiet last b.after.standing c.after.standing =
     quiet_before last b.after.standing c.after.standing (if is_main_name l.name then marks_noted h true false false b.kinds b.after.standing else b.after.standing) (if is_main_name m.name then marks_noted h true false false c.kinds c.after.standing else c.after.standing)
-    (grows_marks_where h (is_main_name l.name) b.kinds b.after.standing) (grows_marks_where h (is_main_name m.name) c.kinds c.after.standing) (record { left = quiet.left; right = quiet.right; few = quiet.few }) in
+    (grown (over_marks_where h (is_main_name l.name) b.kinds b.after.standing)) (grown (over_marks_where h (is_main_name m.name) c.kinds c.after.standing)) (record { left = quiet.left; right = quiet.right; few = quiet.few }) in
     let law : AreQuiet last b.after.standing c.after.standing → Both (λ ss ts. SameStatements R (statements_of_list ss) (statements_of_list ts)) b.made c.made × SameLocal R last b.after c.after =
     subst (λ (z : Bool). AreQuiet last b.after.standing (items_done h g z in_nothing (no_items_yet y) those).after.standing
     → Both (λ ss ts. SameStatements R (statements_of_list ss) (statements_of_list ts)) b.made (items_done h g z in_nothing (no_items_yet y) those).made × SameLocal R last b.after (items_done h g z in_nothing (no_items_yet y) those).after)
@@ -283,7 +286,7 @@ named_same R one last h heads others same d k j know t u n x y (same_name {at = 
     let c : Known = with_standing j q.after in
     let r = declarators_renamed R one last h k.standing j.standing at to t u (λ z. n) d.declarator (λ z. know.standing)
     (quiet_before last p.after q.after (function_by_type h heads (storage_of a.specifiers) a (named_at at text) m p.made).standing (function_by_type h others (storage_of b.specifiers) b (named_at to text) c q.made).standing
-    (grows_function h heads (storage_of a.specifiers) a (named_at at text) m p.made) (grows_function h others (storage_of b.specifiers) b (named_at to text) c q.made) quiet) in
+    (grown_outside (over_function h heads (storage_of a.specifiers) a (named_at at text) m p.made)) (grown_outside (over_function h others (storage_of b.specifiers) b (named_at to text) c q.made)) quiet) in
     let law : Adding R last m c (function_by_type h heads (storage_of a.specifiers) a (named_at at text) m p.made) (function_by_type h others (storage_of b.specifiers) b (named_at to text) c q.made) =
     subst (λ z. Adding R last m c (function_by_type h heads (storage_of a.specifiers) a (named_at at text) m p.made) (function_by_type h others z b (named_at to text) c q.made)) (storage_same d.specifiers)
     (by_type_same R one last h heads others same (storage_of a.specifiers) d at to text m c (known_at R last k j p.after q.after know r.1.1) p.made q.made r.1.0) in
@@ -300,9 +303,9 @@ definitions_renamed R one last h heads others same k j d start quiet =
     let c : Known = record j { standing = u.after; mains = j.mains ++ main_constants (constants_of b.specifiers) } in
     let x : Option (Identifier At) = name_in a.declarator in
     let y : Option (Identifier At) = name_in b.declarator in
-    let before : AreQuiet last k.standing j.standing = quiet_before last k.standing j.standing (defined_outside h heads k a).standing (defined_outside h others j b).standing (grows_definition h heads k a) (grows_definition h others j b) quiet in
+    let before : AreQuiet last k.standing j.standing = quiet_before last k.standing j.standing (defined_outside h heads k a).standing (defined_outside h others j b).standing (grown_outside (over_definition h heads k a)) (grown_outside (over_definition h others j b)) quiet in
     let know : SameKnown R last k j = start before in
     let r = specifiers_renamed R one last h site_is.OfDefinition (allowed_at_definition a) (allowed_at_definition b) false k.standing j.standing d.specifiers (λ z. know.standing)
-    (quiet_before last t.after u.after (function_named h heads a m t.made x).standing (function_named h others b c u.made y).standing (grows_function_named h heads a m t.made x) (grows_function_named h others b c u.made y) quiet) in
+    (quiet_before last t.after u.after (function_named h heads a m t.made x).standing (function_named h others b c u.made y).standing (grown_outside (over_function_named h heads a m t.made x)) (grown_outside (over_function_named h others b c u.made y)) quiet) in
     let law = named_same R one last h heads others same d m c (record { standing = r.1.1; root = know.root; linked = know.linked; functions = know.functions }) t.made u.made r.1.0 x y (name_in_same d.declarator) quiet in
     (before, law)

@@ -42,7 +42,10 @@ use Rattle.p10_statement_renaming.proofs.Declarations.{storage_same, word_same, 
 use Rattle.p10_root_renaming.specs.Roots.{SameKnownTypes, same_none_known, same_more_known, SameLinkedType, same_a_function, same_an_object, same_a_part_function, same_unknown_object, SameLinked, SameHeads, SameKnown}
 use Rattle.p10_root_renaming.specs.Laws.{DeclarationsRenamed}
 use Rattle.p10_root_renaming.proofs.Linking.{before_same, linked_same, with_linked_same}
-use Rattle.p10_root_renaming.proofs.GrowingOutside.{grows_defined, grows_object_outside, grows_after_type, grows_outer_named, grows_outside}
+use Rattle.p10_root_steps.proofs.Parts.{over_defined, over_object_outside}
+use Rattle.p10_root_steps.proofs.Passing.{over_after_type, over_outer_named, over_outside}
+use Rattle.p10_declaration_renaming.proofs.Growing.{grown}
+use Rattle.p10_root_renaming.proofs.GrowingOutside.{grown_outside}
 
 -- what is known after parts of both roots that are the same
 abbrev pub Agree : Pairing → ℕ → Known → Known → Type 0
@@ -141,7 +144,7 @@ object_same R one last h heads others same at to text t u n s sensor i k j know 
     let q : Passed PlainInitializer = initialized_by h life_is.Static u those b.standing in
     let r = initial_both R one last h life_is.Static t u n i a.standing b.standing (λ x. inside.standing)
     (quiet_before last p.after q.after (with_defined heads l (named_at at text) t p.made (with_standing a p.after)).standing (with_defined others m (named_at to text) u q.made (with_standing b q.after)).standing
-    (grows_defined heads l (named_at at text) t p.made (with_standing a p.after)) (grows_defined others m (named_at to text) u q.made (with_standing b q.after)) quiet) in
+    (grown (over_defined h heads l (named_at at text) t p.made (with_standing a p.after))) (grown (over_defined h others m (named_at to text) u q.made (with_standing b q.after))) quiet) in
     more_defined R last heads l (named_at at text) t p.made (with_standing a p.after) (with_defined others m (named_at to text) u q.made (with_standing b q.after))
     (defined_there R last others m (named_at to text) u q.made (with_standing a p.after) (with_standing b q.after) (known_at R last a b p.after q.after inside r.1.1))
 
@@ -179,7 +182,7 @@ by_type_same R one last h heads others same s sensor at to text d k j know (Some
     let q : Passed PlainType = outer_type h (named_at to text) b s those (before_in j (named_at to text)) y j.standing in
     let r = outer_ends R one last h at to a b text s d.initial (before_in k (named_at at text)) (before_in j (named_at to text)) (before_same R last k j know text) x y n k.standing j.standing know.standing
     (quiet_before last p.after q.after (object_outside h heads (named_at at text) s sensor these k p).standing (object_outside h others (named_at to text) s sensor those j q).standing
-    (grows_object_outside h heads (named_at at text) s sensor these k p.made p.after) (grows_object_outside h others (named_at to text) s sensor those j q.made q.after) quiet) in
+    (grown (over_object_outside h heads (named_at at text) s sensor these k p.made p.after)) (grown (over_object_outside h others (named_at to text) s sensor those j q.made q.after)) quiet) in
     object_made R one last h heads others same at to text s sensor d.initial k j know p.made q.made r.0 p.after q.after r.1 quiet
 by_type_same R one last h heads others same s sensor at to text d k j know None (Some y) n = absurd n
 by_type_same R one last h heads others same s sensor at to text d k j know (Some x) None n = absurd n
@@ -266,7 +269,7 @@ named_same R one last h heads others same s sensor t u n k j know d x y (same_na
     (quiet_before last p.after q.after
     (if is_typedef s then without_linkage (named_at at text) (no_initializer h a.initial (typedef_passed h (named_at at text) a.declarator p.made p.after)) k else by_type_outside h heads s sensor (named_at at text) a (with_standing k p.after) p.made).standing
     (if is_typedef s then without_linkage (named_at to text) (no_initializer h b.initial (typedef_passed h (named_at to text) b.declarator q.made q.after)) j else by_type_outside h others s sensor (named_at to text) b (with_standing j q.after) q.made).standing
-    (grows_after_type h heads s sensor (named_at at text) a k p.after p.made (is_typedef s)) (grows_after_type h others s sensor (named_at to text) b j q.after q.made (is_typedef s)) quiet) in
+    (grown_outside (over_after_type h heads s sensor (named_at at text) a k p.after p.made (is_typedef s))) (grown_outside (over_after_type h others s sensor (named_at to text) b j q.after q.made (is_typedef s))) quiet) in
     typedef_or R one last h heads others same s sensor at to text d k j p.after q.after r.1.1 know p.made q.made r.1.0 (is_typedef s) quiet
 
 -- with what the specifiers name
@@ -281,8 +284,8 @@ declarators_same R one last h heads others same s sensor t u k j a (d ∷ rest) 
     let y : Known = outer_named h others s sensor u j (mapped_init_declarator right d) (name_in (mapped_declarator right d.declarator)) in
     declarators_same R one last h heads others same s sensor t u x y
     (λ quiet.
-    let b = a (quiet_before last k.standing j.standing x.standing y.standing (grows_outer_named h heads s sensor t k (mapped_init_declarator left d) (name_in (mapped_declarator left d.declarator)))
-    (grows_outer_named h others s sensor u j (mapped_init_declarator right d) (name_in (mapped_declarator right d.declarator))) quiet) in
+    let b = a (quiet_before last k.standing j.standing x.standing y.standing (grown_outside (over_outer_named h heads s sensor t k (mapped_init_declarator left d) (name_in (mapped_declarator left d.declarator))))
+    (grown_outside (over_outer_named h others s sensor u j (mapped_init_declarator right d) (name_in (mapped_declarator right d.declarator)))) quiet) in
     (b.0, named_same R one last h heads others same s sensor t u b.0 k j b.1 d (name_in (mapped_declarator left d.declarator)) (name_in (mapped_declarator right d.declarator)) (name_in_same d.declarator) quiet)) rest
 
 pub declarations_renamed : DeclarationsRenamed
@@ -294,7 +297,7 @@ declarations_renamed R one last h heads others same k j d start quiet =
     let u : Passed PlainType = specified_in h true site_is.Outside j.standing b in
     let m : Known = record k { standing = t.after; mains = k.mains ++ main_constants (constants_of a.specifiers) } in
     let n : Known = record j { standing = u.after; mains = j.mains ++ main_constants (constants_of b.specifiers) } in
-    let before : AreQuiet last k.standing j.standing = quiet_before last k.standing j.standing (declared_outside h heads k a).standing (declared_outside h others j b).standing (grows_outside h heads k a) (grows_outside h others j b) quiet in
+    let before : AreQuiet last k.standing j.standing = quiet_before last k.standing j.standing (declared_outside h heads k a).standing (declared_outside h others j b).standing (grown_outside (over_outside h heads k a)) (grown_outside (over_outside h others j b)) quiet in
     let know : SameKnown R last k j = start before in
     let begun : Agreeing R last t.made u.made m n = λ x.
     let r = specified_both R one last h true site_is.Outside k.standing j.standing d (λ y. know.standing) x in

@@ -22,7 +22,8 @@ use Rattle.p10_root_renaming.specs.Laws.{AddsSameFunctions, RootsRenamed}
 use Rattle.p10_root_renaming.proofs.Keeping.{declaration_keeps}
 use Rattle.p10_root_renaming.proofs.Outside.{declarations_renamed}
 use Rattle.p10_root_renaming.proofs.Functions.{adds_nothing, definitions_renamed}
-use Rattle.p10_root_renaming.proofs.GrowingOutside.{grows_sizes}
+use Rattle.p10_root_steps.proofs.Parts.{over_sizes}
+use Rattle.p10_declaration_renaming.proofs.Growing.{grown}
 
 -- ## Functions more
 
@@ -104,7 +105,7 @@ begun_leads R last k j start quiet =
 
 ended_leads : (R : Pairing) (last : ℕ) (h : Keep) (k j : Known) → KnownLeads R last (AddsSameFunctions R k.functions (root_ended h k).functions j.functions (root_ended h j).functions) k j (root_ended h k) (root_ended h j)
 ended_leads R last h k j start quiet =
-    let before : AreQuiet last k.standing j.standing = quiet_before last k.standing j.standing (sizes_noted h k.tentative k.standing) (sizes_noted h j.tentative j.standing) (grows_sizes h k.tentative k.standing) (grows_sizes h j.tentative j.standing) quiet in
+    let before : AreQuiet last k.standing j.standing = quiet_before last k.standing j.standing (sizes_noted h k.tentative k.standing) (sizes_noted h j.tentative j.standing) (grown (over_sizes h k.tentative k.standing)) (grown (over_sizes h j.tentative j.standing)) quiet in
     let know : SameKnown R last k j = start before in (
       before,
       (

@@ -29,7 +29,8 @@ use Rattle.p10_elab.specs.Programs.{known_of, whole_of}
 use Rattle.p10_wholeness.specs.Knowing.{KnowMore}
 use Rattle.p10_wholeness.proofs.Knowing.{alike_itself}
 use Rattle.p10_root_wholeness.specs.Laws.{StructuresAreWhole, structures_of, RootsAreKnown}
-use Rattle.p10_root_wholeness.proofs.BuildingOutside.{builds_roots}
+use Rattle.p10_root_steps.proofs.Passing.{over_roots}
+use Rattle.p10_root_wholeness.proofs.BuildingOutside.{built_outside}
 
 -- where there are structures, they are some structures of which more may be joined
 abbrev MaybeKept : List PlainStructure → Option (List PlainStructure) → Type 0
@@ -143,7 +144,7 @@ together_kept h heads linked s well =
 
 roots_built : (h : Keep) (roots : List (List (External At))) → AreBuilt (structures_of h roots)
 unfolding known_of
-roots_built h roots = (builds_roots h (heads_of_roots 0 roots) nothing_known roots).built none_are_built
+roots_built h roots = (built_outside (over_roots h (heads_of_roots 0 roots) nothing_known roots)).built none_are_built
 
 roots_kept : (h : Keep) (roots : List (List (External At))) → IsKept (structures_of h roots) (whole_of h roots).structures
 roots_kept h roots =

@@ -37,7 +37,7 @@ use Rattle.p10_expression_renaming.proofs.Sameness.{SameName, same_no_name, same
 use Rattle.p10_expression_renaming.proofs.Types.{is_scalar_same, size_same}
 use Rattle.p10_expression_renaming.proofs.TypeNames.{left, right}
 use Rattle.p10_declaration_renaming.specs.Standings.{Both, SameStanding, AreQuiet, Passes, SameDeclared, same_of_type, same_of_open_array, same_of_function, same_of_part_function}
-use Rattle.p10_declaration_renaming.proofs.Growing.{never_joined}
+use Rattle.p10_declaration_renaming.proofs.Growing.{never_joined, grown}
 use Rattle.p10_declaration_renaming.proofs.Scopes.{scope_same, declared_same, entered_same, left_same}
 use Rattle.p10_declaration_renaming.proofs.Alike.{Ends, quiet_before, ends_nothing, ends_passed, ends_unless}
 use Rattle.p10_declaration_renaming.proofs.Naming.{name_in_same}
@@ -46,7 +46,9 @@ use Rattle.p10_declaration_renaming.proofs.Texts.{elements_same}
 use Rattle.p10_declaration_renaming.proofs.Initializing.{initializers_renamed, surplus_leads}
 use Rattle.p10_statement_renaming.specs.Bodies.{SameFrame, SameLocal, SameParts, same_no_parts, same_more_parts}
 use Rattle.p10_statement_renaming.specs.Laws.{BlocksRenamed}
-use Rattle.p10_statement_renaming.proofs.GrowingDeclarations.{grows_volatile, grows_measured, grows_with_object, grows_prototype, grows_variable_where, grows_object_where, grows_after_declarator, grows_local_named, grows_locally}
+use Rattle.p10_statement_steps.proofs.Typing.{over_volatile, over_measured}
+use Rattle.p10_statement_steps.proofs.Declaring.{over_with_object, over_prototype, over_variable_where, over_object_where, over_after_declarator, over_local_named, over_locally}
+use Rattle.p10_statement_renaming.proofs.Growing.{grown_in_block}
 
 -- ## Words
 
@@ -129,7 +131,7 @@ specified_both R one last h outside site s t d start quiet =
     let law : Passes R last (SameType R) s t p q =
     subst (λ b. Passes R last (SameType R) s t p (specified h site (allowed_by (mapped_declaration right d)) b t others)) (alone_same d)
     (specifiers_renamed R one last h site (allowed_by (mapped_declaration left d)) (allowed_by (mapped_declaration right d)) (is_alone (mapped_declaration left d)) s t d.specifiers) in
-    let r = law start (quiet_before last p.after q.after (volatile_noted h may these p.after) (volatile_noted h might others q.after) (grows_volatile h may these p.after) (grows_volatile h might others q.after) quiet) in
+    let r = law start (quiet_before last p.after q.after (volatile_noted h may these p.after) (volatile_noted h might others q.after) (grown (over_volatile h may these p.after)) (grown (over_volatile h might others q.after)) quiet) in
     (r.0, (r.1.0, volatile_same R last h may might d.specifiers p.after q.after r.1.1))
 
 -- ## Initialisers
@@ -190,7 +192,7 @@ filled_ends R one last h at to brackets others text t u k i (Some n) s v know = 
     let m : Passed PlainType = measured h (named_at at text) t (mapped_initializer left i) p.made p.after in
     let c : Passed PlainType = measured h (named_at to text) u (mapped_initializer right i) q.made q.after in
     let r = counted_ends R last h brackets others t u k n s v know
-    (quiet_before last p.after q.after m.after c.after (grows_measured h (named_at at text) t (mapped_initializer left i) p.made p.after) (grows_measured h (named_at to text) u (mapped_initializer right i) q.made q.after) quiet) in
+    (quiet_before last p.after q.after m.after c.after (grown (over_measured h (named_at at text) t (mapped_initializer left i) p.made p.after)) (grown (over_measured h (named_at to text) u (mapped_initializer right i) q.made q.after)) quiet) in
     measured_ends R one last h at to text t u k i p.made q.made r.0 p.after q.after r.1 quiet
 
 object_ends : (R : Pairing) → IsOneToOne R → (last : ℕ) (h : Keep) (at to brackets others : At) (text : Text) (a b : DeclaredType) → SameDeclared R a b → (i : Option (Initializer (At × At))) (s v : PlainStanding) → SameStanding R last s v
@@ -316,7 +318,7 @@ object_both R one last h f g place other at to text sensor i (Some t) (Some u) j
     let inside : SameStanding R last s v = declaring_same R last h at to text (same_object j) l.standing k.standing know.standing in
     let r = initial_both R one last h life_is.Static t u j i s v (λ x. inside)
     (quiet_before last p.after q.after (with_object f a (named_at at text) t sensor p.made m).standing (with_object g b (named_at to text) u sensor q.made n).standing
-    (grows_with_object f a (named_at at text) t sensor p.made m) (grows_with_object g b (named_at to text) u sensor q.made n) quiet) in (
+    (grown (over_with_object h f a (named_at at text) t sensor p.made m)) (grown (over_with_object h g b (named_at to text) u sensor q.made n)) quiet) in (
       same_more_parts (object_part R place other a b p.made q.made r.1.0) same_no_parts,
       with_object_same R last f g a b (named_at at text) (named_at to text) t u sensor sensor p.made q.made m n (stood R last l k p.after q.after know r.1.1),
     )
@@ -354,8 +356,8 @@ storage_both R one last h f g same place other storage_is.Static sensor at to te
     let r = in_block_ends R one last h at to text d o q j l.standing k.standing know.standing
     (quiet_before last t.after u.after (object_where h f place (named_at at text) sensor (option_map (mapped_initializer left) d.initial) t.made (with_standing l t.after)).after.standing
     (object_where h g other (named_at to text) sensor (option_map (mapped_initializer right) d.initial) u.made (with_standing k u.after)).after.standing
-    (grows_object_where h f place (named_at at text) sensor (option_map (mapped_initializer left) d.initial) t.made (with_standing l t.after))
-    (grows_object_where h g other (named_at to text) sensor (option_map (mapped_initializer right) d.initial) u.made (with_standing k u.after)) quiet) in
+    (grown (over_object_where h f place (named_at at text) sensor (option_map (mapped_initializer left) d.initial) t.made (with_standing l t.after)))
+    (grown (over_object_where h g other (named_at to text) sensor (option_map (mapped_initializer right) d.initial) u.made (with_standing k u.after))) quiet) in
     object_both R one last h f g place other at to text sensor d.initial t.made u.made r.0 (with_standing l t.after) (with_standing k u.after) (stood R last l k t.after u.after know r.1) quiet
 storage_both R one last h f g same place other storage_is.Unnamed sensor at to text d l k know o q j = λ quiet.
     let t : Passed PlainType = object_in_block h (named_at at text) (mapped_init_declarator left d) o l.standing in
@@ -363,8 +365,8 @@ storage_both R one last h f g same place other storage_is.Unnamed sensor at to t
     let r = in_block_ends R one last h at to text d o q j l.standing k.standing know.standing
     (quiet_before last t.after u.after (variable_where h f place (named_at at text) (option_map (mapped_initializer left) d.initial) t.made (with_standing l t.after)).after.standing
     (variable_where h g other (named_at to text) (option_map (mapped_initializer right) d.initial) u.made (with_standing k u.after)).after.standing
-    (grows_variable_where h f place (named_at at text) (option_map (mapped_initializer left) d.initial) t.made (with_standing l t.after))
-    (grows_variable_where h g other (named_at to text) (option_map (mapped_initializer right) d.initial) u.made (with_standing k u.after)) quiet) in
+    (grown (over_variable_where h f place (named_at at text) (option_map (mapped_initializer left) d.initial) t.made (with_standing l t.after)))
+    (grown (over_variable_where h g other (named_at to text) (option_map (mapped_initializer right) d.initial) u.made (with_standing k u.after))) quiet) in
     variable_both R one last h f g same place other at to text d.initial t.made u.made r.0 (with_standing l t.after) (with_standing k u.after) (stood R last l k t.after u.after know r.1) quiet
 storage_both R one last h f g same place other storage_is.Extern sensor at to text d l k know o q j = λ quiet.
     (same_no_parts, stood R last l k (unknown_in h (named_at at text) l.standing) (unknown_in h (named_at to text) k.standing) know (unknown_same R last h at to text l.standing k.standing know.standing))
@@ -376,9 +378,9 @@ prototype_or : (R : Pairing) → IsOneToOne R → (last : ℕ) (h : Keep) (f g :
     (if c then prototype_passed h (named_at to text) (mapped_init_declarator right d) k else by_storage h g other s sensor (named_at to text) (mapped_init_declarator right d) k q)
 prototype_or R one last h f g same place other s sensor at to text d l k know o q j false false = storage_both R one last h f g same place other s sensor at to text d l k know o q j
 prototype_or R one last h f g same place other s sensor at to text d l k know o q j false true = λ quiet.
-    absurd (never_joined h k.standing.problems (record { code = subset.BadSpecifier; at = declarator_place (mapped_declarator right d.declarator) }) [] ((grows_prototype h (named_at to text) (mapped_init_declarator right d) k).quiet quiet.right))
+    absurd (never_joined h k.standing.problems (record { code = subset.BadSpecifier; at = declarator_place (mapped_declarator right d.declarator) }) [] ((grown (over_prototype h (named_at to text) (mapped_init_declarator right d) k)).quiet quiet.right))
 prototype_or R one last h f g same place other s sensor at to text d l k know o q j true c = λ quiet.
-    absurd (never_joined h l.standing.problems (record { code = subset.BadSpecifier; at = declarator_place (mapped_declarator left d.declarator) }) [] ((grows_prototype h (named_at at text) (mapped_init_declarator left d) l).quiet quiet.left))
+    absurd (never_joined h l.standing.problems (record { code = subset.BadSpecifier; at = declarator_place (mapped_declarator left d.declarator) }) [] ((grown (over_prototype h (named_at at text) (mapped_init_declarator left d) l)).quiet quiet.left))
 
 named_both : (R : Pairing) → IsOneToOne R → (last : ℕ) (h : Keep) (f g : Frame) → SameFrame R f g → (place other : At) (s : Storage) (sensor : Bool) (t u : Option PlainType) → Both (SameType R) t u → (l k : Local) → SameLocal R last l k → (d : InitDeclarator (At × At))
     → (x y : Option (Identifier At)) → SameName x y → Becomes R last (local_named h f place s sensor t l (mapped_init_declarator left d) x) (local_named h g other s sensor u k (mapped_init_declarator right d) y)
@@ -393,7 +395,7 @@ named_both R one last h f g same place other s sensor t u j l k know d x y (same
     let r = declarators_renamed R one last h l.standing k.standing at to t u (λ x. j) d.declarator (λ x. know.standing)
     (quiet_before last p.after q.after (if is_prototype s a.declarator then prototype_passed h (named_at at text) a m else by_storage h f place s sensor (named_at at text) a m p.made).after.standing
     (if is_prototype s b.declarator then prototype_passed h (named_at to text) b n else by_storage h g other s sensor (named_at to text) b n q.made).after.standing
-    (grows_after_declarator h f place s sensor (named_at at text) a m p.made (is_prototype s a.declarator)) (grows_after_declarator h g other s sensor (named_at to text) b n q.made (is_prototype s b.declarator)) quiet) in
+    (grown_in_block (over_after_declarator h f place s sensor (named_at at text) a m p.made (is_prototype s a.declarator))) (grown_in_block (over_after_declarator h g other s sensor (named_at to text) b n q.made (is_prototype s b.declarator))) quiet) in
     prototype_or R one last h f g same place other s sensor at to text d m n (stood R last l k p.after q.after know r.1.1) p.made q.made r.1.0 (is_prototype s a.declarator) (is_prototype s b.declarator) quiet
 
 parts_joined : (R : Pairing) {a b c d : List (Option PlainStatement)} → SameParts R a b → SameParts R c d → SameParts R (a ++ c) (b ++ d)
@@ -412,8 +414,8 @@ declarators_both R one last h f g same place other s sensor t u p q a (d ∷ res
     let y : Declaring = local_named h g other s sensor u q.after (mapped_init_declarator right d) (name_in (mapped_declarator right d.declarator)) in
     declarators_both R one last h f g same place other s sensor t u (record { items = p.items ++ x.items; after = x.after }) (record { items = q.items ++ y.items; after = y.after })
     (λ quiet.
-    let b = a (quiet_before last p.after.standing q.after.standing x.after.standing y.after.standing (grows_local_named h f place s sensor t p.after (mapped_init_declarator left d) (name_in (mapped_declarator left d.declarator)))
-    (grows_local_named h g other s sensor u q.after (mapped_init_declarator right d) (name_in (mapped_declarator right d.declarator))) quiet) in
+    let b = a (quiet_before last p.after.standing q.after.standing x.after.standing y.after.standing (grown_in_block (over_local_named h f place s sensor t p.after (mapped_init_declarator left d) (name_in (mapped_declarator left d.declarator))))
+    (grown_in_block (over_local_named h g other s sensor u q.after (mapped_init_declarator right d) (name_in (mapped_declarator right d.declarator)))) quiet) in
     let c = named_both R one last h f g same place other s sensor t u b.0 p.after q.after b.1.1 d (name_in (mapped_declarator left d.declarator)) (name_in (mapped_declarator right d.declarator)) (name_in_same d.declarator) quiet in
     (b.0, (parts_joined R b.1.0 c.0, c.1))) rest
 
@@ -426,7 +428,7 @@ blocks_renamed R one last h f g same site l k d start quiet =
     let u : Passed PlainType = specified_in h false site k.standing b in
     let m : Local = with_standing l t.after in
     let n : Local = with_standing k u.after in
-    let before : AreQuiet last l.standing k.standing = quiet_before last l.standing k.standing (declared_locally h f site l a).after.standing (declared_locally h g site k b).after.standing (grows_locally h f site l a) (grows_locally h g site k b) quiet in
+    let before : AreQuiet last l.standing k.standing = quiet_before last l.standing k.standing (declared_locally h f site l a).after.standing (declared_locally h g site k b).after.standing (grown_in_block (over_locally h f site l a)) (grown_in_block (over_locally h g site k b)) quiet in
     let begun : Becoming R last t.made u.made (no_items m) (no_items n) = λ x.
     let r = specified_both R one last h false site l.standing k.standing d (λ y. (start y).standing) x in
     (r.1.0, (same_no_parts, stood R last l k t.after u.after (start r.0) r.1.1)) in

@@ -1,6 +1,5 @@
 -- Lemmas for this crate.
-pub mod GrowingDeclarations
-pub mod GrowingStatements
+pub mod Growing
 pub mod Quiet
 pub mod Values
 pub mod Forms

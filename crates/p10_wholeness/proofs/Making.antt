@@ -36,7 +36,8 @@ use Rattle.p10_wholeness.specs.Names.{IfMade, IsWholeMeaning, AreWholeMeanings, 
 use Rattle.p10_wholeness.specs.Laws.{Keeps, MadeType}
 use Rattle.p10_wholeness.proofs.Growth.{completed_stays_built, types_stay_whole}
 use Rattle.p10_wholeness.proofs.Scopes.{test_either, dropped_meanings, last_there}
-use Rattle.p10_wholeness.proofs.Keeping.{keeps_specifier}
+use Rattle.p10_declaration_steps.proofs.Declaring.{over_specifier}
+use Rattle.p10_wholeness.proofs.Keeping.{kept}
 
 -- ## What is made
 
@@ -207,7 +208,7 @@ specifiers_made : (h : Keep) (site : Site) (allowed : Allowed) (alone stored : B
 specifiers_made h site allowed alone stored p NoSpecifiers w m = m
 specifiers_made h site allowed alone stored p (MoreSpecifiers one rest) w m =
     let q : Passed (Option PlainType) = specifier_passed h site allowed alone stored p.after one in
-    let k : Keeps p.after q.after = keeps_specifier h site allowed alone stored p.after one in
+    let k : Keeps p.after q.after = kept (over_specifier h site allowed alone stored p.after one) in
     let ss : List PlainStructure = p.after.scope.structures in
     let ts : List PlainStructure = q.after.scope.structures in
     specifiers_made h site allowed alone (stored_by stored one) (record { made = both_named p.made q.made; after = q.after }) rest (k.whole w)

@@ -29,8 +29,11 @@ use Rattle.p10_wholeness.specs.Names.{IfMade, IsWholeScope, IsWholeParameter, Ar
 use Rattle.p10_wholeness.specs.Laws.{Keeps, MadeDeclared, MadeTypesAreWhole}
 use Rattle.p10_wholeness.proofs.Growth.{complete_kept}
 use Rattle.p10_wholeness.proofs.Scopes.{test_either, keeps_on, meanings_stay, dropped_meanings, keep_entered, keep_left}
-use Rattle.p10_wholeness.proofs.Keeping.{keeps_refusing, keeps_value, keeps_pointer, keeps_element, keeps_array, keeps_array_inside, keeps_function_inside, keeps_result, keeps_parameter, keeps_with_parameter, keeps_declarator, keeps_all_parameters, keeps_one_parameter, keeps_specified}
+use Rattle.p10_declaration_steps.proofs.Steps.{over_refusing, over_value}
+use Rattle.p10_declaration_steps.proofs.Shaping.{over_pointer, over_element, over_array, over_array_inside, over_function_inside, over_result, over_parameter, over_with_parameter}
+use Rattle.p10_declaration_steps.proofs.Declaring.{over_declarator, over_all_parameters, over_one_parameter, over_specified}
 use Rattle.p10_wholeness.proofs.Making.{made_map, type_moves, specified_made}
+use Rattle.p10_wholeness.proofs.Keeping.{kept}
 
 -- ## What is whole stays whole
 
@@ -159,7 +162,7 @@ array_with_made h None n s m some = tt
 array_made : (h : Keep) (e : Expression At) (element : Passed PlainType) → IsWholeScope element.after.scope → MadeElement element → MadeDeclared (array_declared h e element)
 array_made h e element w m =
     let n : Passed Length = value_by h element.after e length_found in
-    let k : Keeps element.after n.after = keeps_value h element.after e length_found in
+    let k : Keeps element.after n.after = kept (over_value h element.after e length_found) in
     array_with_made h element.made n.made n.after
     (made_map (IsObjectType element.after.scope.structures) (IsObjectType n.after.scope.structures) (object_moves element.after n.after k w) element.made m) (length_by h element.after e)
 
@@ -263,9 +266,9 @@ declared_parameter_made h i before at d j w m l =
     let s : PlainStanding = refusing h (declares_function d) subset.BadPointer (declarator_place d) j.after in
     let u : Passed PlainType = parameter_declared h at (place_or at (name_in d)) j.made s in
     let v : PlainStanding = with_parameter h i (name_in d) u.made u.after in
-    let first : Keeps j.after s = keeps_refusing h (declares_function d) subset.BadPointer (declarator_place d) j.after in
-    let next : Keeps s u.after = keeps_parameter h at (place_or at (name_in d)) j.made s in
-    let last : Keeps u.after v = keeps_with_parameter h i (name_in d) u.made u.after in
+    let first : Keeps j.after s = kept (over_refusing h (declares_function d) subset.BadPointer (declarator_place d) j.after) in
+    let next : Keeps s u.after = kept (over_parameter h at (place_or at (name_in d)) j.made s) in
+    let last : Keeps u.after v = kept (over_with_parameter h i (name_in d) u.made u.after) in
     listed_more v.scope.structures before (record { at = at; name = name_in d; type = u.made }) (listed_move j.after v (keeps_on first (keeps_on next last)) w before l)
     (made_map (IsWholeParameter u.after.scope.structures) (IsWholeParameter v.scope.structures) (parameter_moves u.after v last (next.whole (first.whole w))) u.made
     (parameter_made h at (place_or at (name_in d)) j.made s (made_moves j.after s first w j.made m)))
@@ -280,22 +283,22 @@ mutual
   declarator_made h name_at p (Unnamed at) w m = m
   declarator_made h name_at p (Pointer at qualifiers d) w m =
       let q : Passed DeclaredType = pointer_declared h at name_at qualifiers p.made p.after in
-      let k : Keeps p.after q.after = keeps_pointer h at name_at qualifiers p.made p.after in
+      let k : Keeps p.after q.after = kept (over_pointer h at name_at qualifiers p.made p.after) in
       declarator_made h name_at q d (k.whole w) (pointer_by_word h at name_at qualifiers p.made p.after (other_word qualifiers) refl m)
   declarator_made h name_at p (Parenthesised at d) w m = declarator_made h name_at p d w m
   declarator_made h name_at p (Array at d brackets Absent) w m =
       let s : PlainStanding = array_inside h name_at true d p.after in
       let q : Passed PlainType = element_declared h name_at p.made s in
-      let first : Keeps p.after s = keeps_array_inside h name_at true d p.after in
-      let k : Keeps s q.after = keeps_element h name_at p.made s in
+      let first : Keeps p.after s = kept (over_array_inside h name_at true d p.after) in
+      let k : Keeps s q.after = kept (over_element h name_at p.made s) in
       declarator_made h name_at (open_declared q) d (k.whole (first.whole w)) (open_made q.after.scope.structures q.made (element_made h name_at p.made s (made_moves p.after s first w p.made m)))
   declarator_made h name_at p (Array at d brackets (Present e)) w m =
       let s : PlainStanding = array_inside h name_at false d p.after in
       let q : Passed PlainType = element_declared h name_at p.made s in
       let a : Passed DeclaredType = array_declared h e q in
-      let first : Keeps p.after s = keeps_array_inside h name_at false d p.after in
-      let next : Keeps s q.after = keeps_element h name_at p.made s in
-      let k : Keeps q.after a.after = keeps_array h e q in
+      let first : Keeps p.after s = kept (over_array_inside h name_at false d p.after) in
+      let next : Keeps s q.after = kept (over_element h name_at p.made s) in
+      let k : Keeps q.after a.after = kept (over_array h e q) in
       let there : IsWholeScope q.after.scope = next.whole (first.whole w) in
       declarator_made h name_at a d (k.whole there) (array_made h e q there (element_made h name_at p.made s (made_moves p.after s first w p.made m)))
   declarator_made h name_at p (Function at d parentheses all more) w m =
@@ -304,9 +307,9 @@ mutual
       let s : PlainStanding = function_inside h name_at d t in
       let u : PlainStanding = among_parameters s in
       let q : Listing = all_parameters_passed h u parentheses all in
-      let a : Keeps p.after r.after = keeps_result h at name_at p.made p.after in
-      let b : Keeps r.after u = keeps_on (keeps_refusing h more subset.NoPrototype parentheses r.after) (keeps_on (keeps_function_inside h name_at d t) (keep_entered s.scope)) in
-      let c : Keeps u q.after = keeps_all_parameters h u parentheses all in
+      let a : Keeps p.after r.after = kept (over_result h at name_at p.made p.after) in
+      let b : Keeps r.after u = keeps_on (kept (over_refusing h more subset.NoPrototype parentheses r.after)) (keeps_on (kept (over_function_inside h name_at d t)) (keep_entered s.scope)) in
+      let c : Keeps u q.after = kept (over_all_parameters h u parentheses all) in
       let x : IsWholeScope r.after.scope = a.whole w in
       let y : IsWholeScope u.scope = b.whole x in
       let z : IsWholeScope q.after.scope = c.whole y in
@@ -321,16 +324,16 @@ mutual
   all_parameters_made h s at (MoreParameters one NoParameters) w = only_parameter_made h s one w
   all_parameters_made h s at (MoreParameters one (MoreParameters next rest)) w =
       let p : Listing = one_parameter_passed h 0 (none_listed s) one in
-      let k : Keeps s p.after = keeps_one_parameter h 0 (none_listed s) one in
+      let k : Keeps s p.after = kept (over_one_parameter h 0 (none_listed s) one) in
       parameters_made h 1 p (MoreParameters next rest) (k.whole w) (one_parameter_made h 0 (none_listed s) one w tt)
 
   only_parameter_made : (h : Keep) (s : PlainStanding) (one : Parameter At) → IsWholeScope s.scope → MadeListing (only_parameter_passed h s one)
   only_parameter_made h s (parameter at specifiers d) w =
       let t : Passed PlainType = specified h site_is.OfParameter none_allowed false s specifiers in
       let j : Passed DeclaredType = declarator_passed h (place_or at (name_in d)) (based t.made t.after) d in
-      let k : Keeps s t.after = keeps_specified h site_is.OfParameter none_allowed false s specifiers in
+      let k : Keeps s t.after = kept (over_specified h site_is.OfParameter none_allowed false s specifiers) in
       let there : IsWholeScope t.after.scope = k.whole w in
-      let l : Keeps t.after j.after = keeps_declarator h (place_or at (name_in d)) (based t.made t.after) d in
+      let l : Keeps t.after j.after = kept (over_declarator h (place_or at (name_in d)) (based t.made t.after) d) in
       either_listing (is_no_parameter d t.made) (none_listed t.after) (with_declared_parameter h 0 [] at d j) tt
       (declared_parameter_made h 0 [] at d j (l.whole there)
       (declarator_made h (place_or at (name_in d)) (based t.made t.after) d there (based_made t.after.scope.structures t.made (specified_made h site_is.OfParameter none_allowed false s specifiers w))) tt)
@@ -339,16 +342,16 @@ mutual
   parameters_made h i p NoParameters w m = m
   parameters_made h i p (MoreParameters one rest) w m =
       let q : Listing = one_parameter_passed h i p one in
-      let k : Keeps p.after q.after = keeps_one_parameter h i p one in
+      let k : Keeps p.after q.after = kept (over_one_parameter h i p one) in
       parameters_made h (i + 1) q rest (k.whole w) (one_parameter_made h i p one w m)
 
   one_parameter_made : (h : Keep) (i : ℕ) (p : Listing) (one : Parameter At) → IsWholeScope p.after.scope → MadeListing p → MadeListing (one_parameter_passed h i p one)
   one_parameter_made h i p (parameter at specifiers d) w m =
       let t : Passed PlainType = specified h site_is.OfParameter none_allowed false p.after specifiers in
       let j : Passed DeclaredType = declarator_passed h (place_or at (name_in d)) (based t.made t.after) d in
-      let k : Keeps p.after t.after = keeps_specified h site_is.OfParameter none_allowed false p.after specifiers in
+      let k : Keeps p.after t.after = kept (over_specified h site_is.OfParameter none_allowed false p.after specifiers) in
       let there : IsWholeScope t.after.scope = k.whole w in
-      let l : Keeps t.after j.after = keeps_declarator h (place_or at (name_in d)) (based t.made t.after) d in
+      let l : Keeps t.after j.after = kept (over_declarator h (place_or at (name_in d)) (based t.made t.after) d) in
       declared_parameter_made h i p.parameters at d j (l.whole there)
       (declarator_made h (place_or at (name_in d)) (based t.made t.after) d there (based_made t.after.scope.structures t.made (specified_made h site_is.OfParameter none_allowed false p.after specifiers w)))
       (listed_move p.after j.after (keeps_on k l) w p.parameters m)

@@ -1,14 +1,13 @@
 -- Steps that keep scopes whole.
-use Rattle.std.proofs.Common.{◌≡◌, refl, arith, ℕ, zero, suc, ◌<◌, Bool, true, false, List, [], ◌∷◌, ◌++◌, length, take, drop, Option, Some, None}
+use Rattle.std.proofs.Common.{◌≡◌, refl, arith, ℕ, zero, suc, ◌<◌, Bool, true, false, List, [], ◌∷◌, ◌++◌, length, take, drop, Option, Some}
 use Rattle.std.specs.Prelude.{if◌then◌else◌}
 use Rattle.std.proofs.lemmas.List.{length-append}
 use Rattle.p10_base.specs.Words.{Text}
 use Rattle.p10_core.specs.Types.{structure, PlainStructure}
 use Rattle.p10_core.specs.WholePrograms.{AreWholeStructures}
 use Rattle.p10_core.specs.Completing.{incomplete_structure, with_structure}
-use Rattle.p10_elabx.specs.Scopes.{Meaning, number, named_type, tagged_type, unknown_name, is_tag, Binding, PlainScope, last_floor, entered, left, declared, tagged}
-use Rattle.p10_elabx.specs.Innermost.{hidden}
-use Rattle.p10_elabd.specs.Tags.{with_tag, with_unknown, with_tags}
+use Rattle.p10_elabx.specs.Scopes.{Meaning, number, named_type, tagged_type, is_tag, Binding, PlainScope, last_floor, entered, left, declared}
+use Rattle.p10_elabd.specs.Tags.{with_tag}
 use Rattle.p10_wholeness.specs.Growth.{AreMore, StayBuilt}
 use Rattle.p10_wholeness.specs.Names.{IsWholeMeaning, AreWholeMeanings, KeepScope}
 use Rattle.p10_wholeness.proofs.Growth.{built_itself, builds_on, one_more_stays_built, types_stay_whole}
@@ -52,30 +51,27 @@ keep_itself s = record { tables = built_itself s.structures; whole = λ w. w }
 pub keeps_on : {s t u : PlainScope} → KeepScope s t → KeepScope t u → KeepScope s u
 keeps_on a b = record { tables = builds_on a.tables b.tables; whole = λ w. b.whole (a.whole w) }
 
-pub either_scope : (b : Bool) (s x y : PlainScope) → KeepScope s x → KeepScope s y → KeepScope s (if b then x else y)
+either_scope : (b : Bool) (s x y : PlainScope) → KeepScope s x → KeepScope s y → KeepScope s (if b then x else y)
 either_scope true s x y h k = h
 either_scope false s x y h k = k
 
 -- a name more
-one_name : (s : PlainScope) (b : Binding) → IsWholeMeaning s.structures b.what → KeepScope s (record s { names = s.names ++ b ∷ [] })
+pub one_name : (s : PlainScope) (b : Binding) → IsWholeMeaning s.structures b.what → KeepScope s (record s { names = s.names ++ b ∷ [] })
 one_name s b m = record {
   tables = built_itself s.structures;
   whole = λ w. record { built = w.built; names = joined_meanings s.structures s.names (b ∷ []) w.names (m, tt); tags = w.tags };
 }
 
-one_tag : (s : PlainScope) (b : Binding) → IsWholeMeaning s.structures b.what → KeepScope s (record s { tags = s.tags ++ b ∷ [] })
+pub one_tag : (s : PlainScope) (b : Binding) → IsWholeMeaning s.structures b.what → KeepScope s (record s { tags = s.tags ++ b ∷ [] })
 one_tag s b m = record {
   tables = built_itself s.structures;
   whole = λ w. record { built = w.built; names = w.names; tags = joined_meanings s.structures s.tags (b ∷ []) w.tags (m, tt) };
 }
 
-pub keep_name : (s : PlainScope) (name : Text) (what : Meaning) → IsWholeMeaning s.structures what → KeepScope s (declared s name what)
+keep_name : (s : PlainScope) (name : Text) (what : Meaning) → IsWholeMeaning s.structures what → KeepScope s (declared s name what)
 keep_name s name what m =
     let b : Binding = record { name = name; what = what } in
     either_scope (is_tag what) s (record s { tags = s.tags ++ b ∷ [] }) (record s { names = s.names ++ b ∷ [] }) (one_tag s b m) (one_name s b m)
-
-pub keep_hidden : (s : PlainScope) (name : Text) → KeepScope s (hidden s name)
-keep_hidden s name = one_tag s (record { name = name; what = unknown_name }) tt
 
 -- other structures, which are well built where those before are, and more
 pub keep_more : (s : PlainScope) (ts : List PlainStructure) → StayBuilt s.structures ts → KeepScope s (record s { structures = ts })
@@ -98,14 +94,6 @@ pub keep_tag : (s : PlainScope) (name : Text) → KeepScope s (with_tag s name)
 keep_tag s name =
     let ts : List PlainStructure = with_structure s.structures (Some name) in
     keeps_on (keep_structure s (Some name)) (keep_name (record s { structures = ts }) name (tagged_type (structure false (length s.structures))) (last_there s.structures (Some name)))
-
-unknown_kept : (found : Option Meaning) (s : PlainScope) (name : Text) → KeepScope s (with_unknown found s name)
-unknown_kept None s name = keep_tag s name
-unknown_kept (Some what) s name = keep_itself s
-
-pub keep_tags : (s : PlainScope) (names : List Text) → KeepScope s (with_tags s names)
-keep_tags s [] = keep_itself s
-keep_tags s (name ∷ rest) = keeps_on (unknown_kept (tagged s name) s name) (keep_tags (with_unknown (tagged s name) s name) rest)
 
 -- ## Blocks
 

@@ -1,4 +1,4 @@
-use Rattle.p10_wholeness.proofs.Staying.{scopes_stay_whole}
+use Rattle.p10_wholeness.proofs.KeepingDeclarations.{scopes_stay_whole}
 use Rattle.p10_wholeness.proofs.laws.scopes_stay_whole.Goals as goal
 
 pub returns : goal.returns

@@ -1,4 +1,4 @@
-use Rattle.p10_wholeness.proofs.Staying.{structures_stay_built}
+use Rattle.p10_wholeness.proofs.Building.{structures_stay_built}
 use Rattle.p10_wholeness.proofs.laws.structures_stay_built.Goals as goal
 
 pub returns : goal.returns
