@@ -21,8 +21,8 @@ use Rattle.p10_pairing_laws.proofs.Trees.{functions_stay_same}
 use Rattle.p10_root_renaming.specs.Roots.{SameHeads}
 use Rattle.p10_root_renaming.proofs.Keeping.{declaration_keeps}
 use Rattle.p10_root_renaming.proofs.GrowingOutside.{grows_all}
-use Rattle.p10_touched_renaming.specs.Touched.{first_with, second_with, head_passed, HasNoTags, IsMade}
-use Rattle.p10_counterpart_renaming.specs.Runs.{structures_in, AreRegular, DifferWithoutTags, SameSoFar, SameWithMore, FunctionsSameAt}
+use Rattle.p10_touched_renaming.specs.Touched.{first_with, second_with, IsMade}
+use Rattle.p10_counterpart_renaming.specs.Runs.{structures_in, AreRegular, BothLeaveStructures, BodiesMayDiffer, SameSoFar, SameWithMore, FunctionsSameAt}
 use Rattle.p10_counterpart_renaming.specs.Laws.{CounterpartsAreSame, CounterpartsRenamed}
 use Rattle.p10_counterpart_renaming.proofs.Steps.{names_many, declared_step, touched_step, SameStep, same_step}
 
@@ -45,13 +45,13 @@ more_on R a b k j one other = record { pairing = other.pairing; within = λ n m 
 
 either_step : (h : Keep) (heads others : Heads) → SameHeads heads others → (R : Pairing) (k j : Known) → SameSoFar R k j → (d : Definition (At × At)) (one other : Statements At)
     → IsMade h heads k (first_with d one) × AreBuilt (defined_outside h heads k (first_with d one)).standing.scope.structures → IsMade h others j (second_with d other) × AreBuilt (defined_outside h others j (second_with d other)).standing.scope.structures
-    → HasNoTags (head_passed h k (first_with d one)).made ⊎ IsSameBody one other
+    → BothLeaveStructures h heads others k j d one other ⊎ IsSameBody one other
     → AreQuiet (structures_in (defined_outside h heads k (first_with d one))) (defined_outside h heads k (first_with d one)).standing (defined_outside h others j (second_with d other)).standing
     → SameWithMore R (defined_outside h heads k (first_with d one)) (defined_outside h others j (second_with d other))
 either_step h heads others same R k j so d one other fine also free quiet =
-    ⊎_elim (λ none. touched_step h heads others same R k j so d one other fine.0 also.0 none fine.1 also.1 quiet) (λ body. (same_step h heads others same R k j so d one other body quiet).more) free
+    ⊎_elim (λ both. touched_step h heads others same R k j so d one other fine.0 also.0 both.0 both.1 fine.1 also.1 quiet) (λ body. (same_step h heads others same R k j so d one other body quiet).more) free
 
-pub rest_same : (h : Keep) (heads others : Heads) → SameHeads heads others → (R : Pairing) (k j : Known) → SameSoFar R k j → (all : List Counterparts) → DifferWithoutTags h heads k all → AreRegular h heads k (map in_first all) → AreRegular h others j (map in_second all)
+pub rest_same : (h : Keep) (heads others : Heads) → SameHeads heads others → (R : Pairing) (k j : Known) → SameSoFar R k j → (all : List Counterparts) → BodiesMayDiffer h heads others k j all → AreRegular h heads k (map in_first all) → AreRegular h others j (map in_second all)
     → AreQuiet (structures_in (known_after_all h heads k (map in_first all))) (known_after_all h heads k (map in_first all)).standing (known_after_all h others j (map in_second all)).standing
     → SameWithMore R (known_after_all h heads k (map in_first all)) (known_after_all h others j (map in_second all))
 rest_same h heads others same R k j so [] free fine also quiet = record { pairing = R; within = λ n m e. e; same = so }
@@ -82,7 +82,7 @@ function_kept h heads k rest n low =
 pub at_moved : (R : Pairing) (n m : ℕ) → n ≡ m → (fs gs : List PlainFunction) → FunctionsSameAt R n fs gs → FunctionsSameAt R m fs gs
 at_moved R n m e fs gs same = subst (λ i. FunctionsSameAt R i fs gs) e same
 
-counterparts_same : (h : Keep) (heads others : Heads) → SameHeads heads others → (R : Pairing) (k j : Known) → SameSoFar R k j → (n : ℕ) (all : List Counterparts) → HasSameBody n all → DifferWithoutTags h heads k all
+counterparts_same : (h : Keep) (heads others : Heads) → SameHeads heads others → (R : Pairing) (k j : Known) → SameSoFar R k j → (n : ℕ) (all : List Counterparts) → HasSameBody n all → BodiesMayDiffer h heads others k j all
     → AreRegular h heads k (map in_first all) → AreRegular h others j (map in_second all)
     → AreQuiet (structures_in (known_after_all h heads k (map in_first all))) (known_after_all h heads k (map in_first all)).standing (known_after_all h others j (map in_second all)).standing
     → CounterpartsAreSame n R k j (known_after_all h heads k (map in_first all)) (known_after_all h others j (map in_second all))

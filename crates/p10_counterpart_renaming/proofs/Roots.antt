@@ -22,7 +22,7 @@ use Rattle.p10_root_renaming.specs.Roots.{SameHeads, SameKnown}
 use Rattle.p10_root_renaming.proofs.Keeping.{declaration_keeps}
 use Rattle.p10_root_renaming.proofs.GrowingOutside.{grows_sizes, grows_roots}
 use Rattle.p10_root_renaming.proofs.Whole.{sizes_both, nameless_same}
-use Rattle.p10_counterpart_renaming.specs.Runs.{structures_in, AreRegular, RootsAreRegular, RootsDifferWithoutTags, SameSoFar, SameWithMore}
+use Rattle.p10_counterpart_renaming.specs.Runs.{structures_in, AreRegular, RootsAreRegular, RootsMayDiffer, SameSoFar, SameWithMore}
 use Rattle.p10_counterpart_renaming.specs.Laws.{CounterpartsAreSame, RootsOfCounterpartsRenamed}
 use Rattle.p10_counterpart_renaming.proofs.Counterparts.{more_on, rest_same, within_list, at_moved, counterparts_renamed}
 use Rattle.p10_counterpart_renaming.proofs.Steps.{names_many}
@@ -81,7 +81,7 @@ quiet_root h heads others k j rest others_rest quiet = record {
 
 -- ## Roots whose bodies may differ
 
-roots_rest : (h : Keep) (heads others : Heads) → SameHeads heads others → (R : Pairing) (k j : Known) → SameSoFar R k j → (roots : List (List Counterparts)) → RootsDifferWithoutTags h heads k roots
+roots_rest : (h : Keep) (heads others : Heads) → SameHeads heads others → (R : Pairing) (k j : Known) → SameSoFar R k j → (roots : List (List Counterparts)) → RootsMayDiffer h heads others k j roots
     → RootsAreRegular h heads k (map (map in_first) roots) → RootsAreRegular h others j (map (map in_second) roots)
     → AreQuiet (structures_in (roots_passed h heads k (map (map in_first) roots))) (roots_passed h heads k (map (map in_first) roots)).standing (roots_passed h others j (map (map in_second) roots)).standing
     → SameWithMore R (roots_passed h heads k (map (map in_first) roots)) (roots_passed h others j (map (map in_second) roots))

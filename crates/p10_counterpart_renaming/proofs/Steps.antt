@@ -21,7 +21,7 @@ use Rattle.p10_root_renaming.specs.Laws.{AddsSameFunctions}
 use Rattle.p10_root_renaming.proofs.GrowingOutside.{grows_outside, grows_definition}
 use Rattle.p10_root_renaming.proofs.Outside.{declarations_renamed}
 use Rattle.p10_root_renaming.proofs.Functions.{definitions_renamed}
-use Rattle.p10_touched_renaming.specs.Touched.{first_with, second_with, head_passed, before_body, HasNoTags, IsMade}
+use Rattle.p10_touched_renaming.specs.Touched.{first_with, second_with, before_body, LeavesStructures, IsMade}
 use Rattle.p10_touched_renaming.proofs.Touched.{grows_to_body, touched_renamed}
 use Rattle.p10_counterpart_renaming.specs.Runs.{structures_in, SameSoFar, SameWithMore, FunctionsSameAt}
 use Rattle.p10_counterpart_renaming.proofs.Extending.{within_extended, extended_by, known_extended, low_by, one_by}
@@ -40,16 +40,16 @@ declared_step h heads others same R k j so d quiet =
     }
 
 pub touched_step : (h : Keep) (heads others : Heads) → SameHeads heads others → (R : Pairing) (k j : Known) → SameSoFar R k j → (d : Definition (At × At)) (one other : Statements At)
-    → IsMade h heads k (first_with d one) → IsMade h others j (second_with d other) → HasNoTags (head_passed h k (first_with d one)).made
+    → IsMade h heads k (first_with d one) → IsMade h others j (second_with d other) → LeavesStructures h heads k (first_with d one) → LeavesStructures h others j (second_with d other)
     → AreBuilt (defined_outside h heads k (first_with d one)).standing.scope.structures → AreBuilt (defined_outside h others j (second_with d other)).standing.scope.structures
     → AreQuiet (structures_in (defined_outside h heads k (first_with d one))) (defined_outside h heads k (first_with d one)).standing (defined_outside h others j (second_with d other)).standing
     → SameWithMore R (defined_outside h heads k (first_with d one)) (defined_outside h others j (second_with d other))
-touched_step h heads others same R k j so d one other made other_made none built other_built quiet =
+touched_step h heads others same R k j so d one other made other_made leaves other_leaves built other_built quiet =
     let from : ℕ = before_body h k (first_with d one) in
     let later : ℕ = structures_in (defined_outside h heads k (first_with d one)) in
     let low : structures_in k ≤ from = (grows_to_body h k (first_with d one)).0 in
     let rest : from ≤ later = (grows_to_body h k (first_with d one)).1 heads in
-    let r = touched_renamed (extended_by R k j from) (one_by R k j so from) later h heads others same k j d one other made other_made none built other_built
+    let r = touched_renamed (extended_by R k j from) (one_by R k j so from) later h heads others same k j d one other made other_made leaves other_leaves built other_built
     (record { outside = λ n m e. inl (low_by R k j so from low n m e); next = λ i below. absurd (omega (arith, below)) }) (λ q. known_extended R k j so from low) quiet in
     record {
       pairing = extended_by R k j from;

@@ -1,7 +1,7 @@
 -- What is known of two programs in a row of counterparts.
 use Rattle.std.specs.Prelude.{◌≡◌, ℕ, ◌+◌, ◌<◌, true, ◌&&◌, ◌||◌, nat_eq, nat_lt, nat_le, ◌⊎◌, List, [], ◌∷◌, map, length, Some, slice_get}
 use Rattle.p10_base.specs.declared.at.At.{At}
-use Rattle.p10_syn.specs.Trees.{External, Outer, Defines}
+use Rattle.p10_syn.specs.Trees.{Definition, Statements, External, Outer, Defines}
 use Rattle.p10_core.specs.Typed.{PlainFunction}
 use Rattle.p10_core.specs.Completing.{AreBuilt}
 use Rattle.p10_elabx.specs.First.{Keep}
@@ -13,8 +13,8 @@ use Rattle.p10_renaming.specs.Renaming.{Pairing, SameFunction}
 use Rattle.p10_expression_renaming.specs.Knowing.{IsOneToOne}
 use Rattle.p10_pairing_laws.specs.Laws.{IsWithin}
 use Rattle.p10_root_renaming.specs.Roots.{SameKnown}
-use Rattle.p10_spelling_laws.specs.Counterparts.{Counterparts, declared_in_both, defined_in_both, in_first, IsSameBody}
-use Rattle.p10_touched_renaming.specs.Touched.{first_with, head_passed, HasNoTags, IsMade}
+use Rattle.p10_spelling_laws.specs.Counterparts.{Counterparts, declared_in_both, defined_in_both, in_first, in_second, IsSameBody}
+use Rattle.p10_touched_renaming.specs.Touched.{first_with, second_with, LeavesStructures, IsMade}
 
 -- ## One program
 
@@ -36,17 +36,25 @@ RootsAreRegular h heads k (root ∷ rest) = AreRegular h heads (root_begun k) ro
 
 -- ## Both
 
--- none of the parameters of a function whose bodies differ declares a tag
-abbrev pub DifferWithoutTags : Keep → Heads → Known → List Counterparts → Type 0
-DifferWithoutTags h heads k [] = Unit {0}
-DifferWithoutTags h heads k (declared_in_both at d ∷ rest) = DifferWithoutTags h heads (known_after h heads k (in_first (declared_in_both at d))) rest
-DifferWithoutTags h heads k (defined_in_both d one other ∷ rest) =
-    (HasNoTags (head_passed h k (first_with d one)).made ⊎ IsSameBody one other) × DifferWithoutTags h heads (known_after h heads k (in_first (defined_in_both d one other))) rest
+-- neither body of a function completes a structure that its parameters declare
+abbrev pub BothLeaveStructures : Keep → Heads → Heads → Known → Known → Definition (At × At) → Statements At → Statements At → Type 0
+BothLeaveStructures h heads others k j d one other = LeavesStructures h heads k (first_with d one) × LeavesStructures h others j (second_with d other)
+
+-- so it is of each function whose bodies differ
+abbrev pub BodiesMayDiffer : Keep → Heads → Heads → Known → Known → List Counterparts → Type 0
+BodiesMayDiffer h heads others k j [] = Unit {0}
+BodiesMayDiffer h heads others k j (declared_in_both at d ∷ rest) =
+    BodiesMayDiffer h heads others (known_after h heads k (in_first (declared_in_both at d))) (known_after h others j (in_second (declared_in_both at d))) rest
+BodiesMayDiffer h heads others k j (defined_in_both d one other ∷ rest) =
+    (BothLeaveStructures h heads others k j d one other ⊎ IsSameBody one other)
+    × BodiesMayDiffer h heads others (known_after h heads k (in_first (defined_in_both d one other))) (known_after h others j (in_second (defined_in_both d one other))) rest
 
 -- so it is in each root
-abbrev pub RootsDifferWithoutTags : Keep → Heads → Known → List (List Counterparts) → Type 0
-RootsDifferWithoutTags h heads k [] = Unit {0}
-RootsDifferWithoutTags h heads k (root ∷ rest) = DifferWithoutTags h heads (root_begun k) root × RootsDifferWithoutTags h heads (root_passed h heads k (map in_first root)) rest
+abbrev pub RootsMayDiffer : Keep → Heads → Heads → Known → Known → List (List Counterparts) → Type 0
+RootsMayDiffer h heads others k j [] = Unit {0}
+RootsMayDiffer h heads others k j (root ∷ rest) =
+    BodiesMayDiffer h heads others (root_begun k) (root_begun j) root
+    × RootsMayDiffer h heads others (root_passed h heads k (map in_first root)) (root_passed h others j (map in_second root)) rest
 
 -- structures that were paired, and this many more, from two numbers on
 abbrev pub extended : Pairing → ℕ → ℕ → ℕ → Pairing

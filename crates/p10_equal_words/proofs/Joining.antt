@@ -1,5 +1,6 @@
 -- In the same words outside of bodies and in a function two programs have one view of it.
 use Rattle.std.proofs.Common.{◌≡◌, ◌∙◌, ℕ, ◌+◌, false, List, [], ◌++◌, map, length, le_refl, refl, sym, ap, subst, arith, Some}
+use Rattle.std.proofs.lemmas.List.{length-map}
 use Rattle.std.specs.Prelude.{flat_map, slice_get}
 use Rattle.p10_base.specs.declared.at.At.{At}
 use Rattle.p10_base.specs.Gathered.{Gathered}
@@ -7,7 +8,9 @@ use Rattle.p10_syn.specs.Trees.{External}
 use Rattle.p10_core.specs.Types.{PlainStructure}
 use Rattle.p10_core.specs.Typed.{PlainFunction, PlainObject, PlainSeen, PlainProgram}
 use Rattle.p10_core.proofs.Completing.{none_are_built}
-use Rattle.p10_digests.specs.Lines.{all_words}
+use Rattle.sha2.specs.Sha256.{sha256}
+use Rattle.p10_digests.specs.Lines.{all_words, hashed_lines, tree_words}
+use Rattle.p10_digests.specs.Digests.{function_places}
 use Rattle.p10_elabx.specs.First.{only_first}
 use Rattle.p10_elabd.specs.Standing.{PlainStanding}
 use Rattle.p10_heads.specs.Heads.{Heads, heads_of_roots, number_in}
@@ -40,18 +43,18 @@ use Rattle.p10_head_renaming.proofs.Numbers.{functions_keep_numbers}
 use Rattle.p10_head_renaming.proofs.Task.{task_stays}
 use Rattle.p10_definition_counts.specs.Laws.{definitions_of}
 use Rattle.p10_definition_counts.proofs.Counting.{definitions_counted}
-use Rattle.p10_counterpart_renaming.specs.Runs.{structures_in, RootsAreRegular, RootsDifferWithoutTags, SameSoFar}
+use Rattle.p10_counterpart_renaming.specs.Runs.{structures_in, RootsAreRegular, RootsMayDiffer, SameSoFar}
 use Rattle.p10_counterpart_renaming.specs.Laws.{CounterpartsAreSame}
 use Rattle.p10_counterpart_renaming.proofs.Counterparts.{at_moved}
 use Rattle.p10_counterpart_renaming.proofs.Roots.{roots_of_counterparts_renamed}
 use Rattle.p10_word_counterparts.specs.Laws.{IsTypedFrom}
 use Rattle.p10_word_counterparts.proofs.Typing.{readings_are_typed, readings_have_counterparts}
 use Rattle.p10_word_views.specs.Words.{lines_of_function}
-use Rattle.p10_equal_words.specs.Comparable.{EachIsMade, OthersDeclareNoTags}
+use Rattle.p10_equal_words.specs.Comparable.{HasDigestEach, OthersLeaveStructures}
 use Rattle.p10_equal_words.specs.Laws.{EqualWordsHaveEqualViews}
 use Rattle.p10_equal_words.proofs.Settled.{IsSettled, roots_settled}
 use Rattle.p10_equal_words.proofs.Regular.{roots_regular}
-use Rattle.p10_equal_words.proofs.Tags.{roots_free}
+use Rattle.p10_equal_words.proofs.Bodies.{roots_differ}
 use Rattle.p10_equal_words.proofs.Widths.{widths_same}
 
 -- ## Before the first root
@@ -119,10 +122,10 @@ record IsReady (roots : List (List (External At))) (p : PlainProgram) : Type 0 w
   pub of_roots : IsOf roots p
   pub many : length p.functions ≡ definitions_of roots
 
-ready : (r : PlainReading) (p : PlainProgram) → EachIsMade r p → elaborated (trees_in r.units) ≡ program p → (roots : List (List (External At))) → roots_of (trees_in r.units) ≡ roots → IsReady roots p
+ready : (r : PlainReading) (p : PlainProgram) → HasDigestEach r p → elaborated (trees_in r.units) ≡ program p → (roots : List (List (External At))) → roots_of (trees_in r.units) ≡ roots → IsReady roots p
 ready r p each is roots same = record {
   of_roots = is_of (trees_in r.units) roots p (subst (λ rs. roots_elaborated only_first (trees_in r.units) rs ≡ program p) same is);
-  many = each ∙ sym (definitions_counted (trees_in r.units)) ∙ ap definitions_of same;
+  many = sym each ∙ length-map (function_places (trees_in r.units)) (λ at. sha256 (hashed_lines (tree_words r.expansion.roots at))) ∙ sym (definitions_counted (trees_in r.units)) ∙ ap definitions_of same;
 }
 
 regular : (roots : List (List (External At))) (p : PlainProgram) → IsReady roots p → RootsAreRegular only_first (heads_of_roots 0 roots) nothing_known roots
@@ -132,7 +135,7 @@ regular roots p a =
 
 -- ## Both
 
-views_same : (roots : List (List Counterparts)) (n : ℕ) → HasSameBody n (flat_map (λ root. root) roots) → RootsDifferWithoutTags only_first (heads_of_roots 0 (map (map in_first) roots)) nothing_known roots
+views_same : (roots : List (List Counterparts)) (n : ℕ) → HasSameBody n (flat_map (λ root. root) roots) → RootsMayDiffer only_first (heads_of_roots 0 (map (map in_first) roots)) (heads_of_roots 0 (map (map in_second) roots)) nothing_known nothing_known roots
     → SameHeads (heads_of_roots 0 (map (map in_first) roots)) (heads_of_roots 0 (map (map in_second) roots))
     → (p q : PlainProgram) → IsReady (map (map in_first) roots) p → IsReady (map (map in_second) roots) q → (f g : PlainFunction) → slice_get p.functions n ≡ Some f → slice_get q.functions n ≡ Some g
     → view_of p n f ≡ view_of q n g
@@ -173,7 +176,7 @@ lines_at : (r s : PlainReading) (n m : ℕ) → n ≡ m → lines_of_function r 
 lines_at r s n m e same = subst (λ i. lines_of_function r i ≡ lines_of_function s i) e same
 
 pub equal_words_have_equal_views : EqualWordsHaveEqualViews
-equal_words_have_equal_views g h r s p q reads other a b tags same n f k lines f_is k_is =
+equal_words_have_equal_views g h r s p q reads other a b leave same n f k lines f_is k_is =
     let t : IsTypedFrom g r p = readings_are_typed g r p reads in
     let u : IsTypedFrom h s q = readings_are_typed h s q other in
     let c : HaveCounterparts r.expansion.roots s.expansion.roots (trees_in r.units) (trees_in s.units) = readings_have_counterparts g h r s p q reads other same in
@@ -187,9 +190,11 @@ equal_words_have_equal_views g h r s p q reads other a b tags same n f k lines f
           ∙ ap (λ rs. number_in (heads_of_roots 0 rs).functions root internal name) by_roots.second;
     } in
     let first : roots_of (trees_in r.units) ≡ firsts = ap roots_of c.first ∙ by_roots.first in
-    let free : RootsDifferWithoutTags only_first (heads_of_roots 0 firsts) nothing_known by_roots.roots =
-    roots_free (λ i. lines_of_function r i ≡ lines_of_function s i) only_first (heads_of_roots 0 firsts) 0 nothing_known by_roots.roots
+    let second : roots_of (trees_in s.units) ≡ seconds = ap roots_of c.second ∙ by_roots.second in
+    let free : RootsMayDiffer only_first (heads_of_roots 0 firsts) (heads_of_roots 0 seconds) nothing_known nothing_known by_roots.roots =
+    roots_differ (λ i. lines_of_function r i ≡ lines_of_function s i) only_first (heads_of_roots 0 firsts) (heads_of_roots 0 seconds) 0 nothing_known nothing_known by_roots.roots
     (λ i e. subst (HasSameBody i) (sym by_roots.joined) (c.same i (lines_at r s (0 + i) i (omega arith) e)))
-    (subst (OthersDeclareNoTags (λ i. lines_of_function r i ≡ lines_of_function s i)) first tags) in
+    (subst (OthersLeaveStructures (λ i. lines_of_function r i ≡ lines_of_function s i)) first leave.before)
+    (subst (OthersLeaveStructures (λ i. lines_of_function r i ≡ lines_of_function s i)) second leave.after) in
     views_same by_roots.roots n (subst (HasSameBody n) (sym by_roots.joined) (c.same n lines)) free heads p q
-    (ready r p a t.is firsts first) (ready s q b u.is seconds (ap roots_of c.second ∙ by_roots.second)) f k f_is k_is
+    (ready r p a t.is firsts first) (ready s q b u.is seconds second) f k f_is k_is

@@ -1,7 +1,8 @@
 -- Lemmas for this crate.
 pub mod Settled
 pub mod Regular
-pub mod Tags
+pub mod Bodies
 pub mod Widths
 pub mod Joining
 pub mod Rechecking
+pub mod Completed

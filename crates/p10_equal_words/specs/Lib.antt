@@ -1,3 +1,4 @@
 -- The definitions that the contracts of this crate cites.
 pub mod Comparable
 pub mod Laws
+pub mod Completed

@@ -1,5 +1,6 @@
 //! The laws: each function does nothing but to call on other laws, and its contract is the law.
 
+ghost use Rattle.p10_equal_words.specs.Completed.{WidthsMayDiffer};
 ghost use Rattle.p10_equal_words.specs.Laws.{EqualWordsHaveEqualViews, ComparableFilesRecheckAsWhole, ComparableFilesRecheckBySections};
 
 use p10_section_rechecks::laws::sections_recheck_as_whole;
@@ -20,3 +21,8 @@ pub fn comparable_files_recheck_by_sections()
 {
     sections_recheck_as_whole();
 }
+
+/// Why no body that differs may complete a structure that its parameters declare.
+pub fn widths_may_differ()
+    ensures { WidthsMayDiffer }
+{}

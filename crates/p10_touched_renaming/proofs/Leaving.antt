@@ -23,12 +23,9 @@ use Rattle.p10_block_structures.specs.Laws.{AreNewTags, IsInside}
 use Rattle.p10_block_structures.proofs.KeepingStatements.{bodies_leave_structures}
 use Rattle.p10_root_renaming.proofs.Functions.{marked_scope}
 
--- names and tags stand again, and so do the structures that there were
-pub record LeavesOutside (s t : PlainScope) : Type 0 where
-  pub floors : t.floors ≡ s.floors
-  pub names : t.names ≡ s.names
-  pub tags : t.tags ≡ s.tags
-  pub entries : (n : ℕ) → n < length s.structures → slice_get t.structures n ≡ slice_get s.structures n
+-- the structures that there were are as they were
+abbrev pub Leaves : PlainScope → PlainScope → Type 0
+Leaves s t = (n : ℕ) → n < length s.structures → slice_get t.structures n ≡ slice_get s.structures n
 
 -- ## Rows and names
 
@@ -72,19 +69,35 @@ begins_extended f t s = record {
   tags = record { rest = t.tags; same = refl };
 }
 
-leaves_by : (s v t u : PlainScope) → v ≡ s → t ≡ u → LeavesOutside v (left u) → LeavesOutside s (left t)
-leaves_by s v t u e d a = subst (λ x. LeavesOutside x (left t)) e (subst (λ x. LeavesOutside v (left x)) (sym d) a)
+again_by : (s v t u : PlainScope) → v ≡ s → t ≡ u → IsAgain v (left u) → IsAgain s (left t)
+again_by s v t u e d a = subst (λ x. IsAgain x (left t)) e (subst (λ x. IsAgain v (left x)) (sym d) a)
 
-pub body_leaves : (h : Keep) (heads : Heads) (l : Linked) (t : FunctionType) → t.tags ≡ [] → (body : Statements At) (k : Known) → LeavesOutside k.standing.scope (body_done h heads l t body k).standing.scope
-body_leaves h heads l t none body k =
+-- names and tags stand again
+pub body_leaves : (h : Keep) (heads : Heads) (l : Linked) (t : FunctionType) (body : Statements At) (k : Known) → IsAgain k.standing.scope (body_done h heads l t body k).standing.scope
+body_leaves h heads l t body k =
     let f : Frame = record { heads = heads; taken = addresses_taken t.parameters body; number = number_in heads.functions l.root l.internal l.name; result = t.result } in
     let v : PlainStanding = names_noted h t.parameters k.standing in
     let x : Local = body_begun f t v in
     let b : Block' = items_done h f (is_main_name l.name) in_nothing (no_items_yet x) body in
-    let again : IsAgain v.scope (left b.after.standing.scope) = bodies_leave_scopes h f (is_main_name l.name) in_nothing v.scope x body (begins_extended f t v.scope) in
-    leaves_by k.standing.scope v.scope _ b.after.standing.scope (names_keep h t.parameters k.standing) (marked_scope h (is_main_name l.name) b.kinds b.after.standing) (record {
-      floors = again.floors;
-      names = again.names;
-      tags = again.tags;
-      entries = bodies_leave_structures h f (is_main_name l.name) in_nothing x body v.scope.tags (length v.scope.structures) (begins_inside f t none v.scope);
-    })
+    again_by k.standing.scope v.scope _ b.after.standing.scope (names_keep h t.parameters k.standing) (marked_scope h (is_main_name l.name) b.kinds b.after.standing)
+    (bodies_leave_scopes h f (is_main_name l.name) in_nothing v.scope x body (begins_extended f t v.scope))
+
+leaves_by : (s v t u : PlainScope) → v ≡ s → t ≡ u → Leaves v (left u) → Leaves s (left t)
+leaves_by s v t u e d a = subst (λ x. Leaves x (left t)) e (subst (λ x. Leaves v (left x)) (sym d) a)
+
+-- so do the structures that there were, where no parameter declares a tag
+pub body_leaves_structures : (h : Keep) (heads : Heads) (l : Linked) (t : FunctionType) → t.tags ≡ [] → (body : Statements At) (k : Known) → Leaves k.standing.scope (body_done h heads l t body k).standing.scope
+body_leaves_structures h heads l t none body k =
+    let f : Frame = record { heads = heads; taken = addresses_taken t.parameters body; number = number_in heads.functions l.root l.internal l.name; result = t.result } in
+    let v : PlainStanding = names_noted h t.parameters k.standing in
+    let x : Local = body_begun f t v in
+    let b : Block' = items_done h f (is_main_name l.name) in_nothing (no_items_yet x) body in
+    leaves_by k.standing.scope v.scope _ b.after.standing.scope (names_keep h t.parameters k.standing) (marked_scope h (is_main_name l.name) b.kinds b.after.standing)
+    (bodies_leave_structures h f (is_main_name l.name) in_nothing x body v.scope.tags (length v.scope.structures) (begins_inside f t none v.scope))
+
+-- a declaration with linkage comes between
+pub left_after : (h : Keep) (heads : Heads) (l : Linked) (k : Known) (t : PlainScope) → Leaves k.standing.scope t → Leaves (with_linked h heads l k).standing.scope t
+left_after h heads l k t kept = subst (λ ss. (n : ℕ) → n < length ss → slice_get t.structures n ≡ slice_get ss n) (sym (linked_structures h heads l k)) kept
+
+pub left_before : (h : Keep) (heads : Heads) (l : Linked) (k : Known) (t : PlainScope) → Leaves (with_linked h heads l k).standing.scope t → Leaves k.standing.scope t
+left_before h heads l k t kept = subst (λ ss. (n : ℕ) → n < length ss → slice_get t.structures n ≡ slice_get ss n) (linked_structures h heads l k) kept

@@ -1,3 +1,4 @@
 -- Lemmas for this crate.
 pub mod Leaving
 pub mod Touched
+pub mod Untagged

@@ -1,5 +1,5 @@
 -- A function that stands at two places, with a body of its own at each.
-use Rattle.std.specs.Prelude.{◌≡◌, ℕ, ◌+◌, ◌<◌, ◌≤◌, true, false, [], length, Option, Some, None, ◌⊎◌}
+use Rattle.std.specs.Prelude.{◌≡◌, ℕ, ◌+◌, ◌<◌, ◌≤◌, true, false, [], length, slice_get, Option, Some, None, ◌⊎◌}
 use Rattle.p10_base.specs.declared.at.At.{At}
 use Rattle.p10_syn.specs.Trees.{Identifier, Declarator, Definition, Statements}
 use Rattle.p10_core.specs.Types.{PlainType}
@@ -48,6 +48,11 @@ HasNoTags o = Unit {0}
 -- how many structures there are after it
 abbrev pub after_body : Keep → Heads → Known → Definition At → ℕ
 after_body h heads k d = length (defined_outside h heads k d).standing.scope.structures
+
+-- its body leaves the structures as they were that stood before it: it completes none that its parameters declare
+abbrev pub LeavesStructures : Keep → Heads → Known → Definition At → Type 0
+LeavesStructures h heads k d =
+    (n : ℕ) → n < before_body h k d → slice_get (defined_outside h heads k d).standing.scope.structures n ≡ slice_get (head_passed h k d).after.scope.structures n
 
 -- it becomes a function
 abbrev pub IsMade : Keep → Heads → Known → Definition At → Type 0

@@ -24,6 +24,6 @@ digest_there r n =
     ∙ map_twice sha256 (λ at. hashed_lines (tree_words r.expansion.roots at)) (slice_get (function_places (trees_in r.units)) n)
 
 pub readings_keep_views : ReadingsKeepViews
-readings_keep_views equal g h r s q p reads other tell e to n f k f_is k_is outside digests =
-    equal g h r s q p reads other (tell.outside (outside ∙ to.outside)) n f k
+readings_keep_views r s q p equal tell e to n f k f_is k_is outside digests =
+    equal (tell.outside (outside ∙ to.outside)) n f k
     (tell.functions n (sym (digest_there r n) ∙ digests ∙ ap (λ ds. slice_get ds n) to.digests ∙ digest_there s n)) f_is k_is

@@ -1,8 +1,7 @@
--- The verdict after an edit of files is that on the whole certificate, where equal words give equal views.
+-- The verdict after an edit of files is that on the whole certificate, where functions of equal words have equal views.
 use Rattle.std.specs.Prelude.{◌≡◌}
-use Rattle.p10_base.specs.Gathered.{Gathered}
 use Rattle.p10_core.specs.Typed.{PlainProgram}
-use Rattle.p10_front.specs.Readings.{PlainReading, AreReadAs}
+use Rattle.p10_front.specs.Readings.{PlainReading}
 use Rattle.p10_front.specs.Digests.{reading_digests}
 use Rattle.p10_turns.specs.Evidence.{stands_by_ranges}
 use Rattle.p10_check.specs.declared.verdict.TextVerdict.{TextVerdict}
@@ -10,7 +9,7 @@ use Rattle.p10_check.specs.Texts.{IsStatementVerdict}
 use Rattle.p10_incr.specs.Edits.{Edit}
 use Rattle.p10_incr.specs.Rechecking.{IsRecheckVerdict}
 use Rattle.p10_rechecks.specs.Laws.{WasAccepted, ViewsStay}
-use Rattle.p10_word_views.specs.Words.{EqualWordsGiveEqualViews, DigestsTell}
+use Rattle.p10_word_views.specs.Words.{HaveEqualViews, DigestsTell}
 
 -- an edit after which files are read as this
 pub record EditsTo (s : PlainReading) (e : Edit) : Type 0 where
@@ -20,12 +19,11 @@ pub record EditsTo (s : PlainReading) (e : Edit) : Type 0 where
 -- views stay where digests do
 abbrev pub ReadingsKeepViews : Type 0
 ReadingsKeepViews =
-    EqualWordsGiveEqualViews → (g h : Gathered) (r s : PlainReading) (q p : PlainProgram) → AreReadAs g r q → AreReadAs h s p → DigestsTell r s → (e : Edit) → EditsTo s e
-    → ViewsStay q (reading_digests r).funcs (reading_digests r).outside p e
+    (r s : PlainReading) (q p : PlainProgram) → HaveEqualViews r s q p → DigestsTell r s → (e : Edit) → EditsTo s e → ViewsStay q (reading_digests r).funcs (reading_digests r).outside p e
 
 -- with the evidence of ranges the verdict after an edit is that on the whole certificate
 abbrev pub FilesRecheckAsWhole : Type 0
 FilesRecheckAsWhole =
-    EqualWordsGiveEqualViews → (g h : Gathered) (r s : PlainReading) (q p : PlainProgram) → AreReadAs g r q → AreReadAs h s p → DigestsTell r s → (e : Edit) → EditsTo s e → (verdict : TextVerdict)
+    (r s : PlainReading) (q p : PlainProgram) → HaveEqualViews r s q p → DigestsTell r s → (e : Edit) → EditsTo s e → (verdict : TextVerdict)
     → WasAccepted (stands_by_ranges q) q (reading_digests r).funcs (reading_digests r).outside e.old
     → IsRecheckVerdict (stands_by_ranges p) p e verdict → IsStatementVerdict (stands_by_ranges p) p e.digests e.new verdict

@@ -2,12 +2,12 @@
 
 ghost use Rattle.p10_word_views.specs.Laws.{ReadingsKeepViews, FilesRecheckAsWhole};
 
-/// Views stay where digests do, if equal words give equal views.
+/// Views stay where digests do, if functions of equal words have equal views.
 pub fn readings_keep_views()
     ensures { ReadingsKeepViews }
 {}
 
-/// The verdict after an edit of files is that on the whole certificate, with the evidence of ranges, if equal words give equal views.
+/// So the verdict after an edit of files is that on the whole certificate, with the evidence of ranges.
 pub fn files_recheck_as_whole()
     ensures { FilesRecheckAsWhole }
 {}
