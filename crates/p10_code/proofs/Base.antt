@@ -135,6 +135,10 @@ pub kept_on : (t u k j : ℕ) (s s1 s2 : List Held) → t ≤ u → t ≤ j → 
 kept_on t u k j s s1 s2 tu tj a b =
     record { len = b.len ∙ a.len; same = λ i lt ne. b.same i lt ne ∙ a.same i (omega arith) (λ e. omega arith) }
 
+-- one part after another: both wrote at k
+pub kept_again : (t k : ℕ) (s s1 s2 : List Held) → Kept t k s s1 → Kept t k s1 s2 → Kept t k s s2
+kept_again t k s s1 s2 a b = record { len = b.len ∙ a.len; same = λ i lt ne. b.same i lt ne ∙ a.same i lt ne }
+
 -- two parts that wrote at or above t
 pub kept_both : (t k u j v l : ℕ) (s s1 s2 : List Held) → t ≤ u → t ≤ j → t ≤ v → t ≤ l → Kept u j s s1 → Kept v l s1 s2 → Kept t k s s2
 kept_both t k u j v l s s1 s2 tu tj tv tl a b =

@@ -19,7 +19,7 @@ use Rattle.p10_meaning.specs.Values.{Calls, Setting, Held, holds, absent, Target
 use Rattle.p10_code.specs.Operations.{Operand, slot, fixed, Computation, compute, call as call_op, Op, Entry}
 use Rattle.p10_code.specs.Machine.{Rest, cell_of, scalar_in, or_zero, found, value_of, gathered, computed}
 use Rattle.p10_code.specs.ValueCode.{Site, op, fixed_of, Spot, in_frame, at_sensor, in_object, nowhere, spot_of_variable, spot_of_global, spot_of_literal, spot_of, pointer_by, pointer_operand, place_debt, read_operand, operand_by, form_operand, operand, form_debt, debt, is_sure, height, form_height, values_height, place_height, count_of, values_debt, value_code, into_code, form_code, dropped_code, values_code, place_code}
-use Rattle.p10_code.proofs.Base.{owed, Stands, front, rear, local, Holds, Kept, kept_set, kept_on, kept_both, holds_kept, Under, To, compute_runs}
+use Rattle.p10_code.proofs.Base.{owed, Stands, front, rear, local, Holds, Kept, kept_set, kept_again, kept_both, kept_under, holds_kept, Under, To, compute_runs}
 
 -- what a part of code finds: its free slots are there, the steps that are left are within the bound but for the debt, and the
 -- variables stand in their slots
@@ -200,30 +200,36 @@ module _ (p : PlainProgram) (code : List Op) (entries : List Entry) (u : Under) 
   abbrev pub Then : {A : Type 0} → (A → Scalar) → ℕ → ℕ → ℕ → ℕ → List Held → State → (A → State → Progress Rest) → Type 0
   Then {A} f k t d q s w K = (a : A) (s' : List Held) (w' : State) → After 1 k t d 0 s w s' w' → local s' k ≡ holds (holding (f a)) → To p code entries u q s' w' (K a w')
 
-  -- a scalar is computed after parts
-  pub compute_after : {A : Type 0} (f : A → Scalar) (k t d e pc q j v : ℕ) (x : Computation) (span : Span) (s s1 : List Held) (w w1 : State) (G : List Object → Result A Stop) (K : A → State → Progress Rest) →
-      k < length s → t ≤ j → t ≤ v → Kept v j s s1 → w1.left + d + 1 ≤ w.left + e → Stands code pc (op e span (compute k x) ∷ []) q → ((o : List Object) → computed x (local s1) o ≡ on_ok (G o) (λ a. Ok (f a))) → Then f k t d q s w K →
+  -- a scalar is computed after parts that wrote at its slot and at free ones
+  pub compute_again : {A : Type 0} (f : A → Scalar) (k t d e pc q : ℕ) (x : Computation) (span : Span) (s s1 : List Held) (w w1 : State) (G : List Object → Result A Stop) (K : A → State → Progress Rest) →
+      k < length s → Kept t k s s1 → w1.left + d + 1 ≤ w.left + e → Stands code pc (op e span (compute k x) ∷ []) q → ((o : List Object) → computed x (local s1) o ≡ on_ok (G o) (λ a. Ok (f a))) → Then f k t d q s w K →
       To p code entries u pc s1 w1 (owed e w1 (λ w. or_undefined (G w.objects) span w (λ a. K a w)))
-  compute_after f k t d e pc q j v x span s s1 w w1 G K ks tj tv kept later at eq after =
+  compute_again f k t d e pc q x span s s1 w w1 G K ks kept later at eq after =
       compute_runs p code entries f u k pc q e x span s1 w1 G K at eq
       (λ a w2 e2.
       after a (slice_set s1 k (holds (holding (f a)))) w2
-      (record { kept = kept_on t v k j s s1 (slice_set s1 k (holds (holding (f a)))) tv tj kept (kept_set t k (holds (holding (f a))) s1); later = omega (arith, later, e2) })
+      (record { kept = kept_again t k s s1 (slice_set s1 k (holds (holding (f a)))) kept (kept_set t k (holds (holding (f a))) s1); later = omega (arith, later, e2) })
       (get_or-set_same s1 k (holds (holding (f a))) absent (omega (arith, ks, kept.len))))
 
-  -- a scalar is computed from a value
+  -- the same after parts that wrote at free slots alone
+  pub compute_after : {A : Type 0} (f : A → Scalar) (k t d e pc q j v : ℕ) (x : Computation) (span : Span) (s s1 : List Held) (w w1 : State) (G : List Object → Result A Stop) (K : A → State → Progress Rest) →
+      k < length s → t ≤ j → t ≤ v → Kept v j s s1 → w1.left + d + 1 ≤ w.left + e → Stands code pc (op e span (compute k x) ∷ []) q → ((o : List Object) → computed x (local s1) o ≡ on_ok (G o) (λ a. Ok (f a))) → Then f k t d q s w K →
+      To p code entries u pc s1 w1 (owed e w1 (λ w. or_undefined (G w.objects) span w (λ a. K a w)))
+  compute_after f k t d e pc q j v x span s s1 w w1 G K ks tj tv kept later at eq after = compute_again f k t d e pc q x span s s1 w w1 G K ks (kept_under t k v j s s1 tv tj kept) later at eq after
+
+  -- a scalar is computed from a value in its own slot
   pub value_then : {A : Type 0} (f : Scalar → A → Scalar) (v : PlainValue) → ValueRuns v → (F : Operand → Computation) (G : Scalar → List Object → Result A Stop) →
       ((a : Operand) (look : ℕ → Held) (o : List Object) → computed (F a) look o ≡ on_ok (G (value_of a look) o) (λ y. Ok (f (value_of a look) y))) →
-      (k t d c pc q : ℕ) (span : Span) (s : List Held) (w : State) (K : Scalar → A → State → Progress Rest) → k < length s → d ≤ c → Ready vars held m t (1 + height v) d s w →
-      Stands code pc (value_code (site p vars) t (t + 1) c pc v ++ op (debt c v) span (compute k (F (operand (site p vars) t v))) ∷ []) q → ((x : Scalar) → Then (f x) k t d q s w (K x)) →
+      (k t d c pc q : ℕ) (span : Span) (s : List Held) (w : State) (K : Scalar → A → State → Progress Rest) → k < length s → d ≤ c → Ready vars held m t (height v) d s w →
+      Stands code pc (value_code (site p vars) k t c pc v ++ op (debt c v) span (compute k (F (operand (site p vars) k v))) ∷ []) q → ((x : Scalar) → Then (f x) k t d q s w (K x)) →
       To p code entries u pc s w (owed c w (λ w. and_then (evaluate (setting p vars call m) held v w) (λ x w. or_undefined (G x w.objects) span w (λ y. K x y w))))
   value_then f v rv F G eq k t d c pc q span s w K ks dc r has after =
-      let cv : List Op = value_code (site p vars) t (t + 1) c pc v in
-      let last : List Op = op (debt c v) span (compute k (F (operand (site p vars) t v))) ∷ [] in
-      rv t (t + 1) c pc (pc + length cv) s w _ (omega (arith, r.room)) (ready_for vars held m t (1 + height v) d (t + 1) (height v) c s w r (omega arith) (omega arith) dc) (front code pc q cv last has)
+      let cv : List Op = value_code (site p vars) k t c pc v in
+      let last : List Op = op (debt c v) span (compute k (F (operand (site p vars) k v))) ∷ [] in
+      rv k t c pc (pc + length cv) s w _ ks (ready_for vars held m t (height v) d t (height v) c s w r (omega arith) (omega arith) dc) (front code pc q cv last has)
       (λ x s1 w1 a e.
-      compute_after (f x) k t d (debt c v) (pc + length cv) q t (t + 1) (F (operand (site p vars) t v)) span s s1 w w1 (G x) (K x) ks (omega arith) (omega arith) a.kept (omega (arith, a.later)) (rear code pc q cv last has)
-      (λ o. eq (operand (site p vars) t v) (local s1) o ∙ ap (λ y. on_ok (G (or_zero y) o) (λ z. Ok (f (or_zero y) z))) e) (after x))
+      compute_again (f x) k t d (debt c v) (pc + length cv) q (F (operand (site p vars) k v)) span s s1 w w1 (G x) (K x) ks a.kept (omega (arith, a.later, dc)) (rear code pc q cv last has)
+      (λ o. eq (operand (site p vars) k v) (local s1) o ∙ ap (λ y. on_ok (G (or_zero y) o) (λ z. Ok (f (or_zero y) z))) e) (after x))
 
   -- a scalar is computed from two values
   pub values_then : {A : Type 0} (f : A → Scalar) (a b : PlainValue) → ValueRuns a → ValueRuns b → (F : Operand → Operand → Computation) (G : Scalar → Scalar → List Object → Result A Stop) →
@@ -249,16 +255,16 @@ module _ (p : PlainProgram) (code : List Op) (entries : List Entry) (u : Under) 
       ∙ ap (λ z. on_ok (G (or_zero z) (value_of (operand (site p vars) (t + 1) b) (local s2)) o) (λ z. Ok (f z))) (found_kept (operand (site p vars) t a) t (t + 2) (t + 1) s1 s2 (operand_below p vars t a r.free) (omega arith) (omega arith) B.kept ∙ fa)
       ∙ ap (λ z. on_ok (G x (or_zero z) o) (λ z. Ok (f z))) fb) after))
 
-  -- a scalar is computed from a place
+  -- a scalar is computed from a place, whose pointer stands in its own slot
   pub place_then : {A : Type 0} (f : Ptr → A → Scalar) (pl : PlainPlace) → PlaceRuns pl → (F : Operand → Computation) (G : Ptr → List Object → Result A Stop) →
       ((a : Operand) (look : ℕ → Held) (o : List Object) → computed (F a) look o ≡ on_ok (G (pointer_of (value_of a look)) o) (λ y. Ok (f (pointer_of (value_of a look)) y))) →
-      (k t d c pc q : ℕ) (span : Span) (s : List Held) (w : State) (K : Target → A → State → Progress Rest) → k < length s → d + 1 ≤ c → Ready vars held m t (1 + place_height pl) d s w →
-      Stands code pc (place_code (site p vars) t (t + 1) c pc pl ++ op (place_debt (site p vars) c pl) span (compute k (F (pointer_operand (site p vars) t pl))) ∷ []) q → ((x : Target) → Then (f (pointer_to x)) k t d q s w (K x)) →
+      (k t d c pc q : ℕ) (span : Span) (s : List Held) (w : State) (K : Target → A → State → Progress Rest) → k < length s → d + 1 ≤ c → Ready vars held m t (place_height pl) d s w →
+      Stands code pc (place_code (site p vars) k t c pc pl ++ op (place_debt (site p vars) c pl) span (compute k (F (pointer_operand (site p vars) k pl))) ∷ []) q → ((x : Target) → Then (f (pointer_to x)) k t d q s w (K x)) →
       To p code entries u pc s w (owed c w (λ w. and_then (locate (setting p vars call m) held pl w) (λ x w. or_undefined (G (pointer_to x) w.objects) span w (λ y. K x y w))))
   place_then f pl rp F G eq k t d c pc q span s w K ks dc r has after =
-      let cp : List Op = place_code (site p vars) t (t + 1) c pc pl in
-      let last : List Op = op (place_debt (site p vars) c pl) span (compute k (F (pointer_operand (site p vars) t pl))) ∷ [] in
-      rp t (t + 1) c pc (pc + length cp) s w _ (omega (arith, r.room)) (ready_for vars held m t (1 + place_height pl) d (t + 1) (place_height pl) c s w r (omega arith) (omega arith) (omega arith)) (front code pc q cp last has)
+      let cp : List Op = place_code (site p vars) k t c pc pl in
+      let last : List Op = op (place_debt (site p vars) c pl) span (compute k (F (pointer_operand (site p vars) k pl))) ∷ [] in
+      rp k t c pc (pc + length cp) s w _ ks (ready_for vars held m t (place_height pl) d t (place_height pl) c s w r (omega arith) (omega arith) (omega arith)) (front code pc q cp last has)
       (λ x s1 w1 a e.
-      compute_after (f (pointer_to x)) k t d (place_debt (site p vars) c pl) (pc + length cp) q t (t + 1) (F (pointer_operand (site p vars) t pl)) span s s1 w w1 (G (pointer_to x)) (K x) ks (omega arith) (omega arith) a.kept (omega (arith, a.later)) (rear code pc q cp last has)
-      (λ o. eq (pointer_operand (site p vars) t pl) (local s1) o ∙ ap (λ y. on_ok (G y o) (λ z. Ok (f y z))) (pointer_spotted (spot_of (site p vars) pl) t x s1 e)) (after x))
+      compute_again (f (pointer_to x)) k t d (place_debt (site p vars) c pl) (pc + length cp) q (F (pointer_operand (site p vars) k pl)) span s s1 w w1 (G (pointer_to x)) (K x) ks a.kept (omega (arith, a.later)) (rear code pc q cp last has)
+      (λ o. eq (pointer_operand (site p vars) k pl) (local s1) o ∙ ap (λ y. on_ok (G y o) (λ z. Ok (f y z))) (pointer_spotted (spot_of (site p vars) pl) k x s1 e)) (after x))

@@ -21,8 +21,8 @@ use Rattle.p10_meaning.specs.Values.{Calls, Setting, Held, holds, stands, absent
 use Rattle.p10_code.specs.Operations.{slot, fixed, address as address_class, class_of, same, conversion, unary as unary_of, binary as binary_of, inside, content, compute, unset, sense as sense_op, halt, Op, Entry}
 use Rattle.p10_code.specs.Machine.{Rest, scalar_in, or_zero, found, value_of, converted_by, set_or_stop}
 use Rattle.p10_code.specs.ValueCode.{op, is_small, small, small_converted, fixed_of, Spot, in_frame, at_sensor, in_object, nowhere, spot_of, debt_by, place_debt, read_operand, operand_by, operand, debt_of_fixed, debt, height, place_height, constant_code, conversion_code, read_code, value_code, dropped_code, place_code}
-use Rattle.p10_code.proofs.Base.{owed, owed_step, owed_zero, owed_same, assoc, owed_node, result_then, then_same, ok_same, Stands, front, rear, local, Kept, kept_all, kept_set, kept_on, Under, To, comes_to, placed, pay, off_reaches}
-use Rattle.p10_code.proofs.ValueParts.{Ready, After, ready_for, Sure, Spotted, site, setting, FormRuns, ValueRuns, DroppedRuns, PlaceRuns, Then, compute_after, value_then, values_then, place_then}
+use Rattle.p10_code.proofs.Base.{owed, owed_step, owed_zero, owed_same, assoc, owed_node, result_then, then_same, ok_same, Stands, front, rear, local, Kept, kept_all, kept_set, kept_again, Under, To, comes_to, placed, pay, off_reaches}
+use Rattle.p10_code.proofs.ValueParts.{Ready, After, ready_for, Sure, Spotted, site, setting, FormRuns, ValueRuns, DroppedRuns, PlaceRuns, Then, compute_again, compute_after, value_then, values_then, place_then}
 use Rattle.p10_code.proofs.Acts.{none_some, some_same, class_same, framed, check_then, sensed_then, unset_then}
 use Rattle.p10_code.proofs.Places.{IsSpot, place_is}
 
@@ -146,7 +146,7 @@ module _ (p : PlainProgram) (code : List Op) (entries : List Entry) (u : Under) 
 
   -- a conversion
   convert_by : (here : At) (ty : PlainType) (v : PlainValue) (o : Option Scalar) → IsFixed p vars call m held here ty (convert v) o → ValueRuns p code entries u vars call m held v → (k t d pc q : ℕ) (s : List Held) (w : State) (K : Option Scalar → State → Progress Rest) → k < length s →
-      Ready vars held m t (1 + height v) d s w → Stands code pc (conversion_code o (value_code (site p vars) t (t + 1) d pc v) (op (debt d v) here.span (compute k (conversion (class_of ty) (operand (site p vars) t v))))) q →
+      Ready vars held m t (height v) d s w → Stands code pc (conversion_code o (value_code (site p vars) k t d pc v) (op (debt d v) here.span (compute k (conversion (class_of ty) (operand (site p vars) k v))))) q →
       ThenForm o true ty (convert v) k t d q s w K → To p code entries u pc s w (owed d w (λ w. and_then (perform (setting p vars call m) held here ty (convert v) w) K))
   convert_by here ty v (Some x) e rv k t d pc q s w K ks r at after = fixed_runs here ty (convert v) x (e x refl) k t d pc q s w K at after
   convert_by here ty v None e rv k t d pc q s w K ks r at after =
@@ -218,32 +218,32 @@ module _ (p : PlainProgram) (code : List Op) (entries : List Entry) (u : Under) 
       (sensed_runs here.span ty k t d pc q s w K ks at after)
 
   -- nothing is given
-  nothing_runs : (e k t d pc q j v : ℕ) (span : Span) (s s1 : List Held) (w w1 : State) (K : Option Scalar → State → Progress Rest) → k < length s → t ≤ j → t ≤ v → Kept v j s s1 → w1.left + d + 1 ≤ w.left + e → Stands code pc (op e span (unset k) ∷ []) q →
+  nothing_runs : (e k t d pc q : ℕ) (span : Span) (s s1 : List Held) (w w1 : State) (K : Option Scalar → State → Progress Rest) → k < length s → Kept t k s s1 → w1.left + d + 1 ≤ w.left + e → Stands code pc (op e span (unset k) ∷ []) q →
       ((x : Option Scalar) (s' : List Held) (w' : State) → After 1 k t d 0 s w s' w' → found (slot k) (local s') ≡ x → Sure false x → To p code entries u q s' w' (owed 0 w' (K x))) →
       To p code entries u pc s1 w1 (owed e w1 (K None))
-  nothing_runs e k t d pc q j v span s s1 w w1 K ks tj tv kept later at after =
+  nothing_runs e k t d pc q span s s1 w w1 K ks kept later at after =
       unset_then p code entries u k e pc q span s1 w1 (K None) at
       (λ w2 e2.
       comes_to p code entries _ _ _ (sym (owed_zero w2 (K None)))
       (after None (slice_set s1 k (holds unset_cell)) w2
-      (record { kept = kept_on t v k j s s1 (slice_set s1 k (holds unset_cell)) tv tj kept (kept_set t k (holds unset_cell) s1); later = omega (arith, later, e2) })
+      (record { kept = kept_again t k s s1 (slice_set s1 k (holds unset_cell)) kept (kept_set t k (holds unset_cell) s1); later = omega (arith, later, e2) })
       (ap scalar_in (get_or-set_same s1 k (holds unset_cell) absent (omega (arith, ks, kept.len)))) tt))
 
   -- a written cast
-  cast_by : (here : At) (ty : PlainType) (b : Bool) (v : PlainValue) → ValueRuns p code entries u vars call m held v → DroppedRuns p code entries u vars call m held v → (k t d pc q : ℕ) (s : List Held) (w : State) (K : Option Scalar → State → Progress Rest) → k < length s → Ready vars held m t (1 + height v) d s w →
+  cast_by : (here : At) (ty : PlainType) (b : Bool) (v : PlainValue) → ValueRuns p code entries u vars call m held v → DroppedRuns p code entries u vars call m held v → (k t d pc q : ℕ) (s : List Held) (w : State) (K : Option Scalar → State → Progress Rest) → k < length s → Ready vars held m t (height v) d s w →
       Stands code pc
       (if b
-      then dropped_code (site p vars) t (t + 1) (d + 1) pc v ++ op (debt (d + 1) v) here.span (unset k) ∷ []
-      else value_code (site p vars) t (t + 1) (d + 1) pc v ++ op (debt (d + 1) v) here.span (compute k (conversion (class_of ty) (operand (site p vars) t v))) ∷ []) q →
+      then dropped_code (site p vars) k t (d + 1) pc v ++ op (debt (d + 1) v) here.span (unset k) ∷ []
+      else value_code (site p vars) k t (d + 1) pc v ++ op (debt (d + 1) v) here.span (compute k (conversion (class_of ty) (operand (site p vars) k v))) ∷ []) q →
       ((x : Option Scalar) (s' : List Held) (w' : State) → After 1 k t d 0 s w s' w' → found (slot k) (local s') ≡ x → Sure (not b) x → To p code entries u q s' w' (owed 0 w' (K x))) →
       To p code entries u pc s w (owed d w (λ w. and_then (step w (λ w. if b then and_then (discard (setting p vars call m) held v w) (λ x w. gives None w) else and_then (evaluate (setting p vars call m) held v w) (λ x w. give (converted_to ty x) w))) K))
   cast_by here ty true v rv rd k t d pc q s w K ks r at after =
       let g : Setting = setting p vars call m in
-      let cv : List Op = dropped_code (site p vars) t (t + 1) (d + 1) pc v in
+      let cv : List Op = dropped_code (site p vars) k t (d + 1) pc v in
       let last : List Op = op (debt (d + 1) v) here.span (unset k) ∷ [] in
       comes_to p code entries _ _ _ (owed_node d w (λ w. discard g held v w) (λ x w. gives None w) K)
-      (rd t (t + 1) (d + 1) pc (pc + length cv) s w (λ x w. K None w) (omega (arith, r.room)) (ready_for vars held m t (1 + height v) d (t + 1) (height v) (d + 1) s w r (omega arith) (omega arith) (omega arith)) (front code pc q cv last at)
-      (λ x s1 w1 a. nothing_runs (debt (d + 1) v) k t d (pc + length cv) q t (t + 1) here.span s s1 w w1 K ks (omega arith) (omega arith) a.kept (omega (arith, a.later)) (rear code pc q cv last at) after))
+      (rd k t (d + 1) pc (pc + length cv) s w (λ x w. K None w) ks (ready_for vars held m t (height v) d t (height v) (d + 1) s w r (omega arith) (omega arith) (omega arith)) (front code pc q cv last at)
+      (λ x s1 w1 a. nothing_runs (debt (d + 1) v) k t d (pc + length cv) q here.span s s1 w w1 K ks a.kept (omega (arith, a.later)) (rear code pc q cv last at) after))
   cast_by here ty false v rv rd k t d pc q s w K ks r at after =
       let g : Setting = setting p vars call m in
       comes_to p code entries _ _ _
@@ -264,22 +264,22 @@ module _ (p : PlainProgram) (code : List Op) (entries : List Entry) (u : Under) 
 
   -- a read of a place, by its spot
   read_by : (here : At) (ty : PlainType) (pl : PlainPlace) (spot : Spot) → spot_of (site p vars) pl ≡ spot → PlaceRuns p code entries u vars call m held pl → (k t d pc q : ℕ) (s : List Held) (w : State) (K : Option Scalar → State → Progress Rest) → k < length s →
-      Ready vars held m t (1 + place_height pl) d s w → Stands code pc (read_code spot k t d (place_at pl).span (class_of ty) (place_code (site p vars) t (t + 1) (d + 1) pc pl)) q →
+      Ready vars held m t (place_height pl) d s w → Stands code pc (read_code spot k d (place_at pl).span (class_of ty) (place_code (site p vars) k t (d + 1) pc pl)) q →
       ((x : Option Scalar) (s' : List Held) (w' : State) → After 1 k t d 0 s w s' w' → found (read_operand spot k) (local s') ≡ x → Sure true x → To p code entries u q s' w' (owed 0 w' (K x))) →
       To p code entries u pc s w (owed (d + 1) w (λ w. and_then (locate (setting p vars call m) held pl w) (λ target w. and_then (and_then (read_target (place_at pl).span ty held target w) give) K)))
   read_by here ty pl in_object e rp k t d pc q s w K ks r at after =
       let g : Setting = setting p vars call m in
       let span : Span = (place_at pl).span in
-      let cp : List Op = place_code (site p vars) t (t + 1) (d + 1) pc pl in
-      let last : List Op = op 0 span (compute k (content (slot t))) ∷ [] in
-      rp t (t + 1) (d + 1) pc (pc + length cp) s w _ (omega (arith, r.room)) (ready_for vars held m t (1 + place_height pl) d (t + 1) (place_height pl) (d + 1) s w r (omega arith) (omega arith) (omega arith)) (front code pc q cp last at)
+      let cp : List Op = place_code (site p vars) k t (d + 1) pc pl in
+      let last : List Op = op 0 span (compute k (content (slot k))) ∷ [] in
+      rp k t (d + 1) pc (pc + length cp) s w _ ks (ready_for vars held m t (place_height pl) d t (place_height pl) (d + 1) s w r (omega arith) (omega arith) (omega arith)) (front code pc q cp last at)
       (λ target s1 w1 a spotted.
       (let free : place_debt (site p vars) (d + 1) pl ≡ 0 = ap (λ x. debt_by x (d + 1)) e in
-      let (z, et, ez) = subst (λ x. Spotted x t target s1) e spotted in
+      let (z, et, ez) = subst (λ x. Spotted x k target s1) e spotted in
       comes_to p code entries _ _ _
       ((λ i. owed (free i) w1 (λ w. and_then (and_then (read_target span ty held (et i) w) give) K))
       ∙ owed_same 0 w1 _ _ (λ w. assoc (read_target span ty held (Element z) w) give K ∙ result_then (on_ok (cell_at w.objects z) read_of) span w (λ x. gives x w) (λ x w. and_then (give x w) K)))
-      (compute_after p code entries u vars call m held (λ x. x) k t d 0 (pc + length cp) q t (t + 1) (content (slot t)) span s s1 w w1 (λ o. on_ok (cell_at o z) read_of) (λ x. K (Some x)) ks (omega arith) (omega arith) a.kept (omega (arith, a.later, free)) (rear code pc q cp last at)
+      (compute_again p code entries u vars call m held (λ x. x) k t d 0 (pc + length cp) q (content (slot k)) span s s1 w w1 (λ o. on_ok (cell_at o z) read_of) (λ x. K (Some x)) ks a.kept (omega (arith, a.later, free)) (rear code pc q cp last at)
       (λ o. ap (λ x. on_ok (cell_at o (pointer_of (or_zero (scalar_in x)))) read_of) ez ∙ ok_same (on_ok (cell_at o z) read_of))
       (form_then k t d q s w K after (λ x. x)))))
   read_by here ty pl at_sensor e rp k t d pc q s w K ks r at after =
@@ -306,21 +306,21 @@ module _ (p : PlainProgram) (code : List Op) (entries : List Entry) (u : Under) 
       (after (Some y) s w1 (record { kept = kept_all t k s; later = omega (arith, e1) }) f (y, refl))))
 
   -- of a structure no scalar is read
-  structure_runs : (here : At) (pl : PlainPlace) → PlaceRuns p code entries u vars call m held pl → (k t d pc q : ℕ) (s : List Held) (w : State) (K : Option Scalar → State → Progress Rest) → k < length s → Ready vars held m t (1 + place_height pl) d s w →
-      Stands code pc (place_code (site p vars) t (t + 1) (d + 1) pc pl ++ op (place_debt (site p vars) (d + 1) pl) here.span (unset k) ∷ []) q →
+  structure_runs : (here : At) (pl : PlainPlace) → PlaceRuns p code entries u vars call m held pl → (k t d pc q : ℕ) (s : List Held) (w : State) (K : Option Scalar → State → Progress Rest) → k < length s → Ready vars held m t (place_height pl) d s w →
+      Stands code pc (place_code (site p vars) k t (d + 1) pc pl ++ op (place_debt (site p vars) (d + 1) pl) here.span (unset k) ∷ []) q →
       ((x : Option Scalar) (s' : List Held) (w' : State) → After 1 k t d 0 s w s' w' → found (slot k) (local s') ≡ x → Sure false x → To p code entries u q s' w' (owed 0 w' (K x))) →
       To p code entries u pc s w (owed (d + 1) w (λ w. and_then (locate (setting p vars call m) held pl w) (λ target w. K None w)))
   structure_runs here pl rp k t d pc q s w K ks r at after =
-      let cp : List Op = place_code (site p vars) t (t + 1) (d + 1) pc pl in
+      let cp : List Op = place_code (site p vars) k t (d + 1) pc pl in
       let last : List Op = op (place_debt (site p vars) (d + 1) pl) here.span (unset k) ∷ [] in
-      rp t (t + 1) (d + 1) pc (pc + length cp) s w (λ target w. K None w) (omega (arith, r.room)) (ready_for vars held m t (1 + place_height pl) d (t + 1) (place_height pl) (d + 1) s w r (omega arith) (omega arith) (omega arith)) (front code pc q cp last at)
-      (λ target s1 w1 a spotted. nothing_runs (place_debt (site p vars) (d + 1) pl) k t d (pc + length cp) q t (t + 1) here.span s s1 w w1 K ks (omega arith) (omega arith) a.kept (omega (arith, a.later)) (rear code pc q cp last at) after)
+      rp k t (d + 1) pc (pc + length cp) s w (λ target w. K None w) ks (ready_for vars held m t (place_height pl) d t (place_height pl) (d + 1) s w r (omega arith) (omega arith) (omega arith)) (front code pc q cp last at)
+      (λ target s1 w1 a spotted. nothing_runs (place_debt (site p vars) (d + 1) pl) k t d (pc + length cp) q here.span s s1 w w1 K ks a.kept (omega (arith, a.later)) (rear code pc q cp last at) after)
 
-  read_case : (here : At) (ty : PlainType) (b : Bool) (pl : PlainPlace) → PlaceRuns p code entries u vars call m held pl → (k t d pc q : ℕ) (s : List Held) (w : State) (K : Option Scalar → State → Progress Rest) → k < length s → Ready vars held m t (1 + place_height pl) d s w →
+  read_case : (here : At) (ty : PlainType) (b : Bool) (pl : PlainPlace) → PlaceRuns p code entries u vars call m held pl → (k t d pc q : ℕ) (s : List Held) (w : State) (K : Option Scalar → State → Progress Rest) → k < length s → Ready vars held m t (place_height pl) d s w →
       Stands code pc
       (if b
-      then place_code (site p vars) t (t + 1) (d + 1) pc pl ++ op (place_debt (site p vars) (d + 1) pl) here.span (unset k) ∷ []
-      else read_code (spot_of (site p vars) pl) k t d (place_at pl).span (class_of ty) (place_code (site p vars) t (t + 1) (d + 1) pc pl)) q →
+      then place_code (site p vars) k t (d + 1) pc pl ++ op (place_debt (site p vars) (d + 1) pl) here.span (unset k) ∷ []
+      else read_code (spot_of (site p vars) pl) k d (place_at pl).span (class_of ty) (place_code (site p vars) k t (d + 1) pc pl)) q →
       ((x : Option Scalar) (s' : List Held) (w' : State) → After 1 k t d 0 s w s' w' → found (if b then slot k else read_operand (spot_of (site p vars) pl) k) (local s') ≡ x → Sure (not b) x → To p code entries u q s' w' (owed 0 w' (K x))) →
       To p code entries u pc s w (owed d w (λ w. and_then (step w (λ w. and_then (locate (setting p vars call m) held pl w) (λ target w. if b then gives None w else and_then (read_target (place_at pl).span ty held target w) give))) K))
   read_case here ty true pl rp k t d pc q s w K ks r at after =

@@ -18,10 +18,10 @@ pub fn height(v: &Value) -> Result<u32, AllocError>
     match &v.form {
         ValueForm::Const(_) | ValueForm::Sense(_) => Ok(0),
         ValueForm::Read(place) | ValueForm::Addr(place) | ValueForm::Decay(place) => {
-            slot_after(1, place_height(place)?)
+            place_height(place)
         }
         ValueForm::Convert(part) | ValueForm::Cast(part) | ValueForm::Unary(_, part) => {
-            slot_after(1, height(part)?)
+            height(part)
         }
         ValueForm::Binary(_, a, b) => {
             let left = height(a)?;
@@ -68,8 +68,8 @@ pub fn place_height(place: &Place) -> Result<u32, AllocError>
             let left = height(a)?;
             slot_after(2, left.max(height(i)?))
         }
-        PlaceForm::Member(whole, _) => slot_after(1, place_height(whole)?),
-        PlaceForm::Deref(pointer) => slot_after(1, height(pointer)?),
+        PlaceForm::Member(whole, _) => place_height(whole),
+        PlaceForm::Deref(pointer) => height(pointer),
     }
 }
 

@@ -37,11 +37,12 @@ impl Start {
         Start::at_slot(self.free, debt, self.at)
     }
 
-    /// The first part of a node that takes no step.
-    pub fn same_step(self) -> Result<Start, AllocError>
-        ensures { IfOk result (λ s. s ≡ record { slot = self.free; free = self.free + 1; debt = self.debt; at = self.at }) }
+    /// The only part of a node, whose step is owed: what the node is stands in the slot of its part.
+    pub fn own(self) -> Result<Start, AllocError>
+        ensures { IfOk result (λ s. s ≡ record { slot = self.slot; free = self.free; debt = self.debt + 1; at = self.at }) }
     {
-        Start::at_slot(self.free, self.debt, self.at)
+        let debt = step_more(self.debt)?;
+        Ok(Start { debt, ..self })
     }
 
     /// The second part of a node, where so many steps are owed after the first one.
