@@ -16,7 +16,8 @@ class Completions(Case):
         self.write(main_c="", other_h="", main_p10="", main_su="")
         (self.folder / "inc").mkdir()
 
-    CASES = [("p10 ", {"check", "derive", "verify", "run", "gen", "migrate"}), ("p10 ver", {"verify"}), ("p10 verify --c", {"--clean", "--cert"}),
+    CASES = [("p10 ", {"check", "derive", "verify", "run", "gen", "migrate", "recheck"}), ("p10 ver", {"verify"}), ("p10 recheck --s", {"--since"}),
+             ("p10 recheck --since m", {"main.p10"}), ("p10 verify --c", {"--clean", "--cert"}),
              ("p10 derive --c", {"--cert-version"}), ("p10 derive --d", {"--diff"}), ("p10 derive --cert-version ", {"1", "2"}), ("p10 migrate --cert m", {"main.p10"}),
              ("p10 check --format ", {"text", "json"}), ("p10 check m", {"main.c"}), ("p10 verify --cert m", {"main.p10"}),
              ("p10 run --t", {"--turns"}), ("p10-lint --format s", {"sarif"}), ("p10-lint --fo", {"--format"}), ("p10-report --ti", {"--title"}),

@@ -71,6 +71,72 @@ class Refusals(Case):
         out, _, _ = self.run_tool("p10-lint", "a.c", status=3)
         self.assertEqual([f[1:] for f in found(out)], [(4, 5, "error", "S19"), (5, 5, "error", "S19")])
 
+    def test_a_register_in_a_macro_is_told_where_it_is_used_and_where_it_is_defined(self):
+        """What stands round the use isn't told, as `& 4u` would be if the use were dropped."""
+        self.write(a_c="""#define STATUS (*(volatile unsigned *)0x40011000u)
+#define IO volatile
+static struct { IO unsigned control; } port;
+int main(void) {
+    if (STATUS & 4u) { return 1; }
+    STATUS |= 1u;
+    return port.control > 1u;
+}
+""")
+        out, _, _ = self.run_tool("p10-lint", "a.c", status=3)
+        self.assertEqual([f for f in found(out) if f[3] != "warning"], [
+            ("a.c", 3, 17, "error", "S22"), ("a.c", 2, 9, "note", None), ("a.c", 5, 9, "error", "S22"), ("a.c", 1, 9, "note", None),
+            ("a.c", 6, 5, "error", "S22"), ("a.c", 1, 9, "note", None)])
+        self.assertIn("macro `STATUS` is defined here", out)
+
+    def test_what_isnt_c_goes_alone(self):
+        """An attribute after `struct`, and an assertion of C11 with its `;`."""
+        self.write(a_c="""typedef struct __attribute__((packed)) { int a; } pair;
+_Static_assert(sizeof(pair) == 4, "size");
+int main(void) { pair p = {1}; return p.a; }
+""")
+        out, _, _ = self.run_tool("p10-lint", "a.c", status=3)
+        self.assertEqual([f[:3] + f[4:] for f in found(out) if f[3] == "error"], [("a.c", 1, 51, "G1"), ("a.c", 2, 1, "G1")])
+
+    def test_a_name_in_a_macro_that_was_set_aside_isnt_told(self):
+        self.write(a_c="""#define LENGTH(a) (sizeof(a) / sizeof((a)[0]))
+extern int table[];
+int main(void) { return LENGTH(table) > 1u; }
+""")
+        out, _, _ = self.run_tool("p10-lint", "a.c", status=3)
+        self.assertEqual([f[4] for f in found(out) if f[3] == "error"], ["S25"])
+
+    def test_several_types_that_nothing_declares_in_one_function(self):
+        """Each is told by a note; what is refused since they are taken for `int` isn't told."""
+        self.write(a_c="""int load(FILE *from, int level)
+{
+    handle_t handle;
+    handle.level = level;
+    return level++;
+}
+int main(void) { return 0; }
+""")
+        out, _, _ = self.run_tool("p10-lint", "a.c", status=3)
+        self.assertEqual([f for f in found(out) if f[3] != "warning"], [
+            ("a.c", 1, 1, "error", "G1"), ("a.c", 1, 10, "note", None), ("a.c", 3, 14, "note", None), ("a.c", 5, 12, "error", "S7")])
+        self.assertIn("nothing declares `FILE`", out)
+        self.assertIn("nothing declares `handle_t`", out)
+
+    def test_a_parameter_list_that_no_type_mends(self):
+        self.write(a_c="int load(FILE *from @ int level) { return level; }\nint main(void) { return 0; }\n")
+        self.assertIn("[X1]", self.run_tool("p10-lint", "a.c", status=3)[0])
+        self.write(a_c="int load(FILE *from; int level)\n{ int a; return a + ; }\nint main(void) { return 0; }\n")
+        self.assertIn("[G1]", self.run_tool("p10-lint", "a.c", status=3)[0])
+
+    def test_a_qualifier_that_nothing_declares(self):
+        self.write(a_c="""static int last(z_const unsigned char *text, int count)
+{
+    return text[count--];
+}
+int main(void) { return 0; }
+""")
+        out, _, _ = self.run_tool("p10-lint", "a.c", status=3)
+        self.assertEqual([f[:3] + f[4:] for f in found(out) if f[3] == "error"], [("a.c", 1, 1, "G1"), ("a.c", 3, 17, "S7")])
+
     def test_a_clean_program_and_statuses(self):
         self.write(a_c=CLEAN, b_c="int main(void) { return 0; }\n")
         self.assertEqual(self.run_tool("p10-lint", "-q", "a.c", status=0)[:2], ("", ""))

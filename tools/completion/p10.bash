@@ -24,7 +24,7 @@ _p10_value() {
         compopt -o filenames 2>/dev/null
         mapfile -t COMPREPLY < <(compgen -d -- "$cur")
         ;;
-    --cert) _p10_files p10 ;;
+    --cert | --since) _p10_files p10 ;;
     --cert-version) _p10_words 1 2 ;;
     --su) _p10_files su ;;
     --format) if [ "$program" = p10 ]; then _p10_words text json; else _p10_words gcc sarif gitlab junit; fi ;;
@@ -46,7 +46,7 @@ _p10() {
         prev=${COMP_WORDS[COMP_CWORD - 2]}
     fi
     if [ "$program" = p10 ] && [ "$COMP_CWORD" -eq 1 ]; then
-        _p10_words check derive verify run gen migrate
+        _p10_words check derive verify run gen migrate recheck
         return
     fi
     _p10_value && return
@@ -56,6 +56,7 @@ _p10() {
     p10:verify) options='--include --clean --cert' ;;
     p10:run) options='--include --steps --cert --turns --deny --sensors' ;;
     p10:migrate) options='--include --cert' ;;
+    p10:recheck) options='--include --since --cert' ;;
     p10:*) return ;;
     p10-lint:*) options='--compile-commands --library --include --format --output --stamp --depfile --quiet --p10 --version --help' ;;
     p10-report:*) options='--cert --include --output --title --docs --p10 --version --help' ;;

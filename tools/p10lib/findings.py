@@ -6,7 +6,7 @@ from dataclasses import dataclass, field, replace
 
 from .copies import MAIN, Copy
 from .lexical import spans
-from .mends import View, grammar
+from .mends import View, grammar, unknown_type
 from .program import Finding
 from .special import sets_for
 from .stubs import definition
@@ -31,12 +31,13 @@ class Found:
 
 @dataclass
 class Attempt:
-    """A refusal that is being mended, at an offset of the real file: `left` are the sets of edits that weren't tried, `spans` what the
-    one that was replaced in real files, `saved` the texts before it."""
+    """A refusal that is being mended, at an offset of the real file: `wrong` is where it goes wrong, which for G1 isn't the place, `left`
+    are the sets of edits that weren't tried, `spans` what the one that was replaced in real files, `saved` the texts before it."""
 
     refusal: Finding
     name: str
     origin: int
+    wrong: int
     left: list
     spans: list = field(default_factory=list)
     saved: dict = field(default_factory=dict)
@@ -50,6 +51,7 @@ class Search:
         self.refusals, self.violations = [], {}
         self.gone, self.units, self.attempt, self.done = set(), {}, None, 0
         self.seen, self.aside = {}, set()  # how often a refusal came at a place, and the words that were set aside
+        self.types = set()  # the types that were put in as `int`, since nothing declares them
 
     def run(self):
         """Found: with status 3 where something is refused, else p10's."""
@@ -148,13 +150,30 @@ class Search:
             return self._try_next()
         hints, sets, quiet = self._sets(refusal, name, offset)
         real = self._real(refusal)
-        key = (name, self.copy.texts[name].origin[offset], refusal.code)
+        origin, wrong = self.copy.texts[name].origin[offset], self._goes_wrong(refusal, name, offset)
+        key = (name, wrong, refusal.code)
         before = self.seen[key] = self.seen.get(key, -1) + 1
         sets = sets[before:] or sets[-1:] if before < 5 else []
         if real is not None and not quiet and not before:
-            self.refusals.append(replace(real, hints=hints))
-        self.attempt = Attempt(refusal, name, self.copy.texts[name].origin[offset], sets)
+            self._tell(replace(real, hints=hints))
+        self.attempt = Attempt(refusal, name, origin, wrong, sets)
         return self._try_next()
+
+    def _tell(self, finding):
+        """Notes a refusal; one at a place where there is one already adds its hints."""
+        same = next((f for f in self.refusals if (f.file, f.line, f.column, f.code) == (finding.file, finding.line, finding.column, finding.code)), None)
+        if same is None:
+            self.refusals.append(finding)
+        else:
+            self.refusals[self.refusals.index(same)] = replace(same, hints=same.hints + tuple(h for h in finding.hints if h not in same.hints))
+
+    def _goes_wrong(self, refusal, name, offset):
+        """The offset in the real file at which a declaration or function goes wrong; of what isn't G1, or goes wrong elsewhere, its place."""
+        origin = self.copy.texts[name].origin
+        found = self._view(name, offset) if refusal.code == "G1" else None
+        error = self._error(*found) if found is not None else None
+        word = found[0].words[min(error[0], len(found[0].words) - 1)] if error is not None else None
+        return origin[word.start] if word is not None and word.source.name == name else origin[offset]
 
     def _try_next(self):
         attempt = self.attempt
@@ -164,6 +183,8 @@ class Search:
         by_file = {}
         for name, start, end, text in attempt.left.pop(0):
             by_file.setdefault(name, []).append((start, end, text))
+            if text.startswith("typedef int "):
+                self.types.add(text.split()[2].rstrip(";"))
         attempt.saved = {name: self.copy.texts[name].saved() for name in by_file}
         attempt.spans = []
         for name, edits in by_file.items():
@@ -183,7 +204,7 @@ class Search:
             return now < then
         origin = self.copy.texts[name].origin[offset]
         if origin <= attempt.origin:
-            return True
+            return origin < attempt.origin or self._goes_wrong(refusal, name, offset) <= attempt.wrong
         return self._put_in(name, offset) and any(span[0] == name and span[1] <= origin < span[2] for span in attempt.spans)
 
     def _put_in(self, name, offset):
@@ -208,13 +229,27 @@ class Search:
             return self._grammar(view, i, name)
         if refusal.code == "S27":
             return (), self._definition(view, i, name), self.library or word in self.gone
-        quiet = refusal.code in ("S1", "S12", "S25") and any(
-            w.text in self.gone for w in view.words[i:i + 3] if w.kind == "name" and (w.text == word or refusal.code != "S1"))
-        return (), sets_for(refusal.code, view, i), quiet
+        return self._of_macro(view, i), sets_for(refusal.code, view, i), self._comes_of_gone(refusal.code, view, i)
+
+    def _comes_of_gone(self, code, view, i):
+        """Whether names, members or types are lacking only since something was set aside, or a type was put in."""
+        if code in ("S2", "S4", "S12") and view.is_declared_as(i, self.types):
+            return True
+        first, end = view.of_use(i)
+        near = view.words[first:end] if not view.alone(i) else view.words[i:i + 1] if code == "S1" else view.words[i:i + 3]
+        return code in ("S1", "S12", "S25") and any(w.kind == "name" and w.text in self.gone for w in near)
+
+    def _of_macro(self, view, i):
+        """A hint at the definition of the macro whose use is refused."""
+        word = view.words[i]
+        macro = view.unit.macros.get(word.source.text[word.start:word.end].split("(")[0].strip()) if word.hidden else None
+        if macro is None or macro.at.source.name not in self.copy.texts:
+            return ()
+        return (self._hint(macro.at.source.name, macro.at.start, f"macro `{macro.name}` is defined here"),)
 
     def _grammar(self, view, i, name):
         """G1 at the item that begins at a word: where it goes wrong, by the trees made here."""
-        error = next((e for e in view.unit.errors if e[2] <= i < view.item(e[2])[1]), None)
+        error = self._error(view, i)
         if error is None:
             first, end = view.item(i)
             return (), [s for s in (view.cover(first, end, ""),) if s], False
@@ -222,7 +257,9 @@ class Search:
         hints = []
         at = min(at, len(view.words) - 1)
         word = view.words[at]
-        hints.append(self._hint(word.source.name, word.start, f"it goes wrong at `{word.text}`, where {wanted} was expected"))
+        unknown = unknown_type(view, at, first)
+        lacking = f"; nothing declares `{view.words[unknown].text}`" if unknown is not None else ""
+        hints.append(self._hint(word.source.name, word.start, f"it goes wrong at `{word.text}`, where {wanted} was expected{lacking}"))
         cut_words = cut(self.copy.texts[name].now)
         unbalanced = first_unbalanced(cut_words)
         if unbalanced is not None:
@@ -230,6 +267,11 @@ class Search:
             hints.append(self._hint(name, word.start, f"this `{word.text}` has no partner"))
         near = {w.text for w in view.words[max(first, at - 1):at + 1]}
         return tuple(hints), grammar(view, at, first), bool(near & self.gone)
+
+    @staticmethod
+    def _error(view, i):
+        """Where the item in which a word stands goes wrong by the trees made here, or None."""
+        return next((e for e in view.unit.errors if e[2] <= i < view.item(e[2])[1]), None)
 
     def _hint(self, name, offset, text):
         kept = self.copy.texts[name]

@@ -7,8 +7,10 @@ from .words import NESTING, partner
 EXTENSIONS = {"__attribute__", "__attribute", "__asm__", "__asm", "asm", "__extension__", "__inline", "__inline__", "__volatile__",
               "__volatile", "__restrict", "__restrict__", "__const", "_Static_assert", "static_assert", "_Noreturn", "_Alignas",
               "__packed", "__weak", "__interrupt", "__irq", "__declspec", "__forceinline", "_Atomic", "_Thread_local", "__thread"}
+ASSERTIONS = {"_Static_assert", "static_assert"}
 STATEMENT_KINDS = {"if", "while", "do", "switch", "for", "return", "expression", "declaration", "variable", "static", "goto", "break",
                    "continue", "empty"}
+TYPE_WORDS = {"unsigned", "signed", "char", "short", "int", "long", "void", "struct", "union", "enum", "float", "double"}
 FLOATING = {"float", "double", "_Complex"}
 
 
@@ -58,6 +60,34 @@ class View:
             return []
         return [(one.source.name, one.start, last.end, text)]
 
+    def of_use(self, i):
+        """The span of the words that came of the same use of a macro as a word; of another word, itself."""
+        first, end, word = i, i + 1, self.words[i]
+        while first > 0 and word.hidden and self._same_use(self.words[first - 1], word):
+            first -= 1
+        while end < len(self.words) and word.hidden and self._same_use(self.words[end], word):
+            end += 1
+        return first, end
+
+    @staticmethod
+    def _same_use(one, other):
+        return bool(one.hidden) and one.source is other.source and one.start == other.start
+
+    def alone(self, i):
+        """Whether a word is all that is written at its place."""
+        return self.of_use(i) == (i, i + 1)
+
+    def is_declared_as(self, i, types):
+        """Whether the name that stands at a word, or after brackets and operators there, is declared with one of these types."""
+        while i + 1 < len(self.words) and self.words[i].text in ("(", "*", "&"):
+            i += 1
+        for j in range(len(self.words) - 1):
+            if self.words[j].text in types:
+                at = next((k for k in range(j + 1, len(self.words)) if self.words[k].text not in ("*", "const")), j)
+                if self.words[at].kind == "name" and self.words[at].text == self.words[i].text:
+                    return True
+        return False
+
     def text(self, first, end):
         """The text of words, as it stands in the copy."""
         edit = self.cover(first, end, "")
@@ -105,7 +135,8 @@ def empty_body(view, first, end):
     if span is None or span[0] >= span[1]:
         return []
     head = [w.text for w in view.words[first:span[0]]]
-    returns = "void" not in head[:head.index("(")] or "*" in head[:head.index("(")]
+    head = head[:head.index("(")] if "(" in head else head
+    returns = "void" not in head or "*" in head
     return view.cover(span[0], span[1], "return 0;" if returns else "")
 
 
@@ -113,19 +144,14 @@ def grammar(view, at, first):
     """Sets of edits for a declaration or function from `first` on that goes wrong at `at`."""
     words, end = view.words, view.item(first)[1]
     sets = []
-    for i in (at, at - 1):
+    for i in (at, at - 1, opened_before(words, at) - 1):
         if first <= i < end and words[i].text in EXTENSIONS:
-            close = i
-            for j in range(i + 1, min(i + 3, end)):
-                if words[j].text == "(":
-                    close = partner(words, j) or i
-                    break
-                if words[j].text not in ("volatile", "goto", "__volatile__"):
-                    break
-            sets.append(view.cover(i, close + 1, ""))
+            sets.append(view.cover(i, end_of_extension(words, i, end), ""))
     sets.append(designators(view, first, end, at))
-    unknown = next((i for i in (at, at - 1) if first <= i < end and words[i].kind == "name" and _unknown(view, i)), None)
-    if unknown is not None and words[unknown].text not in EXTENSIONS:
+    unknown = unknown_type(view, at, first)
+    if unknown is not None and unknown + 1 < end and words[unknown + 1].text in TYPE_WORDS:
+        sets.append(view.cover(unknown, unknown + 1, ""))  # a qualifier, as an empty macro is
+    elif unknown is not None:
         head = words[first]
         sets.append([(head.source.name, head.start, head.start, f"typedef int {words[unknown].text}; ")])
     span = body_span(view, first, end)
@@ -133,10 +159,37 @@ def grammar(view, at, first):
     if at < end:
         low, high = inside or (first, end)
         one = statement_around(view, at, low, high)
-        if one != (first, end):
+        if one != (first, end) and (one[1] >= end or words[one[1]].text != ")"):  # no half of a list of parameters
             sets.append(view.cover(one[0], one[1], ";" if inside else ""))
     sets += [empty_body(view, first, end), view.cover(first, end, "")]
     return [s for s in sets if s]
+
+
+def opened_before(words, at):
+    """The index of the bracket that is closed directly before a word, or 0."""
+    depth = 0
+    for i in range(at - 1, -1, -1):
+        depth -= NESTING.get(words[i].text, 0)
+        if depth <= 0:
+            return i if depth == 0 and i < at - 1 else 0
+    return 0
+
+
+def end_of_extension(words, i, end):
+    """The index after an extension that begins at a word, with what stands in parentheses after it; of an assertion, with its `;`."""
+    for j in range(i + 1, min(i + 3, end)):
+        if words[j].text == "(":
+            after = (partner(words, j) or i) + 1
+            return after + (words[i].text in ASSERTIONS and after < len(words) and words[after].text == ";")
+        if words[j].text not in ("volatile", "goto", "__volatile__"):
+            break
+    return i + 1
+
+
+def unknown_type(view, at, first):
+    """The index of a name that nothing declares where an item goes wrong, or None; of two, as in `handle_t handle;`, the first is the type."""
+    near = [i for i in (at - 1, at) if first <= i < view.item(first)[1] and view.words[i].kind == "name" and _unknown(view, i)]
+    return near[0] if near and view.words[near[0]].text not in EXTENSIONS else None
 
 
 def _unknown(view, i):

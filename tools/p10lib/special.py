@@ -101,13 +101,14 @@ def union(view, i):
 
 
 def specifier(view, i):
-    """S22: the words that the subset doesn't have are dropped."""
+    """S22: the words that the subset doesn't have are dropped; of a cast to `volatile`, the expression becomes 0."""
     dropped = ("volatile", "register", "auto", "restrict", "inline", "extern")
     first, end = view.item(i)
     low, high = statement_around(view, i, first, end)
-    own = view.cover(i, i + 1, "") if view.words[i].text in dropped else []
-    near = [e for j in range(low, high) if view.words[j].text in dropped and _same_declaration(view, i, j) for e in view.cover(j, j + 1, "")]
-    return [own, near]
+    own = view.cover(i, i + 1, "") if view.words[i].text in dropped and view.alone(i) else []
+    near = [e for j in range(low, high) if view.words[j].text in dropped and view.alone(j) and _same_declaration(view, i, j)
+            for e in view.cover(j, j + 1, "")]
+    return [own, near] + smallest(view, i)
 
 
 def _same_declaration(view, i, j):
