@@ -1,0 +1,2 @@
+-- The definitions that the contract of this crate cites.
+pub mod Laws
