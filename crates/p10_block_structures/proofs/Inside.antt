@@ -47,7 +47,7 @@ fresh_dropped start zero (b ∷ new) h = h
 fresh_dropped start (suc k) [] h = h
 fresh_dropped start (suc k) (b ∷ new) h = fresh_dropped start k new h.1
 
-fresh_past : (start k : ℕ) (old new : List Binding) → length old ≤ k → AreNewTags start new → AreNewTags start (drop k (old ++ new))
+pub fresh_past : (start k : ℕ) (old new : List Binding) → length old ≤ k → AreNewTags start new → AreNewTags start (drop k (old ++ new))
 fresh_past start k [] new low h = fresh_dropped start k new h
 fresh_past start zero (b ∷ old) new low h = absurd (omega (arith, low))
 fresh_past start (suc k) (b ∷ old) new low h = fresh_past start k old new (omega (arith, low)) h

@@ -22,9 +22,9 @@ use Rattle.p10_root_renaming.specs.Roots.{SameHeads, SameKnown}
 use Rattle.p10_root_renaming.proofs.Keeping.{declaration_keeps}
 use Rattle.p10_root_renaming.proofs.GrowingOutside.{grows_sizes, grows_roots}
 use Rattle.p10_root_renaming.proofs.Whole.{sizes_both, nameless_same}
-use Rattle.p10_counterpart_renaming.specs.Runs.{structures_in, AreRegular, RootsAreRegular, RootsMayDiffer, SameSoFar, SameWithMore}
+use Rattle.p10_counterpart_renaming.specs.Runs.{structures_in, AreRegular, RootsAreRegular, SameSoFar, SameWithMore}
 use Rattle.p10_counterpart_renaming.specs.Laws.{CounterpartsAreSame, RootsOfCounterpartsRenamed}
-use Rattle.p10_counterpart_renaming.proofs.Counterparts.{more_on, rest_same, within_list, at_moved, counterparts_renamed}
+use Rattle.p10_counterpart_renaming.proofs.Counterparts.{within_itself, more_on, rest_same, within_list, at_moved, counterparts_renamed}
 use Rattle.p10_counterpart_renaming.proofs.Steps.{names_many}
 
 -- ## Where a root begins and ends
@@ -33,6 +33,7 @@ begun_so : (R : Pairing) (k j : Known) → SameSoFar R k j → SameSoFar R (root
 begun_so R k j so = record {
   one = so.one;
   low = so.low;
+  high = so.high;
   known = record {
     standing = nameless_same R (structures_in k) k.standing.scope j.standing.scope so.known.standing;
     root = so.known.root;
@@ -58,6 +59,7 @@ ended_so : (h : Keep) (R : Pairing) (k j : Known) → SameSoFar R k j → SameSo
 ended_so h R k j so = record {
   one = so.one;
   low = λ n m e. subst (λ z. n < z) (sym (ended_structures h k)) (so.low n m e);
+  high = λ n m e. subst (λ z. m < z) (sym (ended_structures h j)) (so.high n m e);
   known = subst (λ z. SameKnown R z (root_ended h k) (root_ended h j)) (sym (ended_structures h k)) (record {
     standing = sizes_both R (structures_in k) h k.tentative j.tentative k.standing j.standing so.known.standing;
     root = ap (λ n. n + 1) so.known.root;
@@ -81,18 +83,18 @@ quiet_root h heads others k j rest others_rest quiet = record {
 
 -- ## Roots whose bodies may differ
 
-roots_rest : (h : Keep) (heads others : Heads) → SameHeads heads others → (R : Pairing) (k j : Known) → SameSoFar R k j → (roots : List (List Counterparts)) → RootsMayDiffer h heads others k j roots
+roots_rest : (h : Keep) (heads others : Heads) → SameHeads heads others → (R : Pairing) (k j : Known) → SameSoFar R k j → (roots : List (List Counterparts))
     → RootsAreRegular h heads k (map (map in_first) roots) → RootsAreRegular h others j (map (map in_second) roots)
     → AreQuiet (structures_in (roots_passed h heads k (map (map in_first) roots))) (roots_passed h heads k (map (map in_first) roots)).standing (roots_passed h others j (map (map in_second) roots)).standing
     → SameWithMore R (roots_passed h heads k (map (map in_first) roots)) (roots_passed h others j (map (map in_second) roots))
-roots_rest h heads others same R k j so [] free fine also quiet = record { pairing = R; within = λ n m e. e; same = so }
-roots_rest h heads others same R k j so (root ∷ rest) free fine also quiet =
+roots_rest h heads others same R k j so [] fine also quiet = record { pairing = R; within = within_itself R; same = so }
+roots_rest h heads others same R k j so (root ∷ rest) fine also quiet =
     let a : Known = known_after_all h heads (root_begun k) (map in_first root) in
     let b : Known = known_after_all h others (root_begun j) (map in_second root) in
     let one : SameWithMore R (root_ended h a) (root_ended h b) =
-    ended_more h R a b (rest_same h heads others same R (root_begun k) (root_begun j) (begun_so R k j so) root free.0 fine.0 also.0 (quiet_root h heads others a b (map (map in_first) rest) (map (map in_second) rest) quiet)) in
+    ended_more h R a b (rest_same h heads others same R (root_begun k) (root_begun j) (begun_so R k j so) root fine.0 also.0 (quiet_root h heads others a b (map (map in_first) rest) (map (map in_second) rest) quiet)) in
     more_on R (root_ended h a) (root_ended h b) (roots_passed h heads (root_ended h a) (map (map in_first) rest)) (roots_passed h others (root_ended h b) (map (map in_second) rest)) one
-    (roots_rest h heads others same one.pairing (root_ended h a) (root_ended h b) one.same rest free.1 fine.1 also.1 quiet)
+    (roots_rest h heads others same one.pairing (root_ended h a) (root_ended h b) one.same rest fine.1 also.1 quiet)
 
 -- ## The function with a number
 
@@ -138,8 +140,8 @@ kept_in_roots h heads k rest n low =
     ap (λ (fs : List PlainFunction). slice_get fs n) more.functions ∙ within_list k.functions more.made n low
 
 pub roots_of_counterparts_renamed : RootsOfCounterpartsRenamed
-roots_of_counterparts_renamed h heads others same R k j so n [] body free fine also quiet = counterparts_renamed h heads others same R k j so n [] body tt fine also quiet
-roots_of_counterparts_renamed h heads others same R k j so n (root ∷ rest) body free fine also quiet =
+roots_of_counterparts_renamed h heads others same R k j so n [] body fine also quiet = counterparts_renamed h heads others same R k j so n [] body fine also quiet
+roots_of_counterparts_renamed h heads others same R k j so n (root ∷ rest) body fine also quiet =
     let a : Known = known_after_all h heads (root_begun k) (map in_first root) in
     let b : Known = known_after_all h others (root_begun j) (map in_second root) in
     let later : Known = roots_passed h heads (root_ended h a) (map (map in_first) rest) in
@@ -148,9 +150,9 @@ roots_of_counterparts_renamed h heads others same R k j so n (root ∷ rest) bod
     let many : length a.functions ≡ length k.functions + definitions_in root = made_many h heads (root_begun k) root fine.0 in
     ⊎_elim
     (λ (p : IsInRoot n root).
-    let one : CounterpartsAreSame n R (root_begun k) (root_begun j) a b = counterparts_renamed h heads others same R (root_begun k) (root_begun j) (begun_so R k j so) n root p.body free.0 fine.0 also.0 first in
+    let one : CounterpartsAreSame n R (root_begun k) (root_begun j) a b = counterparts_renamed h heads others same R (root_begun k) (root_begun j) (begun_so R k j so) n root p.body fine.0 also.0 first in
     let ended : SameWithMore R (root_ended h a) (root_ended h b) = ended_more h R a b one.more in
-    let r : SameWithMore one.more.pairing later those = roots_rest h heads others same one.more.pairing (root_ended h a) (root_ended h b) ended.same rest free.1 fine.1 also.1 quiet in
+    let r : SameWithMore one.more.pairing later those = roots_rest h heads others same one.more.pairing (root_ended h a) (root_ended h b) ended.same rest fine.1 also.1 quiet in
     let names : length a.functions ≡ length b.functions = names_many a.functions b.functions one.more.same.known.functions in
     let here : slice_get later.functions (length k.functions + n) ≡ slice_get a.functions (length k.functions + n) = kept_in_roots h heads (root_ended h a) (map (map in_first) rest) (length k.functions + n) (omega (arith, many, p.low)) in
     let there : slice_get those.functions (length k.functions + n) ≡ slice_get b.functions (length k.functions + n) =
@@ -160,9 +162,9 @@ roots_of_counterparts_renamed h heads others same R k j so n (root ∷ rest) bod
       function = λ f g e d. functions_stay_same one.more.pairing r.pairing r.within f g (one.function f g (sym here ∙ e) (sym there ∙ d));
     })
     (λ (p : IsPast n root (flat_map (λ (x : List Counterparts). x) rest)).
-    let one : SameWithMore R (root_ended h a) (root_ended h b) = ended_more h R a b (rest_same h heads others same R (root_begun k) (root_begun j) (begun_so R k j so) root free.0 fine.0 also.0 first) in
+    let one : SameWithMore R (root_ended h a) (root_ended h b) = ended_more h R a b (rest_same h heads others same R (root_begun k) (root_begun j) (begun_so R k j so) root fine.0 also.0 first) in
     let r : CounterpartsAreSame p.number one.pairing (root_ended h a) (root_ended h b) later those =
-    roots_of_counterparts_renamed h heads others same one.pairing (root_ended h a) (root_ended h b) one.same p.number rest p.body free.1 fine.1 also.1 quiet in
+    roots_of_counterparts_renamed h heads others same one.pairing (root_ended h a) (root_ended h b) one.same p.number rest p.body fine.1 also.1 quiet in
     record {
       more = more_on R (root_ended h a) (root_ended h b) later those one r.more;
       function = at_moved r.more.pairing (length a.functions + p.number) (length k.functions + n) (omega (arith, many, p.past)) later.functions those.functions r.function;

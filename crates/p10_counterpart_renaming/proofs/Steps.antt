@@ -1,5 +1,5 @@
 -- One counterpart after others.
-use Rattle.std.proofs.Common.{◌≡◌, ◌∙◌, ℕ, suc, ◌≤◌, List, [], ◌∷◌, ◌++◌, length, inl, refl, sym, ap, subst, arith}
+use Rattle.std.proofs.Common.{◌≡◌, ◌∙◌, ℕ, suc, ◌≤◌, List, [], ◌∷◌, ◌++◌, length, le_refl, refl, sym, ap, subst, arith}
 use Rattle.std.specs.Prelude.{slice_get}
 use Rattle.std.proofs.lemmas.Option.{none-some, same_Some}
 use Rattle.p10_base.specs.Words.{Text}
@@ -16,15 +16,28 @@ use Rattle.p10_expression_renaming.specs.MappedStatements.{mapped_declaration, m
 use Rattle.p10_expression_renaming.proofs.TypeNames.{left, right}
 use Rattle.p10_declaration_renaming.specs.Standings.{AreQuiet}
 use Rattle.p10_spelling_laws.specs.Counterparts.{IsSameBody}
-use Rattle.p10_root_renaming.specs.Roots.{SameHeads, SameFunctions, same_no_functions, same_more_functions, function_names}
+use Rattle.p10_root_renaming.specs.Roots.{SameHeads, SameKnown, SameFunctions, same_no_functions, same_more_functions, function_names}
 use Rattle.p10_root_renaming.specs.Laws.{AddsSameFunctions}
 use Rattle.p10_root_renaming.proofs.GrowingOutside.{grows_outside, grows_definition}
 use Rattle.p10_root_renaming.proofs.Outside.{declarations_renamed}
 use Rattle.p10_root_renaming.proofs.Functions.{definitions_renamed}
-use Rattle.p10_touched_renaming.specs.Touched.{first_with, second_with, before_body, LeavesStructures, IsMade}
-use Rattle.p10_touched_renaming.proofs.Touched.{grows_to_body, touched_renamed}
+use Rattle.p10_touched_renaming.specs.Touched.{first_with, second_with, before_parameters, before_body, IsMade}
+use Rattle.p10_touched_renaming.proofs.Touched.{there_too, HeadGrows, head_grows, touched_renamed}
 use Rattle.p10_counterpart_renaming.specs.Runs.{structures_in, SameSoFar, SameWithMore, FunctionsSameAt}
-use Rattle.p10_counterpart_renaming.proofs.Extending.{within_extended, extended_by, known_extended, low_by, one_by}
+use Rattle.p10_counterpart_renaming.proofs.Extending.{extended_by, within_by, known_extended, one_by, used_low, low_by, high_by}
+
+-- where the same is known with the next structures paired
+so_extended : (R : Pairing) (k j a b : Known) → SameSoFar R k j → structures_in k ≤ structures_in a → structures_in j ≤ structures_in b
+    → SameKnown (extended_by R k j (structures_in a) (structures_in a)) (structures_in a) a b → SameSoFar (extended_by R k j (structures_in a) (structures_in a)) a b
+so_extended R k j a b so low more known =
+    let later : ℕ = structures_in a in
+    let Q : Pairing = extended_by R k j later later in
+    record {
+      one = one_by R k j so later later (le_refl later);
+      low = low_by R k j so later later low;
+      high = high_by R k j b so later later low more (λ n m e below. there_too Q a.standing.scope.structures b.standing.scope.structures known.standing.tables n m e below);
+      known = known;
+    }
 
 pub declared_step : (h : Keep) (heads others : Heads) → SameHeads heads others → (R : Pairing) (k j : Known) → SameSoFar R k j → (d : Declaration (At × At))
     → AreQuiet (structures_in (declared_outside h heads k (mapped_declaration left d))) (declared_outside h heads k (mapped_declaration left d)).standing (declared_outside h others j (mapped_declaration right d)).standing
@@ -32,29 +45,40 @@ pub declared_step : (h : Keep) (heads others : Heads) → SameHeads heads others
 declared_step h heads others same R k j so d quiet =
     let later : ℕ = structures_in (declared_outside h heads k (mapped_declaration left d)) in
     let low : structures_in k ≤ later = (grows_outside h heads k (mapped_declaration left d)).count in
-    let r = declarations_renamed (extended_by R k j later) (one_by R k j so later) later h heads others same k j d (λ q. known_extended R k j so later low) quiet in
-    record {
-      pairing = extended_by R k j later;
-      within = within_extended R (structures_in k) (structures_in j) _;
-      same = record { one = one_by R k j so later; low = low_by R k j so later low; known = r.1.1 };
-    }
+    let Q : Pairing = extended_by R k j later later in
+    let r = declarations_renamed Q (one_by R k j so later later (le_refl later)) later h heads others same k j d (λ q. known_extended R k j so later later low) quiet in
+    record { pairing = Q; within = within_by R k j later later; same = so_extended R k j (declared_outside h heads k (mapped_declaration left d)) (declared_outside h others j (mapped_declaration right d)) so low (grows_outside h others j (mapped_declaration right d)).count r.1.1 }
 
 pub touched_step : (h : Keep) (heads others : Heads) → SameHeads heads others → (R : Pairing) (k j : Known) → SameSoFar R k j → (d : Definition (At × At)) (one other : Statements At)
-    → IsMade h heads k (first_with d one) → IsMade h others j (second_with d other) → LeavesStructures h heads k (first_with d one) → LeavesStructures h others j (second_with d other)
+    → IsMade h heads k (first_with d one) → IsMade h others j (second_with d other)
     → AreBuilt (defined_outside h heads k (first_with d one)).standing.scope.structures → AreBuilt (defined_outside h others j (second_with d other)).standing.scope.structures
     → AreQuiet (structures_in (defined_outside h heads k (first_with d one))) (defined_outside h heads k (first_with d one)).standing (defined_outside h others j (second_with d other)).standing
     → SameWithMore R (defined_outside h heads k (first_with d one)) (defined_outside h others j (second_with d other))
-touched_step h heads others same R k j so d one other made other_made leaves other_leaves built other_built quiet =
-    let from : ℕ = before_body h k (first_with d one) in
-    let later : ℕ = structures_in (defined_outside h heads k (first_with d one)) in
-    let low : structures_in k ≤ from = (grows_to_body h k (first_with d one)).0 in
-    let rest : from ≤ later = (grows_to_body h k (first_with d one)).1 heads in
-    let r = touched_renamed (extended_by R k j from) (one_by R k j so from) later h heads others same k j d one other made other_made leaves other_leaves built other_built
-    (record { outside = λ n m e. inl (low_by R k j so from low n m e); next = λ i below. absurd (omega (arith, below)) }) (λ q. known_extended R k j so from low) quiet in
+touched_step h heads others same R k j so d one other made other_made built other_built quiet =
+    let a : Known = defined_outside h heads k (first_with d one) in
+    let b : Known = defined_outside h others j (second_with d other) in
+    let from : ℕ = before_parameters h k (first_with d one) in
+    let last : ℕ = before_body h k (first_with d one) in
+    let first : HeadGrows h k (first_with d one) = head_grows h k (first_with d one) in
+    let second : HeadGrows h j (second_with d other) = head_grows h j (second_with d other) in
+    let low : structures_in k ≤ from = first.begun in
+    let few : from ≤ last = first.declared in
+    let most : structures_in k ≤ last = omega (arith, low, few) in
+    let rest : last ≤ structures_in a = first.done heads in
+    let more : structures_in j ≤ structures_in b = omega (arith, second.begun, second.declared, second.done others) in
+    let S : Pairing = extended_by R k j last last in
+    let Q : Pairing = extended_by R k j from last in
+    let r = touched_renamed S Q (one_by R k j so last last (le_refl last)) (one_by R k j so from last few) h heads others same k j d one other made other_made built other_built
+    (record { used = used_low R k j so from last low; passed = λ n m e. e }) (λ q. known_extended R k j so last last most) (λ q. known_extended R k j so from last low) quiet in
     record {
-      pairing = extended_by R k j from;
-      within = within_extended R (structures_in k) (structures_in j) _;
-      same = record { one = one_by R k j so from; low = λ n m e. omega (arith, low_by R k j so from low n m e, rest); known = r.1 };
+      pairing = Q;
+      within = within_by R k j from last;
+      same = record {
+        one = one_by R k j so from last few;
+        low = λ n m e. omega (arith, low_by R k j so from last most n m e, rest);
+        high = high_by R k j b so from last most more r.1;
+        known = r.0;
+      };
     }
 
 -- ## A function with the same body
@@ -94,14 +118,15 @@ same_there h heads others same R k j so d body quiet =
     let b : Known = defined_outside h others j (second_with d (mapped_statements right body)) in
     let later : ℕ = structures_in a in
     let low : structures_in k ≤ later = (grows_definition h heads k (first_with d (mapped_statements left body))).count in
-    let r = definitions_renamed (extended_by R k j later) (one_by R k j so later) later h heads others same k j (record d { body = body }) (λ q. known_extended R k j so later low) quiet in
+    let Q : Pairing = extended_by R k j later later in
+    let r = definitions_renamed Q (one_by R k j so later later (le_refl later)) later h heads others same k j (record d { body = body }) (λ q. known_extended R k j so later later low) quiet in
     record {
       more = record {
-        pairing = extended_by R k j later;
-        within = within_extended R (structures_in k) (structures_in j) _;
-        same = record { one = one_by R k j so later; low = low_by R k j so later low; known = r.1.1 };
+        pairing = Q;
+        within = within_by R k j later later;
+        same = so_extended R k j a b so low (grows_definition h others j (second_with d (mapped_statements right body))).count r.1.1;
       };
-      function = new_same (extended_by R k j later) k j a b (names_many k.functions j.functions so.known.functions) r.1.0;
+      function = new_same Q k j a b (names_many k.functions j.functions so.known.functions) r.1.0;
     }
 
 pub same_step : (h : Keep) (heads others : Heads) → SameHeads heads others → (R : Pairing) (k j : Known) → SameSoFar R k j → (d : Definition (At × At)) (one other : Statements At) → IsSameBody one other

@@ -1,7 +1,7 @@
 -- What is known of two programs in a row of counterparts.
-use Rattle.std.specs.Prelude.{◌≡◌, ℕ, ◌+◌, ◌<◌, true, ◌&&◌, ◌||◌, nat_eq, nat_lt, nat_le, ◌⊎◌, List, [], ◌∷◌, map, length, Some, slice_get}
+use Rattle.std.specs.Prelude.{◌≡◌, ℕ, ◌+◌, ◌<◌, true, ◌&&◌, ◌||◌, nat_eq, nat_lt, nat_le, List, [], ◌∷◌, length, Some, slice_get}
 use Rattle.p10_base.specs.declared.at.At.{At}
-use Rattle.p10_syn.specs.Trees.{Definition, Statements, External, Outer, Defines}
+use Rattle.p10_syn.specs.Trees.{External, Outer, Defines}
 use Rattle.p10_core.specs.Typed.{PlainFunction}
 use Rattle.p10_core.specs.Completing.{AreBuilt}
 use Rattle.p10_elabx.specs.First.{Keep}
@@ -9,12 +9,11 @@ use Rattle.p10_heads.specs.Heads.{Heads}
 use Rattle.p10_elab.specs.Knowledge.{Known}
 use Rattle.p10_elab.specs.Outer.{defined_outside}
 use Rattle.p10_elab.specs.RootEnds.{known_after, root_begun, root_passed}
-use Rattle.p10_renaming.specs.Renaming.{Pairing, SameFunction}
+use Rattle.p10_renaming.specs.Renaming.{Pairs, Pairing, SameFunction}
 use Rattle.p10_expression_renaming.specs.Knowing.{IsOneToOne}
 use Rattle.p10_pairing_laws.specs.Laws.{IsWithin}
 use Rattle.p10_root_renaming.specs.Roots.{SameKnown}
-use Rattle.p10_spelling_laws.specs.Counterparts.{Counterparts, declared_in_both, defined_in_both, in_first, in_second, IsSameBody}
-use Rattle.p10_touched_renaming.specs.Touched.{first_with, second_with, LeavesStructures, IsMade}
+use Rattle.p10_touched_renaming.specs.Touched.{IsMade}
 
 -- ## One program
 
@@ -36,34 +35,15 @@ RootsAreRegular h heads k (root ∷ rest) = AreRegular h heads (root_begun k) ro
 
 -- ## Both
 
--- neither body of a function completes a structure that its parameters declare
-abbrev pub BothLeaveStructures : Keep → Heads → Heads → Known → Known → Definition (At × At) → Statements At → Statements At → Type 0
-BothLeaveStructures h heads others k j d one other = LeavesStructures h heads k (first_with d one) × LeavesStructures h others j (second_with d other)
-
--- so it is of each function whose bodies differ
-abbrev pub BodiesMayDiffer : Keep → Heads → Heads → Known → Known → List Counterparts → Type 0
-BodiesMayDiffer h heads others k j [] = Unit {0}
-BodiesMayDiffer h heads others k j (declared_in_both at d ∷ rest) =
-    BodiesMayDiffer h heads others (known_after h heads k (in_first (declared_in_both at d))) (known_after h others j (in_second (declared_in_both at d))) rest
-BodiesMayDiffer h heads others k j (defined_in_both d one other ∷ rest) =
-    (BothLeaveStructures h heads others k j d one other ⊎ IsSameBody one other)
-    × BodiesMayDiffer h heads others (known_after h heads k (in_first (defined_in_both d one other))) (known_after h others j (in_second (defined_in_both d one other))) rest
-
--- so it is in each root
-abbrev pub RootsMayDiffer : Keep → Heads → Heads → Known → Known → List (List Counterparts) → Type 0
-RootsMayDiffer h heads others k j [] = Unit {0}
-RootsMayDiffer h heads others k j (root ∷ rest) =
-    BodiesMayDiffer h heads others (root_begun k) (root_begun j) root
-    × RootsMayDiffer h heads others (root_passed h heads k (map in_first root)) (root_passed h others j (map in_second root)) rest
-
--- structures that were paired, and this many more, from two numbers on
-abbrev pub extended : Pairing → ℕ → ℕ → ℕ → Pairing
-extended R from other count n m = R n m || ((nat_le from n && nat_lt n (from + count)) && nat_eq (m + from) (n + other))
+-- pairs that there were, and this many more, from two numbers on
+abbrev pub extended : Pairs → ℕ → ℕ → ℕ → Pairs
+extended P from other count n m = P n m || ((nat_le from n && nat_lt n (from + count)) && nat_eq (m + from) (n + other))
 
 -- the same is known, where structures that both have so far are paired
 pub record SameSoFar (R : Pairing) (k j : Known) : Type 0 where
   pub one : IsOneToOne R
-  pub low : (n m : ℕ) → R n m ≡ true → n < structures_in k
+  pub low : (n m : ℕ) → R.passed n m ≡ true → n < structures_in k
+  pub high : (n m : ℕ) → R.passed n m ≡ true → m < structures_in j
   pub known : SameKnown R (structures_in k) k j
 
 -- with more structures that are paired

@@ -94,7 +94,7 @@ list_same (MoreParameters one rest) true = refl
 list_same (MoreParameters one rest) false = refl
 
 -- the type of specifiers, before a declarator
-based_both : (R : Pairing) (m n : Option PlainType) → Both (SameType R) m n → Both (SameDeclared R) (option_map of_type m) (option_map of_type n)
+pub based_both : (R : Pairing) (m n : Option PlainType) → Both (SameType R) m n → Both (SameDeclared R) (option_map of_type m) (option_map of_type n)
 based_both R m n k = both_map (SameType R) (SameDeclared R) of_type of_type (λ t u j. same_of_type j) m n k
 
 -- ## The trees

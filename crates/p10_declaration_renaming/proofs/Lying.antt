@@ -17,10 +17,10 @@ bodies_by R (Some x) (Some y) h = h.members
 bodies_by R None (Some y) h = absurd h
 bodies_by R (Some x) None h = absurd h
 
-pub bodies_both : (R : Pairing) (these others : List PlainStructure) → SameTables R these others → (n m : ℕ) → R n m ≡ true → Both (λ b d. SameMembers R b.members d.members) (body_of these n) (body_of others m)
+pub bodies_both : (R : Pairing) (these others : List PlainStructure) → SameTables R these others → (n m : ℕ) → R.used n m ≡ true → Both (λ b d. SameMembers R b.members d.members) (body_of these n) (body_of others m)
 bodies_both R these others know n m paired = bodies_by R (slice_get these n) (slice_get others m) (know.entries n m paired)
 
-pub representatives_by : (R : Pairing) (n m : ℕ) → R n m ≡ true → (o p : Option PlainStructure) → Both (SameStructure R) o p → R (representative_in n o) (representative_in m p) ≡ true
+pub representatives_by : (R : Pairing) (n m : ℕ) → R.used n m ≡ true → (o p : Option PlainStructure) → Both (SameStructure R) o p → R.used (representative_in n o) (representative_in m p) ≡ true
 representatives_by R n m paired None None h = paired
 representatives_by R n m paired (Some x) (Some y) h = h.representatives
 representatives_by R n m paired None (Some y) h = absurd h
@@ -123,7 +123,7 @@ contains_more ss a b p (array c t n) h = contains_more ss a b p t h
 contains_more ss a b p (structure c n) h = omega (arith, p, h)
 
 abbrev StructuresLie : Pairing → List PlainStructure → List PlainStructure → ℕ → Type 0
-StructuresLie R these others order = (c : Bool) (n m : ℕ) → R n m ≡ true → order_in (body_of these n) < order → SameLayout R (layout_of these (structure c n)) (layout_of others (structure c m))
+StructuresLie R these others order = (c : Bool) (n m : ℕ) → R.used n m ≡ true → order_in (body_of these n) < order → SameLayout R (layout_of these (structure c n)) (layout_of others (structure c m))
 
 type_lies : (R : Pairing) (these others : List PlainStructure) → SameTables R these others → (order : ℕ) → StructuresLie R these others order → {t u : PlainType} → SameType R t u → ContainsBefore these order t
     → SameLayout R (layout_of these t) (layout_of others u)

@@ -106,17 +106,17 @@ left_same R last s t know = record {
 -- ## Structures more
 
 -- the next structures of both have paired numbers
-pub next_now : (R : Pairing) (last : ℕ) (s t : PlainScope) → SameWholeScope R last s t → length s.structures < last → R (length s.structures) (length t.structures) ≡ true
+pub next_now : (R : Pairing) (last : ℕ) (s t : PlainScope) → SameWholeScope R last s t → length s.structures < last → R.used (length s.structures) (length t.structures) ≡ true
 next_now R last s t know low =
     let one : 0 + length s.structures ≡ length s.structures = omega arith in
     let other : 0 + length t.structures ≡ length t.structures = omega arith in
-    subst (λ x. R x (length t.structures) ≡ true) one (subst (λ y. R (0 + length s.structures) y ≡ true) other (know.next 0 (omega (arith, low))))
+    subst (λ x. R.used x (length t.structures) ≡ true) one (subst (λ y. R.used (0 + length s.structures) y ≡ true) other (know.next 0 (omega (arith, low))))
 
-next_after : (R : Pairing) (n m k j i : ℕ) → k ≡ suc n → j ≡ suc m → R (suc i + n) (suc i + m) ≡ true → R (i + k) (i + j) ≡ true
+next_after : (R : Pairing) (n m k j i : ℕ) → k ≡ suc n → j ≡ suc m → R.used (suc i + n) (suc i + m) ≡ true → R.used (i + k) (i + j) ≡ true
 next_after R n m k j i e d h =
     let one : suc i + n ≡ i + k = omega (arith, e) in
     let other : suc i + m ≡ i + j = omega (arith, d) in
-    subst (λ x. R x (i + j) ≡ true) one (subst (λ y. R (suc i + n) y ≡ true) other h)
+    subst (λ x. R.used x (i + j) ≡ true) one (subst (λ y. R.used (suc i + n) y ≡ true) other h)
 
 pub structure_more_same : (R : Pairing) → IsOneToOne R → (last : ℕ) (s t : PlainScope) → SameWholeScope R last s t → length s.structures < last → (tag : Option Text)
     → SameWholeScope R last (record s { structures = with_structure s.structures tag }) (record t { structures = with_structure t.structures tag })

@@ -14,11 +14,12 @@ use Rattle.p10_elabd.specs.declared.declaration.ParameterList.{ParameterList}
 use Rattle.p10_elabd.specs.declared.declaration.ParameterList.TheVariants as list_is
 use Rattle.p10_elabd.specs.Shapes.{PlainParameter, ListedParameter, DeclaredType, of_type, of_open_array, pointed_to, pointer_declared, element_declared, array_with, array_declared, array_inside, function_inside, result_declared, plain_parameter_type, parameter_declared, among_parameters, before_known, known_parameters, function_of, function_declared}
 use Rattle.p10_elabd.specs.Declaring.{with_parameter}
-use Rattle.p10_renaming.specs.Renaming.{Pairing, SameType, same_void, same_integer, same_pointer, same_array, same_structure}
+use Rattle.p10_renaming.specs.Renaming.{Pairing, SameType, SameParameterType, same_integer_passed, same_pointer_passed, same_void, same_integer, same_pointer, same_array, same_structure}
 use Rattle.p10_expression_renaming.specs.Mapped.{mapped_qualifier, mapped_expression, mapped_declarator}
 use Rattle.p10_expression_renaming.specs.Knowing.{same_local, same_unknown_name, IsOneToOne}
 use Rattle.p10_expression_renaming.proofs.Finding.{ruled_both}
 use Rattle.p10_expression_renaming.proofs.Sameness.{SameName, same_no_name, same_name}
+use Rattle.p10_expression_renaming.proofs.Types.{parameter_type}
 use Rattle.p10_expression_renaming.proofs.TypeNames.{left, right, has_const_same, marked_pointer, SameLength, length_found_both, sized_array_both}
 use Rattle.p10_declaration_renaming.specs.Standings.{Both, SameStanding, AreQuiet, SameParameters, same_no_parameters, same_more_parameters, SameListedParameter, SameListed, same_none_listed, same_more_listed, SameDeclared, same_of_type, same_of_open_array, same_of_function, same_of_part_function}
 use Rattle.p10_declaration_renaming.proofs.Boths.{both_map}
@@ -162,7 +163,7 @@ alike_result R last h at name_at to name_to m n s t k a =
 pub alike_among : {B : Type 0} (R : Pairing) (last : ℕ) (s t : PlainStanding) → Alike B R last s t → Alike B R last (among_parameters s) (among_parameters t)
 alike_among R last s t a = alike_on R last s t (among_parameters s) (among_parameters t) (as_before s) (as_before t) (λ b know q. entered_same R last s.scope t.scope know) a
 
-before_known_both : (R : Pairing) (p q : ListedParameter) → SameListedParameter R p q → (m n : Option PlainType) → Both (SameType R) m n → (ps qs : Option (List PlainParameter)) → Both (SameParameters R) ps qs
+before_known_both : (R : Pairing) (p q : ListedParameter) → SameListedParameter R p q → (m n : Option PlainType) → Both (SameParameterType R) m n → (ps qs : Option (List PlainParameter)) → Both (SameParameters R) ps qs
     → Both (SameParameters R) (before_known p m ps) (before_known q n qs)
 before_known_both R p q h (Some u) (Some v) k (Some ps) (Some qs) i = same_more_parameters (record { name = h.name; type = k }) i
 before_known_both R p q h (Some u) (Some v) k None None i = tt
@@ -199,43 +200,43 @@ alike_function {B = B} R last list other e m n before after s t k i a =
 -- ## Parameters
 
 plain_parameter_ends : (R : Pairing) (last : ℕ) (h : Keep) (at name_at to name_to : At) (s t : PlainStanding) → SameStanding R last s t → {u v : PlainType} → SameType R u v
-    → Ends R last (SameType R) (plain_parameter_type h at name_at u s) (plain_parameter_type h to name_to v t)
+    → Ends R last (SameParameterType R) (plain_parameter_type h at name_at u s) (plain_parameter_type h to name_to v t)
 plain_parameter_ends R last h at name_at to name_to s t know same_void = λ quiet. never_left last h subset.IncompleteType name_at s _ quiet
-plain_parameter_ends R last h at name_at to name_to s t know (same_integer {c = c} {kind = i}) = ends_passed R last (SameType R) (integer c i) (integer c i) s t same_integer know
-plain_parameter_ends R last h at name_at to name_to s t know (same_pointer {c = c} {t = u} {u = v} k) = ends_passed R last (SameType R) (pointer c u) (pointer c v) s t (same_pointer k) know
-plain_parameter_ends R last h at name_at to name_to s t know (same_array {t = u} {u = v} k) = ends_passed R last (SameType R) (pointer false u) (pointer false v) s t (same_pointer k) know
+plain_parameter_ends R last h at name_at to name_to s t know (same_integer {c = c} {kind = i}) = ends_passed R last (SameParameterType R) (integer c i) (integer c i) s t same_integer_passed know
+plain_parameter_ends R last h at name_at to name_to s t know (same_pointer {c = c} {t = u} {u = v} k) = ends_passed R last (SameParameterType R) (pointer c u) (pointer c v) s t (same_pointer_passed k) know
+plain_parameter_ends R last h at name_at to name_to s t know (same_array {t = u} {u = v} k) = ends_passed R last (SameParameterType R) (pointer false u) (pointer false v) s t (same_pointer_passed k) know
 plain_parameter_ends R last h at name_at to name_to s t know (same_structure paired) = λ quiet. never_left last h subset.StructurePassed at s _ quiet
 
 parameter_ends : (R : Pairing) (last : ℕ) (h : Keep) (at name_at to name_to : At) (s t : PlainStanding) → SameStanding R last s t → {x y : DeclaredType} → SameDeclared R x y
-    → Ends R last (SameType R) (parameter_declared h at name_at (Some x) s) (parameter_declared h to name_to (Some y) t)
+    → Ends R last (SameParameterType R) (parameter_declared h at name_at (Some x) s) (parameter_declared h to name_to (Some y) t)
 parameter_ends R last h at name_at to name_to s t know (same_of_type k) = plain_parameter_ends R last h at name_at to name_to s t know k
-parameter_ends R last h at name_at to name_to s t know (same_of_open_array {t = u} {u = v} k) = ends_passed R last (SameType R) (pointer false u) (pointer false v) s t (same_pointer k) know
-parameter_ends R last h at name_at to name_to s t know (same_of_function k) = ends_nothing R last (SameType R) s t know
-parameter_ends R last h at name_at to name_to s t know (same_of_part_function k) = ends_nothing R last (SameType R) s t know
+parameter_ends R last h at name_at to name_to s t know (same_of_open_array {t = u} {u = v} k) = ends_passed R last (SameParameterType R) (pointer false u) (pointer false v) s t (same_pointer_passed k) know
+parameter_ends R last h at name_at to name_to s t know (same_of_function k) = ends_nothing R last (SameParameterType R) s t know
+parameter_ends R last h at name_at to name_to s t know (same_of_part_function k) = ends_nothing R last (SameParameterType R) s t know
 
 parameters_end : (R : Pairing) (last : ℕ) (h : Keep) (at name_at to name_to : At) (m n : Option DeclaredType) → Both (SameDeclared R) m n → (s t : PlainStanding) → SameStanding R last s t
-    → Ends R last (SameType R) (parameter_declared h at name_at m s) (parameter_declared h to name_to n t)
-parameters_end R last h at name_at to name_to None None k s t know = ends_nothing R last (SameType R) s t know
+    → Ends R last (SameParameterType R) (parameter_declared h at name_at m s) (parameter_declared h to name_to n t)
+parameters_end R last h at name_at to name_to None None k s t know = ends_nothing R last (SameParameterType R) s t know
 parameters_end R last h at name_at to name_to (Some x) (Some y) k s t know = parameter_ends R last h at name_at to name_to s t know k
 parameters_end R last h at name_at to name_to None (Some y) k s t know = absurd k
 parameters_end R last h at name_at to name_to (Some x) None k s t know = absurd k
 
 pub alike_parameter : {B : Type 0} (R : Pairing) (last : ℕ) (h : Keep) (at name_at to name_to : At) (m n : Option DeclaredType) (s t : PlainStanding) → (B → Both (SameDeclared R) m n) → Alike B R last s t
-    → Alike (B × Both (SameType R) (parameter_declared h at name_at m s).made (parameter_declared h to name_to n t).made) R last (parameter_declared h at name_at m s).after (parameter_declared h to name_to n t).after
+    → Alike (B × Both (SameParameterType R) (parameter_declared h at name_at m s).made (parameter_declared h to name_to n t).made) R last (parameter_declared h at name_at m s).after (parameter_declared h to name_to n t).after
 alike_parameter R last h at name_at to name_to m n s t k a =
-    alike_ends R last (SameType R) s t (parameter_declared h at name_at m s) (parameter_declared h to name_to n t) (grown (over_parameter h at name_at m s)) (grown (over_parameter h to name_to n t))
+    alike_ends R last (SameParameterType R) s t (parameter_declared h at name_at m s) (parameter_declared h to name_to n t) (grown (over_parameter h at name_at m s)) (grown (over_parameter h to name_to n t))
     (λ b know. parameters_end R last h at name_at to name_to m n (k b) s t know) a
 
-with_parameter_same : (R : Pairing) (last : ℕ) (h : Keep) (i : ℕ) {a b : Option (Identifier At)} → SameName a b → (m n : Option PlainType) → Both (SameType R) m n → (s t : PlainStanding) → SameStanding R last s t
+with_parameter_same : (R : Pairing) (last : ℕ) (h : Keep) (i : ℕ) {a b : Option (Identifier At)} → SameName a b → (m n : Option PlainType) → Both (SameParameterType R) m n → (s t : PlainStanding) → SameStanding R last s t
     → AreQuiet last (with_parameter h i a m s) (with_parameter h i b n t) → SameStanding R last (with_parameter h i a m s) (with_parameter h i b n t)
 with_parameter_same R last h i same_no_name m n k s t know q = know
 with_parameter_same R last h i (same_name {at = at} {to = to} {name = name}) None None k s t know q = declaring_same R last h name at to same_unknown_name s t know q
-with_parameter_same R last h i (same_name {at = at} {to = to} {name = name}) (Some u) (Some v) k s t know q = declaring_same R last h name at to (same_local k) s t know q
+with_parameter_same R last h i (same_name {at = at} {to = to} {name = name}) (Some u) (Some v) k s t know q = declaring_same R last h name at to (same_local (parameter_type R k)) s t know q
 with_parameter_same R last h i same_name None (Some v) k s t know q = absurd k
 with_parameter_same R last h i same_name (Some u) None k s t know q = absurd k
 
 -- a name that a parameter declares
-pub alike_with_parameter : {B : Type 0} (R : Pairing) (last : ℕ) (h : Keep) (i : ℕ) (a b : Option (Identifier At)) → SameName a b → (m n : Option PlainType) (s t : PlainStanding) → (B → Both (SameType R) m n) → Alike B R last s t
+pub alike_with_parameter : {B : Type 0} (R : Pairing) (last : ℕ) (h : Keep) (i : ℕ) (a b : Option (Identifier At)) → SameName a b → (m n : Option PlainType) (s t : PlainStanding) → (B → Both (SameParameterType R) m n) → Alike B R last s t
     → Alike B R last (with_parameter h i a m s) (with_parameter h i b n t)
 alike_with_parameter R last h i a b same m n s t k alike =
     alike_on R last s t (with_parameter h i a m s) (with_parameter h i b n t) (grown (over_with_parameter h i a m s)) (grown (over_with_parameter h i b n t)) (λ c know q. with_parameter_same R last h i same m n (k c) s t know q) alike

@@ -11,7 +11,7 @@ use Rattle.p10_core.proofs.Completing.{one_more_is_built, completed_are_built}
 use Rattle.p10_core.proofs.MemberLayouts.{may_by_test}
 use Rattle.p10_renaming.specs.Renaming.{Pairing, SameType, same_void, same_integer, same_pointer, same_array, same_structure}
 use Rattle.p10_expression_renaming.specs.Knowing.{SameMembers, same_no_members, same_more_members, SameStructures, IsOneToOne}
-use Rattle.p10_expression_renaming.proofs.Types.{is_void_same}
+use Rattle.p10_expression_renaming.proofs.Types.{is_void_same, used_numbers}
 use Rattle.p10_declaration_renaming.specs.Standings.{Both, SameStructure, SameTables}
 use Rattle.p10_declaration_renaming.proofs.Boths.{both_by, both_map, both_are}
 use Rattle.p10_declaration_renaming.proofs.Lying.{bodies_both, lies_same}
@@ -45,7 +45,7 @@ there_is ss n = elim (slice_get_cases ss n).1 [
   | inr p ↦ ap is_some p.1 ∙ sym (le-ltb n (length ss) p.0)
 ]
 
-there_same : (R : Pairing) (these others : List PlainStructure) → SameTables R these others → (n m : ℕ) → R n m ≡ true → nat_lt n (length these) ≡ nat_lt m (length others)
+there_same : (R : Pairing) (these others : List PlainStructure) → SameTables R these others → (n m : ℕ) → R.used n m ≡ true → nat_lt n (length these) ≡ nat_lt m (length others)
 there_same R these others know n m paired = sym (there_is these n) ∙ both_are (SameStructure R) (slice_get these n) (slice_get others m) (know.entries n m paired) ∙ there_is others m
 
 whole_same : (R : Pairing) (these others : List PlainStructure) → SameTables R these others → {t u : PlainType} → SameType R t u → is_whole_type these t ≡ is_whole_type others u
@@ -67,14 +67,14 @@ lengths_same : (R : Pairing) {ms ks : List PlainMember} → SameMembers R ms ks 
 lengths_same R same_no_members = refl
 lengths_same R (same_more_members h rest) = ap suc (lengths_same R rest)
 
-open_same : (R : Pairing) → IsOneToOne R → (n m : ℕ) → R n m ≡ true → (o p : Option PlainStructure) → Both (SameStructure R) o p → is_open_in n o ≡ is_open_in m p
+open_same : (R : Pairing) → IsOneToOne R → (n m : ℕ) → R.used n m ≡ true → (o p : Option PlainStructure) → Both (SameStructure R) o p → is_open_in n o ≡ is_open_in m p
 open_same R one n m paired None None h = refl
 open_same R one n m paired (Some x) (Some y) h =
-    λ i. not (both_are (λ b d. SameMembers R b.members d.members) x.body y.body h.members i) && one x.representative n y.representative m h.representatives paired i
+    λ i. not (both_are (λ b d. SameMembers R b.members d.members) x.body y.body h.members i) && used_numbers R one x.representative n y.representative m h.representatives paired i
 open_same R one n m paired None (Some y) h = absurd h
 open_same R one n m paired (Some x) None h = absurd h
 
-pub takes_same : (R : Pairing) → IsOneToOne R → (these others : List PlainStructure) → SameTables R these others → (n m : ℕ) → R n m ≡ true → {ms ks : List PlainMember} → SameMembers R ms ks
+pub takes_same : (R : Pairing) → IsOneToOne R → (these others : List PlainStructure) → SameTables R these others → (n m : ℕ) → R.used n m ≡ true → {ms ks : List PlainMember} → SameMembers R ms ks
     → takes_members these n ms ≡ takes_members others m ks
 takes_same R one these others know n m paired h =
     λ i. (open_same R one n m paired (slice_get these n) (slice_get others m) (know.entries n m paired) i && nat_lt 0 (lengths_same R h i)) && objects_same R these others know h i
@@ -92,16 +92,16 @@ other_at (y ∷ ss) x zero h = refl
 other_at (y ∷ ss) x (suc n) h = other_at ss x n (λ e. h (ap suc e))
 
 -- pairs agree on which numbers are one
-to_right : (R : Pairing) → IsOneToOne R → (n m i j : ℕ) → R n i ≡ true → R m j ≡ true → n ≡ m → i ≡ j
-to_right R one n m i j p q e = eqb-true i j (sym (one n m i j p q) ∙ eq-eqb n m e)
+to_right : (R : Pairing) → IsOneToOne R → (n m i j : ℕ) → R.used n i ≡ true → R.used m j ≡ true → n ≡ m → i ≡ j
+to_right R one n m i j p q e = eqb-true i j (sym (used_numbers R one n m i j p q) ∙ eq-eqb n m e)
 
-to_left : (R : Pairing) → IsOneToOne R → (n m i j : ℕ) → R n i ≡ true → R m j ≡ true → i ≡ j → n ≡ m
-to_left R one n m i j p q e = eqb-true n m (one n m i j p q ∙ eq-eqb i j e)
+to_left : (R : Pairing) → IsOneToOne R → (n m i j : ℕ) → R.used n i ≡ true → R.used m j ≡ true → i ≡ j → n ≡ m
+to_left R one n m i j p q e = eqb-true n m (used_numbers R one n m i j p q ∙ eq-eqb i j e)
 
 at_end : (ss : List PlainStructure) (x : PlainStructure) (n : ℕ) → n ≡ length ss → slice_get (ss ++ x ∷ []) n ≡ Some x
 at_end ss x n e = ap (slice_get (ss ++ x ∷ [])) e ∙ last_at ss x
 
-pub tables_more : (R : Pairing) → IsOneToOne R → (these others : List PlainStructure) → SameTables R these others → R (length these) (length others) ≡ true → (tag : Option Text)
+pub tables_more : (R : Pairing) → IsOneToOne R → (these others : List PlainStructure) → SameTables R these others → R.used (length these) (length others) ≡ true → (tag : Option Text)
     → SameTables R (with_structure these tag) (with_structure others tag)
 tables_more R one these others know new tag = record {
   entries = λ n m paired. elim (cases_eq n (length these)) [
@@ -144,7 +144,7 @@ given_both : (R : Pairing) (b d : PlainBody) → SameMembers R b.members d.membe
 unfolding given_body
 given_both R b d h x y k = record { tags = k.tags; members = h; representatives = k.representatives }
 
-pub tables_completed : (R : Pairing) → IsOneToOne R → (these others : List PlainStructure) → SameTables R these others → (n m : ℕ) → R n m ≡ true → (ms ks : List PlainMember) → SameMembers R ms ks
+pub tables_completed : (R : Pairing) → IsOneToOne R → (these others : List PlainStructure) → SameTables R these others → (n m : ℕ) → R.used n m ≡ true → (ms ks : List PlainMember) → SameMembers R ms ks
     → takes_members these n ms ≡ true → takes_members others m ks ≡ true → nat_le (member_layout these ms).bytes most_bytes ≡ true → nat_le (member_layout others ks).bytes most_bytes ≡ true
     → SameTables R (completed these n ms) (completed others m ks)
 tables_completed R one these others know n m paired ms ks h takes other_takes small other_small = record {

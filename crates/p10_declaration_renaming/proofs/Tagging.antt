@@ -44,7 +44,7 @@ right_name = option_map (mapped_identifier right)
 
 data SameTag (R : Pairing) : KnownTag → KnownTag → Type 0 where
   same_nothing : SameTag R tag_is.Nothing tag_is.Nothing
-  same_tag_of_structure : {c : Bool} {n m : ℕ} → R n m ≡ true → SameTag R (tag_is.Structure c n) (tag_is.Structure c m)
+  same_tag_of_structure : {c : Bool} {n m : ℕ} → R.used n m ≡ true → SameTag R (tag_is.Structure c n) (tag_is.Structure c m)
   same_enumeration : SameTag R tag_is.Enumeration tag_is.Enumeration
   same_other_type : SameTag R tag_is.OtherType tag_is.OtherType
   same_refused : SameTag R tag_is.Refused tag_is.Refused
@@ -128,7 +128,7 @@ alike_by_name R last h at to tag s t a =
 
 -- where its members begin, the numbers are paired and the same stands
 abbrev Begins : Pairing → ℕ → Begun → Begun → Type 0
-Begins R last b c = AreQuiet last b.standing c.standing → (R b.number c.number ≡ true) × SameStanding R last b.standing c.standing
+Begins R last b c = AreQuiet last b.standing c.standing → (R.used b.number c.number ≡ true) × SameStanding R last b.standing c.standing
 
 anew_begins : (R : Pairing) → IsOneToOne R → (last : ℕ) (tag : Option Text) (s t : PlainStanding) → SameStanding R last s t → Begins R last (begun_anew tag s) (begun_anew tag t)
 anew_begins R one last tag s t know q =
@@ -143,7 +143,7 @@ twice_left R last h tag s c q =
 twice_right : (R : Pairing) (last : ℕ) (h : Keep) (tag : Identifier At) (b : Begun) (t : PlainStanding) → Begins R last b (begun_twice h tag t)
 twice_right R last h tag b t q = never_right last h subset.DefinedTwice tag.place b.standing t (record { left = q.left; right = q.right; few = q.few })
 
-known_begins : (R : Pairing) (last : ℕ) (h : Keep) (may might : Bool) (n m : ℕ) → R n m ≡ true → (tag other : Identifier At) (s t : PlainStanding) → SameStanding R last s t
+known_begins : (R : Pairing) (last : ℕ) (h : Keep) (may might : Bool) (n m : ℕ) → R.used n m ≡ true → (tag other : Identifier At) (s t : PlainStanding) → SameStanding R last s t
     → Begins R last (begun_known h may n tag s) (begun_known h might m other t)
 known_begins R last h true true n m paired tag other s t know = λ q. (paired, know)
 known_begins R last h true false n m paired tag other s t know = twice_right R last h other (record { number = n; standing = s }) t
@@ -176,7 +176,7 @@ with_begins R one last h sign.Union tag s t know = anew_begins R one last None s
 with_begins R one last h word tag s t know = opened_begins R last h tag s t (for_begins R one last h tag s t know)
 
 pub alike_begun : {B : Type 0} (R : Pairing) → IsOneToOne R → (last : ℕ) (h : Keep) (word : Sign) (tag : Option (Identifier (At × At))) (s t : PlainStanding) → Alike B R last s t
-    → Alike (B × (R (begun_with h word (left_name tag) s).number (begun_with h word (right_name tag) t).number ≡ true)) R last
+    → Alike (B × (R.used (begun_with h word (left_name tag) s).number (begun_with h word (right_name tag) t).number ≡ true)) R last
     (begun_with h word (left_name tag) s).standing (begun_with h word (right_name tag) t).standing
 alike_begun R one last h word tag s t a q =
     let x = a (quiet_before last s t _ _ (grown (over_begun h word (left_name tag) s)) (grown (over_begun h word (right_name tag) t)) q) in
@@ -189,7 +189,7 @@ alike_ended R last s t a = alike_on R last s t (ended s) (ended t) (as_before s)
 
 -- ## Its end
 
-completed_same : (R : Pairing) → IsOneToOne R → (last : ℕ) (s t : PlainScope) → SameWholeScope R last s t → (n m : ℕ) → R n m ≡ true → (ms ks : List PlainMember) → SameMembers R ms ks
+completed_same : (R : Pairing) → IsOneToOne R → (last : ℕ) (s t : PlainScope) → SameWholeScope R last s t → (n m : ℕ) → R.used n m ≡ true → (ms ks : List PlainMember) → SameMembers R ms ks
     → takes_members s.structures n ms ≡ true → takes_members t.structures m ks ≡ true → nat_le (member_layout s.structures ms).bytes most_bytes ≡ true → nat_le (member_layout t.structures ks).bytes most_bytes ≡ true
     → SameWholeScope R last (record s { structures = completed s.structures n ms }) (record t { structures = completed t.structures m ks })
 completed_same R one last s t know n m paired ms ks h takes other_takes small other_small = record {
@@ -206,10 +206,10 @@ completed_same R one last s t know n m paired ms ks h takes other_takes small ot
     others_kept : length t.structures ≡ length (completed t.structures m ks)
     others_kept = omega (arith, count_kept t.structures m (body_with t.structures (complete_count t.structures) ks))
 
-    next_kept : (i : ℕ) → R (i + length s.structures) (i + length t.structures) ≡ true → R (i + length (completed s.structures n ms)) (i + length (completed t.structures m ks)) ≡ true
-    next_kept i e = subst (λ x. R (i + x) (i + length (completed t.structures m ks)) ≡ true) these_kept (subst (λ y. R (i + length s.structures) (i + y) ≡ true) others_kept e)
+    next_kept : (i : ℕ) → R.used (i + length s.structures) (i + length t.structures) ≡ true → R.used (i + length (completed s.structures n ms)) (i + length (completed t.structures m ks)) ≡ true
+    next_kept i e = subst (λ x. R.used (i + x) (i + length (completed t.structures m ks)) ≡ true) these_kept (subst (λ y. R.used (i + length s.structures) (i + y) ≡ true) others_kept e)
 
-completed_ends : (R : Pairing) → IsOneToOne R → (last : ℕ) (h : Keep) (at to : At) (n m : ℕ) → R n m ≡ true → (ms ks : List PlainMember) → SameMembers R ms ks → (s t : PlainStanding) → SameStanding R last s t
+completed_ends : (R : Pairing) → IsOneToOne R → (last : ℕ) (h : Keep) (at to : At) (n m : ℕ) → R.used n m ≡ true → (ms ks : List PlainMember) → SameMembers R ms ks → (s t : PlainStanding) → SameStanding R last s t
     → Ends R last (SameType R) (completed_by h at n ms s) (completed_by h to m ks t)
 completed_ends R one last h at to n m paired ms ks same s t know =
     ends_where R last (SameType R) (takes_members s.scope.structures n ms) (takes_members t.scope.structures m ks) (completed_small h at n ms s) (nothing_made s) (completed_small h to m ks t) (nothing_made t)
@@ -222,7 +222,7 @@ unknown_tag_same : (R : Pairing) (last : ℕ) (tag : Option (Identifier (At × A
 unknown_tag_same R last None s t know = know
 unknown_tag_same R last (Some x) s t know = declared_same R last s.scope t.scope know x.name same_unknown_tag
 
-structure_made_ends : (R : Pairing) → IsOneToOne R → (last : ℕ) (h : Keep) (at to : At) (tag : Option (Identifier (At × At))) (n m : ℕ) → R n m ≡ true → (o p : Option (List PlainMember)) → Both (SameMembers R) o p
+structure_made_ends : (R : Pairing) → IsOneToOne R → (last : ℕ) (h : Keep) (at to : At) (tag : Option (Identifier (At × At))) (n m : ℕ) → R.used n m ≡ true → (o p : Option (List PlainMember)) → Both (SameMembers R) o p
     → (s t : PlainStanding) → SameStanding R last s t → Ends R last (SameType R) (structure_made h at (left_name tag) n o s) (structure_made h to (right_name tag) m p t)
 structure_made_ends R one last h at to tag n m paired None None same s t know = λ q. (tt, unknown_tag_same R last tag s t know)
 structure_made_ends R one last h at to tag n m paired (Some ms) (Some ks) same s t know = completed_ends R one last h at to n m paired ms ks same s t know
@@ -230,7 +230,7 @@ structure_made_ends R one last h at to tag n m paired None (Some ks) same s t kn
 structure_made_ends R one last h at to tag n m paired (Some ms) None same s t know = absurd same
 
 pub alike_structure_made : {B : Type 0} (R : Pairing) → IsOneToOne R → (last : ℕ) (h : Keep) (at to : At) (tag : Option (Identifier (At × At))) (n m : ℕ) (o p : Option (List PlainMember)) (s t : PlainStanding)
-    → (B → R n m ≡ true) → (B → Both (SameMembers R) o p) → Alike B R last s t
+    → (B → R.used n m ≡ true) → (B → Both (SameMembers R) o p) → Alike B R last s t
     → Alike (B × Both (SameType R) (structure_made h at (left_name tag) n o s).made (structure_made h to (right_name tag) m p t).made) R last
     (structure_made h at (left_name tag) n o s).after (structure_made h to (right_name tag) m p t).after
 alike_structure_made R one last h at to tag n m o p s t paired same a =

@@ -8,7 +8,7 @@ use Rattle.p10_core.specs.Completing.{AreBuilt}
 use Rattle.p10_elabx.specs.Scopes.{PlainScope}
 use Rattle.p10_elabd.specs.Standing.{PlainStanding, Passed}
 use Rattle.p10_elabd.specs.Shapes.{PlainParameter, FunctionType, PartFunction, ListedParameter, DeclaredType, of_type, of_open_array, of_function, of_part_function}
-use Rattle.p10_renaming.specs.Renaming.{Pairing, SameType}
+use Rattle.p10_renaming.specs.Renaming.{Pairing, SameType, SameParameterType}
 use Rattle.p10_expression_renaming.specs.Knowing.{SameBindings, SameMembers}
 
 -- both are made and the same, or neither is made
@@ -24,11 +24,11 @@ Both P (Some a) None = ⊥
 pub record SameStructure (R : Pairing) (x y : PlainStructure) : Type 0 where
   pub tags : x.tag ≡ y.tag
   pub members : Both (λ b d. SameMembers R b.members d.members) x.body y.body
-  pub representatives : R x.representative y.representative ≡ true
+  pub representatives : R.used x.representative y.representative ≡ true
 
 -- structures with paired numbers are the same
 pub record SameTables (R : Pairing) (these others : List PlainStructure) : Type 0 where
-  pub entries : (n m : ℕ) → R n m ≡ true → Both (SameStructure R) (slice_get these n) (slice_get others m)
+  pub entries : (n m : ℕ) → R.used n m ≡ true → Both (SameStructure R) (slice_get these n) (slice_get others m)
   pub built : AreBuilt these
   pub other_built : AreBuilt others
 
@@ -41,7 +41,7 @@ pub record SameWholeScope (R : Pairing) (last : ℕ) (s t : PlainScope) : Type 0
   pub names : SameBindings R s.names t.names
   pub tags : SameBindings R s.tags t.tags
   pub floors : s.floors ≡ t.floors
-  pub next : (i : ℕ) → i + length s.structures < last → R (i + length s.structures) (i + length t.structures) ≡ true
+  pub next : (i : ℕ) → i + length s.structures < last → R.used (i + length s.structures) (i + length t.structures) ≡ true
 
 abbrev pub SameStanding : Pairing → ℕ → PlainStanding → PlainStanding → Type 0
 SameStanding R last s t = SameWholeScope R last s.scope t.scope
@@ -68,7 +68,7 @@ SameNames a b = Both (λ x y. x.name ≡ y.name) a b
 
 pub record SameParameter (R : Pairing) (p q : PlainParameter) : Type 0 where
   pub name : SameNames p.name q.name
-  pub type : SameType R p.type q.type
+  pub type : SameParameterType R p.type q.type
 
 pub data SameParameters (R : Pairing) : List PlainParameter → List PlainParameter → Type 0 where
   same_no_parameters : SameParameters R [] []
@@ -83,7 +83,7 @@ pub record SameFunctionType (R : Pairing) (f g : FunctionType) : Type 0 where
 -- a parameter where it is listed
 pub record SameListedParameter (R : Pairing) (p q : ListedParameter) : Type 0 where
   pub name : SameNames p.name q.name
-  pub type : Both (SameType R) p.type q.type
+  pub type : Both (SameParameterType R) p.type q.type
 
 pub data SameListed (R : Pairing) : List ListedParameter → List ListedParameter → Type 0 where
   same_none_listed : SameListed R [] []

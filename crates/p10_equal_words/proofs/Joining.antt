@@ -7,6 +7,7 @@ use Rattle.p10_base.specs.Gathered.{Gathered}
 use Rattle.p10_syn.specs.Trees.{External}
 use Rattle.p10_core.specs.Types.{PlainStructure}
 use Rattle.p10_core.specs.Typed.{PlainFunction, PlainObject, PlainSeen, PlainProgram}
+use Rattle.p10_core.specs.Completing.{AreBuilt}
 use Rattle.p10_core.proofs.Completing.{none_are_built}
 use Rattle.sha2.specs.Sha256.{sha256}
 use Rattle.p10_digests.specs.Lines.{all_words, hashed_lines, tree_words}
@@ -29,10 +30,10 @@ use Rattle.p10_renaming.specs.Renaming.{Pairing, SameFunction}
 use Rattle.p10_renaming.specs.Laws.{HasWidths}
 use Rattle.p10_renaming.proofs.Erasing.{renamed_have_one_view}
 use Rattle.p10_expression_renaming.specs.Knowing.{same_no_bindings}
-use Rattle.p10_declaration_renaming.specs.Standings.{SameTables}
 use Rattle.p10_root_renaming.specs.Roots.{same_no_linked, SameHeads, SameKnown}
-use Rattle.p10_linkage_renaming.proofs.Together.{Joins, joins_together}
-use Rattle.p10_linkage_renaming.proofs.Whole.{roots_are_taken_together_same}
+use Rattle.p10_declaration_renaming.specs.Standings.{SameTables}
+use Rattle.p10_linkage.proofs.Joining.{IsJoined}
+use Rattle.p10_linkage.proofs.OneType.{built_stands}
 use Rattle.p10_spelling_laws.proofs.Lexed.{expanded_are_sound}
 use Rattle.p10_spelling_laws.specs.Counterparts.{Counterparts, in_first, in_second, HasSameBody, HaveCounterparts}
 use Rattle.p10_head_renaming.specs.Ascending.{Ascend, name_numbers}
@@ -43,30 +44,30 @@ use Rattle.p10_head_renaming.proofs.Numbers.{functions_keep_numbers}
 use Rattle.p10_head_renaming.proofs.Task.{task_stays}
 use Rattle.p10_definition_counts.specs.Laws.{definitions_of}
 use Rattle.p10_definition_counts.proofs.Counting.{definitions_counted}
-use Rattle.p10_counterpart_renaming.specs.Runs.{structures_in, RootsAreRegular, RootsMayDiffer, SameSoFar}
+use Rattle.p10_counterpart_renaming.specs.Runs.{structures_in, RootsAreRegular, SameSoFar}
 use Rattle.p10_counterpart_renaming.specs.Laws.{CounterpartsAreSame}
 use Rattle.p10_counterpart_renaming.proofs.Counterparts.{at_moved}
 use Rattle.p10_counterpart_renaming.proofs.Roots.{roots_of_counterparts_renamed}
 use Rattle.p10_word_counterparts.specs.Laws.{IsTypedFrom}
 use Rattle.p10_word_counterparts.proofs.Typing.{readings_are_typed, readings_have_counterparts}
-use Rattle.p10_word_views.specs.Words.{lines_of_function}
-use Rattle.p10_equal_words.specs.Comparable.{HasDigestEach, OthersLeaveStructures}
+use Rattle.p10_equal_words.specs.Comparable.{HasDigestEach}
 use Rattle.p10_equal_words.specs.Laws.{EqualWordsHaveEqualViews}
 use Rattle.p10_equal_words.proofs.Settled.{IsSettled, roots_settled}
 use Rattle.p10_equal_words.proofs.Regular.{roots_regular}
-use Rattle.p10_equal_words.proofs.Bodies.{roots_differ}
+use Rattle.p10_equal_words.proofs.Together.{Joins, joins_together}
 use Rattle.p10_equal_words.proofs.Widths.{widths_same}
 
 -- ## Before the first root
 
 -- no structures are paired
 abbrev no_pairs : Pairing
-no_pairs n m = false
+no_pairs = record { used = λ n m. false; passed = λ n m. false }
 
 nothing_same : SameSoFar no_pairs nothing_known nothing_known
 nothing_same = record {
-  one = λ n m i j e d. absurd cc;
+  one = record { numbers = λ n m i j e d. absurd cc; within = λ n m e. absurd cc };
   low = λ n m e. absurd cc;
+  high = λ n m e. absurd cc;
   known = record {
     standing = record {
       tables = record { entries = λ n m e. absurd cc; built = none_are_built; other_built = none_are_built };
@@ -94,7 +95,7 @@ together roots = taken_together only_first (heads_of_roots 0 roots) (known roots
 -- roots in which no row holds come to a program: its functions are those that are known, and its structures those that stand after the roots
 record IsOf (roots : List (List (External At))) (p : PlainProgram) : Type 0 where
   pub quiet : (known roots).standing.problems ≡ []
-  pub settled : (together roots).problems ≡ []
+  pub joins : Joins (known roots).standing (together roots)
   pub functions : p.functions ≡ (known roots).functions
   pub objects : List PlainObject
   pub outside : List PlainSeen
@@ -110,12 +111,17 @@ is_of all roots p e =
     let x : IsSettled s (program_of (length heads.objects) s k) p = roots_settled only_first all roots p e in
     record {
       quiet = j.quiet x.quiet;
-      settled = x.quiet;
+      joins = j;
       functions = ap (λ (z : PlainProgram). z.functions) x.is;
       objects = objects_from 0 (length heads.objects) (k.block_objects ++ numbered_objects s.scope.structures k.visible k.objects);
       outside = k.outside;
       is = x.is;
     }
+
+-- its structures are those that are known, of which some have become one
+joined : (roots : List (List (External At))) (p : PlainProgram) → IsOf roots p → AreBuilt (known roots).standing.scope.structures → IsJoined (known roots).standing.scope.structures p.structures
+joined roots p x built =
+    subst (λ (z : PlainProgram). IsJoined (known roots).standing.scope.structures z.structures) (sym x.is) (x.joins.kept (built_stands (known roots).standing.scope.structures built)).joined
 
 -- with what is asked of a reading besides
 record IsReady (roots : List (List (External At))) (p : PlainProgram) : Type 0 where
@@ -135,11 +141,11 @@ regular roots p a =
 
 -- ## Both
 
-views_same : (roots : List (List Counterparts)) (n : ℕ) → HasSameBody n (flat_map (λ root. root) roots) → RootsMayDiffer only_first (heads_of_roots 0 (map (map in_first) roots)) (heads_of_roots 0 (map (map in_second) roots)) nothing_known nothing_known roots
+views_same : (roots : List (List Counterparts)) (n : ℕ) → HasSameBody n (flat_map (λ root. root) roots)
     → SameHeads (heads_of_roots 0 (map (map in_first) roots)) (heads_of_roots 0 (map (map in_second) roots))
     → (p q : PlainProgram) → IsReady (map (map in_first) roots) p → IsReady (map (map in_second) roots) q → (f g : PlainFunction) → slice_get p.functions n ≡ Some f → slice_get q.functions n ≡ Some g
     → view_of p n f ≡ view_of q n g
-views_same roots n body free same p q a b f g f_is g_is =
+views_same roots n body same p q a b f g f_is g_is =
     let firsts : List (List (External At)) = map (map in_first) roots in
     let seconds : List (List (External At)) = map (map in_second) roots in
     let k : Known = known firsts in
@@ -147,7 +153,7 @@ views_same roots n body free same p q a b f g f_is g_is =
     let x : IsOf firsts p = a.of_roots in
     let y : IsOf seconds q = b.of_roots in
     let r : CounterpartsAreSame n no_pairs nothing_known nothing_known k j =
-    roots_of_counterparts_renamed only_first (heads_of_roots 0 firsts) (heads_of_roots 0 seconds) same no_pairs nothing_known nothing_known nothing_same n roots body free (regular firsts p a) (regular seconds q b)
+    roots_of_counterparts_renamed only_first (heads_of_roots 0 firsts) (heads_of_roots 0 seconds) same no_pairs nothing_known nothing_known nothing_same n roots body (regular firsts p a) (regular seconds q b)
     (record { left = x.quiet; right = y.quiet; few = le_refl (structures_in k) }) in
     let R : Pairing = r.more.pairing in
     let know : SameKnown R (structures_in k) k j = r.more.same.known in
@@ -156,10 +162,8 @@ views_same roots n body free same p q a b f g f_is g_is =
     let function : SameFunction R f g = at_moved R (length nothing_known.functions + n) n (omega arith) k.functions j.functions r.function f g here there in
     let these : List PlainStructure = (together firsts).scope.structures in
     let others : List PlainStructure = (together seconds).scope.structures in
-    let tables : SameTables R these others =
-    roots_are_taken_together_same R r.more.same.one only_first (heads_of_roots 0 firsts) (heads_of_roots 0 seconds) k.linked j.linked know.linked k.standing j.standing know.standing.tables x.settled y.settled in
-    let widths : HasWidths R p q =
-    widths_same R p q (subst (λ (z : PlainProgram). SameTables R z.structures q.structures) (sym x.is) (subst (λ (z : PlainProgram). SameTables R these z.structures) (sym y.is) tables)) in
+    let tables : SameTables R k.standing.scope.structures j.standing.scope.structures = know.standing.tables in
+    let widths : HasWidths R p q = widths_same R k.standing.scope.structures j.standing.scope.structures tables p q (joined firsts p x tables.built) (joined seconds q y tables.other_built) in
     let task : task_of p n ≡ task_of q n =
     ap (λ z. task_of z n) x.is
     ∙ task_stays R these others x.objects y.objects k.functions j.functions x.outside y.outside know.functions n f g here there function
@@ -172,11 +176,8 @@ views_same roots n body free same p q a b f g f_is g_is =
 ascending : (g : Gathered) (r : PlainReading) (p : PlainProgram) → IsTypedFrom g r p → (trees : List (External At)) → trees_in r.units ≡ trees → Ascend 0 (name_numbers trees) (length (all_words r.expansion.roots))
 ascending g r p t trees e = subst (λ ts. Ascend 0 (name_numbers ts) (length (all_words r.expansion.roots))) e (names_ascend r.expansion.roots (trees_in r.units) t.spells (expanded_are_sound g r.expansion t.expands).1)
 
-lines_at : (r s : PlainReading) (n m : ℕ) → n ≡ m → lines_of_function r n ≡ lines_of_function s n → lines_of_function r m ≡ lines_of_function s m
-lines_at r s n m e same = subst (λ i. lines_of_function r i ≡ lines_of_function s i) e same
-
 pub equal_words_have_equal_views : EqualWordsHaveEqualViews
-equal_words_have_equal_views g h r s p q reads other a b leave same n f k lines f_is k_is =
+equal_words_have_equal_views g h r s p q reads other a b same n f k lines f_is k_is =
     let t : IsTypedFrom g r p = readings_are_typed g r p reads in
     let u : IsTypedFrom h s q = readings_are_typed h s q other in
     let c : HaveCounterparts r.expansion.roots s.expansion.roots (trees_in r.units) (trees_in s.units) = readings_have_counterparts g h r s p q reads other same in
@@ -191,10 +192,5 @@ equal_words_have_equal_views g h r s p q reads other a b leave same n f k lines 
     } in
     let first : roots_of (trees_in r.units) ≡ firsts = ap roots_of c.first ∙ by_roots.first in
     let second : roots_of (trees_in s.units) ≡ seconds = ap roots_of c.second ∙ by_roots.second in
-    let free : RootsMayDiffer only_first (heads_of_roots 0 firsts) (heads_of_roots 0 seconds) nothing_known nothing_known by_roots.roots =
-    roots_differ (λ i. lines_of_function r i ≡ lines_of_function s i) only_first (heads_of_roots 0 firsts) (heads_of_roots 0 seconds) 0 nothing_known nothing_known by_roots.roots
-    (λ i e. subst (HasSameBody i) (sym by_roots.joined) (c.same i (lines_at r s (0 + i) i (omega arith) e)))
-    (subst (OthersLeaveStructures (λ i. lines_of_function r i ≡ lines_of_function s i)) first leave.before)
-    (subst (OthersLeaveStructures (λ i. lines_of_function r i ≡ lines_of_function s i)) second leave.after) in
-    views_same by_roots.roots n (subst (HasSameBody n) (sym by_roots.joined) (c.same n lines)) free heads p q
+    views_same by_roots.roots n (subst (HasSameBody n) (sym by_roots.joined) (c.same n lines)) heads p q
     (ready r p a t.is firsts first) (ready s q b u.is seconds second) f k f_is k_is

@@ -1,7 +1,7 @@
 -- Lemmas for this crate.
 pub mod Settled
 pub mod Regular
-pub mod Bodies
+pub mod Together
 pub mod Widths
 pub mod Joining
 pub mod Rechecking

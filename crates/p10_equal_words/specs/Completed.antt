@@ -1,5 +1,6 @@
 -- Two programs with the same words but for one body, which completes a structure that its parameters declare in the second of them alone: the
--- structure of another root that is the same one has no width in the first, and one in the second. So a view of its type differs.
+-- structure of another root that is the same one has no width in the first, and one in the second. By its own root it has none in both, which
+-- is what a view says of it.
 use Rattle.std.specs.Prelude.{◌≡◌, ℕ, List, [], ◌∷◌, ◌++◌, false, Some, None, codes}
 use Rattle.p10_base.specs.Words.{Text}
 use Rattle.p10_syn.specs.declared.sign.Sign.TheVariants as sign
@@ -8,6 +9,7 @@ use Rattle.p10_core.specs.Types.{structure}
 use Rattle.p10_elab.specs.Programs.{Elaborated, program, elaborated}
 use Rattle.p10_elab.specs.Examples.{id, name, int, called, one, local_of, outer_of, function_of, ends, main_of, located, fine, said_of}
 use Rattle.p10_meaning.specs.Values.{width}
+use Rattle.p10_views.specs.Erased.{own_width}
 
 -- ## Trees
 
@@ -52,9 +54,17 @@ width_by n other = 0
 abbrev pub width_in : ℕ → List (List (External Bare)) → ℕ
 width_in n roots = width_by n (elaborated (located 0 roots))
 
--- both are programs, and the structure of `*p` in `g`, that with the number 1, has another width in each
+abbrev pub own_by : ℕ → Elaborated → ℕ
+own_by n (program p) = own_width p (structure false n)
+own_by n other = 0
+
+abbrev pub own_in : ℕ → List (List (External Bare)) → ℕ
+own_in n roots = own_by n (elaborated (located 0 roots))
+
+-- both are programs, and the structure of `*p` in `g`, that with the number 1, has another width in each, but none of its own
 pub record WidthsMayDiffer : Type 0 where
   pub apart_is : said_of apart ≡ fine
   pub completed_is : said_of completing ≡ fine
   pub apart_width : width_in 1 apart ≡ 0
   pub completed_width : width_in 1 completing ≡ 1
+  pub completed_own : own_in 1 completing ≡ 0

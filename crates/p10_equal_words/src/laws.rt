@@ -22,7 +22,7 @@ pub fn comparable_files_recheck_by_sections()
     sections_recheck_as_whole();
 }
 
-/// Why no body that differs may complete a structure that its parameters declare.
+/// Why views have the scalars of own structures: those of the structures that stand for them may differ.
 pub fn widths_may_differ()
     ensures { WidthsMayDiffer }
 {}

@@ -7,8 +7,8 @@ use Rattle.p10_base.specs.declared.codes.SubsetCode.TheVariants as subset
 use Rattle.p10_syn.specs.Trees.{Identifier}
 use Rattle.p10_core.specs.declared.typed.Library.{Library}
 use Rattle.p10_core.specs.declared.typed.Library.TheVariants as library
-use Rattle.p10_core.specs.Types.{PlainType}
-use Rattle.p10_core.specs.Typed.{PlainValue, PlainValues, type_of, at_of}
+use Rattle.p10_core.specs.Types.{PlainType, unqualified}
+use Rattle.p10_core.specs.Typed.{PlainValue, PlainValues, type_of}
 use Rattle.p10_core.specs.Rows.{is_integer, is_pointer}
 use Rattle.p10_elabx.specs.declared.problem.Problem.{Problem}
 use Rattle.p10_elabx.specs.First.{Keep, Ruled, Judged, pair}
@@ -16,14 +16,13 @@ use Rattle.p10_elabx.specs.Scopes.{Meaning, Binding, PlainScope, last_named, nam
 use Rattle.p10_elabx.specs.Operands.{PlainOperand}
 use Rattle.p10_elabx.specs.Calls.{Callee, of_library, undeclared, callee_of, Wanted, of_type, library_wants, wants_of, wanted_of, pointer_value, wanted_value, Listed, with_value, argument_judged, with_argument, call_problem, library_result, call_value, is_assert, is_allocator, with_problem, call_judged, operand_call, other_call, count_arguments, allocation, element_count}
 use Rattle.p10_elabx.specs.Judging.{for_name, is_memory, memory_called, for_memory}
-use Rattle.p10_renaming.specs.Renaming.{Pairing, SameType, same_void, same_integer, same_pointer, SameValue, same_value, same_cast, same_call, same_built_in, SameValues, same_no_values, same_more_values, SameMaybe, same_none, same_some}
-use Rattle.p10_expression_renaming.specs.Knowing.{Together, Ruling, SameOperand, same_a_value, SameTypes, same_no_types, same_more_types, SameMeaning, same_callable, same_unknown_name, SameBindings, same_no_bindings, same_more_bindings, SameScope, IsOneToOne}
+use Rattle.p10_renaming.specs.Renaming.{Pairing, passing, SameType, same_void, same_integer, same_pointer, same_integer_passed, SameValue, same_value, same_cast, same_call, same_built_in, SameArgument, same_as_value, SameArguments, same_no_arguments, same_more_arguments, SameMaybe, same_none, same_some}
+use Rattle.p10_expression_renaming.specs.Knowing.{Together, Ruling, SameOperand, same_a_value, SameParameterTypes, same_no_parameter_types, same_more_parameter_types, SameMeaning, same_callable, same_unknown_name, SameBindings, same_no_bindings, same_more_bindings, SameScope, IsOneToOne}
 use Rattle.p10_expression_renaming.proofs.Finding.{by_same, when_ok, on_both, pair_both, Pairs, refused_both, refused_always, part_both, Alike}
 use Rattle.p10_expression_renaming.proofs.Sameness.{SameNamed, same_nothing_named, same_one_named, SameName, same_no_name, same_name, SameMemory, same_no_memory, same_memory, SameCallee, same_of_program, same_of_library, same_not_declared, same_no_function, same_refused_before, same_anything, same_of_type, same_any_scalar, same_any_pointer, SameWanteds, same_nothing_more, same_more_wanted, SameMaybeWanted, same_nothing_wanted, same_one_wanted}
-use Rattle.p10_expression_renaming.proofs.Types.{is_integer_same, is_pointer_same, unqualified_same}
+use Rattle.p10_expression_renaming.proofs.Types.{is_integer_same, is_pointer_same, unqualified_same, unqualified_parameter}
 use Rattle.p10_expression_renaming.proofs.Values.{type_same}
-use Rattle.p10_expression_renaming.proofs.Operands.{converted_both}
-use Rattle.p10_expression_renaming.proofs.Operators.{fitted_both}
+use Rattle.p10_expression_renaming.proofs.Operands.{converted_both, argument_converted}
 
 -- ## Names
 
@@ -60,7 +59,7 @@ for_name_both P x y go went other others (same_name {at = at} {to = to} {name = 
 -- ## Arguments
 
 integer_wanted : (R : Pairing) → SameWanteds R (library_wants library.Putchar) (library_wants library.Putchar)
-integer_wanted R = same_more_wanted (same_of_type same_integer) same_nothing_more
+integer_wanted R = same_more_wanted (same_of_type same_integer_passed) same_nothing_more
 
 pub library_both : (R : Pairing) (f : Library) → SameWanteds R (library_wants f) (library_wants f)
 library_both R library.Assert = same_more_wanted same_any_scalar same_nothing_more
@@ -71,9 +70,9 @@ library_both R library.Malloc = same_more_wanted same_anything same_nothing_more
 library_both R library.Calloc = same_more_wanted same_anything (same_more_wanted same_anything same_nothing_more)
 library_both R library.Free = same_more_wanted same_any_pointer same_nothing_more
 
-types_wanted : (R : Pairing) (ts us : List PlainType) → SameTypes R ts us → SameWanteds R (map of_type ts) (map of_type us)
-types_wanted R ts us same_no_types = same_nothing_more
-types_wanted R ts us (same_more_types h rest) = same_more_wanted (same_of_type h) (types_wanted R _ _ rest)
+types_wanted : (R : Pairing) (ts us : List PlainType) → SameParameterTypes (passing R) ts us → SameWanteds R (map of_type ts) (map of_type us)
+types_wanted R ts us same_no_parameter_types = same_nothing_more
+types_wanted R ts us (same_more_parameter_types h rest) = same_more_wanted (same_of_type h) (types_wanted R _ _ rest)
 
 as_many : (R : Pairing) {xs ys : List Wanted} → SameWanteds R xs ys → length xs ≡ length ys
 as_many R same_nothing_more = refl
@@ -95,35 +94,35 @@ wanted_at R same_nothing_more i = same_nothing_wanted
 wanted_at R (same_more_wanted h rest) zero = same_one_wanted h
 wanted_at R (same_more_wanted h rest) (suc i) = wanted_at R rest i
 
-pointer_both : (R : Pairing) → IsOneToOne R → (v w : PlainValue) → SameValue R v w → Ruling (SameValue R) (pointer_value v) (pointer_value w)
+pointer_both : (R : Pairing) → IsOneToOne R → (v w : PlainValue) → SameValue R v w → Ruling (SameArgument R) (pointer_value v) (pointer_value w)
 pointer_both R one v w h =
-    by_same (Ruling (SameValue R)) (is_pointer (type_of v)) (is_pointer (type_of w)) (is_pointer_same R (type_same R h)) (Ok v) _ (Ok w) _ h
-    (when_ok (SameValue R) _ _ _ _ _ _ _ (converted_both R one v w _ _ h (same_pointer same_integer)))
+    by_same (Ruling (SameArgument R)) (is_pointer (type_of v)) (is_pointer (type_of w)) (is_pointer_same R (type_same R h)) (Ok v) _ (Ok w) _ (same_as_value h)
+    (when_ok (SameArgument R) _ _ _ _ _ _ _ (same_as_value (converted_both R one v w _ _ h (same_pointer same_integer))))
 
-wanted_both : (R : Pairing) → IsOneToOne R → (a b : Option Wanted) → SameMaybeWanted R a b → (v w : PlainValue) → SameValue R v w → Ruling (SameValue R) (wanted_value a v) (wanted_value b w)
-wanted_both R one a b same_nothing_wanted v w h = h
-wanted_both R one a b (same_one_wanted same_anything) v w h = h
-wanted_both R one a b (same_one_wanted (same_of_type {t = t} {u = u} k)) v w h = fitted_both R one (at_of v) (at_of w) v w t u h k
-wanted_both R one a b (same_one_wanted same_any_scalar) v w h = when_ok (SameValue R) _ _ _ _ _ _ _ h
+wanted_both : (R : Pairing) → IsOneToOne R → (a b : Option Wanted) → SameMaybeWanted R a b → (v w : PlainValue) → SameValue R v w → Ruling (SameArgument R) (wanted_value a v) (wanted_value b w)
+wanted_both R one a b same_nothing_wanted v w h = same_as_value h
+wanted_both R one a b (same_one_wanted same_anything) v w h = same_as_value h
+wanted_both R one a b (same_one_wanted (same_of_type {t = t} {u = u} k)) v w h = when_ok (SameArgument R) _ _ _ _ _ _ _ (argument_converted R one v w (unqualified t) (unqualified u) h (unqualified_parameter (passing R) k))
+wanted_both R one a b (same_one_wanted same_any_scalar) v w h = when_ok (SameArgument R) _ _ _ _ _ _ _ (same_as_value h)
 wanted_both R one a b (same_one_wanted same_any_pointer) v w h = pointer_both R one v w h
 
-pub argument_both : (R : Pairing) → IsOneToOne R → (a b : Option Wanted) → SameMaybeWanted R a b → (j k : Judged PlainValue) → Alike (SameValue R) j k → Alike (SameValue R) (argument_judged a j) (argument_judged b k)
+pub argument_both : (R : Pairing) → IsOneToOne R → (a b : Option Wanted) → SameMaybeWanted R a b → (j k : Judged PlainValue) → Alike (SameValue R) j k → Alike (SameArgument R) (argument_judged a j) (argument_judged b k)
 unfolding argument_judged
-argument_both R one a b same j k h = part_both (SameValue R) (SameValue R) j k (wanted_value a) (wanted_value b) h (wanted_both R one a b same)
+argument_both R one a b same j k h = part_both (SameValue R) (SameArgument R) j k (wanted_value a) (wanted_value b) h (wanted_both R one a b same)
 
-with_value_both : (R : Pairing) {vs ws : PlainValues} → SameValues R vs ws → {v w : PlainValue} → SameValue R v w → SameValues R (with_value vs v) (with_value ws w)
-with_value_both R same_no_values h = same_more_values h same_no_values
-with_value_both R (same_more_values k rest) h = same_more_values k (with_value_both R rest h)
+with_value_both : (R : Pairing) {vs ws : PlainValues} → SameArguments R vs ws → {v w : PlainValue} → SameArgument R v w → SameArguments R (with_value vs v) (with_value ws w)
+with_value_both R same_no_arguments h = same_more_arguments h same_no_arguments
+with_value_both R (same_more_arguments k rest) h = same_more_arguments k (with_value_both R rest h)
 
 -- arguments that are the same
 abbrev pub Likewise : Pairing → Listed → Listed → Type 0
-Likewise R k l = Together (SameValues R) k.found l.found
+Likewise R k l = Together (SameArguments R) k.found l.found
 
-pub with_argument_both : (R : Pairing) (h : Keep) (k l : Listed) (j i : Judged PlainValue) → Likewise R k l → Alike (SameValue R) j i → Likewise R (with_argument h k j) (with_argument h l i)
+pub with_argument_both : (R : Pairing) (h : Keep) (k l : Listed) (j i : Judged PlainValue) → Likewise R k l → Alike (SameArgument R) j i → Likewise R (with_argument h k j) (with_argument h l i)
 unfolding with_argument
 with_argument_both R h k l j i a b =
-    on_both (Pairs (SameValues R) (SameValue R)) (SameValues R) (pair h k.found j.found) (pair h l.found i.found) (λ (vs, v). Ok (with_value vs v)) (λ (vs, v). Ok (with_value vs v))
-    (pair_both (SameValues R) (SameValue R) h h k.found l.found j.found i.found a b) (λ p q both. with_value_both R both.0 both.1)
+    on_both (Pairs (SameArguments R) (SameArgument R)) (SameArguments R) (pair h k.found j.found) (pair h l.found i.found) (λ (vs, v). Ok (with_value vs v)) (λ (vs, v). Ok (with_value vs v))
+    (pair_both (SameArguments R) (SameArgument R) h h k.found l.found j.found i.found a b) (λ p q both. with_value_both R both.0 both.1)
 
 -- ## Calls
 
@@ -136,7 +135,7 @@ result_both R library.Malloc = same_void
 result_both R library.Calloc = same_void
 result_both R library.Free = same_void
 
-call_value_both : (R : Pairing) (at name_at to name_to : At) (c d : Callee) → SameCallee R c d → (vs ws : PlainValues) → SameValues R vs ws → Ruling (SameOperand R) (call_value at name_at c vs) (call_value to name_to d ws)
+call_value_both : (R : Pairing) (at name_at to name_to : At) (c d : Callee) → SameCallee R c d → (vs ws : PlainValues) → SameArguments R vs ws → Ruling (SameOperand R) (call_value at name_at c vs) (call_value to name_to d ws)
 call_value_both R at name_at to name_to c d (same_of_program ts k) vs ws h = same_a_value (same_value (unqualified_same R k) (same_call h))
 call_value_both R at name_at to name_to c d (same_of_library {f = f}) vs ws h = same_a_value (same_value (result_both R f) (same_built_in h))
 call_value_both R at name_at to name_to c d same_not_declared vs ws h = tt
@@ -155,7 +154,7 @@ unfolding call_judged
 call_judged_both R h at name_at to name_to c d same count other k l a =
     refused_both (SameOperand R) h h k.unordered l.unordered subset.UnspecifiedOrder subset.UnspecifiedOrder at to _ _
     (problem_both (SameOperand R) h (call_problem at name_at c count) (call_problem to name_to d other) _ _
-    (on_both (SameValues R) (SameOperand R) k.found l.found (call_value at name_at c) (call_value to name_to d) a (call_value_both R at name_at to name_to c d same)))
+    (on_both (SameArguments R) (SameOperand R) k.found l.found (call_value at name_at c) (call_value to name_to d) a (call_value_both R at name_at to name_to c d same)))
 
 pub operand_call_both : (R : Pairing) (h : Keep) (at to : At) (c d : Callee) (j k : Judged PlainOperand) → Alike (SameOperand R) j k → Alike (SameOperand R) (operand_call h at c j) (operand_call h to d k)
 unfolding operand_call
@@ -188,9 +187,9 @@ pub for_memory_both : {A : Type 0} (P : A → A → Type 0) (x y : Option (Libra
 for_memory_both P x y go went other others same_no_memory each last = last
 for_memory_both P x y go went other others (same_memory {f = f} {at = at} {to = to}) each last = each f at to
 
-counts_both : (R : Pairing) {v w : Option PlainValue} → SameMaybe R v w → SameValues R (count_arguments v) (count_arguments w)
-counts_both R same_none = same_no_values
-counts_both R (same_some h) = same_more_values h same_no_values
+counts_both : (R : Pairing) {v w : Option PlainValue} → SameMaybe R v w → SameArguments R (count_arguments v) (count_arguments w)
+counts_both R same_none = same_no_arguments
+counts_both R (same_some h) = same_more_arguments (same_as_value h) same_no_arguments
 
 pub allocation_both : (R : Pairing) (cast_at at name_at cast_to to name_to : At) (t u a b : PlainType) (f : Library) (v w : Option PlainValue) → SameType R t u → SameMaybe R v w
     → Ruling (SameOperand R) (allocation cast_at t at name_at f a v) (allocation cast_to u to name_to f b w)

@@ -32,7 +32,7 @@ use Rattle.p10_elabx.specs.Calls.{of_library, callee_of, library_wants, Wanted, 
 use Rattle.p10_elabx.specs.TypeNames.{Shape, declarator_place, name_place, specifiers_judged, pointer_judged, array_judged, open_array_judged, is_alone, lacks_prototype, no_parameters, parameter_judged, parameter_type, with_parameter, function_judged}
 use Rattle.p10_elabx.specs.Literals.{constant_of_type, integer_value, character_by, string_by, strings_value, first_type, constant_types}
 use Rattle.p10_elabx.specs.Judging.{undeclared_name, name_found, valued, operation_of, is_and, is_star, unary_found, unary_judged, unary_by_sign, may_be_place, place_of, address_judged, values_judged, truth_judged, binary_judged, conditional_judged, index_judged, member_judged, arrow_judged, size_judged, shape_size, type_size_judged, cast_found, is_void_shape, cast_judged, nested, comma_judged, sized_shape, shape_allocation, one_element, counted_elements, size_shape, either_size, either_shape, two_sizes, other_allocation, product_judged, cleared_judged, count_of, called_name, memory_called, value_in, judge, judge_arguments, judge_cast, judge_allocation, judge_bytes, judge_size, judge_type, judge_declarator, judge_parameters}
-use Rattle.p10_renaming.specs.Renaming.{Pairing, SameType, same_void, same_integer, same_pointer, same_array, same_structure, SameValue, same_value, same_constant, same_place, same_variable, same_global, same_literal, same_no_values, SameMaybe, same_none, same_some}
+use Rattle.p10_renaming.specs.Renaming.{Pairing, SameType, same_void, same_integer, same_pointer, same_array, same_structure, SameValue, same_value, same_constant, same_place, same_variable, same_global, same_literal, same_no_arguments, SameMaybe, same_none, same_some}
 use Rattle.p10_expression_renaming.specs.Mapped.{mapped_expression, mapped_expressions, mapped_type_name, mapped_specifiers, mapped_declarator, mapped_parameters, mapped_qualifier}
 use Rattle.p10_expression_renaming.specs.Knowing.{Together, Ruling, SameOperand, same_a_value, same_a_place, same_a_function, SameTypes, same_no_types, same_local, same_object, same_callable, same_number, SameScope, SameStructures, IsOneToOne}
 use Rattle.p10_expression_renaming.specs.Laws.{ExpressionsRenamed}
@@ -369,7 +369,7 @@ mutual
       (judge_arguments h s (wanted_of (wants_of (callee_of (named s name) name)) (count_of (mapped_expressions left all))) 0 no_arguments (mapped_expressions left all))
       (judge_arguments h t (wanted_of (wants_of (callee_of (named t name) name)) (count_of (mapped_expressions right all))) 0 no_arguments (mapped_expressions right all))
       (arguing R one h s t know (wanted_of (wants_of (callee_of (named s name) name)) (count_of (mapped_expressions left all))) (wanted_of (wants_of (callee_of (named t name) name)) (count_of (mapped_expressions right all)))
-      (wants_same R s t know name (count_of (mapped_expressions left all)) (count_of (mapped_expressions right all)) (as_many all)) 0 no_arguments no_arguments same_no_values all))
+      (wants_same R s t know name (count_of (mapped_expressions left all)) (count_of (mapped_expressions right all)) (as_many all)) 0 no_arguments no_arguments same_no_arguments all))
       (other_call_both R h at.0 at.1 (on_left h s e) (on_right h t e) (judge_arguments h s [] 0 no_arguments (mapped_expressions left all)) (judge_arguments h t [] 0 no_arguments (mapped_expressions right all)))
   judging R one h s t know (expression at n (Index a i)) =
       index_both R one h s.structures t.structures at.0 at.1 (value_in s (on_left h s a)) (value_in t (on_right h t a)) (value_in s (on_left h s i)) (value_in t (on_right h t i))

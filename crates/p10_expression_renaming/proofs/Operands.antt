@@ -9,15 +9,22 @@ use Rattle.p10_elabx.specs.First.{Judged}
 use Rattle.p10_elabx.specs.Scopes.{PlainScope}
 use Rattle.p10_elabx.specs.Operands.{PlainOperand, sensed, read_form, read_value, place_value, operand_value, not_void, any_value, as_value, converted}
 use Rattle.p10_elabx.specs.Judging.{value_in}
-use Rattle.p10_renaming.specs.Renaming.{Pairing, SameType, same_array, same_pointer, SameValue, same_value, SameForm, same_read, same_sense, same_decay, same_convert, SamePlace, same_place, same_global}
+use Rattle.p10_renaming.specs.Renaming.{Pairing, SameType, same_array, same_pointer, SameValue, same_value, SameParameterType, SameArgument, same_as_value, same_as_parameter, passing, SameForm, same_read, same_sense, same_decay, same_convert, SamePlace, same_place, same_global}
 use Rattle.p10_expression_renaming.specs.Knowing.{Ruling, SameOperand, same_a_value, same_a_place, same_a_function, IsOneToOne}
 use Rattle.p10_expression_renaming.proofs.Finding.{by_same, when_ok, unless_ok, on_both, part_both, Alike}
-use Rattle.p10_expression_renaming.proofs.Types.{one_same, unqualified_same}
+use Rattle.p10_expression_renaming.proofs.Types.{one_same, unqualified_same, passing_one, type_passed, parameter_type}
 use Rattle.p10_expression_renaming.proofs.Values.{type_same, place_type_same}
 
+-- a value that is converted
 pub converted_both : (R : Pairing) → IsOneToOne R → (v w : PlainValue) (t u : PlainType) → SameValue R v w → SameType R t u → SameValue R (converted v t) (converted w u)
 converted_both R one v w t u h k =
     by_same (SameValue R) (same (type_of v) t) (same (type_of w) u) (one_same R one (type_same R h) k) v (value (at_of v) t (convert v)) w (value (at_of w) u (convert w)) h (same_value k (same_convert h))
+
+-- so is an argument, to the type of its parameter
+pub argument_converted : (R : Pairing) → IsOneToOne R → (v w : PlainValue) (t u : PlainType) → SameValue R v w → SameParameterType (passing R) t u → SameArgument R (converted v t) (converted w u)
+argument_converted R one v w t u h k =
+    by_same (SameArgument R) (same (type_of v) t) (same (type_of w) u) (one_same (passing R) (passing_one R one) (type_passed R one (type_same R h)) (parameter_type (passing R) k))
+    v (value (at_of v) t (convert v)) w (value (at_of w) u (convert w)) (same_as_value h) (same_as_parameter k (same_convert h))
 
 sensed_both : (R : Pairing) {q r : PlainPlace} → SamePlace R q r → SameForm R (sensed q) (sensed r)
 sensed_both R (same_place h same_global) = same_sense

@@ -9,8 +9,8 @@ use Rattle.p10_elabx.specs.First.{Judged}
 use Rattle.p10_elabx.specs.Scopes.{Meaning}
 use Rattle.p10_elabx.specs.Calls.{Callee, of_program, of_library, not_declared, no_function, refused_before, Wanted, anything, of_type, any_scalar, any_pointer}
 use Rattle.p10_elabx.specs.TypeNames.{Shape, a_type, an_open_array, a_function_type}
-use Rattle.p10_renaming.specs.Renaming.{Pairing, SameType}
-use Rattle.p10_expression_renaming.specs.Knowing.{Together, SameMeaning, SameTypes}
+use Rattle.p10_renaming.specs.Renaming.{Pairing, passing, SameType, SameParameterType}
+use Rattle.p10_expression_renaming.specs.Knowing.{Together, SameMeaning, SameTypes, SameParameterTypes}
 
 -- ## Names
 
@@ -45,7 +45,7 @@ pub data SameSize (R : Pairing) : Option (Judged Shape) → Option (Judged Shape
 -- ## Calls
 
 pub data SameCallee (R : Pairing) : Callee → Callee → Type 0 where
-  same_of_program : {n : ℕ} {ts us : List PlainType} {t u : PlainType} → SameTypes R ts us → SameType R t u → SameCallee R (of_program n ts t) (of_program n us u)
+  same_of_program : {n : ℕ} {ts us : List PlainType} {t u : PlainType} → SameParameterTypes (passing R) ts us → SameType R t u → SameCallee R (of_program n ts t) (of_program n us u)
   same_of_library : {f : Library} → SameCallee R (of_library f) (of_library f)
   same_not_declared : SameCallee R not_declared not_declared
   same_no_function : SameCallee R no_function no_function
@@ -53,7 +53,7 @@ pub data SameCallee (R : Pairing) : Callee → Callee → Type 0 where
 
 pub data SameWanted (R : Pairing) : Wanted → Wanted → Type 0 where
   same_anything : SameWanted R anything anything
-  same_of_type : {t u : PlainType} → SameType R t u → SameWanted R (of_type t) (of_type u)
+  same_of_type : {t u : PlainType} → SameParameterType (passing R) t u → SameWanted R (of_type t) (of_type u)
   same_any_scalar : SameWanted R any_scalar any_scalar
   same_any_pointer : SameWanted R any_pointer any_pointer
 

@@ -9,7 +9,7 @@ use Rattle.p10_elabx.specs.declared.operand.PlaceKind.{PlaceKind}
 use Rattle.p10_elabx.specs.First.{Found, Ruled, lift}
 use Rattle.p10_elabx.specs.Scopes.{Meaning, local, object, callable, number, named_type, tagged_type, unknown_name, unknown_tag, Binding, PlainScope}
 use Rattle.p10_elabx.specs.Operands.{PlainOperand, a_value, a_place, a_function}
-use Rattle.p10_renaming.specs.Renaming.{Pairing, SameType, SameValue, SamePlace}
+use Rattle.p10_renaming.specs.Renaming.{Pairing, passing, SameType, SameParameterType, SameValue, SamePlace}
 
 -- ## What is found
 
@@ -38,10 +38,15 @@ pub data SameTypes (R : Pairing) : List PlainType → List PlainType → Type 0 
   same_no_types : SameTypes R [] []
   same_more_types : {t u : PlainType} {ts us : List PlainType} → SameType R t u → SameTypes R ts us → SameTypes R (t ∷ ts) (u ∷ us)
 
+-- types of parameters, in order
+pub data SameParameterTypes (R : Pairing) : List PlainType → List PlainType → Type 0 where
+  same_no_parameter_types : SameParameterTypes R [] []
+  same_more_parameter_types : {t u : PlainType} {ts us : List PlainType} → SameParameterType R t u → SameParameterTypes R ts us → SameParameterTypes R (t ∷ ts) (u ∷ us)
+
 pub data SameMeaning (R : Pairing) : Meaning → Meaning → Type 0 where
   same_local : {n : ℕ} {t u : PlainType} {frame : Bool} → SameType R t u → SameMeaning R (local n t frame) (local n u frame)
   same_object : {n m : ℕ} {t u : PlainType} {sensor : Bool} → SameType R t u → SameMeaning R (object n t sensor) (object m u sensor)
-  same_callable : {n : ℕ} {ts us : List PlainType} {t u : PlainType} → SameTypes R ts us → SameType R t u → SameMeaning R (callable n ts t) (callable n us u)
+  same_callable : {n : ℕ} {ts us : List PlainType} {t u : PlainType} → SameParameterTypes (passing R) ts us → SameType R t u → SameMeaning R (callable n ts t) (callable n us u)
   same_number : {z : ℤ} → SameMeaning R (number z) (number z)
   same_named_type : {t u : PlainType} → SameType R t u → SameMeaning R (named_type t) (named_type u)
   same_tagged_type : {t u : PlainType} → SameType R t u → SameMeaning R (tagged_type t) (tagged_type u)
@@ -58,8 +63,8 @@ pub data SameMembers (R : Pairing) : List PlainMember → List PlainMember → T
 
 -- structures that are paired have the same members and sizes
 pub record SameStructures (R : Pairing) (these others : List PlainStructure) : Type 0 where
-  pub members : (n m : ℕ) → R n m ≡ true → SameMembers R (members_of these n) (members_of others m)
-  pub sizes : (c : Bool) (n m : ℕ) → R n m ≡ true → size_of these (structure c n) ≡ size_of others (structure c m)
+  pub members : (n m : ℕ) → R.used n m ≡ true → SameMembers R (members_of these n) (members_of others m)
+  pub sizes : (c : Bool) (n m : ℕ) → R.used n m ≡ true → size_of these (structure c n) ≡ size_of others (structure c m)
 
 -- the same names, for the same
 pub record SameScope (R : Pairing) (s t : PlainScope) : Type 0 where
@@ -67,6 +72,7 @@ pub record SameScope (R : Pairing) (s t : PlainScope) : Type 0 where
   pub names : SameBindings R s.names t.names
   pub tags : SameBindings R s.tags t.tags
 
--- each structure is one of the other program
-abbrev pub IsOneToOne : Pairing → Type 0
-IsOneToOne R = (n m i j : ℕ) → R n i ≡ true → R m j ≡ true → nat_eq n m ≡ nat_eq i j
+-- each structure is one of the other program, and those that are used are among all
+pub record IsOneToOne (R : Pairing) : Type 0 where
+  pub numbers : (n m i j : ℕ) → R.passed n i ≡ true → R.passed m j ≡ true → nat_eq n m ≡ nat_eq i j
+  pub within : (n m : ℕ) → R.used n m ≡ true → R.passed n m ≡ true

@@ -2,7 +2,7 @@
 use Rattle.std.proofs.Common.{List, Option}
 use Rattle.p10_core.specs.Types.{PlainType}
 use Rattle.p10_core.specs.Typed.{PlainValue, PlainForm, PlainPlace, PlainPlaceForm, PlainValues, PlainWritten, PlainItem, PlainInitializer, PlainStatement, PlainStatementForm, PlainStatements, PlainVariable}
-use Rattle.p10_renaming.specs.Renaming.{Pairing, SameType, same_void, same_integer, same_pointer, same_array, same_structure, SameValue, same_value, SameForm, same_constant, same_read, same_sense, same_address, same_decay, same_convert, same_cast, same_unary, same_binary, same_logic, same_conditional, same_call, same_built_in, SamePlace, same_place, SamePlaceForm, same_variable, same_global, same_literal, same_index, same_member, same_dereference, SameValues, same_no_values, same_more_values}
+use Rattle.p10_renaming.specs.Renaming.{Pairing, passing, SameParameterType, same_integer_passed, same_pointer_passed, SameArgument, same_as_value, same_as_parameter, SameType, same_void, same_integer, same_pointer, same_array, same_structure, SameValue, same_value, SameForm, same_constant, same_read, same_sense, same_address, same_decay, same_convert, same_cast, same_unary, same_binary, same_logic, same_conditional, same_call, same_built_in, SamePlace, same_place, SamePlaceForm, same_variable, same_global, same_literal, same_index, same_member, same_dereference, SameArguments, same_no_arguments, same_more_arguments}
 use Rattle.p10_renaming.specs.Renaming.{SameMaybe, same_none, same_some, SameWritten, same_scalar, same_text, SameItems, same_no_items, same_more_items, SameInitializer, same_not_initialized, same_single, same_copied, same_listed, SameStatement, same_statement, SameStatementForm, same_set, same_update, same_copy, same_evaluate, same_asserts, same_declare, same_declare_static, same_block, same_if_then, same_if_else, same_loop, same_switch, same_break, same_continue, same_return, same_empty, same_mark, SameStatements, same_no_statements, same_more_statements, SameVariables, same_no_variables, same_more_variables}
 use Rattle.p10_pairing_laws.specs.Laws.{IsWithin, FunctionsStaySame}
 
@@ -11,7 +11,15 @@ type_stays R Q more same_void = same_void
 type_stays R Q more same_integer = same_integer
 type_stays R Q more (same_pointer h) = same_pointer (type_stays R Q more h)
 type_stays R Q more (same_array h) = same_array (type_stays R Q more h)
-type_stays R Q more (same_structure {n = n} {m = m} paired) = same_structure (more n m paired)
+type_stays R Q more (same_structure {n = n} {m = m} paired) = same_structure (more.used n m paired)
+
+-- so it is among types of parameters
+pub within_passing : (R Q : Pairing) → IsWithin R Q → IsWithin (passing R) (passing Q)
+within_passing R Q more = record { used = more.passed; passed = more.passed }
+
+pub parameter_type_stays : (R Q : Pairing) → IsWithin R Q → {t u : PlainType} → SameParameterType R t u → SameParameterType Q t u
+parameter_type_stays R Q more same_integer_passed = same_integer_passed
+parameter_type_stays R Q more (same_pointer_passed h) = same_pointer_passed (type_stays R Q more h)
 
 mutual
   value_stays : (R Q : Pairing) → IsWithin R Q → {v w : PlainValue} → SameValue R v w → SameValue Q v w
@@ -29,8 +37,8 @@ mutual
   form_stays R Q more (same_binary h k) = same_binary (value_stays R Q more h) (value_stays R Q more k)
   form_stays R Q more (same_logic h k) = same_logic (value_stays R Q more h) (value_stays R Q more k)
   form_stays R Q more (same_conditional h j k) = same_conditional (value_stays R Q more h) (value_stays R Q more j) (value_stays R Q more k)
-  form_stays R Q more (same_call h) = same_call (values_stay R Q more h)
-  form_stays R Q more (same_built_in h) = same_built_in (values_stay R Q more h)
+  form_stays R Q more (same_call h) = same_call (arguments_stay R Q more h)
+  form_stays R Q more (same_built_in h) = same_built_in (arguments_stay R Q more h)
 
   place_stays : (R Q : Pairing) → IsWithin R Q → {p q : PlainPlace} → SamePlace R p q → SamePlace Q p q
   place_stays R Q more (same_place h f) = same_place (type_stays R Q more h) (place_form_stays R Q more f)
@@ -43,9 +51,13 @@ mutual
   place_form_stays R Q more (same_member h) = same_member (place_stays R Q more h)
   place_form_stays R Q more (same_dereference h) = same_dereference (value_stays R Q more h)
 
-  values_stay : (R Q : Pairing) → IsWithin R Q → {vs ws : PlainValues} → SameValues R vs ws → SameValues Q vs ws
-  values_stay R Q more same_no_values = same_no_values
-  values_stay R Q more (same_more_values h rest) = same_more_values (value_stays R Q more h) (values_stay R Q more rest)
+  argument_stays : (R Q : Pairing) → IsWithin R Q → {v w : PlainValue} → SameArgument R v w → SameArgument Q v w
+  argument_stays R Q more (same_as_value h) = same_as_value (value_stays R Q more h)
+  argument_stays R Q more (same_as_parameter h f) = same_as_parameter (parameter_type_stays (passing R) (passing Q) (within_passing R Q more) h) (form_stays R Q more f)
+
+  arguments_stay : (R Q : Pairing) → IsWithin R Q → {vs ws : PlainValues} → SameArguments R vs ws → SameArguments Q vs ws
+  arguments_stay R Q more same_no_arguments = same_no_arguments
+  arguments_stay R Q more (same_more_arguments h rest) = same_more_arguments (argument_stays R Q more h) (arguments_stay R Q more rest)
 
 maybe_stays : (R Q : Pairing) → IsWithin R Q → {o p : Option PlainValue} → SameMaybe R o p → SameMaybe Q o p
 maybe_stays R Q more same_none = same_none
@@ -78,7 +90,7 @@ mutual
   statement_form_stays R Q more (same_update h j k) = same_update (type_stays R Q more h) (place_stays R Q more j) (value_stays R Q more k)
   statement_form_stays R Q more (same_copy h k) = same_copy (place_stays R Q more h) (place_stays R Q more k)
   statement_form_stays R Q more (same_evaluate h) = same_evaluate (value_stays R Q more h)
-  statement_form_stays R Q more (same_asserts h) = same_asserts (value_stays R Q more h)
+  statement_form_stays R Q more (same_asserts h) = same_asserts (argument_stays R Q more h)
   statement_form_stays R Q more (same_declare h) = same_declare (initializer_stays R Q more h)
   statement_form_stays R Q more same_declare_static = same_declare_static
   statement_form_stays R Q more (same_block all) = same_block (statements_stay R Q more all)

@@ -7,12 +7,13 @@ use Rattle.p10_renaming.specs.Renaming.{Pairing, SameFunction}
 use Rattle.p10_declaration_renaming.specs.Standings.{SameWholeScope}
 
 -- each pair of the first is one of the second
-abbrev pub IsWithin : Pairing → Pairing → Type 0
-IsWithin R Q = (n m : ℕ) → R n m ≡ true → Q n m ≡ true
+pub record IsWithin (R Q : Pairing) : Type 0 where
+  pub used : (n m : ℕ) → R.used n m ≡ true → Q.used n m ≡ true
+  pub passed : (n m : ℕ) → R.passed n m ≡ true → Q.passed n m ≡ true
 
--- what the second pairs alone are structures that neither program has yet
+-- what the second pairs alone of those that are used are structures that neither program has yet
 abbrev pub IsNewPast : Pairing → Pairing → List PlainStructure → List PlainStructure → Type 0
-IsNewPast R Q these others = (n m : ℕ) → Q n m ≡ true → (R n m ≡ true) ⊎ ((length these ≤ n) × (length others ≤ m))
+IsNewPast R Q these others = (n m : ℕ) → Q.used n m ≡ true → (R.used n m ≡ true) ⊎ ((length these ≤ n) × (length others ≤ m))
 
 -- functions that are the same stay so
 abbrev pub FunctionsStaySame : Type 0
@@ -22,4 +23,4 @@ FunctionsStaySame = (R Q : Pairing) → IsWithin R Q → (f g : PlainFunction) �
 abbrev pub ScopesStaySame : Type 0
 ScopesStaySame =
     (R Q : Pairing) → IsWithin R Q → (last later : ℕ) (s t : PlainScope) → IsNewPast R Q s.structures t.structures
-    → ((i : ℕ) → i + length s.structures < later → Q (i + length s.structures) (i + length t.structures) ≡ true) → SameWholeScope R last s t → SameWholeScope Q later s t
+    → ((i : ℕ) → i + length s.structures < later → Q.used (i + length s.structures) (i + length t.structures) ≡ true) → SameWholeScope R last s t → SameWholeScope Q later s t

@@ -2,6 +2,7 @@
 use Rattle.std.proofs.Common.{◌≡◌, ◌∙◌, ℕ, false, List, length, Option, Some, None, refl, sym, ap, subst}
 use Rattle.p10_base.specs.Gathered.{Gathered}
 use Rattle.p10_core.specs.Typed.{PlainProgram}
+use Rattle.p10_core.specs.WholePrograms.{IsWholeProgram}
 use Rattle.p10_cert.specs.Claims.{Claims}
 use Rattle.p10_cert.specs.Laws.{TextTellsStatement}
 use Rattle.p10_cert.specs.Statements.{Statement, IsStatement, statement_text}
@@ -26,7 +27,6 @@ use Rattle.p10_rechecks.specs.Laws.{WasAccepted}
 use Rattle.p10_recheck_command.specs.Rechecking.{edit_between, IsRechecked}
 use Rattle.p10_verify_command.specs.Answers.{IsEnough}
 use Rattle.p10_word_views.specs.Words.{DigestsTell}
-use Rattle.p10_equal_words.specs.Comparable.{EditedLeaveStructures}
 use Rattle.p10_equal_words.specs.Laws.{ComparableFilesRecheckBySections}
 use Rattle.p10_recheck_laws.specs.Laws.{WasAcceptedFor, RecheckTellsAsVerify}
 
@@ -54,6 +54,7 @@ of_text stands p digests bytes s (said.Stale at kept found) good exact is = reco
 was_accepted : (g : Gathered) (r : PlainReading) (old : List ℕ) (w : WasAcceptedFor g r old)
     → WasAccepted (standing_by w.program w.claimed.has.ranked.ranks) w.program (reading_digests r).funcs (reading_digests r).outside w.claimed.certificate
 was_accepted g r old w = record {
+  whole = w.whole;
   each = w.each;
   outside_is = w.outside;
   total = w.total;
@@ -73,32 +74,32 @@ enough (Accepted bounds) = refl
 
 module _ (texts : TextTellsStatement) (files : ComparableFilesRecheckBySections) where
   rechecked_weighed : (g h : Gathered) (r s : PlainReading) (old new : List ℕ) (p : PlainProgram) (digests : PlainDigests) → WasAcceptedFor g r old → AreReadAs h s p → digests ≡ reading_digests s
-      → length digests.funcs ≡ length p.functions → EditedLeaveStructures r s → DigestsTell r s → (judgement : Judgement) (passed : Passed) → IsRechecked p digests new old judgement passed → IsWeighed p digests.funcs new judgement
-  rechecked_weighed g h r s old new p digests w read are each leave tell judgement passed x =
+      → IsWholeProgram p → length digests.funcs ≡ length p.functions → DigestsTell r s → (judgement : Judgement) (passed : Passed) → IsRechecked p digests new old judgement passed → IsWeighed p digests.funcs new judgement
+  rechecked_weighed g h r s old new p digests w read are whole each tell judgement passed x =
       let before : Statement = w.claimed.certificate in
       let ranks : Option (List Rank) = x.is_new.ranked.ranks in
       let same : x.before ≡ before = texts x.before before x.is_old.good w.claimed.read.is_certificate (sym x.is_old.exact ∙ w.claimed.read.text_is) in
       let e : Edit = edit_between digests before x.after in
       let is : IsRecheckVerdict (standing_by p ranks) p e x.verdict =
       subst (λ (b : Statement). IsRecheckVerdict (standing_by p ranks) p (edit_between digests b x.after) x.verdict) same x.is.verdict_is in
-      let whole : IsStatementVerdict (standing_by p ranks) p digests.funcs x.after x.verdict =
-      files g h r s w.program p w.read read (ap (λ (d : PlainDigests). length d.funcs) (sym are) ∙ each) leave tell e
+      let judged : IsStatementVerdict (standing_by p ranks) p digests.funcs x.after x.verdict =
+      files g h r s w.program p w.read read whole (ap (λ (d : PlainDigests). length d.funcs) (sym are) ∙ each) tell e
       (record { digests = ap (λ (d : PlainDigests). d.funcs) are; outside = ap (λ (d : PlainDigests). d.outside) are })
       w.claimed.has.ranked.ranks ranks x.verdict w.claimed.has.ranked.are x.is_new.ranked.are (was_accepted g r old w) is in
       subst (IsWeighed p digests.funcs new) (sym x.told)
       (weighed p digests.funcs new ranks x.verdict x.is_new.text.short
       (λ t good exact. subst (λ (u : Statement). AreRanks (diff_lines u) ranks) (texts x.after t x.is_new.text.good good (sym x.is_new.text.exact ∙ exact)) x.is_new.ranked.are)
-      (of_text (standing_by p ranks) p digests.funcs new x.after x.verdict x.is_new.text.good x.is_new.text.exact whole))
+      (of_text (standing_by p ranks) p digests.funcs new x.after x.verdict x.is_new.text.good x.is_new.text.exact judged))
 
   pub recheck_tells_as_verify : RecheckTellsAsVerify
-  recheck_tells_as_verify seen c g h r judgement passed to w leave tell = (
+  recheck_tells_as_verify seen c g h r judgement passed to w tell = (
     to.program,
     to.has.has,
     record {
       bytes = to.new;
       given = to.new_given;
       weighed = subst (λ (d : PlainDigests). IsWeighed to.program d.funcs to.new judgement) to.has.are
-          (rechecked_weighed g h r to.has.has.reading to.old to.new to.program to.digests w to.has.has.read to.has.are to.has.each leave tell judgement passed to.is);
+          (rechecked_weighed g h r to.has.has.reading to.old to.new to.program to.digests w to.has.has.read to.has.are to.has.has.whole to.has.each tell judgement passed to.is);
     },
     enough judgement,
   )

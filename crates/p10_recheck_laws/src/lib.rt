@@ -1,7 +1,7 @@
 //! What `recheck` tells after an edit is what `verify` tells.
 //!
 //! Nothing runs here; the function of [`laws`] stands for the law. It asks that the certificate from before the edit was accepted for the sources
-//! from before it, that digests tell the words of both, and that no body which was edited completes a structure that its parameters declare.
+//! from before it, and that digests tell the words of both.
 #![tactic(auto)]
 
 pub mod laws;

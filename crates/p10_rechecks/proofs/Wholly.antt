@@ -4,6 +4,7 @@ use Rattle.std.specs.Prelude.{slice_get}
 use Rattle.std.proofs.lemmas.Option.{same_Some}
 use Rattle.p10_core.specs.Typed.{PlainFunction, PlainProgram}
 use Rattle.p10_core.specs.Nodes.{nodes_of_statements}
+use Rattle.p10_core.specs.WholePrograms.{IsWholeProgram}
 use Rattle.p10_calls.specs.CallSites.{call_sites}
 use Rattle.p10_cert.specs.Statements.{Entry}
 use Rattle.p10_sums.specs.Depths.{callees}
@@ -28,20 +29,20 @@ agree p e n g there own called = record {
   called = all_weaker (λ m. is_touched e m ≡ false) (SayTheSame (claims_in e.old).funcs (claims_in e.new).funcs) (λ m isn't. claims_kept e m (untouched e m isn't)) (callees (nodes_of_statements g.body)) (callees_untouched p (is_touched e) n g there called);
 }
 
-clean : (old new : Standing) (q p : PlainProgram) (digests : List (List ℕ)) (outside : List ℕ) (e : Edit) → WasAccepted old q digests outside e.old → ViewsStay q digests outside p e → EvidenceStays old q new p e
+clean : (old new : Standing) (q p : PlainProgram) (digests : List (List ℕ)) (outside : List ℕ) (e : Edit) → WasAccepted old q digests outside e.old → IsWholeProgram p → ViewsStay q digests outside p e → EvidenceStays old q new p e
     → (n : ℕ) (g : PlainFunction) → slice_get p.functions n ≡ Some g → is_dirty p e n ≡ false → function_failures new p (claims_in e.new) n g ≡ []
-clean old new q p digests outside e was views evidence n g there isn't =
+clean old new q p digests outside e was whole views evidence n g there isn't =
     let parts = neither_holds (is_touched e n) (calls_touched e n (call_sites p)) isn't in
     let kept : IsKept e n = untouched e n parts.0 in
     let f : Stood old q digests e.old n kept.found =
     stood old q digests outside e.old was n kept.old kept.found kept.was kept.words (claim_there e.old n ∙ ap (option_map (λ (x : Entry). x.func)) kept.was) in
     let out : outside ≡ e.outside = same_Some outside e.outside (sym was.outside_is ∙ outside_kept e kept.none) in
     let view : view_of q n f.function ≡ view_of p n g = views n f.function g f.there there out (f.digest ∙ sym kept.digest) in
-    views_decide old new q p (claims_in e.old) (claims_in e.new) n f.function g f.there there view (agree p e n g there parts.0 parts.1) (evidence kept.none n f.function g f.there there view) f.none
+    views_decide old new q p was.whole whole (claims_in e.old) (claims_in e.new) n f.function g f.there there view (agree p e n g there parts.0 parts.1) (evidence kept.none n f.function g f.there there view) f.none
 
 pub rechecks_as_whole : RechecksAsWhole
-rechecks_as_whole old new q p digests outside e verdict was views evidence is = clean_functions_suffice new p e verdict (clean old new q p digests outside e was views evidence) is
+rechecks_as_whole old new q p digests outside e verdict was whole views evidence is = clean_functions_suffice new p e verdict (clean old new q p digests outside e was whole views evidence) is
 
 pub ranges_recheck_as_whole : RangesRecheckAsWhole
-ranges_recheck_as_whole q p digests outside e verdict was views is =
-    rechecks_as_whole (stands_by_ranges q) (stands_by_ranges p) q p digests outside e verdict was views (λ none n f g here there view. ranges_stand_by_view q p n f g here there view) is
+ranges_recheck_as_whole q p digests outside e verdict was whole views is =
+    rechecks_as_whole (stands_by_ranges q) (stands_by_ranges p) q p digests outside e verdict was whole views (λ none n f g here there view. ranges_stand_by_view q p n f g here there view) is

@@ -3,10 +3,10 @@ use Rattle.std.proofs.Common.{◌≡◌, List, ◌∷◌, map, Option, Some, opt
 use Rattle.p10_core.specs.Typed.{PlainValue, value, PlainForm, read, address, decay, convert, cast, unary, binary, logic, conditional, call, built_in, PlainPlace, place, PlainPlaceForm, index, member, dereference, PlainValues, more_values}
 use Rattle.p10_core.specs.Typed.{PlainWritten, one_scalar, PlainItem, PlainInitializer, single, copied, listed, PlainStatement, statement, PlainStatementForm, set, update, copy, evaluate, asserts, declare, block, if_then, if_else, loop, switch, return, PlainStatements, more_statements, PlainVariable, PlainProgram}
 use Rattle.p10_views.specs.Erased.{no_span, no_place, erased_value, erased_form, erased_place, erased_place_form, erased_values, erased_written, erased_item, erased_initializer, erased_statement, erased_statement_form, erased_statements, erased_variable}
-use Rattle.p10_renaming.specs.Renaming.{Pairing, SameValue, same_value, SameForm, same_constant, same_read, same_sense, same_address, same_decay, same_convert, same_cast, same_unary, same_binary, same_logic, same_conditional, same_call, same_built_in, SamePlace, same_place, SamePlaceForm, same_variable, same_global, same_literal, same_index, same_member, same_dereference, SameValues, same_no_values, same_more_values, SameMaybe, same_none, same_some}
+use Rattle.p10_renaming.specs.Renaming.{Pairing, SameValue, same_value, SameForm, same_constant, same_read, same_sense, same_address, same_decay, same_convert, same_cast, same_unary, same_binary, same_logic, same_conditional, same_call, same_built_in, SamePlace, same_place, SamePlaceForm, same_variable, same_global, same_literal, same_index, same_member, same_dereference, SameArgument, same_as_value, same_as_parameter, SameArguments, same_no_arguments, same_more_arguments, passing, SameMaybe, same_none, same_some}
 use Rattle.p10_renaming.specs.Renaming.{SameWritten, same_scalar, same_text, SameItems, same_no_items, same_more_items, SameInitializer, same_not_initialized, same_single, same_copied, same_listed, SameStatement, same_statement, SameStatementForm, same_set, same_update, same_copy, same_evaluate, same_asserts, same_declare, same_declare_static, same_block, same_if_then, same_if_else, same_loop, same_switch, same_break, same_continue, same_return, same_empty, same_mark, SameStatements, same_no_statements, same_more_statements, SameVariables, same_no_variables, same_more_variables}
 use Rattle.p10_renaming.specs.Laws.{HasWidths, RenamedHaveOneView}
-use Rattle.p10_renaming.proofs.Widths.{type_same}
+use Rattle.p10_renaming.proofs.Widths.{type_same, parameter_type_same}
 
 mutual
   value_one : (R : Pairing) (p q : PlainProgram) → HasWidths R p q → {a b : PlainValue} → SameValue R a b → erased_value p a ≡ erased_value q b
@@ -38,9 +38,13 @@ mutual
   place_form_one R p q widths (same_member {m = m} h) = λ i. member (place_one R p q widths h i) m
   place_form_one R p q widths (same_dereference h) = λ i. dereference (value_one R p q widths h i)
 
-  values_one : (R : Pairing) (p q : PlainProgram) → HasWidths R p q → {a b : PlainValues} → SameValues R a b → erased_values p a ≡ erased_values q b
-  values_one R p q widths same_no_values = refl
-  values_one R p q widths (same_more_values h k) = λ i. more_values (value_one R p q widths h i) (values_one R p q widths k i)
+  argument_one : (R : Pairing) (p q : PlainProgram) → HasWidths R p q → {a b : PlainValue} → SameArgument R a b → erased_value p a ≡ erased_value q b
+  argument_one R p q widths (same_as_value h) = value_one R p q widths h
+  argument_one R p q widths (same_as_parameter t f) = λ i. value no_place (parameter_type_same (passing R) p q t i) (form_one R p q widths f i)
+
+  values_one : (R : Pairing) (p q : PlainProgram) → HasWidths R p q → {a b : PlainValues} → SameArguments R a b → erased_values p a ≡ erased_values q b
+  values_one R p q widths same_no_arguments = refl
+  values_one R p q widths (same_more_arguments h k) = λ i. more_values (argument_one R p q widths h i) (values_one R p q widths k i)
 
 maybe_one : (R : Pairing) (p q : PlainProgram) → HasWidths R p q → {a b : Option PlainValue} → SameMaybe R a b → option_map (erased_value p) a ≡ option_map (erased_value q) b
 maybe_one R p q widths same_none = refl
@@ -69,7 +73,7 @@ mutual
   statement_form_one R p q widths (same_update {kind = kind} {op = op} t h k) = λ i. update kind op (type_same R p q widths t i) (place_one R p q widths h i) (value_one R p q widths k i)
   statement_form_one R p q widths (same_copy h k) = λ i. copy (place_one R p q widths h i) (place_one R p q widths k i)
   statement_form_one R p q widths (same_evaluate h) = λ i. evaluate (value_one R p q widths h i)
-  statement_form_one R p q widths (same_asserts h) = λ i. asserts no_place (value_one R p q widths h i)
+  statement_form_one R p q widths (same_asserts h) = λ i. asserts no_place (argument_one R p q widths h i)
   statement_form_one R p q widths (same_declare {n = n} h) = λ i. declare n (initializer_one R p q widths h i)
   statement_form_one R p q widths same_declare_static = refl
   statement_form_one R p q widths (same_block h) = λ i. block (statements_one R p q widths h i)

@@ -2,14 +2,14 @@
 use Rattle.std.specs.Prelude.{◌≡◌, ℕ, Bool, true}
 use Rattle.p10_core.specs.Types.{structure}
 use Rattle.p10_core.specs.Typed.{PlainFunction, PlainProgram}
-use Rattle.p10_meaning.specs.Values.{width}
 use Rattle.p10_sums.specs.Counting.{task_of}
+use Rattle.p10_views.specs.Erased.{own_width}
 use Rattle.p10_views.specs.Views.{view_of}
 use Rattle.p10_renaming.specs.Renaming.{Pairing, SameFunction}
 
--- structures that are paired have as many scalars
+-- structures that are paired have as many scalars of their own
 abbrev pub HasWidths : Pairing → PlainProgram → PlainProgram → Type 0
-HasWidths R p q = (c : Bool) (n m : ℕ) → R n m ≡ true → width p (structure c n) ≡ width q (structure c m)
+HasWidths R p q = (c : Bool) (n m : ℕ) → R.used n m ≡ true → own_width p (structure c n) ≡ own_width q (structure c m)
 
 -- functions with one number that are the same have one view, where the task loop stands at the same place
 abbrev pub RenamedHaveOneView : Type 0

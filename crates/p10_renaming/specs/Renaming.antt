@@ -15,9 +15,19 @@ use Rattle.p10_core.specs.Types.{PlainType, void, integer, pointer, array, struc
 use Rattle.p10_core.specs.Typed.{PlainValue, value, PlainForm, constant, read, sense, address, decay, convert, cast, unary, binary, logic, conditional, call, built_in, PlainPlace, place, PlainPlaceForm, variable, global, literal, index, member, dereference, PlainValues, no_values, more_values}
 use Rattle.p10_core.specs.Typed.{PlainWritten, one_scalar, scalars_of_text, PlainItem, PlainInitializer, not_initialized, single, copied, listed, PlainLabels, PlainStatement, statement, PlainStatementForm, set, update, copy, evaluate, asserts, declare, declare_static, block, if_then, if_else, loop, switch, break, continue, return, empty, mark, PlainStatements, no_statements, more_statements, PlainVariable, PlainFunction}
 
--- which structures of one program are which of another one, by their numbers, as a test
-abbrev pub Pairing : Type 0
-Pairing = ℕ → ℕ → Bool
+-- pairs of numbers, as a test
+abbrev pub Pairs : Type 0
+Pairs = ℕ → ℕ → Bool
+
+-- which structures of one program are which of another one, by their numbers: those that expressions and declarations use, and with them
+-- those that only types of parameters name
+pub record Pairing : Type 0 where
+  pub used : Pairs
+  pub passed : Pairs
+
+-- where types of parameters are compared
+abbrev pub passing : Pairing → Pairing
+passing R = record { used = R.passed; passed = R.passed }
 
 -- ## Types
 
@@ -26,7 +36,12 @@ pub data SameType (R : Pairing) : PlainType → PlainType → Type 0 where
   same_integer : {c : Bool} {kind : IntType} → SameType R (integer c kind) (integer c kind)
   same_pointer : {c : Bool} {t u : PlainType} → SameType R t u → SameType R (pointer c t) (pointer c u)
   same_array : {c : Bool} {t u : PlainType} {n : ℕ} → SameType R t u → SameType R (array c t n) (array c u n)
-  same_structure : {c : Bool} {n m : ℕ} → R n m ≡ true → SameType R (structure c n) (structure c m)
+  same_structure : {c : Bool} {n m : ℕ} → R.used n m ≡ true → SameType R (structure c n) (structure c m)
+
+-- types of parameters
+pub data SameParameterType (R : Pairing) : PlainType → PlainType → Type 0 where
+  same_integer_passed : {c : Bool} {kind : IntType} → SameParameterType R (integer c kind) (integer c kind)
+  same_pointer_passed : {c : Bool} {t u : PlainType} → SameType R t u → SameParameterType R (pointer c t) (pointer c u)
 
 -- ## Values and places
 
@@ -46,8 +61,8 @@ mutual
     same_binary : {op : BinOp} {a b c d : PlainValue} → SameValue R a c → SameValue R b d → SameForm R (binary op a b) (binary op c d)
     same_logic : {op : LogicOp} {a b c d : PlainValue} → SameValue R a c → SameValue R b d → SameForm R (logic op a b) (logic op c d)
     same_conditional : {v w a b c d : PlainValue} → SameValue R v w → SameValue R a c → SameValue R b d → SameForm R (conditional v a b) (conditional w c d)
-    same_call : {s t : Span} {n : ℕ} {vs ws : PlainValues} → SameValues R vs ws → SameForm R (call s n vs) (call t n ws)
-    same_built_in : {s t : Span} {f : Library} {vs ws : PlainValues} → SameValues R vs ws → SameForm R (built_in s f vs) (built_in t f ws)
+    same_call : {s t : Span} {n : ℕ} {vs ws : PlainValues} → SameArguments R vs ws → SameForm R (call s n vs) (call t n ws)
+    same_built_in : {s t : Span} {f : Library} {vs ws : PlainValues} → SameArguments R vs ws → SameForm R (built_in s f vs) (built_in t f ws)
 
   pub data SamePlace (R : Pairing) : PlainPlace → PlainPlace → Type 0 where
     same_place : {at to : At} {t u : PlainType} {f g : PlainPlaceForm} → SameType R t u → SamePlaceForm R f g → SamePlace R (place at t f) (place to u g)
@@ -60,9 +75,14 @@ mutual
     same_member : {q r : PlainPlace} {m : ℕ} → SamePlace R q r → SamePlaceForm R (member q m) (member r m)
     same_dereference : {v w : PlainValue} → SameValue R v w → SamePlaceForm R (dereference v) (dereference w)
 
-  pub data SameValues (R : Pairing) : PlainValues → PlainValues → Type 0 where
-    same_no_values : SameValues R no_values no_values
-    same_more_values : {v w : PlainValue} {vs ws : PlainValues} → SameValue R v w → SameValues R vs ws → SameValues R (more_values v vs) (more_values w ws)
+  -- an argument, which may be converted to the type of its parameter
+  pub data SameArgument (R : Pairing) : PlainValue → PlainValue → Type 0 where
+    same_as_value : {v w : PlainValue} → SameValue R v w → SameArgument R v w
+    same_as_parameter : {at to : At} {t u : PlainType} {f g : PlainForm} → SameParameterType (passing R) t u → SameForm R f g → SameArgument R (value at t f) (value to u g)
+
+  pub data SameArguments (R : Pairing) : PlainValues → PlainValues → Type 0 where
+    same_no_arguments : SameArguments R no_values no_values
+    same_more_arguments : {v w : PlainValue} {vs ws : PlainValues} → SameArgument R v w → SameArguments R vs ws → SameArguments R (more_values v vs) (more_values w ws)
 
 pub data SameMaybe (R : Pairing) : Option PlainValue → Option PlainValue → Type 0 where
   same_none : SameMaybe R None None
@@ -96,7 +116,7 @@ mutual
     same_update : {kind : UpdateKind} {op : BinOp} {t u : PlainType} {q r : PlainPlace} {v w : PlainValue} → SameType R t u → SamePlace R q r → SameValue R v w → SameStatementForm R (update kind op t q v) (update kind op u r w)
     same_copy : {a b c d : PlainPlace} → SamePlace R a c → SamePlace R b d → SameStatementForm R (copy a b) (copy c d)
     same_evaluate : {v w : PlainValue} → SameValue R v w → SameStatementForm R (evaluate v) (evaluate w)
-    same_asserts : {at to : At} {v w : PlainValue} → SameValue R v w → SameStatementForm R (asserts at v) (asserts to w)
+    same_asserts : {at to : At} {v w : PlainValue} → SameArgument R v w → SameStatementForm R (asserts at v) (asserts to w)
     same_declare : {n : ℕ} {x y : PlainInitializer} → SameInitializer R x y → SameStatementForm R (declare n x) (declare n y)
     same_declare_static : {n m : ℕ} → SameStatementForm R (declare_static n) (declare_static m)
     same_block : {ss tt : PlainStatements} → SameStatements R ss tt → SameStatementForm R (block ss) (block tt)

@@ -33,7 +33,7 @@ use Rattle.p10_renaming.specs.Renaming.{Pairing, SameType, SameVariables, same_n
 use Rattle.p10_expression_renaming.specs.MappedStatements.{mapped_statements, mapped_definition}
 use Rattle.p10_expression_renaming.specs.Knowing.{SameMeaning, same_local, same_object, same_callable, same_number, same_named_type, same_tagged_type, same_unknown_name, same_unknown_tag, SameBindings, same_no_bindings, same_more_bindings, IsOneToOne}
 use Rattle.p10_expression_renaming.proofs.Sameness.{SameName, same_no_name, same_name}
-use Rattle.p10_expression_renaming.proofs.Types.{size_same}
+use Rattle.p10_expression_renaming.proofs.Types.{size_same, parameter_type}
 use Rattle.p10_expression_renaming.proofs.TypeNames.{left, right}
 use Rattle.p10_declaration_renaming.specs.Standings.{Both, SameStanding, SameWholeScope, AreQuiet, SameNames, SameParameter, SameParameters, same_no_parameters, same_more_parameters, SameFunctionType, SameDeclared, same_of_type, same_of_open_array, same_of_function, same_of_part_function}
 use Rattle.p10_declaration_renaming.proofs.Alike.{quiet_before}
@@ -143,8 +143,8 @@ before_same : (R : Pairing) (last : ℕ) (f g : Frame) → SameFrame R f g → (
     → {vs ws : List PlainVariable} → SameVariables R vs ws → SameVariables R (named_before f s n p x vs) (named_before g v n q y ws)
 before_same R last f g same s v know n p q h None None e rest = rest
 before_same R last f g same s v know n p q h (Some x) (Some y) e rest =
-    one_variable R x.name y.name e x.place y.place p.type q.type h.type (size_of s.scope.structures p.type) (size_of v.scope.structures q.type)
-    (size_same R s.scope.structures v.scope.structures (scope_same R last s.scope v.scope know).structures h.type) (is_frame_variable f n p.type) (is_frame_variable g n q.type) (frame_same R f g same n n refl h.type) rest
+    one_variable R x.name y.name e x.place y.place p.type q.type (parameter_type R h.type) (size_of s.scope.structures p.type) (size_of v.scope.structures q.type)
+    (size_same R s.scope.structures v.scope.structures (scope_same R last s.scope v.scope know).structures (parameter_type R h.type)) (is_frame_variable f n p.type) (is_frame_variable g n q.type) (frame_same R f g same n n refl (parameter_type R h.type)) rest
 before_same R last f g same s v know n p q h None (Some y) e rest = absurd e
 before_same R last f g same s v know n p q h (Some x) None e rest = absurd e
 
@@ -267,7 +267,7 @@ by_type_same R one last h heads others same s d at to text k j know (Some x) (So
 by_type_same R one last h heads others same s d at to text k j know (Some x) (Some y) (same_of_function {f = f} {g = g} n) = λ quiet.
     let l : Linked = linked_of k (named_at at text) (function_type f) s true false in
     let m : Linked = linked_of j (named_at to text) (function_type g) s true false in
-    let linked : SameLinked R l m = linked_same R last at to text s true true false refl (function_type_same R n) k j know in
+    let linked : SameLinked R l m = linked_same R last at to text s true true false refl (function_type_same R one n) k j know in
     let a : Known = with_linked h heads l k in
     let b : Known = with_linked h others m j in
     body_same R one last h heads others l m linked f g n d.body a b (with_linked_same R last h heads others same l m linked k j know) quiet

@@ -14,8 +14,8 @@ use Rattle.p10_elabd.specs.Blocks.{with_name}
 use Rattle.p10_heads.specs.Heads.{Heads, number_in}
 use Rattle.p10_linkage.specs.Linkage.{LinkedType, is_function, Linked, last_linked, is_static, is_like_extern, internal_by, is_refused}
 use Rattle.p10_elab.specs.Knowledge.{Known, linked_number, meaning_by, linked_meaning, with_linked, linked_of}
-use Rattle.p10_renaming.specs.Renaming.{Pairing, SameType}
-use Rattle.p10_expression_renaming.specs.Knowing.{SameMeaning, same_object, same_callable, same_unknown_name, SameTypes}
+use Rattle.p10_renaming.specs.Renaming.{Pairing, passing, SameType}
+use Rattle.p10_expression_renaming.specs.Knowing.{SameMeaning, same_object, same_callable, same_unknown_name, SameParameterTypes}
 use Rattle.p10_declaration_renaming.specs.Standings.{Both, SameStanding}
 use Rattle.p10_declaration_renaming.proofs.Scopes.{declared_same}
 use Rattle.p10_statement_renaming.proofs.Declarations.{named_at, refusing_same}
@@ -75,7 +75,7 @@ pub more_linked : (R : Pairing) {ls ms : List Linked} → SameLinkeds R ls ms �
 more_linked R same_no_linked h = same_more_linked h same_no_linked
 more_linked R (same_more_linked k rest) h = same_more_linked k (more_linked R rest h)
 
-callable_same : (R : Pairing) (n m : ℕ) → n ≡ m → {ts us : List PlainType} → SameTypes R ts us → {t u : PlainType} → SameType R t u → SameMeaning R (callable n ts t) (callable m us u)
+callable_same : (R : Pairing) (n m : ℕ) → n ≡ m → {ts us : List PlainType} → SameParameterTypes (passing R) ts us → {t u : PlainType} → SameType R t u → SameMeaning R (callable n ts t) (callable m us u)
 callable_same R n m e {ts = ts} {us = us} hs {t = t} {u = u} h = subst (λ i. SameMeaning R (callable n ts t) (callable i us u)) e (same_callable hs h)
 
 meaning_same : (R : Pairing) {t u : LinkedType} → SameLinkedType R t u → (n m : ℕ) → (is_function t ≡ true → n ≡ m) → (b c : Bool) → b ≡ c → SameMeaning R (meaning_by t n b) (meaning_by u m c)

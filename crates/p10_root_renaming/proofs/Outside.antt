@@ -24,13 +24,13 @@ use Rattle.p10_elabs.specs.Locals.{specified_in, makes_sensors, no_initializer, 
 use Rattle.p10_elabs.specs.LocalDeclarations.{is_typedef}
 use Rattle.p10_elab.specs.Knowledge.{Known, linked_of, with_linked, with_standing, without_linkage}
 use Rattle.p10_elab.specs.Outer.{is_site, with_defined, is_extern, with_tentative, object_declared, before_in, composite_of, composite, gets_length, open_outside, array_outside, outer_type, object_outside, function_type, part_type, prototype_declared, object_by_type, object_by_form, by_type_outside, outer_named, outer_declarators, main_constants, declared_outside}
-use Rattle.p10_renaming.specs.Renaming.{Pairing, SameType, same_void, same_integer, same_pointer, same_array, same_structure}
+use Rattle.p10_renaming.specs.Renaming.{Pairing, passing, SameType, SameParameterType, same_void, same_integer, same_pointer, same_array, same_structure}
 use Rattle.p10_expression_renaming.specs.Mapped.{mapped_declarator}
 use Rattle.p10_expression_renaming.specs.MappedStatements.{mapped_initializer, mapped_init_declarator, mapped_declaration}
-use Rattle.p10_expression_renaming.specs.Knowing.{SameTypes, same_no_types, same_more_types, IsOneToOne}
+use Rattle.p10_expression_renaming.specs.Knowing.{SameParameterTypes, same_no_parameter_types, same_more_parameter_types, IsOneToOne}
 use Rattle.p10_expression_renaming.proofs.Finding.{by_same}
 use Rattle.p10_expression_renaming.proofs.Sameness.{SameName, same_no_name, same_name}
-use Rattle.p10_expression_renaming.proofs.Types.{one_same, unqualified_same}
+use Rattle.p10_expression_renaming.proofs.Types.{one_same, unqualified_same, parameter_type, parameter_passed, unqualified_parameter}
 use Rattle.p10_expression_renaming.proofs.TypeNames.{left, right}
 use Rattle.p10_declaration_renaming.specs.Standings.{Both, SameStanding, AreQuiet, SameParameters, same_no_parameters, same_more_parameters, SameFunctionType, SameListed, same_none_listed, same_more_listed, SamePartFunction, SameDeclared, same_of_type, same_of_open_array, same_of_function, same_of_part_function}
 use Rattle.p10_declaration_renaming.proofs.Boths.{both_map}
@@ -205,16 +205,16 @@ by_form_same R one last h heads others same s sensor at to text d k j know o q n
     (open_same R last h (gets_length (before_in k (named_at at text)) o) (gets_length (before_in j (named_at to text)) q)
     (declares_open_array a.declarator && not (is_written a.initial)) (declares_open_array b.declarator && not (is_written b.initial)) at to k.standing j.standing know.standing)) o q n
 
-parameter_types_same : (R : Pairing) {ps qs : List PlainParameter} → SameParameters R ps qs → SameTypes R (map (λ p. unqualified p.type) ps) (map (λ p. unqualified p.type) qs)
-parameter_types_same R same_no_parameters = same_no_types
-parameter_types_same R (same_more_parameters h rest) = same_more_types (unqualified_same R h.type) (parameter_types_same R rest)
+pub parameter_types_same : (R : Pairing) → IsOneToOne R → {ps qs : List PlainParameter} → SameParameters R ps qs → SameParameterTypes (passing R) (map (λ p. unqualified p.type) ps) (map (λ p. unqualified p.type) qs)
+parameter_types_same R one same_no_parameters = same_no_parameter_types
+parameter_types_same R one (same_more_parameters h rest) = same_more_parameter_types (unqualified_parameter (passing R) (parameter_passed R one h.type)) (parameter_types_same R one rest)
 
-pub function_type_same : (R : Pairing) {f g : FunctionType} → SameFunctionType R f g → SameLinkedType R (function_type f) (function_type g)
-function_type_same R h = same_a_function (parameter_types_same R h.parameters) h.result
+pub function_type_same : (R : Pairing) → IsOneToOne R → {f g : FunctionType} → SameFunctionType R f g → SameLinkedType R (function_type f) (function_type g)
+function_type_same R one h = same_a_function (parameter_types_same R one h.parameters) h.result
 
 listed_types_same : (R : Pairing) {ps qs : List ListedParameter} → SameListed R ps qs → SameKnownTypes R (map (λ p. option_map unqualified p.type) ps) (map (λ p. option_map unqualified p.type) qs)
 listed_types_same R same_none_listed = same_none_known
-listed_types_same R (same_more_listed {p = p} {q = q} h rest) = same_more_known (both_map (SameType R) (SameType R) unqualified unqualified (λ t u k. unqualified_same R k) p.type q.type h.type) (listed_types_same R rest)
+listed_types_same R (same_more_listed {p = p} {q = q} h rest) = same_more_known (both_map (SameParameterType R) (SameType R) unqualified unqualified (λ t u k. unqualified_same R (parameter_type R k)) p.type q.type h.type) (listed_types_same R rest)
 
 pub part_type_same : (R : Pairing) {f g : PartFunction} → SamePartFunction R f g → SameLinkedType R (part_type f) (part_type g)
 part_type_same R h = same_a_part_function (record { parameters = listed_types_same R h.parameters; list = h.list; result = h.result })
@@ -237,7 +237,7 @@ declared_same R one last h heads others same s sensor at to text d k j know (Som
 declared_same R one last h heads others same s sensor at to text d k j know (Some x) (Some y) (same_of_open_array {t = t} {u = u} n) =
     by_form_same R one last h heads others same s sensor at to text d k j know (Some (of_open_array t)) (Some (of_open_array u)) (same_of_open_array n)
 declared_same R one last h heads others same s sensor at to text d k j know (Some x) (Some y) (same_of_function {f = f} {g = g} n) =
-    prototype_same R one last h heads others same at to text (function_type f) (function_type g) (function_type_same R n) s d.initial k j know
+    prototype_same R one last h heads others same at to text (function_type f) (function_type g) (function_type_same R one n) s d.initial k j know
 declared_same R one last h heads others same s sensor at to text d k j know (Some x) (Some y) (same_of_part_function {f = f} {g = g} n) =
     prototype_same R one last h heads others same at to text (part_type f) (part_type g) (part_type_same R n) s d.initial k j know
 declared_same R one last h heads others same s sensor at to text d k j know None (Some y) n = absurd n

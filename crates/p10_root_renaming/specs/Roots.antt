@@ -6,8 +6,8 @@ use Rattle.p10_core.specs.Typed.{PlainFunction}
 use Rattle.p10_heads.specs.Heads.{Heads, number_in}
 use Rattle.p10_linkage.specs.Linkage.{PartType, LinkedType, a_function, an_object, a_part_function, unknown_object, Linked}
 use Rattle.p10_elab.specs.Knowledge.{Known}
-use Rattle.p10_renaming.specs.Renaming.{Pairing, SameType, SameFunction}
-use Rattle.p10_expression_renaming.specs.Knowing.{SameTypes}
+use Rattle.p10_renaming.specs.Renaming.{Pairing, passing, SameType, SameFunction}
+use Rattle.p10_expression_renaming.specs.Knowing.{SameParameterTypes}
 use Rattle.p10_declaration_renaming.specs.Standings.{Both, SameStanding, AreQuiet}
 
 -- ## Names with linkage
@@ -24,7 +24,7 @@ pub record SamePart (R : Pairing) (p q : PartType) : Type 0 where
   pub result : Both (SameType R) p.result q.result
 
 pub data SameLinkedType (R : Pairing) : LinkedType → LinkedType → Type 0 where
-  same_a_function : {ts us : List PlainType} {t u : PlainType} → SameTypes R ts us → SameType R t u → SameLinkedType R (a_function ts t) (a_function us u)
+  same_a_function : {ts us : List PlainType} {t u : PlainType} → SameParameterTypes (passing R) ts us → SameType R t u → SameLinkedType R (a_function ts t) (a_function us u)
   same_an_object : {t u : PlainType} → SameType R t u → SameLinkedType R (an_object t) (an_object u)
   same_a_part_function : {p q : PartType} → SamePart R p q → SameLinkedType R (a_part_function p) (a_part_function q)
   same_unknown_object : SameLinkedType R unknown_object unknown_object

@@ -18,8 +18,8 @@ ranks_stay None p q n f g here there view = ranges_stand_by_view p q n f g here 
 ranks_stay (Some ranks) p q n f g here there view = differences_stand_by_view ranks p q n f g here there view
 
 pub sections_recheck_as_whole : OneListOfRanks → SectionsRecheckAsWhole
-sections_recheck_as_whole one q p digests outside e before after verdict were are was views is =
-    rechecks_as_whole (standing_by q before) (standing_by p after) q p digests outside e verdict was views
+sections_recheck_as_whole one q p digests outside e before after verdict were are was whole views is =
+    rechecks_as_whole (standing_by q before) (standing_by p after) q p digests outside e verdict was whole views
     (λ none n f g here there view.
     ranks_stay before q p n f g here there view
     ∙ ap (λ ranks. standing_by p ranks n) (one (diff_lines e.new) before after (subst (λ lines. AreRanks lines before) (evidence_kept e none) were) are))

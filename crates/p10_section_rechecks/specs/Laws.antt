@@ -1,6 +1,7 @@
 -- The verdict after an edit is that on the whole certificate, with the evidence that each certificate's own sections give.
 use Rattle.std.specs.Prelude.{ℕ, List, Option}
 use Rattle.p10_core.specs.Typed.{PlainProgram}
+use Rattle.p10_core.specs.WholePrograms.{IsWholeProgram}
 use Rattle.p10_check.specs.declared.verdict.TextVerdict.{TextVerdict}
 use Rattle.p10_check.specs.Texts.{IsStatementVerdict}
 use Rattle.p10_diff.specs.Evidence.{Rank}
@@ -15,5 +16,5 @@ abbrev pub SectionsRecheckAsWhole : Type 0
 SectionsRecheckAsWhole =
     (q p : PlainProgram) (digests : List (List ℕ)) (outside : List ℕ) (e : Edit) (before after : Option (List Rank)) (verdict : TextVerdict)
     → AreRanks (diff_lines e.old) before → AreRanks (diff_lines e.new) after
-    → WasAccepted (standing_by q before) q digests outside e.old → ViewsStay q digests outside p e
+    → WasAccepted (standing_by q before) q digests outside e.old → IsWholeProgram p → ViewsStay q digests outside p e
     → IsRecheckVerdict (standing_by p after) p e verdict → IsStatementVerdict (standing_by p after) p e.digests e.new verdict

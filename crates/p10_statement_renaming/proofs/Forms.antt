@@ -17,7 +17,7 @@ use Rattle.p10_elabd.specs.Standing.{PlainStanding, noted}
 use Rattle.p10_elabd.specs.Expressions.{for_expression}
 use Rattle.p10_elabs.specs.Locals.{Local, Done, done_in}
 use Rattle.p10_elabs.specs.Expressions.{assertion, evaluated, assert_called, assert_found, call_found, form_found, statement_with, expression_statement, statement_added, piece_done, pieces_done, clause_done, optional_clause, tested, test_done, optional_test, switched, switch_done}
-use Rattle.p10_renaming.specs.Renaming.{Pairing, SameType, same_integer, SameValue, same_value, same_built_in, same_no_values, same_more_values, SameMaybe, same_none, same_some, SameStatement, same_statement, SameStatementForm, same_evaluate, same_asserts}
+use Rattle.p10_renaming.specs.Renaming.{Pairing, SameType, same_integer, SameValue, same_value, same_built_in, same_no_arguments, same_more_arguments, SameMaybe, same_none, same_some, SameStatement, same_statement, SameStatementForm, same_evaluate, same_asserts}
 use Rattle.p10_expression_renaming.specs.Mapped.{mapped_expression, mapped_expressions, mapped_optional}
 use Rattle.p10_expression_renaming.specs.Knowing.{Together, Ruling, SameOperand, same_a_value, SameScope, IsOneToOne}
 use Rattle.p10_expression_renaming.proofs.Finding.{by_same, when_ok, on_both, Alike}
@@ -39,7 +39,7 @@ use Rattle.p10_statement_renaming.proofs.Quiet.{Quiet, Makes', so, stands}
 
 -- `assert` is a statement on both sides
 asserted : (R : Pairing) (o k : PlainOperand) → SameOperand R o k → Ruling (SameStatementForm R) (assertion o) (assertion k)
-asserted R o k (same_a_value (same_value t (same_built_in {f = Assert} (same_more_values h same_no_values)))) = same_asserts h
+asserted R o k (same_a_value (same_value t (same_built_in {f = Assert} (same_more_arguments h same_no_arguments)))) = same_asserts h
 asserted R o k h = tt
 
 evaluated_both : (R : Pairing) (h : Keep) (s t : PlainScope) (j k : Judged PlainOperand) → Alike (SameOperand R) j k → Together (SameStatementForm R) (evaluated h s j) (evaluated h t k)
@@ -73,7 +73,7 @@ assert_both R one h s t know at name_at to name_to all =
     (judge_arguments h s (wanted_of (wants_of (of_library Assert)) (count_of (mapped_expressions left all))) 0 no_arguments (mapped_expressions left all))
     (judge_arguments h t (wanted_of (wants_of (of_library Assert)) (count_of (mapped_expressions right all))) 0 no_arguments (mapped_expressions right all))
     (arguing R one h s t know (wanted_of (wants_of (of_library Assert)) (count_of (mapped_expressions left all))) (wanted_of (wants_of (of_library Assert)) (count_of (mapped_expressions right all)))
-    (library_wants_same R Assert (count_of (mapped_expressions left all)) (count_of (mapped_expressions right all)) (as_many all)) 0 no_arguments no_arguments same_no_values all))
+    (library_wants_same R Assert (count_of (mapped_expressions left all)) (count_of (mapped_expressions right all)) (as_many all)) 0 no_arguments no_arguments same_no_arguments all))
     (asserted R)
 
 call_both : (R : Pairing) → IsOneToOne R → (h : Keep) (s t : PlainScope) → SameScope R s t → (at to : At) (all : Expressions (At × At)) (other others : Found PlainStatementForm) → Together (SameStatementForm R) other others

@@ -2,7 +2,6 @@
 use Rattle.std.proofs.Common.{◌≡◌, ◌∙◌, ℕ, ◌<◌, ◌≤◌, Bool, true, false, List, [], ◌∷◌, ◌++◌, map, length, le_refl, None, refl, sym, ap, subst}
 use Rattle.std.specs.Prelude.{if◌then◌else◌, slice_get}
 use Rattle.p10_base.specs.declared.at.At.{At}
-use Rattle.p10_base.specs.declared.codes.SubsetCode.{SubsetCode}
 use Rattle.p10_base.specs.declared.codes.SubsetCode.TheVariants as subset
 use Rattle.p10_syn.specs.Trees.{Statements}
 use Rattle.p10_elabx.specs.First.{Keep}
@@ -22,16 +21,9 @@ use Rattle.p10_block_scopes.proofs.ExtendingStatements.{bodies_leave_scopes}
 use Rattle.p10_block_structures.specs.Laws.{AreNewTags, IsInside}
 use Rattle.p10_block_structures.proofs.KeepingStatements.{bodies_leave_structures}
 use Rattle.p10_root_renaming.proofs.Functions.{marked_scope}
-
--- the structures that there were are as they were
-abbrev pub Leaves : PlainScope → PlainScope → Type 0
-Leaves s t = (n : ℕ) → n < length s.structures → slice_get t.structures n ≡ slice_get s.structures n
+use Rattle.p10_touched_renaming.proofs.Heads.{refusing_keeps, Kept}
 
 -- ## Rows and names
-
-refusing_keeps : (h : Keep) (b : Bool) (code : SubsetCode) (at : At) (s : PlainStanding) → (refusing h b code at s).scope ≡ s.scope
-refusing_keeps h true code at s = refl
-refusing_keeps h false code at s = refl
 
 names_keep : (h : Keep) (ps : List PlainParameter) (s : PlainStanding) → (names_noted h ps s).scope ≡ s.scope
 names_keep h [] s = refl
@@ -51,14 +43,14 @@ linked_structures h heads l k =
 
 -- ## Bodies
 
--- where a body begins, the block of a function without tags among its parameters is open
-begins_inside : (f : Frame) (t : FunctionType) → t.tags ≡ [] → (s : PlainScope) → IsInside s.tags (length s.structures) s.structures (body_scope f t s)
-begins_inside f t none s = record {
+-- where a body begins, the block of a function whose parameters declare new structures alone is open
+begins_inside : (f : Frame) (t : FunctionType) (s : PlainScope) (start : ℕ) → AreNewTags start t.tags → start ≤ length s.structures → IsInside s.tags start s.structures (body_scope f t s)
+begins_inside f t s start fresh low = record {
   new = t.tags;
   tags = refl;
-  fresh = subst (λ ts. AreNewTags (length s.structures) ts) (sym none) tt;
+  fresh = fresh;
   innermost = subst (λ (x : ℕ × ℕ). length s.tags ≤ x.1) (sym (last_floor_is s.floors (length s.names, length s.tags))) (le_refl (length s.tags));
-  enough = le_refl (length s.structures);
+  enough = low;
   kept = λ n low. refl;
 }
 
@@ -73,7 +65,7 @@ again_by : (s v t u : PlainScope) → v ≡ s → t ≡ u → IsAgain v (left u)
 again_by s v t u e d a = subst (λ x. IsAgain x (left t)) e (subst (λ x. IsAgain v (left x)) (sym d) a)
 
 -- names and tags stand again
-pub body_leaves : (h : Keep) (heads : Heads) (l : Linked) (t : FunctionType) (body : Statements At) (k : Known) → IsAgain k.standing.scope (body_done h heads l t body k).standing.scope
+body_leaves : (h : Keep) (heads : Heads) (l : Linked) (t : FunctionType) (body : Statements At) (k : Known) → IsAgain k.standing.scope (body_done h heads l t body k).standing.scope
 body_leaves h heads l t body k =
     let f : Frame = record { heads = heads; taken = addresses_taken t.parameters body; number = number_in heads.functions l.root l.internal l.name; result = t.result } in
     let v : PlainStanding = names_noted h t.parameters k.standing in
@@ -82,22 +74,24 @@ body_leaves h heads l t body k =
     again_by k.standing.scope v.scope _ b.after.standing.scope (names_keep h t.parameters k.standing) (marked_scope h (is_main_name l.name) b.kinds b.after.standing)
     (bodies_leave_scopes h f (is_main_name l.name) in_nothing v.scope x body (begins_extended f t v.scope))
 
-leaves_by : (s v t u : PlainScope) → v ≡ s → t ≡ u → Leaves v (left u) → Leaves s (left t)
-leaves_by s v t u e d a = subst (λ x. Leaves x (left t)) e (subst (λ x. Leaves v (left x)) (sym d) a)
+-- so do the structures before those of its parameters
+abbrev StructuresKept : ℕ → PlainScope → PlainScope → Type 0
+StructuresKept start s t = (n : ℕ) → n < start → slice_get t.structures n ≡ slice_get s.structures n
 
--- so do the structures that there were, where no parameter declares a tag
-pub body_leaves_structures : (h : Keep) (heads : Heads) (l : Linked) (t : FunctionType) → t.tags ≡ [] → (body : Statements At) (k : Known) → Leaves k.standing.scope (body_done h heads l t body k).standing.scope
-body_leaves_structures h heads l t none body k =
+kept_by : (start : ℕ) (s v t u : PlainScope) → v ≡ s → t ≡ u → StructuresKept start v (left u) → StructuresKept start s (left t)
+kept_by start s v t u e d a = subst (λ x. StructuresKept start x (left t)) e (subst (λ x. StructuresKept start v (left x)) (sym d) a)
+
+body_leaves_structures : (h : Keep) (heads : Heads) (l : Linked) (t : FunctionType) (body : Statements At) (k : Known) (start : ℕ) → AreNewTags start t.tags → start ≤ length k.standing.scope.structures
+    → StructuresKept start k.standing.scope (body_done h heads l t body k).standing.scope
+body_leaves_structures h heads l t body k start fresh low =
     let f : Frame = record { heads = heads; taken = addresses_taken t.parameters body; number = number_in heads.functions l.root l.internal l.name; result = t.result } in
     let v : PlainStanding = names_noted h t.parameters k.standing in
     let x : Local = body_begun f t v in
     let b : Block' = items_done h f (is_main_name l.name) in_nothing (no_items_yet x) body in
-    leaves_by k.standing.scope v.scope _ b.after.standing.scope (names_keep h t.parameters k.standing) (marked_scope h (is_main_name l.name) b.kinds b.after.standing)
-    (bodies_leave_structures h f (is_main_name l.name) in_nothing x body v.scope.tags (length v.scope.structures) (begins_inside f t none v.scope))
+    let enough : start ≤ length v.scope.structures = subst (λ (y : PlainScope). start ≤ length y.structures) (sym (names_keep h t.parameters k.standing)) low in
+    kept_by start k.standing.scope v.scope _ b.after.standing.scope (names_keep h t.parameters k.standing) (marked_scope h (is_main_name l.name) b.kinds b.after.standing)
+    (bodies_leave_structures h f (is_main_name l.name) in_nothing x body v.scope.tags start (begins_inside f t v.scope start fresh enough))
 
--- a declaration with linkage comes between
-pub left_after : (h : Keep) (heads : Heads) (l : Linked) (k : Known) (t : PlainScope) → Leaves k.standing.scope t → Leaves (with_linked h heads l k).standing.scope t
-left_after h heads l k t kept = subst (λ ss. (n : ℕ) → n < length ss → slice_get t.structures n ≡ slice_get ss n) (sym (linked_structures h heads l k)) kept
-
-pub left_before : (h : Keep) (heads : Heads) (l : Linked) (k : Known) (t : PlainScope) → Leaves (with_linked h heads l k).standing.scope t → Leaves k.standing.scope t
-left_before h heads l k t kept = subst (λ ss. (n : ℕ) → n < length ss → slice_get t.structures n ≡ slice_get ss n) (linked_structures h heads l k) kept
+pub body_kept : (h : Keep) (heads : Heads) (l : Linked) (t : FunctionType) (body : Statements At) (k : Known) (start : ℕ) → AreNewTags start t.tags → start ≤ length k.standing.scope.structures
+    → Kept start k.standing.scope (body_done h heads l t body k).standing.scope
+body_kept h heads l t body k start fresh low = record { again = body_leaves h heads l t body k; structures = body_leaves_structures h heads l t body k start fresh low }

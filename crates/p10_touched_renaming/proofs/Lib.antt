@@ -1,4 +1,5 @@
 -- Lemmas for this crate.
+pub mod Heads
+pub mod Begun
 pub mod Leaving
 pub mod Touched
-pub mod Untagged

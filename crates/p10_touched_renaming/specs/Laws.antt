@@ -1,5 +1,5 @@
 -- Bodies that differ leave what is known outside of them the same.
-use Rattle.std.specs.Prelude.{ℕ}
+use Rattle.std.specs.Prelude.{◌≡◌, ℕ, ◌<◌, true}
 use Rattle.p10_base.specs.declared.at.At.{At}
 use Rattle.p10_syn.specs.Trees.{Definition, Statements}
 use Rattle.p10_core.specs.Completing.{AreBuilt}
@@ -11,20 +11,19 @@ use Rattle.p10_renaming.specs.Renaming.{Pairing}
 use Rattle.p10_expression_renaming.specs.Knowing.{IsOneToOne}
 use Rattle.p10_declaration_renaming.specs.Standings.{AreQuiet}
 use Rattle.p10_root_renaming.specs.Roots.{SameHeads, SameKnown}
-use Rattle.p10_touched_renaming.specs.Touched.{first_with, second_with, head_passed, before_body, HasNoTags, after_body, LeavesStructures, IsMade, SkipsBodies}
+use Rattle.p10_touched_renaming.specs.Touched.{first_with, second_with, before_parameters, before_body, after_body, IsMade, Narrows}
 
--- a function that stands at two places, with a body of its own at each, of which neither completes a structure that its parameters declare:
--- where no row holds up to its end, and it becomes a function in both programs, the same is known after it
+-- a function that stands at two places, with a body of its own at each: where no row holds up to its end, and it becomes a function in both
+-- programs, the same is known after it. The structures that its parameters declare are the same up to its body; after it, since a body may
+-- complete them, they are so only where types of parameters name them. All of these are there after it
 abbrev pub TouchedRenamed : Type 0
 TouchedRenamed =
-    (R : Pairing) → IsOneToOne R → (later : ℕ) (h : Keep) (heads others : Heads) → SameHeads heads others → (k j : Known) (d : Definition (At × At)) (one other : Statements At)
-    → IsMade h heads k (first_with d one) → IsMade h others j (second_with d other) → LeavesStructures h heads k (first_with d one) → LeavesStructures h others j (second_with d other)
+    (S R : Pairing) → IsOneToOne S → IsOneToOne R → (h : Keep) (heads others : Heads) → SameHeads heads others → (k j : Known) (d : Definition (At × At)) (one other : Statements At)
+    → IsMade h heads k (first_with d one) → IsMade h others j (second_with d other)
     → AreBuilt (defined_outside h heads k (first_with d one)).standing.scope.structures → AreBuilt (defined_outside h others j (second_with d other)).standing.scope.structures
-    → SkipsBodies R later (before_body h k (first_with d one)) (after_body h heads k (first_with d one)) (after_body h others j (second_with d other))
-    → (AreQuiet (before_body h k (first_with d one)) k.standing j.standing → SameKnown R (before_body h k (first_with d one)) k j)
-    → AreQuiet later (defined_outside h heads k (first_with d one)).standing (defined_outside h others j (second_with d other)).standing
-    → AreQuiet (before_body h k (first_with d one)) k.standing j.standing × SameKnown R later (defined_outside h heads k (first_with d one)) (defined_outside h others j (second_with d other))
-
--- the body of a function none of whose parameters declares a tag completes none of these, whatever it declares
-abbrev pub UntaggedLeaveStructures : Type 0
-UntaggedLeaveStructures = (h : Keep) (heads : Heads) (k : Known) (d : Definition At) → IsMade h heads k d → HasNoTags (head_passed h k d).made → LeavesStructures h heads k d
+    → Narrows S R (before_parameters h k (first_with d one))
+    → (AreQuiet (before_body h k (first_with d one)) k.standing j.standing → SameKnown S (before_body h k (first_with d one)) k j)
+    → (AreQuiet (before_parameters h k (first_with d one)) k.standing j.standing → SameKnown R (before_parameters h k (first_with d one)) k j)
+    → AreQuiet (after_body h heads k (first_with d one)) (defined_outside h heads k (first_with d one)).standing (defined_outside h others j (second_with d other)).standing
+    → SameKnown R (after_body h heads k (first_with d one)) (defined_outside h heads k (first_with d one)) (defined_outside h others j (second_with d other))
+    × ((n m : ℕ) → S.used n m ≡ true → n < before_body h k (first_with d one) → m < after_body h others j (second_with d other))

@@ -4,9 +4,10 @@ use Rattle.std.specs.Prelude.{if◌then◌else◌, slice_get}
 use Rattle.std.specs.List.{AllByRecursion}
 use Rattle.p10_base.specs.declared.span.Span.{Span}
 use Rattle.p10_core.specs.declared.statements.LoopHead.{LoopHead}
-use Rattle.p10_core.specs.Typed.{PlainStatement, PlainFunction, PlainProgram}
+use Rattle.p10_core.specs.Typed.{PlainStatement, PlainVariable, PlainFunction, PlainProgram}
 use Rattle.p10_core.specs.Nodes.{nodes_of_statements}
-use Rattle.p10_core.specs.WholePrograms.{main_items}
+use Rattle.p10_core.specs.WholePrograms.{main_items, IsObjectType, AreWholeStructures, IsWholeVariable, region_of, IsWholeFunction}
+use Rattle.p10_meaning.proofs.LaidOut.{all_at}
 use Rattle.p10_cert.specs.Claims.{Loop, Func, Claims}
 use Rattle.p10_absx.specs.Environments.{Environment}
 use Rattle.p10_sums.specs.Counting.{steps_claimed, calls_claimed, bytes_claimed, turns_claimed, loops_claimed, counting_of, task_of}
@@ -24,6 +25,7 @@ use Rattle.p10_views.specs.Views.{View, view_of, SayTheSame, AgreeAbout}
 use Rattle.p10_views.specs.Laws.{ViewsDecide}
 use Rattle.p10_views.proofs.Called.{calls_of_statements, each_holds}
 use Rattle.p10_views.proofs.Spans.{erased_spans, erased_failing, erased_weakness, erased_left, map_both, spans_both}
+use Rattle.p10_views.proofs.Copied.{CopyObjects, statements_copy}
 use Rattle.p10_views.proofs.Costs.{Count}
 use Rattle.p10_views.proofs.Sums.{head_erased, cost_same, turn_same, calls_same, bytes_same}
 use Rattle.p10_views.proofs.Bodies.{left_in, left_there, left_erased}
@@ -150,10 +152,24 @@ abbrev view_failures : (ℕ → Environment → Loop → Bool) → Claims → �
 view_failures stands c n w =
     failures_by stands (slice_get c.funcs n) (left_in c n w.function) (costs_in nothing c.funcs n w.task w.function) (head_at (main_items w.function) w.task) w.function.span
 
-costs_same : (p : PlainProgram) (these others : List Func) (n : ℕ) (task : Option ℕ) (f : PlainFunction) → AgreeAbout these others n f
+-- a variable of a whole function is an object
+objects_of : (p : PlainProgram) (n : ℕ) (f : PlainFunction) → IsWholeFunction p n f → (k : ℕ) (v : PlainVariable) → slice_get f.variables k ≡ Some v → IsObjectType p.structures v.type
+objects_of p n f w k v e = (all_at (IsWholeVariable p.structures) f.variables k v w.variables e).object
+
+costs_same : (p : PlainProgram) → AreWholeStructures p.structures → (these others : List Func) (n : ℕ) (task : Option ℕ) (f : PlainFunction) → IsWholeFunction p n f → AgreeAbout these others n f
     → costs_in nothing others n task (erased_function p f) ≡ costs_in p these n task f
-costs_same p these others n task f agree =
-    let t : Count = record { program = p; any = nothing; variables = f.variables; these = these; others = others; loops = loops_claimed (slice_get these n) } in
+costs_same p whole these others n task f w agree =
+    let t : Count = record {
+      program = p;
+      any = nothing;
+      variables = f.variables;
+      these = these;
+      others = others;
+      loops = loops_claimed (slice_get these n);
+      whole = whole;
+      objects = objects_of p n f w;
+    } in
+    let copies : CopyObjects p.structures f.body = statements_copy (region_of p n f) f.body w.body in
     (λ i. record {
       steps = cost_of (record { program = nothing; variables = map (erased_variable p) f.variables; functions = others; loops = loops_claimed (sym agree.own i) }) task (erased_function p f);
       calls = calls_same p these others f agree.called i;
@@ -161,18 +177,18 @@ costs_same p these others n task f agree =
       turn = turn_cost (record { program = nothing; variables = map (erased_variable p) f.variables; functions = others; loops = loops_claimed (sym agree.own i) }) task (erased_function p f);
     })
     ∙ (λ i. record {
-      steps = cost_same t task f (calls_of_statements (SayTheSame these others) f.body agree.called) i;
+      steps = cost_same t task f (calls_of_statements (SayTheSame these others) f.body agree.called) copies i;
       calls = (depth_of these f).calls;
       bytes = (depth_of these f).bytes;
-      turn = turn_same t task f (calls_of_statements (SayTheSame these others) f.body agree.called) i;
+      turn = turn_same t task f (calls_of_statements (SayTheSame these others) f.body agree.called) copies i;
     })
 
 -- what is found of a view under claims, and of its function under others that agree
-of_view : (stands : ℕ → Environment → Loop → Bool) (p : PlainProgram) (c d : Claims) (n : ℕ) (f : PlainFunction) → AgreeAbout c.funcs d.funcs n f
+of_view : (stands : ℕ → Environment → Loop → Bool) (p : PlainProgram) → AreWholeStructures p.structures → (c d : Claims) (n : ℕ) (f : PlainFunction) → IsWholeFunction p n f → AgreeAbout c.funcs d.funcs n f
     → view_failures stands d n (view_of p n f)
     ≡ map erased_failing (failures_by stands (slice_get c.funcs n) (left_in c n f) (costs_in p c.funcs n (task_of p n) f) (head_at (main_items f) (task_of p n)) f.span)
-of_view stands p c d n f agree =
-    (λ i. failures_by stands (sym agree.own i) (left_erased p c d n f agree.own agree.called i) (costs_same p c.funcs d.funcs n (task_of p n) f agree i) (head_erased p f.body (task_of p n) i) no_span)
+of_view stands p whole c d n f w agree =
+    (λ i. failures_by stands (sym agree.own i) (left_erased p c d n f agree.own agree.called i) (costs_same p whole c.funcs d.funcs n (task_of p n) f w agree i) (head_erased p f.body (task_of p n) i) no_span)
     ∙ all_erased stands (slice_get c.funcs n) (left_in c n f) (costs_in p c.funcs n (task_of p n) f) (head_at (main_items f) (task_of p n)) f.span
 
 none_of_none : (fails : List Failing) → map erased_failing fails ≡ [] → fails ≡ []
@@ -188,10 +204,10 @@ turned these others [] h = tt
 turned these others (n ∷ numbers) h = (sym h.0, turned these others numbers h.1)
 
 pub views_decide : ViewsDecide
-views_decide old new p q c d n f g here there view agree evidence none =
+views_decide old new p q first second c d n f g here there view agree evidence none =
     failures_are new q d n g there
     ∙ none_of_none (failures_by (new n) (slice_get d.funcs n) (left_in d n g) (costs_in q d.funcs n (task_of q n) g) (head_at (main_items g) (task_of q n)) g.span)
-    (sym (of_view (new n) q d c n g (record { own = sym agree.own; called = turned c.funcs d.funcs (callees (nodes_of_statements g.body)) agree.called }))
+    (sym (of_view (new n) q second.structures d c n g (second.functions n g there) (record { own = sym agree.own; called = turned c.funcs d.funcs (callees (nodes_of_statements g.body)) agree.called }))
     ∙ (λ i. view_failures (sym evidence i) c n (sym view i))
-    ∙ of_view (old n) p c c n f (with_itself c.funcs n f)
+    ∙ of_view (old n) p first.structures c c n f (first.functions n f here) (with_itself c.funcs n f)
     ∙ ap (map erased_failing) (sym (failures_are old p c n f here) ∙ none))

@@ -12,6 +12,7 @@ pub mod Loops
 pub mod Statements
 pub mod Bodies
 pub mod Callees
+pub mod Copied
 pub mod Costs
 pub mod Sums
 pub mod Failures

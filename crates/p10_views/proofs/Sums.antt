@@ -16,6 +16,7 @@ use Rattle.p10_views.specs.Erased.{erased_head, erased_value, erased_statement, 
 use Rattle.p10_views.specs.Views.{SayTheSame}
 use Rattle.p10_views.proofs.Called.{MaybeCalls, StatementCalls, StatementsCall}
 use Rattle.p10_views.proofs.Callees.{in_statements}
+use Rattle.p10_views.proofs.Copied.{CopyObjects, prefix_copies, TaskCopies, task_copies}
 use Rattle.p10_views.proofs.Costs.{Count, first_of, second_of, Shared, value_same, statement_same, statements_same}
 
 -- ---- items
@@ -116,26 +117,26 @@ task_calls T (more_statements s rest) (suc n) h = task_calls T rest n h.1
 
 -- ---- steps
 
-pub cost_same : (t : Count) (task : Option ℕ) (f : PlainFunction) → StatementsCall (Shared t) f.body → cost_of (second_of t) task (erased_function t.program f) ≡ cost_of (first_of t) task f
-cost_same t None f h = λ i. 1 + statements_same t f.body h i
-cost_same t (Some n) f h =
+pub cost_same : (t : Count) (task : Option ℕ) (f : PlainFunction) → StatementsCall (Shared t) f.body → CopyObjects t.program.structures f.body → cost_of (second_of t) task (erased_function t.program f) ≡ cost_of (first_of t) task f
+cost_same t None f h w = λ i. 1 + statements_same t f.body h w i
+cost_same t (Some n) f h w =
     ap (λ ss. 1 + (statements_cost (second_of t) ss + 1)) (prefix_erased t.program n f.body)
-    ∙ (λ i. 1 + (statements_same t (statements_of_list (take n (statements_list f.body))) (prefix_calls (Shared t) n f.body h) i + 1))
+    ∙ (λ i. 1 + (statements_same t (statements_of_list (take n (statements_list f.body))) (prefix_calls (Shared t) n f.body h) (prefix_copies t.program.structures n f.body w) i + 1))
 
 tested_same : (t : Count) (v : Option PlainValue) → MaybeCalls (Shared t) v → task_test_cost (second_of t) (option_map (erased_value t.program) v) ≡ task_test_cost (first_of t) v
 tested_same t None h = refl
 tested_same t (Some v) h = value_same t v h
 
-task_same : (t : Count) (task : Option Task) → TaskCalls (Shared t) task → task_cost (second_of t) (option_map (erased_task t.program) task) ≡ task_cost (first_of t) task
-task_same t None h = refl
-task_same t (Some task) h = λ i. tested_same t task.tested h.0 i + statement_same t task.body h.1 i
+task_same : (t : Count) (task : Option Task) → TaskCalls (Shared t) task → TaskCopies t.program.structures task → task_cost (second_of t) (option_map (erased_task t.program) task) ≡ task_cost (first_of t) task
+task_same t None h w = refl
+task_same t (Some task) h w = λ i. tested_same t task.tested h.0 i + statement_same t task.body h.1 w i
 
-pub turn_same : (t : Count) (task : Option ℕ) (f : PlainFunction) → StatementsCall (Shared t) f.body → turn_cost (second_of t) task (erased_function t.program f) ≡ turn_cost (first_of t) task f
-turn_same t None f h = refl
-turn_same t (Some n) f h =
+pub turn_same : (t : Count) (task : Option ℕ) (f : PlainFunction) → StatementsCall (Shared t) f.body → CopyObjects t.program.structures f.body → turn_cost (second_of t) task (erased_function t.program f) ≡ turn_cost (first_of t) task f
+turn_same t None f h w = refl
+turn_same t (Some n) f h w =
     ap (λ s. task_cost (second_of t) (task_in s)) (item_erased t.program f.body n)
     ∙ ap (task_cost (second_of t)) (task_erased t.program (slice_get (statements_list f.body) n))
-    ∙ task_same t (task_in (slice_get (statements_list f.body) n)) (task_calls (Shared t) f.body n h)
+    ∙ task_same t (task_in (slice_get (statements_list f.body) n)) (task_calls (Shared t) f.body n h) (task_copies t.program.structures f.body n w)
 
 -- ---- depths
 

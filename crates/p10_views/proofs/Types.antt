@@ -1,13 +1,15 @@
 -- What is asked of types is asked of erased ones too.
-use Rattle.std.proofs.Common.{◌≡◌, ◌∙◌, ℕ, zero, suc, ◌+◌, ◌*◌, false, List, [], ◌∷◌, length, length-append, ap, refl, arith}
+use Rattle.std.proofs.Common.{◌≡◌, ◌∙◌, ℕ, zero, suc, ◌+◌, ◌*◌, false, List, [], ◌∷◌, length, length-append, ap, sym, refl, arith}
 use Rattle.p10_int.specs.declared.types.IntType.TheVariants.{Char}
 use Rattle.p10_core.specs.Types.{PlainType, void, integer, pointer, array, structure}
 use Rattle.p10_core.specs.Rows.{is_integer, is_pointer}
 use Rattle.p10_core.specs.Constants.{integer_of}
 use Rattle.p10_core.specs.Sizes.{repeated, layout_of}
 use Rattle.p10_core.specs.Typed.{PlainValue, value, PlainPlace, place, type_of, place_type, PlainProgram}
+use Rattle.p10_core.specs.WholePrograms.{AreWholeStructures, IsObjectType}
 use Rattle.p10_meaning.specs.Values.{width}
-use Rattle.p10_views.specs.Erased.{erased_type, erased_value, erased_place, scalars_alone}
+use Rattle.p10_meaning.proofs.LaidOut.{lies_bare}
+use Rattle.p10_views.specs.Erased.{own_width, erased_type, erased_value, erased_place, scalars_alone}
 
 pub integer_erased : (p : PlainProgram) (t : PlainType) → is_integer (erased_type p t) ≡ is_integer t
 integer_erased p (void c) = refl
@@ -52,14 +54,18 @@ one_each : (n : ℕ) → n * 1 ≡ n
 one_each n = omega arith
 
 -- in each program
-alone_has : (q p : PlainProgram) (t : PlainType) → width q (scalars_alone p t) ≡ width p t
+alone_has : (q p : PlainProgram) (t : PlainType) → width q (scalars_alone p t) ≡ own_width p t
 unfolding layout_of
-alone_has q p t = length_repeated (width p t) (integer false Char ∷ []) ∙ one_each (width p t)
+alone_has q p t = length_repeated (own_width p t) (integer false Char ∷ []) ∙ one_each (own_width p t)
 
-pub width_erased : (q p : PlainProgram) (t : PlainType) → width q (erased_type p t) ≡ width p t
+-- an object has the scalars of its own structures
+own_is : (p : PlainProgram) (t : PlainType) → AreWholeStructures p.structures → IsObjectType p.structures t → own_width p t ≡ width p t
+own_is p t w object = ap (λ (ts : List PlainType). length ts) (sym (lies_bare p.structures w t object).same_scalars)
+
+pub width_erased : (q p : PlainProgram) (t : PlainType) → AreWholeStructures p.structures → IsObjectType p.structures t → width q (erased_type p t) ≡ width p t
 unfolding layout_of
-width_erased q p (void c) = refl
-width_erased q p (integer c kind) = refl
-width_erased q p (pointer c t) = refl
-width_erased q p (array c t n) = alone_has q p (array c t n)
-width_erased q p (structure c n) = alone_has q p (structure c n)
+width_erased q p (void c) w object = refl
+width_erased q p (integer c kind) w object = refl
+width_erased q p (pointer c t) w object = refl
+width_erased q p (array c t n) w object = alone_has q p (array c t n) ∙ own_is p (array c t n) w object
+width_erased q p (structure c n) w object = alone_has q p (structure c n) ∙ own_is p (structure c n) w object

@@ -1,14 +1,14 @@
 -- Functions without places, and without the numbers of objects, literals and structures: the conditions of a certificate ask for none of
--- these. Of a type that is no integer, pointer or `void` they ask how many scalars it has.
-use Rattle.std.specs.Prelude.{false, map, option_map}
+-- these. Of a type that is no integer, pointer or `void` they ask how many scalars it has, and only where its own structures are complete.
+use Rattle.std.specs.Prelude.{ℕ, false, map, length, option_map}
 use Rattle.p10_base.specs.declared.span.Span.{Span}
 use Rattle.p10_base.specs.declared.at.At.{At}
 use Rattle.p10_int.specs.declared.types.IntType.TheVariants.{Char}
 use Rattle.p10_core.specs.declared.statements.LoopHead.{LoopHead}
 use Rattle.p10_core.specs.Types.{PlainType, void, integer, pointer, array, structure}
+use Rattle.p10_core.specs.Sizes.{scalars_of}
 use Rattle.p10_core.specs.Typed.{PlainValue, value, PlainForm, constant, read, sense, address, decay, convert, cast, unary, binary, logic, conditional, call, built_in, PlainPlace, place, PlainPlaceForm, variable, global, literal, index, member, dereference, PlainValues, no_values, more_values}
 use Rattle.p10_core.specs.Typed.{PlainWritten, one_scalar, scalars_of_text, PlainItem, PlainInitializer, not_initialized, single, copied, listed, PlainStatement, statement, PlainStatementForm, set, update, copy, evaluate, asserts, declare, declare_static, block, if_then, if_else, loop, switch, break, continue, return, empty, mark, PlainStatements, no_statements, more_statements, PlainVariable, PlainFunction, PlainProgram}
-use Rattle.p10_meaning.specs.Values.{width}
 
 -- ## Places
 
@@ -22,9 +22,13 @@ no_place = record { first = 0; past = 0; span = no_span }
 
 -- ## Types
 
--- as many scalars as a type has
+-- how many scalars a type has by its own structures: one that isn't complete has none, also where it is one with a complete one of another root
+abbrev pub own_width : PlainProgram → PlainType → ℕ
+own_width p t = length (scalars_of p.structures t)
+
+-- as many scalars as a type has so
 abbrev pub scalars_alone : PlainProgram → PlainType → PlainType
-scalars_alone p t = array false (integer false Char) (width p t)
+scalars_alone p t = array false (integer false Char) (own_width p t)
 
 -- what is asked of a type
 abbrev pub erased_type : PlainProgram → PlainType → PlainType

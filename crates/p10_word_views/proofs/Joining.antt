@@ -5,5 +5,5 @@ use Rattle.p10_word_views.specs.Laws.{FilesRecheckAsWhole}
 use Rattle.p10_word_views.proofs.Keeping.{readings_keep_views}
 
 pub files_recheck_as_whole : FilesRecheckAsWhole
-files_recheck_as_whole r s q p equal tell e to verdict accepted is =
-    ranges_recheck_as_whole q p (reading_digests r).funcs (reading_digests r).outside e verdict accepted (readings_keep_views r s q p equal tell e to) is
+files_recheck_as_whole r s q p equal tell e to verdict accepted whole is =
+    ranges_recheck_as_whole q p (reading_digests r).funcs (reading_digests r).outside e verdict accepted whole (readings_keep_views r s q p equal tell e to) is

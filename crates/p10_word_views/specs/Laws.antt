@@ -1,6 +1,7 @@
 -- The verdict after an edit of files is that on the whole certificate, where functions of equal words have equal views.
 use Rattle.std.specs.Prelude.{◌≡◌}
 use Rattle.p10_core.specs.Typed.{PlainProgram}
+use Rattle.p10_core.specs.WholePrograms.{IsWholeProgram}
 use Rattle.p10_front.specs.Readings.{PlainReading}
 use Rattle.p10_front.specs.Digests.{reading_digests}
 use Rattle.p10_turns.specs.Evidence.{stands_by_ranges}
@@ -25,5 +26,5 @@ ReadingsKeepViews =
 abbrev pub FilesRecheckAsWhole : Type 0
 FilesRecheckAsWhole =
     (r s : PlainReading) (q p : PlainProgram) → HaveEqualViews r s q p → DigestsTell r s → (e : Edit) → EditsTo s e → (verdict : TextVerdict)
-    → WasAccepted (stands_by_ranges q) q (reading_digests r).funcs (reading_digests r).outside e.old
+    → WasAccepted (stands_by_ranges q) q (reading_digests r).funcs (reading_digests r).outside e.old → IsWholeProgram p
     → IsRecheckVerdict (stands_by_ranges p) p e verdict → IsStatementVerdict (stands_by_ranges p) p e.digests e.new verdict

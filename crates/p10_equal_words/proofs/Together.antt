@@ -109,7 +109,7 @@ joins_on s t u a b = record {
   kept = λ w. kept_on s.scope.structures t.scope.structures u.scope.structures (a.kept w) (b.kept (a.kept w).stands);
 }
 
-pub structures_as_before : (h : Keep) (b : Bool) (code : SubsetCode) (at : At) (s : PlainStanding) → (refusing h b code at s).scope ≡ s.scope
+structures_as_before : (h : Keep) (b : Bool) (code : SubsetCode) (at : At) (s : PlainStanding) → (refusing h b code at s).scope ≡ s.scope
 structures_as_before h true code at s = refl
 structures_as_before h false code at s = refl
 
@@ -123,13 +123,13 @@ joins_noted : (h : Keep) (before : List Linked) (now : Linked) (s : PlainStandin
 joins_noted h before now s None e = joins_refusing h true subset.DefinedTwice now.at s
 joins_noted h before now s (Some rs) e = record { quiet = λ q. q; kept = λ w. agreed_kept before now s.scope.structures rs w e }
 
-pub joins_all : (h : Keep) (before ls : List Linked) (s : PlainStanding) → Joins s (all_agreeing h before ls s)
+joins_all : (h : Keep) (before ls : List Linked) (s : PlainStanding) → Joins s (all_agreeing h before ls s)
 joins_all h before [] s = record { quiet = λ q. q; kept = λ w. kept_itself s.scope.structures w }
 joins_all h before (l ∷ rest) s =
     joins_on s (agreeing h before l s) (all_agreeing h (before ++ l ∷ []) rest (agreeing h before l s)) (joins_noted h before l s (agreed before l s.scope.structures) refl)
     (joins_all h (before ++ l ∷ []) rest (agreeing h before l s))
 
-pub joins_definitions : (h : Keep) (before fs : List Head) (s : PlainStanding) → Joins s (definitions_noted h before fs s)
+joins_definitions : (h : Keep) (before fs : List Head) (s : PlainStanding) → Joins s (definitions_noted h before fs s)
 joins_definitions h before [] s = record { quiet = λ q. q; kept = λ w. kept_itself s.scope.structures w }
 joins_definitions h before (f ∷ rest) s =
     let b : Bool = is_defined_before before f in

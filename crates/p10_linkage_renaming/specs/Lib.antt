@@ -1,2 +1,0 @@
--- The definitions that the contract of this crate cites.
-pub mod Laws
